@@ -1,0 +1,5 @@
+pub mod Rows
+pub mod Numbers
+pub mod Names
+pub mod Faults
+pub mod FaultLines

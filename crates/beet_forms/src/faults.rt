@@ -1,0 +1,68 @@
+//! The error of every reader of a file, and the line that tells it.
+
+ghost use Rattle.std.specs.Prelude.{◌≡◌, IfOk};
+ghost use Rattle.beet_forms.specs.declared.faults.Place.TheVariants.{Row, At};
+ghost use Rattle.beet_forms.specs.declared.faults.ReadFault.TheVariants.{Bad};
+ghost use Rattle.beet_forms.specs.FaultLines.{fault_line_of};
+
+use std::alloc::{AllocError, Global};
+use thiserror::Error;
+
+/// Where a file breaks its format.
+#[derive(Clone, Copy, Debug, PartialEq, Eq)]
+pub enum Place {
+    /// The record or line of a text file, counted from 1; 0 stands for the file as a whole.
+    Row(u32),
+    /// The offset of a field of a binary file in bytes, counted from 0.
+    At(u64),
+}
+
+/// Why a file is not read.
+#[derive(Clone, Copy, Debug, PartialEq, Eq, Error)]
+pub enum ReadFault {
+    /// The first offending place, with its reason by the format's own numbers.
+    #[error("the file is not of its format: reason {reason}")]
+    Bad { place: Place, reason: u32 },
+    /// Memory ran out.
+    #[error("out of memory")]
+    OutOfMemory,
+}
+
+impl ReadFault {
+    /// A fault at a row of a text file.
+    pub fn at_row(number: u32, reason: u32) -> ReadFault
+        ensures { result ≡ Bad (Row number) reason }
+    {
+        ReadFault::Bad {
+            place: Place::Row(number),
+            reason,
+        }
+    }
+
+    /// A fault at an offset of a binary file.
+    pub fn at_offset(offset: u64, reason: u32) -> ReadFault
+        ensures { result ≡ Bad (At offset) reason }
+    {
+        ReadFault::Bad {
+            place: Place::At(offset),
+            reason,
+        }
+    }
+}
+
+/// The line that tells of a bad file, with its newline: `bad file: NAME row N reason K` or
+/// `bad file: NAME at A reason K`. Want of memory is the only error.
+pub fn fault_line(
+    alloc: Global,
+    file: &str,
+    place: Place,
+    reason: u32,
+) -> Result<Vec<u8>, AllocError>
+    ensures { IfOk result (λ line. line.items ≡ fault_line_of file.now place reason) }
+{
+    let line = match place {
+        Place::Row(number) => format!(in alloc; "bad file: {file} row {number} reason {reason}\n")?,
+        Place::At(offset) => format!(in alloc; "bad file: {file} at {offset} reason {reason}\n")?,
+    };
+    Ok(line.into_bytes())
+}

@@ -1,0 +1,19 @@
+//! Rows, decimal numbers and names of text files, and the faults that a reader of a file names.
+#![tactic(auto)]
+
+mod decimals;
+mod faults;
+mod names;
+mod row;
+mod shapes;
+
+pub use decimals::{NumberFault, number, push_decimal};
+pub use faults::{Place, ReadFault, fault_line};
+pub use names::{Name, is_name};
+pub use row::{Row, first_rows, rows};
+pub use shapes::{
+    begins_with_header, five_fields, four_fields, is_header, three_fields, two_fields,
+};
+
+#[cfg(test)]
+mod tests;

@@ -1,0 +1,9 @@
+pub mod EachFacts
+pub mod Segments
+pub mod Sums
+pub mod Bits
+pub mod PlanFacts
+pub mod Standings
+pub mod Laws
+pub mod ClearFacts
+pub mod ClearAt

@@ -1,0 +1,105 @@
+//! Scripts of gates over shared numbers, the law that they keep, and their runs on plain values.
+//!
+//! The wires of a run are numbered from 0. The inputs come first. Each batch appends its lets in order, and then the
+//! results of its act: 183 bits for [`Act::Deal`] (the 61 of server 1 from the lowest up, then those of server 2, then
+//! those of server 3), one product for each pair of [`Act::Mul`], and none for [`Act::Reveal`], which appends the
+//! values of its wires to the opened numbers.
+#![tactic(auto)]
+
+ghost use Rattle.std.specs.Prelude.{◌≡◌, ℕ, List, []};
+ghost use Rattle.beet_gates.specs.declared.Batch.{Batch};
+ghost use Rattle.beet_gates.specs.Scripts.{LawFrom, start_of, bounds_of};
+
+mod clear;
+mod product;
+
+use arrayvec::ArrayVec;
+use beet_field::Fe;
+pub use clear::{ClearRun, clear_run};
+pub use product::Product;
+
+/// How the product of many bits, and a comparison, are built from products of two.
+#[derive(Clone, Copy, PartialEq, Eq, Debug)]
+pub enum Gates {
+    /// One after another: a round for each bit.
+    Chain,
+    /// In pairs: a round for each level of a tree.
+    Tree,
+}
+
+/// A let: a constant and three multiples of wires, added. A term is a factor and a wire; one that is not used is
+/// factor 0 and wire 0.
+#[derive(Clone, Copy, PartialEq, Eq, Debug, Default)]
+pub struct Linear {
+    pub constant: Fe,
+    pub terms: [(Fe, u32); 3],
+}
+
+/// What the servers do together in one round.
+#[derive(Drop)]
+pub enum Act {
+    /// Each server deals the 61 bits of its next mask word.
+    Deal,
+    /// The two wires of each pair are multiplied.
+    Mul(ArrayVec<(u32, u32), 64>),
+    /// The wires are opened.
+    Reveal(ArrayVec<u32, 64>),
+    /// The run is over.
+    End,
+}
+
+/// One batch of a script: the lets are appended, and then the act is done.
+#[derive(Drop)]
+pub struct Batch {
+    pub lets: ArrayVec<Linear, 128>,
+    pub act: Act,
+}
+
+/// A program of batches, each of which may depend on the numbers opened before it.
+pub trait Script: Copy {
+    ghost inputs_of: { Self → ℕ };
+
+    ghost rounds_of: { Self → ℕ };
+
+    ghost masks_of: { Self → ℕ };
+
+    ghost coefficients_of: { Self → ℕ };
+
+    ghost wires_of: { Self → ℕ };
+
+    /// The batch after so many, with these numbers opened so far.
+    ghost batch_of: { Self → ℕ → List ℕ → Batch };
+
+    /// The number of inputs.
+    fn inputs(&self) -> u32
+        ensures { result ≡ inputs_of self.now };
+
+    /// The most batches that come before the end.
+    fn rounds(&self) -> u32
+        ensures { result ≡ rounds_of self.now };
+
+    /// The most mask words that each server deals.
+    fn masks(&self) -> u32
+        ensures { result ≡ masks_of self.now };
+
+    /// The most numbers that each server draws: 61 for a deal, and one for each product.
+    fn coefficients(&self) -> u32
+        ensures { result ≡ coefficients_of self.now };
+
+    /// The most wires, with the inputs.
+    fn wires(&self) -> u32
+        ensures { result ≡ wires_of self.now };
+
+    /// The batch that comes after `done` batches, where these numbers were opened so far.
+    fn next(&self, done: u32, opened: &[Fe]) -> Batch
+        ensures { result ≡ batch_of self.now done opened.now };
+
+    /// Whatever numbers are opened, each batch names only wires that stand before it or earlier in its own lets, no
+    /// product or opening is empty, no batch has more than 128 lets or 64 pairs or wires, the end comes after at most
+    /// `rounds` batches, and the wires, mask words and numbers drawn stay within their bounds.
+    ghost lawful: { (s : Self) →
+        LawFrom (batch_of s) (bounds_of (wires_of s) (masks_of s) (coefficients_of s)) (rounds_of s) (start_of (inputs_of s)) [] };
+}
+
+#[cfg(test)]
+mod tests;

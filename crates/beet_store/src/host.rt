@@ -1,0 +1,113 @@
+//! A shelf over the files of the system, which tells nothing of what they hold.
+
+ghost use Rattle.std.specs.Prelude.{◌≡◌, ◌≤◌, ◌<◌, ◌+◌, None};
+ghost use Rattle.beet_store.specs.Files.{KeepsLimit, HasCause, TellsFetch};
+ghost use Rattle.beet_store.specs.Host.{ReadsWithin, count_after};
+
+use crate::shelf::{FetchFault, Shelf};
+use std::alloc::Global;
+use std::fs;
+use std::io::Read;
+use std::marker::Model;
+use std::rt::Files;
+
+/// The files of the system, by path. What a fetch reads of a real file is shown by tests alone; a name that is a folder,
+/// and a read that fails or is interrupted midway, answer `Failed`.
+#[derive(Drop)]
+pub struct HostShelf<R> {
+    rt: R,
+    faults: u64,
+}
+
+impl<R> Model for HostShelf<R> {
+    ghost use Rattle.std.specs.Prelude.{ℕ};
+
+    ghost Value = { ℕ };
+
+    ghost view = { λ a. a.faults };
+}
+
+impl<R> HostShelf<R> {
+    /// A shelf over the files that `rt` reaches.
+    pub fn new(rt: R) -> HostShelf<R>
+        ensures { result ≡ 0 }
+    {
+        HostShelf { rt, faults: 0 }
+    }
+
+    /// The count of faults, one for each error that was answered; at its last value it stays.
+    pub fn faults(&self) -> u64
+        ensures { result ≡ self.now }
+    {
+        self.faults
+    }
+}
+
+/// How many bytes are asked for in one turn.
+const PIECE: usize = 16_384;
+
+/// How many bytes a turn asks for: at least one, at most one more than there is room for.
+fn wanted(room: u64) -> usize
+    ensures some { 0 < result }
+    ensures within { result ≤ room + 1 }
+    ensures piece { result ≤ 16384 }
+{
+    if room < PIECE as u64 {
+        room as usize + 1
+    } else {
+        PIECE
+    }
+}
+
+/// Reads to the end, of at most `limit` bytes: in all at most one byte beyond the limit, in each turn at least one.
+fn read_whole<F: Read>(file: &mut F, alloc: Global, limit: u64) -> Result<Vec<u8>, FetchFault>
+    ensures limited { KeepsLimit limit result }
+    ensures read { ReadsWithin (F.remaining file.old) (F.remaining file.new) limit result }
+{
+    let mut bytes = Vec::new(alloc);
+    let mut piece = [0u8; PIECE];
+    for _turn in 0..u64::MAX {
+        let want = wanted(limit - bytes.len() as u64);
+        let Ok(count) = file.read(&mut piece[..want]) else {
+            return Err(FetchFault::Failed);
+        };
+        if count == 0 {
+            return Ok(bytes);
+        }
+        let Ok(()) = bytes.extend_from_slice(&piece[..count]) else {
+            return Err(FetchFault::OutOfMemory);
+        };
+        if bytes.len() as u64 > limit {
+            return Err(FetchFault::TooLong(bytes.len() as u64));
+        }
+    }
+    unreachable!()
+}
+
+/// Opens the file and reads it.
+fn read_file<R: Files>(rt: &R, alloc: Global, name: &str, limit: u64) -> Result<Vec<u8>, FetchFault>
+    ensures { KeepsLimit limit result }
+{
+    let Ok(mut file) = fs::File::open(rt, name) else {
+        return Err(FetchFault::Failed);
+    };
+    read_whole(&mut file, alloc, limit)
+}
+
+impl<R: Files> Shelf for HostShelf<R> {
+    ghost told = { λ _. None };
+
+    ghost faults = { λ s. s };
+
+    fn fetch(&mut self, alloc: Global, name: &str, limit: u64) -> Result<Vec<u8>, FetchFault>
+        ensures cause { HasCause self.old self.new limit result }
+        ensures content { TellsFetch None None name.now result }
+        ensures counted { self.new ≡ count_after self.old result }
+    {
+        let answer = read_file(&self.rt, alloc, name, limit);
+        if answer.is_err() {
+            self.faults = self.faults.saturating_add(1);
+        }
+        answer
+    }
+}

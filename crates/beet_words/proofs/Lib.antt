@@ -1,0 +1,5 @@
+pub mod TapeRows
+pub mod TapeAgain
+pub mod Times
+pub mod FieldsAgain
+pub mod BundleAgain

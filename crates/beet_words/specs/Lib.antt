@@ -1,0 +1,9 @@
+pub use Rattle.beet_field.specs.Field
+pub use Rattle.beet_field.specs.Trio
+pub use Rattle.beet_forms.specs.Faults
+pub mod Words
+pub mod Seeds
+pub mod Tapes
+pub mod TapeFiles
+pub mod Fields
+pub mod Bundles

@@ -1,0 +1,255 @@
+//! Bundles: the words of three servers and of all bidders in one binary file.
+
+ghost use Rattle.std.specs.Prelude.{◌≡◌, ◌≤◌, ◌<◌, ◌++◌, ℕ, List, length, Ok, IfOk, OnOk, All};
+ghost use Rattle.std.specs.List.{flat_map};
+ghost use Rattle.beet_forms.specs.Faults.{Answers};
+ghost use Rattle.beet_words.specs.Words.{IsWord};
+ghost use Rattle.beet_words.specs.Fields.{times, number_bytes};
+ghost use Rattle.beet_words.specs.Bundles.{up_to as allowed_up_to, word_at, list_at, server_at, bundle_of, list_bytes, server_bytes, bundle_bytes, AreWords, FitsBundle};
+
+use crate::fields::{Allowed, read_end, read_magic, read_number, room};
+use crate::word::{Word, WordList};
+use beet_field::{P, Trio};
+use beet_forms::ReadFault;
+use std::alloc::{AllocError, Global};
+use std::marker::Model;
+
+/// The words of the three servers and of the bidders.
+#[derive(Drop)]
+pub struct Words {
+    pub masks: Trio<WordList>,
+    pub coefficients: Trio<WordList>,
+    pub bidders: Vec<WordList>,
+}
+
+impl Model for Words {
+    ghost use Rattle.beet_words.specs.Bundles.{Words as Shown};
+
+    ghost Value = { Shown };
+
+    ghost view = { λ a. record { masks = a.masks; coefficients = a.coefficients; bidders = a.bidders.items } };
+}
+
+/// The text that a bundle begins with.
+const MAGIC: &[u8] = b"BEETWD01";
+
+/// How many words a list may have.
+const WORDS: u64 = 16_384;
+
+/// How many bidders a bundle may have.
+const BIDDERS: u64 = 2_000;
+
+/// The numbers of a bundle up to the highest.
+fn up_to(high: u64) -> Allowed
+    ensures { result ≡ allowed_up_to high }
+{
+    Allowed {
+        low: 0,
+        high,
+        truncated: 2,
+        outside: 3,
+    }
+}
+
+/// A word.
+fn read_word(bytes: &[u8], at: usize) -> Result<(Word, usize), ReadFault>
+    requires { at ≤ length bytes.now }
+    ensures word { Answers (λ read. read) (word_at bytes.now at) result }
+    ensures within { IfOk result (λ read. read.1 ≤ length bytes.now) }
+{
+    let (number, at) = read_number(bytes, up_to(P), at)?;
+    let Some(word) = Word::of(number) else {
+        unreachable!()
+    };
+    Ok((word, at))
+}
+
+/// So many words.
+fn read_words(
+    alloc: Global,
+    bytes: &[u8],
+    count: u64,
+    at: usize,
+) -> Result<(WordList, usize), ReadFault>
+    requires { at ≤ length bytes.now }
+    ensures words { Answers (λ read. read) (times count (word_at bytes.now) at) result }
+    ensures within { IfOk result (λ read. read.1 ≤ length bytes.now) }
+{
+    let Ok(mut words) = Vec::with_capacity(alloc, room(bytes, at, count)) else {
+        return Err(ReadFault::OutOfMemory);
+    };
+    let mut next = at;
+    for _k in 0..count {
+        let (word, after) = read_word(bytes, next)?;
+        let Ok(()) = words.push(word) else {
+            return Err(ReadFault::OutOfMemory);
+        };
+        next = after;
+    }
+    Ok((WordList::of(words), next))
+}
+
+/// A count and so many words.
+#[tactic(auto, unfolding(crate::specs::Fields::counted_at))]
+fn read_list(alloc: Global, bytes: &[u8], at: usize) -> Result<(WordList, usize), ReadFault>
+    requires { at ≤ length bytes.now }
+    ensures list { Answers (λ read. read) (list_at bytes.now at) result }
+    ensures within { IfOk result (λ read. read.1 ≤ length bytes.now) }
+{
+    let (count, at) = read_number(bytes, up_to(WORDS), at)?;
+    read_words(alloc, bytes, count, at)
+}
+
+/// So many lists.
+fn read_lists(
+    alloc: Global,
+    bytes: &[u8],
+    count: u64,
+    at: usize,
+) -> Result<(Vec<WordList>, usize), ReadFault>
+    requires { at ≤ length bytes.now }
+    ensures lists { Answers (λ read. (read.0.items, read.1)) (times count (list_at bytes.now) at) result }
+    ensures within { IfOk result (λ read. read.1 ≤ length bytes.now) }
+{
+    let Ok(mut lists) = Vec::with_capacity(alloc, room(bytes, at, count)) else {
+        return Err(ReadFault::OutOfMemory);
+    };
+    let mut next = at;
+    for _k in 0..count {
+        let (list, after) = read_list(alloc, bytes, next)?;
+        let Ok(()) = lists.push(list) else {
+            return Err(ReadFault::OutOfMemory);
+        };
+        next = after;
+    }
+    Ok((lists, next))
+}
+
+/// The masks and the coefficients of a server.
+#[tactic(auto, unfolding(crate::specs::Bundles::server_at))]
+fn read_server(
+    alloc: Global,
+    bytes: &[u8],
+    at: usize,
+) -> Result<((WordList, WordList), usize), ReadFault>
+    requires { at ≤ length bytes.now }
+    ensures lists { Answers (λ read. read) (server_at bytes.now at) result }
+    ensures within { IfOk result (λ read. read.1 ≤ length bytes.now) }
+{
+    let (masks, at) = read_list(alloc, bytes, at)?;
+    let (coefficients, at) = read_list(alloc, bytes, at)?;
+    Ok(((masks, coefficients), at))
+}
+
+/// The words of a bundle.
+///
+/// A bundle is refused at the first place from the left that breaks its format: for the reason 1 at
+/// 0 where it does not begin with `BEETWD01`; for the reason 2 at a field that is cut off; for the
+/// reason 3 at a number of bidders above 2,000, a count of words above 16,384 or a word of 2^61 or
+/// more; for the reason 4 at the first byte after the last field. The file is gone over once, and
+/// memory is taken for no more items than it can hold.
+#[tactic(auto, unfolding(crate::specs::Bundles::bundle_of))]
+pub fn read_bundle(alloc: Global, bytes: &[u8]) -> Result<Words, ReadFault>
+    requires { length bytes.now ≤ 67108864 }
+    ensures { Answers (λ words. words) (bundle_of bytes.now) result }
+{
+    let at = read_magic(bytes, MAGIC, 1)?;
+    let (count, at) = read_number(bytes, up_to(BIDDERS), at)?;
+    let (one, at) = read_server(alloc, bytes, at)?;
+    let (two, at) = read_server(alloc, bytes, at)?;
+    let (three, at) = read_server(alloc, bytes, at)?;
+    let (bidders, at) = read_lists(alloc, bytes, count, at)?;
+    read_end(bytes, 4, at)?;
+    Ok(Words {
+        masks: Trio {
+            one: one.0,
+            two: two.0,
+            three: three.0,
+        },
+        coefficients: Trio {
+            one: one.1,
+            two: two.1,
+            three: three.1,
+        },
+        bidders,
+    })
+}
+
+/// Appends a number.
+fn push_number(file: &mut Vec<u8>, number: u64) -> Result<(), AllocError>
+    ensures { OnOk result (file.new.items ≡ file.old.items ++ number_bytes number) }
+{
+    file.extend_from_slice(&number.to_be_bytes())
+}
+
+/// Appends words.
+fn push_words(file: &mut Vec<u8>, words: &[Word]) -> Result<(), AllocError>
+    ensures bytes { OnOk result (file.new.items ≡ file.old.items ++ flat_map number_bytes words.now) }
+    ensures words { OnOk result (All IsWord words.now) }
+{
+    for word in words {
+        push_number(file, word.value())?;
+    }
+    Ok(())
+}
+
+/// Appends a list of words after its count.
+fn push_list(file: &mut Vec<u8>, list: &WordList) -> Result<(), AllocError>
+    ensures bytes { OnOk result (file.new.items ≡ file.old.items ++ list_bytes list.now) }
+    ensures words { OnOk result (All IsWord list.now) }
+{
+    let words = list.as_slice();
+    push_number(file, words.len() as u64)?;
+    push_words(file, words)
+}
+
+/// Appends lists of words.
+fn push_lists(file: &mut Vec<u8>, lists: &[WordList]) -> Result<(), AllocError>
+    ensures bytes { OnOk result (file.new.items ≡ file.old.items ++ flat_map list_bytes lists.now) }
+    ensures words { OnOk result (All (λ list. All IsWord list) lists.now) }
+{
+    for list in lists {
+        push_list(file, list)?;
+    }
+    Ok(())
+}
+
+/// Appends the lists of a server.
+fn push_server(
+    file: &mut Vec<u8>,
+    masks: &WordList,
+    coefficients: &WordList,
+) -> Result<(), AllocError>
+    ensures bytes { OnOk result (file.new.items ≡ file.old.items ++ server_bytes masks.now coefficients.now) }
+    ensures masks { OnOk result (All IsWord masks.now) }
+    ensures coefficients { OnOk result (All IsWord coefficients.now) }
+{
+    push_list(file, masks)?;
+    push_list(file, coefficients)
+}
+
+/// The bytes of the words.
+fn bytes_of(alloc: Global, words: &Words) -> Result<Vec<u8>, AllocError>
+    ensures bytes { IfOk result (λ file. file.items ≡ bundle_bytes words.now) }
+    ensures words { OnOk result (AreWords words.now) }
+{
+    let mut file = Vec::new(alloc);
+    file.extend_from_slice(MAGIC)?;
+    push_number(&mut file, words.bidders.len() as u64)?;
+    push_server(&mut file, &words.masks.one, &words.coefficients.one)?;
+    push_server(&mut file, &words.masks.two, &words.coefficients.two)?;
+    push_server(&mut file, &words.masks.three, &words.coefficients.three)?;
+    push_lists(&mut file, &words.bidders)?;
+    Ok(file)
+}
+
+/// The bundle of the words, which are at most 2,000 bidders and at most 16,384 words in each list.
+/// Want of memory is the only error.
+pub fn write_bundle(alloc: Global, words: &Words) -> Result<Vec<u8>, AllocError>
+    requires { FitsBundle words.now }
+    ensures bytes { IfOk result (λ file. file.items ≡ bundle_bytes words.now) }
+    ensures again { IfOk result (λ file. bundle_of file.items ≡ Ok words.now) }
+{
+    let file = bytes_of(alloc, words)?;
+    Ok(file)
+}

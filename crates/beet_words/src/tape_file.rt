@@ -1,0 +1,108 @@
+//! Tape files: lines of 16 hexadecimal digits and a newline byte, each a word.
+
+ghost use Rattle.std.specs.Prelude.{◌≡◌, ◌≤◌, ◌*◌, ◌++◌, ◌∷◌, [], ℕ, length, take, IfOk, OnOk, MatchResult, Ok, None, Some};
+ghost use Rattle.beet_forms.specs.Faults.{Answers};
+ghost use Rattle.beet_words.specs.TapeFiles.{tape_of, line_at, number_in, reason_against, word_in, line_of, tape_bytes};
+ghost use Rattle.beet_words.specs.Words.{IsWord};
+
+use crate::digits::{read_digits, write_digits};
+use crate::word::{Word, WordList};
+use beet_forms::{Place, ReadFault};
+use std::alloc::{AllocError, Global};
+
+/// How many bytes a line has.
+const LINE: usize = 17;
+
+/// The k-th line, from 0. The last one may be shorter.
+fn line(bytes: &[u8], k: u32) -> &[u8]
+    requires { 17 * k ≤ length bytes.now }
+    ensures { result.now ≡ line_at bytes.now k }
+{
+    let rest = &bytes[LINE * k as usize..];
+    if rest.len() <= LINE {
+        rest
+    } else {
+        &rest[..LINE]
+    }
+}
+
+/// The number of a line.
+fn read_number(line: &[u8]) -> Option<u64>
+    ensures { result ≡ number_in line.now }
+{
+    if line.len() != LINE || line[16] != b'\n' {
+        return None;
+    }
+    read_digits(&line[..16])
+}
+
+/// The word of a line, or the reason against it.
+fn read_line(line: &[u8]) -> Result<Word, u32>
+    ensures { MatchResult result
+        (λ word. (reason_against line.now ≡ None) × (word ≡ word_in line.now))
+        (λ reason. reason_against line.now ≡ Some reason) }
+{
+    let Some(n) = read_number(line) else {
+        return Err(1);
+    };
+    Word::of(n).ok_or(2)
+}
+
+/// Keeps a word, unless enough are kept.
+fn keep_word(words: &mut Vec<Word>, word: Word, keep: u32) -> Result<(), AllocError>
+    requires { length words.old.items ≤ keep }
+    ensures { OnOk result (words.new.items ≡ take keep (words.old.items ++ word ∷ [])) }
+{
+    if words.len() < keep as usize {
+        words.push(word)?;
+    }
+    Ok(())
+}
+
+/// The first `keep` words of a tape file, which is read to its end.
+///
+/// The rows are the groups of 17 bytes, counted from 1. A row is refused for the reason 1 where it
+/// is not 16 hexadecimal digits of either case and a newline byte, and for the reason 2 where its
+/// number is 2^61 or more.
+pub fn read_tape(alloc: Global, bytes: &[u8], keep: u32) -> Result<WordList, ReadFault>
+    requires { length bytes.now ≤ 67108864 }
+    ensures { Answers (λ words. words) (tape_of bytes.now keep) result }
+{
+    let count = bytes.len().div_ceil(LINE) as u32;
+    let mut words = Vec::new(alloc);
+    for k in 0..count {
+        let word = match read_line(line(bytes, k)) {
+            Ok(word) => word,
+            Err(reason) => {
+                let place = Place::Row(k + 1);
+                return Err(ReadFault::Bad { place, reason });
+            }
+        };
+        let Ok(()) = keep_word(&mut words, word, keep) else {
+            return Err(ReadFault::OutOfMemory);
+        };
+    }
+    Ok(WordList::of(words))
+}
+
+/// Appends the line of a word.
+fn push_line(file: &mut Vec<u8>, word: Word) -> Result<(), AllocError>
+    ensures line { OnOk result (file.new.items ≡ file.old.items ++ line_of word) }
+    ensures below { IsWord word }
+{
+    let mut line = [b'\n'; LINE];
+    write_digits(word.value(), &mut line[..16]);
+    file.extend_from_slice(line.as_slice())
+}
+
+/// The tape file of the words, in lower-case digits. Want of memory is the only error.
+pub fn write_tape(alloc: Global, words: &[Word]) -> Result<Vec<u8>, AllocError>
+    ensures bytes { IfOk result (λ file. file.items ≡ tape_bytes words.now) }
+    ensures again { IfOk result (λ file. (keep : ℕ) → length words.now ≤ keep → tape_of file.items keep ≡ Ok words.now) }
+{
+    let mut file = Vec::with_capacity(alloc, words.len().saturating_mul(LINE))?;
+    for word in words {
+        push_line(&mut file, *word)?;
+    }
+    Ok(file)
+}

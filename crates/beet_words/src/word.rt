@@ -1,0 +1,166 @@
+//! Words, and lists of words and of field numbers.
+
+ghost use Rattle.std.specs.Prelude.{◌≡◌, ◌↔◌, ◌≤◌, ◌<◌, ◌^◌, ◌/◌, ◌%◌, IsNone, IfSome, IfOk, IsTrue, bit_xor};
+ghost use Rattle.beet_words.specs.Words.{IsWord, ones};
+
+use beet_field::{Fe, P};
+use std::alloc::{AllocError, Global};
+use std::marker::Model;
+
+/// A number below 2^61.
+#[derive(Clone, Copy, PartialEq, Eq, Debug)]
+pub struct Word {
+    number: u64,
+}
+
+impl Model for Word {
+    ghost use Rattle.std.specs.Prelude.{ℕ};
+    ghost use Rattle.beet_words.specs.Words.{IsWord};
+
+    ghost Value = { ℕ };
+
+    ghost view = { λ a. a.number };
+
+    ghost invariant = { λ a. IsWord a.number };
+
+    ghost inverse = { λ n. record { number = n } };
+}
+
+impl Word {
+    /// The word of the number `n`, or none where it is 2^61 or more.
+    pub fn of(n: u64) -> Option<Word>
+        ensures refused { IsNone result ↔ (2 ^ 61 ≤ n) }
+        ensures value { IfSome result (λ w. w ≡ n) }
+    {
+        if n < 1 << 61 {
+            Some(Word { number: n })
+        } else {
+            None
+        }
+    }
+
+    /// The word of the low 61 bits of `n`.
+    pub(crate) fn of_low_bits(n: u64) -> Word
+        ensures { result ≡ n % 2 ^ 61 }
+    {
+        Word { number: n & P }
+    }
+
+    /// The number.
+    pub fn value(self) -> u64
+        ensures value { result ≡ self }
+        ensures below { IsWord result }
+    {
+        self.number
+    }
+
+    /// Whether the bit at the place `k` is set; the bit 0 is the lowest.
+    pub fn bit(self, k: u32) -> bool
+        requires { k < 61 }
+        ensures { IsTrue result ↔ (self / 2 ^ k % 2 ≡ 1) }
+    {
+        (self.number >> k) & 1 == 1
+    }
+
+    /// The exclusive or, bit by bit.
+    pub fn xor(self, other: Word) -> Word
+        ensures { result ≡ bit_xor self other }
+    {
+        Word {
+            number: self.number ^ other.number,
+        }
+    }
+
+    /// Whether all 61 bits are set. Such a word is a mask, and no number of the field.
+    pub fn is_ones(self) -> bool
+        ensures { IsTrue result ↔ (self ≡ ones) }
+    {
+        self.number == P
+    }
+
+    /// The word as a number of the field, or none where all its bits are set.
+    pub fn field(self) -> Option<Fe>
+        ensures refused { IsNone result ↔ (self ≡ ones) }
+        ensures value { IfSome result (λ x. x ≡ self) }
+    {
+        Fe::of(self.number)
+    }
+}
+
+/// A list of words.
+#[derive(Drop)]
+pub struct WordList {
+    items: Vec<Word>,
+}
+
+impl Model for WordList {
+    ghost use Rattle.std.specs.Prelude.{ℕ, List};
+
+    ghost Value = { List ℕ };
+
+    ghost view = { λ a. a.items.items };
+}
+
+impl WordList {
+    /// The list of these items.
+    pub fn of(items: Vec<Word>) -> WordList
+        ensures { result ≡ items.items }
+    {
+        WordList { items }
+    }
+
+    /// The items.
+    pub fn as_slice(&self) -> &[Word]
+        ensures { result.now ≡ self.now }
+    {
+        self.items.as_slice()
+    }
+
+    /// The same list, in memory of its own.
+    pub fn copy(&self, alloc: Global) -> Result<WordList, AllocError>
+        ensures { IfOk result (λ words. words ≡ self.now) }
+    {
+        Ok(WordList {
+            items: Vec::from_slice(alloc, self.items.as_slice())?,
+        })
+    }
+}
+
+/// A list of numbers of the field.
+#[derive(Drop)]
+pub struct FeList {
+    items: Vec<Fe>,
+}
+
+impl Model for FeList {
+    ghost use Rattle.std.specs.Prelude.{ℕ, List};
+
+    ghost Value = { List ℕ };
+
+    ghost view = { λ a. a.items.items };
+}
+
+impl FeList {
+    /// The list of these items.
+    pub fn of(items: Vec<Fe>) -> FeList
+        ensures { result ≡ items.items }
+    {
+        FeList { items }
+    }
+
+    /// The items.
+    pub fn as_slice(&self) -> &[Fe]
+        ensures { result.now ≡ self.now }
+    {
+        self.items.as_slice()
+    }
+
+    /// The same list, in memory of its own.
+    pub fn copy(&self, alloc: Global) -> Result<FeList, AllocError>
+        ensures { IfOk result (λ numbers. numbers ≡ self.now) }
+    {
+        Ok(FeList {
+            items: Vec::from_slice(alloc, self.items.as_slice())?,
+        })
+    }
+}
