@@ -1,0 +1,65 @@
+-- What is read of the bidders of a book: of each its bid, and then its words, of which there have to be enough.
+use Rattle.std.specs.Prelude.{ℕ, ◌+◌, ◌*◌, List, [], ◌∷◌, ◌++◌, length, map, nat_lt, if◌then◌else◌}
+use Rattle.beet_words.specs.Words.{accepted}
+use Rattle.beet_words.specs.Seeds.{seed_words}
+use Rattle.beet_words.specs.TapeFiles.{tape_of}
+use Rattle.beet_bids.specs.Grids.{Grid}
+use Rattle.beet_bids.specs.Curves.{Curve}
+use Rattle.beet_bids.specs.BidFiles.{bid_of}
+use Rattle.beet_bids.specs.declared.book.Bidder.{Bidder}
+use Rattle.beet_book.specs.declared.entries.Entry.{Entry}
+use Rattle.beet_book.specs.declared.entries.BidderSource.{BidderSource}
+use Rattle.beet_book.specs.declared.entries.BidderSource.TheVariants.{Seed, Tape}
+use Rattle.beet_app.specs.Errands.{Errand, answers, reads}
+use Rattle.beet_app.specs.Texts.{too_few_text}
+use Rattle.beet_app.specs.declared.answer.Status.TheVariants.{TooFewWords}
+
+-- a bidder and the words that it deals its quantities with
+pub record Farmer : Type 0 where
+  pub bidder : Bidder
+  pub words : List ℕ
+
+-- a bidder draws a number for each quantity, two at each price
+abbrev pub words_wanted : Grid → ℕ
+words_wanted grid = 2 * grid.prices
+
+-- a tape is the first words of its file, eight more than are wanted; a seed gives as many
+abbrev pub words_kept : Grid → ℕ
+words_kept grid = words_wanted grid + 8
+
+-- the words of a source
+abbrev pub words_errand : BidderSource → ℕ → (List ℕ → Errand) → Errand
+words_errand (Seed seed) kept next = next (seed_words seed 0 kept)
+words_errand (Tape name) kept next = reads name 1048576 (λ bytes. tape_of bytes kept) next
+
+-- of these words enough are accepted, or the bidder with this number has too few
+abbrev pub enough_words : ℕ → ℕ → List ℕ → Errand → Errand
+enough_words number wanted words next =
+    if nat_lt (length (accepted words)) wanted then answers TooFewWords (too_few_text number (length (accepted words)) wanted)
+    else next
+
+-- the bidder of an entry, with this number, once its curve and its words are read
+abbrev pub with_words : Grid → ℕ → Entry → Curve → List ℕ → (Farmer → Errand) → Errand
+with_words grid number entry curve words next =
+    enough_words number (words_wanted grid) words
+    (next (record { bidder = record { known = entry.known; curve = curve }; words = words }))
+
+-- the same, once its curve is read: its words are next
+abbrev pub with_curve : Grid → ℕ → Entry → Curve → (Farmer → Errand) → Errand
+with_curve grid number entry curve next =
+    words_errand entry.source (words_kept grid) (λ words. with_words grid number entry curve words next)
+
+-- the bidder of an entry, with this number: first its bid, then its words
+abbrev pub farmer_errand : Grid → ℕ → Entry → (Farmer → Errand) → Errand
+farmer_errand grid number entry next =
+    reads entry.bid 1048576 (bid_of grid) (λ curve. with_curve grid number entry curve next)
+
+-- the bidders of a book in order, after those that are read; they are numbered from 1
+abbrev pub farmers_errand : Grid → List Farmer → List Entry → (List Farmer → Errand) → Errand
+farmers_errand grid read [] next = next read
+farmers_errand grid read (entry ∷ entries) next =
+    farmer_errand grid (length read + 1) entry (λ farmer. farmers_errand grid (read ++ farmer ∷ []) entries next)
+
+-- the bidders alone
+abbrev pub bidders_of : List Farmer → List Bidder
+bidders_of farmers = map (λ farmer. farmer.bidder) farmers

@@ -1,0 +1,10 @@
+pub mod Statuses
+pub mod Texts
+pub mod Errands
+pub mod Fetches
+pub mod Farmers
+pub mod FarmerViews
+pub mod Collecting
+pub mod Tally
+pub mod Jobs
+pub mod Runs

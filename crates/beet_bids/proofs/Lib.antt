@@ -1,0 +1,4 @@
+pub mod GridFacts
+pub mod CurveFacts
+pub mod LineFacts
+pub mod HeldFacts

@@ -1,0 +1,9 @@
+pub mod Grids
+pub mod Curves
+pub mod Books
+pub mod Sums
+pub mod Outcomes
+pub mod Reasons
+pub mod AuctionFiles
+pub mod Lines
+pub mod BidFiles

@@ -1,0 +1,167 @@
+//! The lines of a bid.
+
+ghost use Rattle.std.specs.Prelude.{◌≡◌, ◌<◌, ◌≤◌, ◌+◌, ◌^◌, length, min, Some, None, if◌then◌else◌, option_map, map, filter_map, IfOk};
+ghost use Rattle.beet_forms.specs.Faults.{Answers, reading_of, row_reading};
+ghost use Rattle.beet_forms.specs.Numbers.{decimal_value};
+ghost use Rattle.beet_bids.specs.Curves.{IsOfGrid};
+ghost use Rattle.beet_bids.specs.Reasons.{first_fault};
+ghost use Rattle.beet_bids.specs.Lines.{AreLines, begin_at, cut_line};
+ghost use Rattle.beet_bids.specs.BidFiles.{curve_in, first_reason, is_large, is_number, line_of, line_reason, line_reasons, next_reason};
+
+use crate::curve::{Curve, LARGEST_QUANTITY};
+use crate::grid::Grid;
+use crate::refusals::refused;
+use beet_forms::{NumberFault, ReadFault, Row, number, three_fields};
+use std::alloc::{AllocError, Global};
+
+/// A line of a bid: from this price on, these quantities.
+#[derive(Clone, Copy, Drop)]
+pub(crate) struct Line {
+    price: u64,
+    buy: u64,
+    sell: u64,
+}
+
+/// The number of a text, cut to one above the largest, or none where the text is no number.
+fn cut_number(digits: &[u8], largest: u64) -> Option<u64>
+    requires { largest + 1 < 2 ^ 64 }
+    ensures { result ≡ (if is_number digits.now
+        then Some (min (decimal_value digits.now) (largest + 1)) else None) }
+{
+    match number(digits, largest) {
+        Ok(n) => Some(n),
+        Err(NumberFault::TooLarge) => Some(largest + 1),
+        Err(_) => None,
+    }
+}
+
+/// The line of a row, with each number cut to one above the largest that it may be.
+fn cut_line(grid: &Grid, row: &Row) -> Option<Line>
+    ensures { result ≡ option_map (cut_line grid.now) (line_of row.now) }
+{
+    let (price, buy, sell) = three_fields(row)?;
+    let price = cut_number(price, grid.price(grid.prices() - 1))?;
+    let buy = cut_number(buy, LARGEST_QUANTITY)?;
+    let sell = cut_number(sell, LARGEST_QUANTITY)?;
+    Some(Line { price, buy, sell })
+}
+
+/// Whether a quantity is above the largest.
+fn is_large(line: Line) -> bool
+    ensures { result ≡ is_large line }
+{
+    line.buy > LARGEST_QUANTITY || line.sell > LARGEST_QUANTITY
+}
+
+/// Why the first line is refused, if it is.
+fn first_reason(grid: &Grid, line: Line) -> Option<u32>
+    ensures { result ≡ first_reason grid.now line }
+{
+    if line.price != grid.base() {
+        Some(8)
+    } else if is_large(line) {
+        Some(7)
+    } else {
+        None
+    }
+}
+
+/// Why a line is refused after the line before it, if it is.
+fn next_reason(before: Line, line: Line) -> Option<u32>
+    ensures { result ≡ next_reason before line }
+{
+    if line.price <= before.price {
+        Some(4)
+    } else if is_large(line) {
+        Some(7)
+    } else if line.buy > before.buy {
+        Some(5)
+    } else if line.sell < before.sell {
+        Some(6)
+    } else {
+        None
+    }
+}
+
+/// Why a line is refused, if it is.
+fn line_reason(grid: &Grid, before: Option<Line>, line: Line) -> Option<u32>
+    ensures { result ≡ line_reason grid.now before (Some line) }
+{
+    if grid.place(line.price).is_none() {
+        return Some(3);
+    }
+    match before {
+        None => first_reason(grid, line),
+        Some(before) => next_reason(before, line),
+    }
+}
+
+/// The line of the row of this number.
+fn read_line(grid: &Grid, before: Option<Line>, number: u32, row: &Row) -> Result<Line, ReadFault>
+    ensures { let line = line_of row.now in
+        let reason = line_reason grid.now before line in
+        Answers (λ read. Some read) (row_reading number reason line) result }
+{
+    let Some(line) = cut_line(grid, row) else {
+        return Err(refused(number, 2));
+    };
+    match line_reason(grid, before, line) {
+        Some(reason) => Err(refused(number, reason)),
+        None => Ok(line),
+    }
+}
+
+/// The lines of the rows after the header.
+pub(crate) fn read_lines(alloc: Global, grid: &Grid, rows: &[Row]) -> Result<Vec<Line>, ReadFault>
+    requires { length rows.now + 2 < 2 ^ 32 }
+    ensures reads { let fault = first_fault 2 (line_reasons grid.now (map line_of rows.now)) in
+        Answers (λ v. v.items) (reading_of fault (filter_map line_of rows.now)) result }
+    ensures lines { IfOk result (λ v. AreLines grid.now v.items) }
+{
+    if rows.is_empty() {
+        return Err(refused(2, 8));
+    }
+    let mut lines = Vec::new(alloc);
+    let mut before = None;
+    for (i, row) in rows.iter().enumerate() {
+        let line = read_line(grid, before, i as u32 + 2, row)?;
+        if lines.push(line).is_err() {
+            return Err(ReadFault::OutOfMemory);
+        }
+        before = Some(line);
+    }
+    Ok(lines)
+}
+
+/// The place where the line of this number begins, or the number of places after the last line.
+fn begin(grid: &Grid, lines: &[Line], i: usize) -> usize
+    requires { AreLines grid.now lines.now }
+    ensures { result ≡ begin_at grid.now lines.now i }
+{
+    match lines.get(i) {
+        None => grid.prices() as usize,
+        Some(line) => match grid.place(line.price) {
+            Some(place) => place as usize,
+            None => unreachable!(),
+        },
+    }
+}
+
+/// The curve of the lines: each holds up to the place where the next begins.
+pub(crate) fn curve_of(alloc: Global, grid: &Grid, lines: &[Line]) -> Result<Curve, AllocError>
+    requires { AreLines grid.now lines.now }
+    ensures value { IfOk result (λ curve. curve ≡ curve_in grid.now lines.now) }
+    ensures of_grid { IfOk result (λ curve. IsOfGrid grid.now curve) }
+{
+    let mut buy = Vec::with_capacity(alloc, grid.prices() as usize)?;
+    let mut sell = Vec::with_capacity(alloc, grid.prices() as usize)?;
+    for (i, line) in lines.iter().enumerate() {
+        let end = begin(grid, lines, i + 1);
+        buy.resize(end, line.buy)?;
+        sell.resize(end, line.sell)?;
+    }
+    match Curve::of(grid, buy, sell) {
+        Some(curve) => Ok(curve),
+        None => unreachable!(),
+    }
+}

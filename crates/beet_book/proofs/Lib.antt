@@ -1,0 +1,10 @@
+pub mod Pairs
+pub mod Items
+pub mod Sums
+pub mod Deals
+pub mod Each
+pub mod Begins
+pub mod BookRows
+pub mod Summed
+pub mod Few
+pub mod Fronts

@@ -1,0 +1,70 @@
+-- Totals: the points of several bidders added up, and put in the order of an auction's input wires.
+use Rattle.std.specs.Prelude.{◌≡◌, ℕ, ◌+◌, ◌*◌, ◌%◌, ◌<◌, List, ◌++◌, length, map, take, drop, slice_index, sum_by, replicate}
+use Rattle.std.specs.List.{range_with_len}
+use Rattle.beet_field.specs.declared.trio.Trio.{Trio}
+use Rattle.beet_field.specs.Field.{p, add_of}
+use Rattle.beet_shamir.specs.Line.{recombined}
+use Rattle.beet_bids.specs.Curves.{Curve, quantity}
+use Rattle.beet_book.specs.Dealing.{pairwise, AreShares}
+
+-- summed points of bidders, buy first, over a grid with so many prices
+pub record Totals : Type 0 where
+  pub prices : ℕ
+  pub points : Trio (List ℕ)
+
+-- the sums place by place, modulo p
+abbrev pub sums_of : List ℕ → List ℕ → List ℕ
+sums_of xs ys = pairwise add_of xs ys
+
+-- the sums at each server
+abbrev pub added : Trio (List ℕ) → Trio (List ℕ) → Trio (List ℕ)
+added a b = record { one = sums_of a.one b.one; two = sums_of a.two b.two; three = sums_of a.three b.three }
+
+-- no points yet
+abbrev pub none_of : ℕ → Totals
+none_of prices = record {
+  prices = prices;
+  points = record {
+    one = replicate (2 * prices) 0;
+    two = replicate (2 * prices) 0;
+    three = replicate (2 * prices) 0;
+  };
+}
+
+-- supply at each place and then demand at each place, of a list that has buy first
+abbrev pub supply_first : ℕ → List ℕ → List ℕ
+supply_first prices xs = drop prices xs ++ take prices xs
+
+-- the inputs of the servers, wire by wire
+abbrev pub wires_of : Totals → Trio (List ℕ)
+wires_of totals = record {
+  one = supply_first totals.prices totals.points.one;
+  two = supply_first totals.prices totals.points.two;
+  three = supply_first totals.prices totals.points.three;
+}
+
+-- the three points of one wire
+abbrev pub points_on : Trio (List ℕ) → ℕ → Trio ℕ
+points_on wires wire = record {
+  one = slice_index wires.one wire;
+  two = slice_index wires.two wire;
+  three = slice_index wires.three wire;
+}
+
+-- the plain sums, place by place
+abbrev pub plain_sums : List ℕ → List ℕ → List ℕ
+plain_sums xs ys = pairwise (λ x y. x + y) xs ys
+
+-- points of lines are added to points of lines with the sums of their values
+abbrev pub AddsValues : Trio (List ℕ) → Trio (List ℕ) → Trio (List ℕ) → Type 0
+AddsValues a b sum = (v w : List ℕ) → AreShares v a → AreShares w b → AreShares (plain_sums v w) sum
+
+-- where the totals are points of lines, each wire recombines to the value of its line, modulo p
+abbrev pub CarriesValues : Totals → Trio (List ℕ) → Type 0
+CarriesValues totals wires =
+    (v : List ℕ) → AreShares v totals.points → length v ≡ 2 * totals.prices → (wire : ℕ) → wire < 2 * totals.prices →
+    recombined (points_on wires wire) ≡ slice_index (supply_first totals.prices v) wire % p
+
+-- the sum of the n-th quantities of the curves, for each n
+abbrev pub summed_quantities : ℕ → List Curve → List ℕ
+summed_quantities prices curves = map (λ n. sum_by (λ curve. quantity curve n) curves) (range_with_len 0 (2 * prices))

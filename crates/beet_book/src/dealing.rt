@@ -1,0 +1,112 @@
+//! Dealing the quantities of bidders.
+
+ghost use Rattle.std.specs.Prelude.{◌≡◌, ◌≤◌, ◌<◌, ◌*◌, slice_index, length, All, IfOk, OnErr};
+ghost use Rattle.beet_field.specs.Trio.{member};
+ghost use Rattle.beet_words.specs.Tapes.{left_of};
+ghost use Rattle.beet_bids.specs.Curves.{IsOfGrid};
+ghost use Rattle.beet_shamir.specs.Line.{points_of};
+ghost use Rattle.beet_book.specs.Columns.{HasRoom, pushed};
+ghost use Rattle.beet_book.specs.Dealing.{AreShares, DealsBidder, DealsEach, DrawsMany, HasLengths, quantities};
+
+use crate::columns::Columns;
+use beet_bids::{Curve, Grid};
+use beet_field::{Fe, Point, Trio};
+use beet_shamir::deal;
+use beet_words::{FeList, Tape};
+use std::alloc::{AllocError, Global};
+use std::marker::Model;
+
+/// The points of one bidder at the three servers: buy at each place of the grid, and then sell at each place.
+#[derive(Drop)]
+pub struct Dealt {
+    points: Trio<FeList>,
+}
+
+impl Model for Dealt {
+    ghost use Rattle.std.specs.Prelude.{ℕ, List};
+    ghost use Rattle.beet_field.specs.declared.trio.Trio.{Trio as Each};
+
+    ghost Value = { Each (List ℕ) };
+
+    ghost view = { λ a. a.points };
+}
+
+impl Dealt {
+    /// The points that the three servers were given. They need not lie on lines.
+    pub fn of(grid: &Grid, points: Trio<FeList>) -> Dealt
+        requires { HasLengths points (2 * grid.now.prices) }
+        ensures { result ≡ points }
+    {
+        Dealt { points }
+    }
+
+    /// The points of one server.
+    pub fn points(&self, at: Point) -> &[Fe]
+        ensures { result.now ≡ member self.now at }
+    {
+        self.points.get(at).as_slice()
+    }
+}
+
+/// Deals one value, by the next number of the tape.
+fn deal_next(columns: &mut Columns, value: u64, tape: &mut Tape)
+    requires room { HasRoom columns.old }
+    requires word { 0 < length (left_of tape.old) }
+
+    ensures points { columns.new ≡
+        pushed columns.old (points_of value (slice_index (left_of tape.old) 0)) }
+    ensures drawn { DrawsMany tape.old tape.new 1 }
+{
+    let slope = tape.draw();
+    columns.push(deal(Fe::reduce(value as u128), slope));
+}
+
+/// Deals the quantities of a bidder to the three servers, by Shamir's lines (1979). The slopes are drawn from the tape,
+/// first for buy at each place of the grid and then for sell. Where memory runs out, the tape is as before.
+pub fn deal_bidder(
+    alloc: Global,
+    grid: &Grid,
+    curve: &Curve,
+    tape: &mut Tape,
+) -> Result<Dealt, AllocError>
+    requires of_grid { IsOfGrid grid.now curve.now }
+    requires words { 2 * grid.now.prices ≤ length (left_of tape.old) }
+
+    ensures dealt { IfOk result (λ dealt. DealsBidder curve.now tape.old tape.new dealt) }
+    ensures shares { IfOk result (AreShares (quantities curve.now)) }
+    ensures lengths { IfOk result (λ dealt. HasLengths dealt (2 * grid.now.prices)) }
+    ensures refused { OnErr result (tape.new ≡ tape.old) }
+{
+    let prices = grid.prices();
+    let mut columns = Columns::new(alloc, 2 * prices)?;
+    for place in 0..prices {
+        deal_next(&mut columns, curve.buy(place), tape);
+    }
+    for place in 0..prices {
+        deal_next(&mut columns, curve.sell(place), tape);
+    }
+    Ok(Dealt::of(grid, columns.into_points()))
+}
+
+/// Deals each curve by its own tape, as `deal_bidder` does. Where memory runs out, nothing is known of how far the tapes
+/// are passed.
+pub fn deal_many(
+    alloc: Global,
+    grid: &Grid,
+    curves: &[Curve],
+    tapes: &mut [Tape],
+) -> Result<Vec<Dealt>, AllocError>
+    requires paired { length tapes.old ≡ length curves.now }
+    requires of_grid { All (IsOfGrid grid.now) curves.now }
+    requires words { All (λ tape. 2 * grid.now.prices ≤ length (left_of tape)) tapes.old }
+
+    ensures dealt { IfOk result (λ dealt. DealsEach curves.now tapes.old tapes.new dealt.items) }
+    ensures lengths { IfOk result
+        (λ dealt. All (λ points. HasLengths points (2 * grid.now.prices)) dealt.items) }
+{
+    let mut dealt = Vec::with_capacity(alloc, curves.len())?;
+    for (i, tape) in tapes.iter_mut().enumerate() {
+        dealt.push(deal_bidder(alloc, grid, &curves[i], tape)?)?;
+    }
+    Ok(dealt)
+}
