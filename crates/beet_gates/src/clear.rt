@@ -211,12 +211,17 @@ pub fn clear_run<S: Script>(
 ) -> Result<ClearRun, AllocError>
     requires inputs { length inputs.now ≡ S.inputs_of script.now }
     requires masks { HasWords (S.masks_of script.now) masks.now }
-    ensures wires { IfOk result (λ run. run.wires ≡ (clear_values (S.batch_of script.now) (S.rounds_of script.now) inputs.now masks.now).wires) }
-    ensures opened { IfOk result (λ run. run.opened ≡ (clear_values (S.batch_of script.now) (S.rounds_of script.now) inputs.now masks.now).opened) }
-    ensures rounds { IfOk result (λ run. run.rounds ≡ rounds_run (S.batch_of script.now) (S.rounds_of script.now) inputs.now masks.now) }
-    ensures end { IfOk result (λ run. EndsAfter (S.batch_of script.now) (deals_of masks.now) inputs.now run.rounds) }
+    ensures wires { IfOk result (λ run. run.wires ≡
+        (clear_values (S.batch_of script.now) (S.rounds_of script.now) inputs.now masks.now).wires) }
+    ensures opened { IfOk result (λ run. run.opened ≡
+        (clear_values (S.batch_of script.now) (S.rounds_of script.now) inputs.now masks.now).opened) }
+    ensures rounds { IfOk result (λ run. run.rounds ≡
+        rounds_run (S.batch_of script.now) (S.rounds_of script.now) inputs.now masks.now) }
+    ensures end { IfOk result (λ run.
+        EndsAfter (S.batch_of script.now) (deals_of masks.now) inputs.now run.rounds) }
 {
     let rounds = script.rounds();
+    // The law bounds the deals by this number, so a u32 counts them.
     let _dealt_at_most = script.masks();
     let mut run = Run::start(alloc, inputs, script.wires())?;
     for done in 0..rounds {

@@ -12,6 +12,7 @@ pub enum PutFault {
     /// The bytes cannot be written; the count of faults rose.
     #[error("the bytes cannot be written")]
     Failed,
+    /// Memory ran out; files and text are as they were.
     #[error("out of memory")]
     OutOfMemory,
 }

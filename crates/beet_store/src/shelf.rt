@@ -16,6 +16,7 @@ pub enum FetchFault {
     /// above the limit.
     #[error("the file is too long: {0} bytes")]
     TooLong(u64),
+    /// Memory ran out; the record of fetches is as it was.
     #[error("out of memory")]
     OutOfMemory,
 }

@@ -25,11 +25,12 @@ number_in line = if (length line == 17) && (slice_index line 16 == 10) then digi
 abbrev pub word_in : List ℕ → ℕ
 word_in line = unwrap_or (number_in line) 0
 
--- the reason against a line, if there is one: 1 for no number, 2 for one that is no word
+-- the reason against the number of a line, if there is one: 1 for no number, 2 for one that is no word
 abbrev pub reason_of_number : Option ℕ → Option ℕ
 reason_of_number None = Some 1
 reason_of_number (Some n) = if nat_lt n (2 ^ 61) then None else Some 2
 
+-- the reason against a line
 abbrev pub reason_against : List ℕ → Option ℕ
 reason_against line = reason_of_number (number_in line)
 

@@ -71,7 +71,7 @@ impl Word {
         }
     }
 
-    /// Whether all 61 bits are set. Such a word is a mask, and no number of the field.
+    /// Whether all 61 bits are set. Such a word is passed over where numbers are drawn.
     pub fn is_ones(self) -> bool
         ensures { IsTrue result ↔ (self ≡ ones) }
     {

@@ -1,0 +1,4 @@
+pub mod MaskMeaning
+pub mod MaskRun
+pub mod MaskTable
+pub mod MaskStands

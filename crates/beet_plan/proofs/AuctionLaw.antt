@@ -1,0 +1,52 @@
+-- The law of the auction's script, and how many comparisons it makes.
+use Rattle.std.proofs.Common.{◌≡◌, ℕ, ◌+◌, ◌*◌, ◌/◌, ◌^◌, ◌<◌, ◌≤◌, [], refl, arith, zero-add}
+use Rattle.std.specs.Int.Digits.{digits_of}
+use Rattle.std.proofs.lemmas.Int.Digits.{number_lt, number_digits_of, all_below_base_digits_of, length-digits_of-le, length-digits_of_step}
+use Rattle.beet_gates.specs.Scripts.{LawFrom, start_of, bounds_of}
+use Rattle.beet_gates.specs.Plans.{PlanStands}
+use Rattle.beet_gates.proofs.PlanFacts.{Follows, plan-law}
+use Rattle.beet_bids.specs.Grids.{comparisons_of}
+use Rattle.beet_plan.specs.Auction.{Auction, auction_plan, auction_batch, most_rounds, most_masks, most_coefficients, most_wires}
+use Rattle.beet_plan.proofs.AuctionStands.{search-stands, Room}
+
+pub below_comparisons : (n : ℕ) → n < 2 ^ comparisons_of n
+unfolding comparisons_of
+below_comparisons n =
+    let two : 2 ≤ 2 = omega arith in
+    let h = number_lt 2 (digits_of 2 n) (all_below_base_digits_of 2 n two) in
+    rw (number_digits_of 2 n two) at h
+
+pub comparisons-le : (n k : ℕ) → n < 2 ^ k → comparisons_of n ≤ k
+unfolding comparisons_of
+comparisons-le n k h = length-digits_of-le 2 k n (omega arith) h
+
+pub comparisons-zero : comparisons_of 0 ≡ 0
+unfolding comparisons_of
+comparisons-zero = refl
+
+pub comparisons-half : (n : ℕ) → 0 < n → comparisons_of n ≡ comparisons_of (n / 2) + 1
+unfolding comparisons_of
+comparisons-half n h = length-digits_of_step 2 n (omega arith) h
+
+pub follows-itself : (a : Auction) → Follows (auction_batch a) 0 [] (auction_plan a)
+follows-itself a = record { batch = λ d more. rw zero-add refl }
+
+pub auction-stands : (a : Auction) →
+    PlanStands (bounds_of (most_wires a) (most_masks a) (most_coefficients a)) (most_rounds a) (start_of (2 * a.prices)) (auction_plan a)
+auction-stands a =
+    let l = comparisons_of a.prices in
+    let bounds = bounds_of (most_wires a) (most_masks a) (most_coefficients a) in
+    let room : Room bounds (start_of (2 * a.prices)) (most_rounds a) l 0 = record {
+      room_wires = omega arith;
+      room_masks = omega arith;
+      room_coefficients = omega arith;
+      room_rounds = omega arith;
+    } in
+    search-stands bounds a.prices (l + 3) l 0 a.prices 0 (most_rounds a) (start_of (2 * a.prices))
+    (omega arith) (omega arith) (omega (arith, below_comparisons a.prices)) (omega arith) room
+
+pub auction-law : (a : Auction) →
+    LawFrom (auction_batch a) (bounds_of (most_wires a) (most_masks a) (most_coefficients a)) (most_rounds a) (start_of (2 * a.prices)) []
+auction-law a =
+    plan-law (auction_batch a) (bounds_of (most_wires a) (most_masks a) (most_coefficients a)) (auction_plan a) (start_of (2 * a.prices)) (most_rounds a) []
+    (auction-stands a) (follows-itself a)

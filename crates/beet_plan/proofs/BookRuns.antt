@@ -1,0 +1,46 @@
+-- How the run of a book ends, and after how many rounds.
+use Rattle.std.proofs.Common.{◌≡◌, ◌↔◌, ℕ, ◌+◌, ◌<◌, ◌≤◌, inl, inr, Bool, true, false, List, slice_index, sym, ◌∙◌, arith}
+use Rattle.std.specs.Prelude.{nat_le, IsTrue}
+use Rattle.std.proofs.lemmas.Bool.{cases_Bool, iff_false}
+use Rattle.std.proofs.lemmas.Bool.Decides.{nat_tests}
+use Rattle.beet_field.specs.declared.trio.Trio.{Trio}
+use Rattle.beet_bids.specs.Grids.{comparisons_of}
+use Rattle.beet_bids.specs.Books.{Book, IsBook}
+use Rattle.beet_bids.specs.Sums.{supply_at, demand_at}
+use Rattle.beet_bids.specs.Outcomes.{clearing_place, outcome_of}
+use Rattle.beet_compare.specs.Compare.{is_doubled_even}
+use Rattle.beet_compare.proofs.Parity.{doubled_even-≤}
+use Rattle.beet_plan.specs.Auction.{Auction}
+use Rattle.beet_plan.specs.Search.{place_found}
+use Rattle.beet_plan.specs.Runs.{AreMasks, RunEnds, found, sums_of, finish_of}
+use Rattle.beet_plan.proofs.AuctionLaw.{below_comparisons}
+use Rattle.beet_plan.proofs.AuctionRuns.{auction-run}
+use Rattle.beet_plan.proofs.BookFacts.{book-turn, clearing-within, found-outcome, length-sums, sums-supply, sums-demand, sums-elements, small}
+use Rattle.beet_plan.proofs.Searches.{place-turn}
+
+-- two tests agree where both say the same
+same_test : (b : Bool) (s d : ℕ) → IsTrue b ↔ (d ≤ s) → b ≡ nat_le d s
+same_test b s d e = elim (cases_Bool b) [
+  | inl t ↦ let h = e.0 t in t ∙ (let le : nat_le d s ≡ true = grind (arith, nat_tests, h) in sym le)
+  | inr f ↦ f ∙ (let h = iff_false e f in let le : nat_le d s ≡ false = grind (arith, nat_tests, h) in sym le)
+]
+
+pub book-run : (book : Book) (words : Trio (List ℕ)) → IsBook book → AreMasks words →
+    RunEnds (record { prices = book.grid.prices }) (sums_of book) words (clearing_place book) (finish_of (outcome_of book))
+book-run book words b m =
+    let prices = book.grid.prices in
+    let a : Auction = record { prices = prices } in
+    let inputs = sums_of book in
+    let demand = λ (k : ℕ). slice_index inputs (prices + k) in
+    let test = λ (k : ℕ). is_doubled_even (slice_index inputs k) (demand k) in
+    let turns : (k : ℕ) → k < prices → test k ≡ nat_le (clearing_place book) k = λ k h.
+    let s = small book b k h in
+    let means = doubled_even-≤ (supply_at book.bidders k) (demand_at book.bidders k) (omega (arith, s.0)) (omega (arith, s.1)) (omega (arith, s.0)) (omega (arith, s.1)) in
+    rw (sums-supply book k h, sums-demand book k h)
+    (same_test (is_doubled_even (supply_at book.bidders k) (demand_at book.bidders k)) (supply_at book.bidders k) (demand_at book.bidders k) means)
+    ∙ book-turn book b k h in
+    let place : place_found prices test ≡ clearing_place book =
+    place-turn test (comparisons_of prices) 0 prices (clearing_place book) (omega arith) (clearing-within book) (omega (arith, below_comparisons prices)) turns in
+    let run = auction-run a inputs words (length-sums book) (sums-elements book b) m in
+    let finish : found prices demand (clearing_place book) ≡ finish_of (outcome_of book) = found-outcome book demand (sums-demand book) in
+    rw (place, finish) at run

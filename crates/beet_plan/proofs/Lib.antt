@@ -1,0 +1,11 @@
+pub mod Counts
+pub mod Searches
+pub mod BlockSteps
+pub mod AuctionEnd
+pub mod AuctionStands
+pub mod AuctionLaw
+pub mod AuctionRounds
+pub mod AuctionRuns
+pub mod BookFacts
+pub mod BookRuns
+pub mod Ended

@@ -1,0 +1,4 @@
+pub mod Auction
+pub mod Search
+pub mod Runs
+pub mod Ends

@@ -1,0 +1,166 @@
+-- The plan that is left at a place of the script.
+use Rattle.std.proofs.Common.{◌≡◌, ◌↔◌, ℕ, zero, suc, ◌+◌, ◌-◌, ◌/◌, ◌<◌, ◌≤◌, ◌⊎◌, inl, inr, Bool, true, false, List, [], ◌∷◌, length, Option, Some, None, refl, ap, ◌∙◌, arith}
+use Rattle.std.specs.Prelude.{nat_lt, IsTrue, unwrap_or}
+use Rattle.std.proofs.lemmas.Bool.{cases_lt, iff_false}
+use Rattle.std.proofs.lemmas.Bool.Decides.{nat_tests}
+use Rattle.beet_gates.specs.declared.Batch.{Batch}
+use Rattle.beet_gates.specs.Batches.{reveal_batch, end_batch}
+use Rattle.beet_gates.specs.Plans.{Plan, Ended, Block, plan_batch, plan_length, plan_after, plan_finish, batch_at}
+use Rattle.beet_gates.proofs.EachFacts.{get-past}
+use Rattle.beet_mask.specs.Mask.{mask_batches}
+use Rattle.beet_mask.proofs.MaskTable.{length-mask_batches}
+use Rattle.beet_compare.specs.Compare.{masked_batch, borrow_batches}
+use Rattle.beet_compare.proofs.CompareTable.{length-compare_batches}
+use Rattle.beet_plan.specs.Auction.{search_plan, end_plan, after_product}
+use Rattle.beet_plan.specs.declared.Finish.{Finish}
+use Rattle.beet_plan.specs.declared.Finish.TheVariants.{Price, NoPrice}
+use Rattle.beet_search.specs.Walk.{plan_at, stage_plan}
+use Rattle.beet_search.specs.declared.walk.Stage.{Stage}
+use Rattle.beet_search.specs.declared.walk.Stage.TheVariants.{Search, Masked, Borrow, Ended as StageEnded}
+use Rattle.beet_search.specs.declared.walk.Walk.{Walk}
+use Rattle.beet_plan.proofs.AuctionEnd.{search_plan-open, search_plan-done}
+
+-- the search goes on exactly where a mask may be dealt and the places differ
+pub record IsOpen (b : Bool) (n lo hi : ℕ) : Type 0 where
+  pub says : IsTrue b ↔ ((0 < n) × (lo < hi))
+
+module _ (prices n lo hi first rej : ℕ) where
+  pub open-plan : 0 < n → lo < hi → search_plan prices n lo hi first rej ≡ Block (mask_batches first) (after_product prices (n - 1) lo hi first rej)
+  open-plan hn h =
+      let e : n ≡ suc (n - 1) = omega arith in
+      let t : nat_lt lo hi ≡ true = grind (arith, nat_tests) in
+      ap (λ (k : ℕ). search_plan prices k lo hi first rej) e ∙ search_plan-open prices (n - 1) lo hi first rej t
+
+  pub closed-plan : (n ≡ 0) ⊎ (hi ≤ lo) → search_plan prices n lo hi first rej ≡ end_plan prices lo
+  unfolding search_plan
+  closed-plan (inl e) = rw e refl
+  closed-plan (inr h) = elim (cases_lt 0 n) [
+    | inl some ↦
+        let e : n ≡ suc (n - 1) = omega arith in
+        let t : nat_lt lo hi ≡ false = grind (arith, nat_tests) in
+        ap (λ (k : ℕ). search_plan prices k lo hi first rej) e ∙ search_plan-done prices (n - 1) lo hi first rej t
+    | inr none ↦ let e : n ≡ 0 = omega arith in rw e refl
+  ]
+
+pub block-batch : {F : Type 0} (bs : List Batch) (next : ℕ → Plan F) (step : ℕ) → plan_batch (Block bs next) step [] ≡ batch_at bs step
+unfolding plan_batch
+block-batch bs next step = refl
+
+pub ended-batch : {F : Type 0} (f : F) (step : ℕ) → plan_batch (Ended f) step [] ≡ end_batch
+unfolding plan_batch
+ended-batch f step = refl
+
+pub open-from : (b : Bool) (n lo hi : ℕ) → (IsTrue b ↔ ((0 < n) × (lo < hi))) → b ≡ true → (0 < n) × (lo < hi)
+open-from b n lo hi e h = e.0 h
+
+pub closed-from : (b : Bool) (n lo hi : ℕ) → (IsTrue b ↔ ((0 < n) × (lo < hi))) → b ≡ false → (n ≡ 0) ⊎ (hi ≤ lo)
+closed-from b n lo hi e h = elim (cases_lt 0 n) [
+  | inl some ↦ elim (cases_lt lo hi) [ inl below ↦ absurd (iff_false e h (some, below)) | inr past ↦ inr past ]
+  | inr none ↦ inl (omega arith)
+]
+
+module _ (w : Walk) where
+  stage-is : (s : Stage) → w.stage ≡ s → plan_at w ≡ stage_plan s w
+  stage-is s e = ap (λ (t : Stage). stage_plan t w) e
+
+  open-at : w.stage ≡ Search → (b : Bool) → (IsTrue b ↔ ((0 < w.left) × (w.lo < w.hi))) → b ≡ true →
+      plan_at w ≡ Block (mask_batches w.first) (after_product w.prices (w.left - 1) w.lo w.hi w.first w.rejected)
+  open-at e b says t =
+      let o = open-from b w.left w.lo w.hi says t in
+      stage-is Search e ∙ open-plan w.prices w.left w.lo w.hi w.first w.rejected o.0 o.1
+
+  closed-at : w.stage ≡ Search → (b : Bool) → (IsTrue b ↔ ((0 < w.left) × (w.lo < w.hi))) → b ≡ false → plan_at w ≡ end_plan w.prices w.lo
+  closed-at e b says t = stage-is Search e ∙ closed-plan w.prices w.left w.lo w.hi w.first w.rejected (closed-from b w.left w.lo w.hi says t)
+
+  volume-at : w.stage ≡ Search → (b : Bool) → (IsTrue b ↔ ((0 < w.left) × (w.lo < w.hi))) → b ≡ false → w.lo < w.prices →
+      plan_at w ≡ Block (reveal_batch [] ((w.prices + w.lo) ∷ []) ∷ []) (λ volume. Ended (Price w.lo volume))
+  volume-at e b says t h = closed-at e b says t ∙ (let u : nat_lt w.lo w.prices ≡ true = grind (arith, nat_tests) in rw u refl)
+
+  none-at : w.stage ≡ Search → (b : Bool) → (IsTrue b ↔ ((0 < w.left) × (w.lo < w.hi))) → b ≡ false → w.prices ≤ w.lo → plan_at w ≡ Ended NoPrice
+  none-at e b says t h = closed-at e b says t ∙ (let u : nat_lt w.lo w.prices ≡ false = grind (arith, nat_tests) in rw u refl)
+
+  -- lengths
+  pub length-open : w.stage ≡ Search → (b : Bool) → (IsTrue b ↔ ((0 < w.left) × (w.lo < w.hi))) → b ≡ true → plan_length (plan_at w) ≡ 64
+  length-open e b says t = ap plan_length (open-at e b says t) ∙ length-mask_batches w.first
+
+  pub length-volume : w.stage ≡ Search → (b : Bool) → (IsTrue b ↔ ((0 < w.left) × (w.lo < w.hi))) → b ≡ false → w.lo < w.prices → plan_length (plan_at w) ≡ 1
+  length-volume e b says t h = ap plan_length (volume-at e b says t h)
+
+  pub length-none : w.stage ≡ Search → (b : Bool) → (IsTrue b ↔ ((0 < w.left) × (w.lo < w.hi))) → b ≡ false → w.prices ≤ w.lo → plan_length (plan_at w) ≡ 0
+  length-none e b says t h = ap plan_length (none-at e b says t h)
+
+  pub length-borrow : (c : ℕ) → w.stage ≡ Borrow c → plan_length (plan_at w) ≡ 62
+  length-borrow c e = ap plan_length (stage-is (Borrow c) e) ∙ omega (arith, length-compare_batches (w.first + 487) w.first 0 0 c)
+
+  -- batches
+  pub batch-open : w.stage ≡ Search → (b : Bool) → (IsTrue b ↔ ((0 < w.left) × (w.lo < w.hi))) → b ≡ true → (step : ℕ) →
+      plan_batch (plan_at w) step [] ≡ batch_at (mask_batches w.first) step
+  batch-open e b says t step = ap (λ (p : Plan Finish). plan_batch p step []) (open-at e b says t) ∙ block-batch _ _ step
+
+  pub batch-volume : w.stage ≡ Search → (b : Bool) → (IsTrue b ↔ ((0 < w.left) × (w.lo < w.hi))) → b ≡ false → w.lo < w.prices → (step : ℕ) →
+      plan_batch (plan_at w) step [] ≡ batch_at (reveal_batch [] ((w.prices + w.lo) ∷ []) ∷ []) step
+  batch-volume e b says t h step = ap (λ (p : Plan Finish). plan_batch p step []) (volume-at e b says t h) ∙ block-batch _ _ step
+
+  pub batch-none : w.stage ≡ Search → (b : Bool) → (IsTrue b ↔ ((0 < w.left) × (w.lo < w.hi))) → b ≡ false → w.prices ≤ w.lo → (step : ℕ) →
+      plan_batch (plan_at w) step [] ≡ end_batch
+  batch-none e b says t h step = ap (λ (p : Plan Finish). plan_batch p step []) (none-at e b says t h) ∙ ended-batch NoPrice step
+
+  pub batch-masked : w.stage ≡ Masked → (step : ℕ) →
+      plan_batch (plan_at w) step [] ≡ batch_at (masked_batch (w.first + 487) w.first ((w.lo + w.hi) / 2) (w.prices + (w.lo + w.hi) / 2) ∷ []) step
+  batch-masked e step = ap (λ (p : Plan Finish). plan_batch p step []) (stage-is Masked e) ∙ block-batch _ _ step
+
+  pub batch-borrow : (c : ℕ) → w.stage ≡ Borrow c → (step : ℕ) → plan_batch (plan_at w) step [] ≡ batch_at (borrow_batches (w.first + 487) w.first c) step
+  batch-borrow c e step = ap (λ (p : Plan Finish). plan_batch p step []) (stage-is (Borrow c) e) ∙ block-batch _ _ step
+
+  pub batch-ended : (f : Finish) → w.stage ≡ StageEnded f → (step : ℕ) → plan_batch (plan_at w) step [] ≡ end_batch
+  batch-ended f e step = ap (λ (p : Plan Finish). plan_batch p step []) (stage-is (StageEnded f) e) ∙ ended-batch f step
+
+  -- a batch past the end of a short block
+  pub past-borrow : (c : ℕ) → w.stage ≡ Borrow c → (step : ℕ) → 62 ≤ step → plan_batch (plan_at w) step [] ≡ end_batch
+  past-borrow c e step h =
+      let l : length (borrow_batches (w.first + 487) w.first c) ≡ 62 = omega (arith, length-compare_batches (w.first + 487) w.first 0 0 c) in
+      batch-borrow c e step ∙ ap (λ (o : Option Batch). unwrap_or o end_batch) (get-past (borrow_batches (w.first + 487) w.first c) step (omega arith))
+
+  -- the plan after a number
+  pub after-open : w.stage ≡ Search → (b : Bool) → (IsTrue b ↔ ((0 < w.left) × (w.lo < w.hi))) → b ≡ true → (x : ℕ) →
+      plan_after (plan_at w) x ≡ after_product w.prices (w.left - 1) w.lo w.hi w.first w.rejected x
+  after-open e b says t x = ap (λ (p : Plan Finish). plan_after p x) (open-at e b says t)
+
+  pub after-volume : w.stage ≡ Search → (b : Bool) → (IsTrue b ↔ ((0 < w.left) × (w.lo < w.hi))) → b ≡ false → w.lo < w.prices → (x : ℕ) →
+      plan_after (plan_at w) x ≡ Ended (Price w.lo x)
+  after-volume e b says t h x = ap (λ (p : Plan Finish). plan_after p x) (volume-at e b says t h)
+
+  pub after-none : w.stage ≡ Search → (b : Bool) → (IsTrue b ↔ ((0 < w.left) × (w.lo < w.hi))) → b ≡ false → w.prices ≤ w.lo → (x : ℕ) →
+      plan_after (plan_at w) x ≡ Ended NoPrice
+  after-none e b says t h x = ap (λ (p : Plan Finish). plan_after p x) (none-at e b says t h)
+
+pub batch-past : (b : Batch) (step : ℕ) → (step ≡ 0 → ⊥) → batch_at (b ∷ []) step ≡ end_batch
+batch-past b zero h = absurd (h refl)
+batch-past b (suc step) h = refl
+
+block-finish : {F : Type 0} (bs : List Batch) (next : ℕ → Plan F) → plan_finish (Block bs next) [] ≡ None
+unfolding plan_finish
+block-finish bs next = refl
+
+ended-finish : {F : Type 0} (f : F) → plan_finish (Ended f) [] ≡ Some f
+unfolding plan_finish
+ended-finish f = refl
+
+module _ (w : Walk) where
+  pub finish-open : w.stage ≡ Search → (b : Bool) → (IsTrue b ↔ ((0 < w.left) × (w.lo < w.hi))) → b ≡ true → plan_finish (plan_at w) [] ≡ None
+  finish-open e b says t = ap (λ (p : Plan Finish). plan_finish p []) (open-at w e b says t) ∙ block-finish _ _
+
+  pub finish-volume : w.stage ≡ Search → (b : Bool) → (IsTrue b ↔ ((0 < w.left) × (w.lo < w.hi))) → b ≡ false → w.lo < w.prices → plan_finish (plan_at w) [] ≡ None
+  finish-volume e b says t h = ap (λ (p : Plan Finish). plan_finish p []) (volume-at w e b says t h) ∙ block-finish _ _
+
+  pub finish-none : w.stage ≡ Search → (b : Bool) → (IsTrue b ↔ ((0 < w.left) × (w.lo < w.hi))) → b ≡ false → w.prices ≤ w.lo → plan_finish (plan_at w) [] ≡ Some NoPrice
+  finish-none e b says t h = ap (λ (p : Plan Finish). plan_finish p []) (none-at w e b says t h) ∙ ended-finish NoPrice
+
+  pub finish-masked : w.stage ≡ Masked → plan_finish (plan_at w) [] ≡ None
+  finish-masked e = ap (λ (p : Plan Finish). plan_finish p []) (stage-is w Masked e) ∙ block-finish _ _
+
+  pub finish-borrow : (c : ℕ) → w.stage ≡ Borrow c → plan_finish (plan_at w) [] ≡ None
+  finish-borrow c e = ap (λ (p : Plan Finish). plan_finish p []) (stage-is w (Borrow c) e) ∙ block-finish _ _
+
+  pub finish-ended : (f : Finish) → w.stage ≡ StageEnded f → plan_finish (plan_at w) [] ≡ Some f
+  finish-ended f e = ap (λ (p : Plan Finish). plan_finish p []) (stage-is w (StageEnded f) e) ∙ ended-finish f

@@ -1,0 +1,41 @@
+-- A place in the auction's script, and the plan that is left from there.
+use Rattle.std.specs.Prelude.{◌≤◌, ◌<◌, ℕ, ◌+◌, ◌*◌, ◌/◌}
+use Rattle.beet_gates.specs.Plans.{Plan, Ended, Block}
+use Rattle.beet_compare.specs.Compare.{borrow_batches}
+use Rattle.beet_plan.specs.Auction.{search_plan, compare_plan, after_answer}
+use Rattle.beet_plan.specs.declared.Finish.{Finish}
+use Rattle.beet_search.specs.declared.walk.Stage.{Stage}
+use Rattle.beet_search.specs.declared.walk.Stage.TheVariants.{Search, Masked, Borrow, Ended as StageEnded}
+use Rattle.beet_search.specs.declared.walk.Walk.{Walk}
+
+abbrev pub stage_plan : Stage → Walk → Plan Finish
+stage_plan Search w = search_plan w.prices w.left w.lo w.hi w.first w.rejected
+stage_plan Masked w = compare_plan w.prices (w.first + 487) w.first ((w.lo + w.hi) / 2) (after_answer w.prices w.left w.lo w.hi w.first w.rejected)
+stage_plan (Borrow c) w = Block (borrow_batches (w.first + 487) w.first c) (after_answer w.prices w.left w.lo w.hi w.first w.rejected)
+stage_plan (StageEnded f) w = Ended f
+
+-- the plan that is left
+abbrev pub plan_at : Walk → Plan Finish
+plan_at w = stage_plan w.stage w
+
+-- how many masks may still use wires
+abbrev pub blocks_left : Stage → ℕ → ℕ
+blocks_left Search n = n
+blocks_left Masked n = n + 1
+blocks_left (Borrow c) n = n + 1
+blocks_left (StageEnded f) n = 0
+
+-- 1 while a comparison is under way, whose two places differ
+abbrev pub busy : Stage → ℕ
+busy Search = 0
+busy Masked = 1
+busy (Borrow c) = 1
+busy (StageEnded f) = 0
+
+-- the walk stays within the script's places and wires
+pub record Fits (w : Walk) : Type 0 where
+  pub in_order : w.lo + busy w.stage ≤ w.hi
+  pub in_grid : w.hi ≤ w.prices
+  pub small : w.prices ≤ 4096
+  pub few : w.rejected < 3
+  pub wires : w.first + 732 * blocks_left w.stage w.left ≤ 30000

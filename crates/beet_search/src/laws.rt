@@ -1,0 +1,26 @@
+//! What the auction's script finds on plain values.
+
+ghost use Rattle.std.specs.Prelude.{◌≡◌, ◌+◌, ◌*◌, ℕ, List, length, slice_index, All};
+ghost use Rattle.beet_field.specs.Field.{IsElement};
+ghost use Rattle.beet_field.specs.declared.trio.Trio.{Trio};
+ghost use Rattle.beet_bids.specs.Books.{Book, IsBook};
+ghost use Rattle.beet_bids.specs.Outcomes.{clearing_place, outcome_of};
+ghost use Rattle.beet_plan.specs.Auction.{Auction};
+ghost use Rattle.beet_plan.specs.Runs.{AreMasks, RunEnds, found, sums_of, finish_of, place_of_inputs};
+
+/// A run on any inputs ends at the place where the search ends whose tests answer whether twice the difference of supply and demand is
+/// even, with the demand there, or spent exactly where the third rejected mask comes first. Its rounds are counted by the path to that
+/// place and the masks.
+pub fn auction_law()
+    ensures { (auction : Auction) (inputs : List ℕ) (words : Trio (List ℕ)) →
+        length inputs ≡ 2 * auction.prices → All IsElement inputs → AreMasks words →
+        RunEnds auction inputs words (place_of_inputs auction inputs)
+        (found auction.prices (λ k. slice_index inputs (auction.prices + k)) (place_of_inputs auction inputs)) }
+{}
+
+/// A run on the sums of a book ends with the outcome of the book, or spent exactly where at least three of the first masks that it may
+/// want are rejected. Its rounds are counted by the path to the clearing place and the masks.
+pub fn book_law()
+    ensures { (book : Book) (words : Trio (List ℕ)) → IsBook book → AreMasks words →
+        RunEnds (record { prices = book.grid.prices }) (sums_of book) words (clearing_place book) (finish_of (outcome_of book)) }
+{}

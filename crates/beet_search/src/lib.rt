@@ -1,0 +1,13 @@
+//! The auction's script: a binary search for the first price at which supply reaches demand, by comparisons under masks.
+#![tactic(auto)]
+
+mod laws;
+mod script;
+mod walk;
+
+pub use beet_plan::Finish;
+pub use laws::{auction_law, book_law};
+pub use script::AuctionScript;
+
+#[cfg(test)]
+mod tests;

@@ -1,0 +1,153 @@
+//! The script as a value.
+
+ghost use Rattle.std.specs.Prelude.{◌≡◌, ◌≤◌, ◌↔◌, IsSome, IfSome};
+ghost use Rattle.beet_bids.specs.Grids.{comparisons_of};
+ghost use Rattle.beet_gates.specs.Plans.{plan_finish};
+ghost use Rattle.beet_plan.specs.Auction.{auction_plan, IsGridSize};
+ghost use Rattle.beet_search.specs.Walk.{plan_at, Fits};
+
+use crate::walk::{Stage, Walk};
+use beet_compare::compare_rounds;
+use beet_field::Fe;
+use beet_gates::{Batch, Gates, Script};
+use beet_mask::mask_rounds;
+use beet_plan::Finish;
+use std::marker::Model;
+
+/// The largest number of prices.
+const MOST_PRICES: u32 = 4_096;
+
+/// The script of an auction with so many prices. With P prices, input k is the supply at place k, and input P + k the demand there.
+#[derive(Clone, Copy, PartialEq, Eq, Debug)]
+pub struct AuctionScript {
+    prices: u32,
+}
+
+impl Model for AuctionScript {
+    ghost use Rattle.beet_plan.specs.Auction.{Auction, IsGridSize};
+
+    ghost Value = { Auction };
+
+    ghost view = { λ a. record { prices = a.prices } };
+
+    ghost invariant = { λ a. IsGridSize a.prices };
+
+    ghost inverse = { λ v. record { prices = v.prices } };
+}
+
+/// How many comparisons a search among so many places makes at most.
+fn comparisons(prices: u32) -> u32
+    requires { prices ≤ 4096 }
+    ensures count { result ≡ comparisons_of prices }
+    ensures few { result ≤ 13 }
+{
+    let mut count = 0;
+    let mut rest = prices;
+    while rest > 0 {
+        rest /= 2;
+        count += 1;
+    }
+    count
+}
+
+impl AuctionScript {
+    ghost use Rattle.beet_plan.specs.Auction.{auction_batch};
+    ghost use Rattle.beet_plan.specs.Ends.{TellsEnd};
+
+    /// The script, or none where the number of prices is outside 1 to 4,096. The gates are to be a chain.
+    pub fn new(prices: u32, gates: Gates) -> Option<AuctionScript>
+        requires chain { gates ≡ Gates.Chain }
+        ensures accepted { IsSome result ↔ IsGridSize prices }
+        ensures value { IfSome result (λ script. script ≡ record { prices = prices }) }
+    {
+        match gates {
+            Gates::Chain if prices >= 1 && prices <= MOST_PRICES => Some(AuctionScript { prices }),
+            Gates::Chain => None,
+            Gates::Tree => unreachable!(),
+        }
+    }
+
+    /// The start of the script.
+    fn start(&self) -> Walk
+        ensures fits { Fits result }
+        ensures plan { plan_at result ≡ auction_plan self.now }
+    {
+        Walk {
+            stage: Stage::Search,
+            prices: self.prices,
+            lo: 0,
+            hi: self.prices,
+            first: 2 * self.prices,
+            rejected: 0,
+            left: comparisons(self.prices) + 3,
+        }
+    }
+
+    /// How the script has ended after these opened numbers, or none where it has not ended.
+    pub fn finish(&self, opened: &[Fe]) -> Option<Finish>
+        ensures value { result ≡ plan_finish (auction_plan self.now) opened.now }
+        ensures ended { TellsEnd (auction_batch self.now) opened.now result }
+    {
+        let mut walk = self.start();
+        for number in opened {
+            walk = walk.after(*number);
+        }
+        walk.finish()
+    }
+}
+
+impl Script for AuctionScript {
+    ghost use Rattle.std.specs.Prelude.{◌*◌};
+    ghost use Rattle.beet_plan.specs.Auction.{auction_batch, most_rounds, most_masks, most_coefficients, most_wires};
+    ghost use Rattle.beet_plan.proofs.AuctionLaw.{auction-law};
+
+    ghost inputs_of = { λ s. 2 * s.prices };
+
+    ghost rounds_of = { most_rounds };
+
+    ghost masks_of = { most_masks };
+
+    ghost coefficients_of = { most_coefficients };
+
+    ghost wires_of = { most_wires };
+
+    ghost batch_of = { auction_batch };
+
+    ghost lawful = { auction-law };
+
+    fn inputs(&self) -> u32 {
+        2 * self.prices
+    }
+
+    fn rounds(&self) -> u32 {
+        let mask = mask_rounds(Gates::Chain);
+        comparisons(self.prices) * (mask + compare_rounds(Gates::Chain)) + 2 * mask + 1
+    }
+
+    fn masks(&self) -> u32 {
+        comparisons(self.prices) + 2
+    }
+
+    fn coefficients(&self) -> u32 {
+        512 * (comparisons(self.prices) + 2)
+    }
+
+    fn wires(&self) -> u32 {
+        let comparisons = comparisons(self.prices);
+        2 * self.prices + 487 * (comparisons + 2) + 366 * comparisons
+    }
+
+    fn next(&self, done: u32, opened: &[Fe]) -> Batch {
+        let mut walk = self.start();
+        let mut step = done;
+        for number in opened {
+            let length = walk.length();
+            if step < length {
+                return walk.batch(step);
+            }
+            step -= length;
+            walk = walk.after(*number);
+        }
+        walk.batch(step)
+    }
+}
