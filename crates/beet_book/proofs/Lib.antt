@@ -4,6 +4,7 @@ pub mod Sums
 pub mod Deals
 pub mod Each
 pub mod Begins
+pub mod NamedRows
 pub mod BookRows
 pub mod Summed
 pub mod Few

@@ -1,4 +1,5 @@
 pub mod Entries
+pub mod NamedRows
 pub mod BookFiles
 pub mod ServerFiles
 pub mod Dealing

@@ -1,31 +1,20 @@
 //! The reader of book files.
 
-ghost use Rattle.std.specs.Prelude.{◌≡◌, ◌≤◌, ◌||◌, ℕ, List, not, bytes_eq, length, IfOk, OnOk};
+ghost use Rattle.std.specs.Prelude.{◌≡◌, ◌≤◌, ◌||◌, ℕ, List, bytes_eq, length, IfOk, OnOk};
 ghost use Rattle.std.specs.BTreeSet.{contains_text};
 ghost use Rattle.beet_forms.specs.Faults.{Answers};
-ghost use Rattle.beet_book.specs.BookFiles.{bidder_in, bidders_of, book_of, first_field};
-ghost use Rattle.beet_book.specs.Entries.{reading_at};
+ghost use Rattle.beet_book.specs.BookFiles.{book_of};
+ghost use Rattle.beet_book.specs.Entries.{entry_in, reading_at};
+ghost use Rattle.beet_book.specs.NamedRows.{first_field, named_in, named_rows};
 
 use crate::entries::{Entry, read_entry};
+use crate::naming::add_name;
 use beet_forms::{Place, ReadFault, Row, begins_with_header, first_rows};
-use std::alloc::{AllocError, Global};
+use std::alloc::Global;
 use std::collections::BTreeSet;
 
 /// The number of the first row that is one bidder too many.
 const ONE_TOO_MANY: u32 = 2_002;
-
-/// Puts a name to the others, and says whether it is new.
-fn add_name(alloc: Global, names: &mut BTreeSet<String>, name: &str) -> Result<bool, AllocError>
-    ensures new { IfOk result (λ new. new ≡ not (contains_text names.old name.now)) }
-    ensures names { OnOk result ((text : List ℕ) →
-        contains_text names.new text ≡ (bytes_eq name.now text || contains_text names.old text)) }
-{
-    let name = String::from_str(alloc, name)?;
-    let Ok(new) = names.insert(name) else {
-        return Err(AllocError);
-    };
-    Ok(new)
-}
 
 /// The entry of a bidder's row, where the names of the rows before it are given. Its name is put to them.
 fn read_bidder(
@@ -36,7 +25,7 @@ fn read_bidder(
 ) -> Result<Entry, ReadFault>
     ensures entry { Answers (λ entry. entry)
         (reading_at number
-        (bidder_in (contains_text names.old (first_field row.now)) number row.now)) result }
+        (named_in entry_in (contains_text names.old (first_field row.now)) number row.now)) result }
     ensures names { OnOk result ((text : List ℕ) →
         contains_text names.new text ≡
         (bytes_eq (first_field row.now) text || contains_text names.old text)) }
@@ -56,7 +45,7 @@ fn read_bidder(
 /// The bidders, of the rows after the first.
 fn read_bidders(alloc: Global, rows: &[Row]) -> Result<Vec<Entry>, ReadFault>
     requires { length rows.now ≤ 67108864 }
-    ensures { Answers (λ entries. entries.items) (bidders_of rows.now) result }
+    ensures { Answers (λ entries. entries.items) (named_rows entry_in rows.now) result }
 {
     let mut names = BTreeSet::new(alloc);
     let mut entries = Vec::new(alloc);

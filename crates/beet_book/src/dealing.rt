@@ -46,6 +46,13 @@ impl Dealt {
     {
         self.points.get(at).as_slice()
     }
+
+    /// The points of all three servers, given away.
+    pub fn into_points(self) -> Trio<FeList>
+        ensures { result ≡ self }
+    {
+        self.points
+    }
 }
 
 /// Deals one value, by the next number of the tape.

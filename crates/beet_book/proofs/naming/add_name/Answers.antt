@@ -2,7 +2,7 @@ use Rattle.std.proofs.Common.{◌≡◌, ◌||◌, ◌∙◌, ap, Bool, true, fa
 use Rattle.std.specs.BTreeSet.{contains_text}
 use Rattle.std.specs.Prelude.{bytes_eq, string_bytes, if◌then◌else◌}
 use Rattle.std.proofs.lemmas.Map.Text.{btree_set_updates_text}
-use Rattle.beet_book.proofs.book_file.add_name.Goals as goal
+use Rattle.beet_book.proofs.naming.add_name.Goals as goal
 
 either : (a b : Bool) → (if a then true else b) ≡ (a || b)
 either true b = refl

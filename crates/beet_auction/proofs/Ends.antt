@@ -1,0 +1,44 @@
+-- How the auction of a book ends.
+use Rattle.std.proofs.Common.{◌≡◌, ℕ, ◌*◌, List, [], length, refl, sym, ◌∙◌, ap, subst, inl, inr, ◌==◌}
+use Rattle.std.proofs.lemmas.Bool.{cases_Bool}
+use Rattle.beet_gates.specs.Clear.{clear_values, rounds_run}
+use Rattle.beet_gates.specs.Plans.{plan_finish}
+use Rattle.beet_gates.specs.Scripts.{LawFrom, bounds_of, start_of}
+use Rattle.beet_bids.specs.Books.{Book, IsBook}
+use Rattle.beet_plan.specs.Auction.{Auction, auction_plan, auction_batch, most_rounds, most_wires, most_masks, most_coefficients}
+use Rattle.beet_plan.specs.Runs.{AreMasks, sums_of}
+use Rattle.beet_plan.proofs.BookRuns.{book-run}
+use Rattle.beet_plan.proofs.BookFacts.{length-sums}
+use Rattle.beet_server.specs.Runs.{Opening, shared_at, rounds_among}
+use Rattle.beet_server.specs.Lines.{OnLines}
+use Rattle.beet_server.proofs.Rounds.{ends-alike, lawful-rounds}
+use Rattle.beet_server.specs.Events.{after, passed}
+use Rattle.beet_server.specs.Endings.{Ends}
+use Rattle.beet_plan.proofs.AuctionLaw.{auction-law}
+use Rattle.beet_plan.specs.declared.Finish.{Finish}
+use Rattle.beet_auction.specs.Endings.{AuctionEnds, EndsAlways, book_finish, book_rounds}
+
+-- a run on lines with the sums of a book ends with the book's outcome or spent, after its rounds
+pub book-ends : (book : Book) (o : Opening) (slopes : List ℕ) → IsBook book → AreMasks o.masks →
+    o.next ≡ auction_batch (record { prices = book.grid.prices }) → OnLines (sums_of book) slopes o.inputs →
+    AuctionEnds (record { prices = book.grid.prices }) o (book_rounds book o.masks) (book_finish book o.masks)
+book-ends book o slopes b m next lines =
+    let a : Auction = record { prices = book.grid.prices } in
+    let law : LawFrom o.next (bounds_of (most_wires a) (most_masks a) (most_coefficients a)) (most_rounds a) (start_of (length (sums_of book))) [] =
+    rw (length-sums book) (subst (λ n. LawFrom n (bounds_of (most_wires a) (most_masks a) (most_coefficients a)) (most_rounds a) (start_of (2 * a.prices)) []) (sym next) (auction-law a)) in
+    let alike = ends-alike o (bounds_of (most_wires a) (most_masks a) (most_coefficients a)) (most_rounds a) (sums_of book) slopes law lines in
+    let run = book-run book o.masks b m in
+    let counted : rounds_among o (most_rounds a) ≡ book_rounds book o.masks =
+    alike.0 ∙ ap (λ n. rounds_run n (most_rounds a) (sums_of book) o.masks) next ∙ run.rounds in
+    record {
+      has_rounds = rw counted at (lawful-rounds o (bounds_of (most_wires a) (most_masks a) (most_coefficients a)) (most_rounds a) (length (sums_of book)) law).0;
+      counted = counted;
+      finish_named = ap (λ r. plan_finish (auction_plan a) (shared_at o r).opened) (sym counted) ∙ ap (plan_finish (auction_plan a)) (alike.1 ∙ ap (λ n. (clear_values n (most_rounds a) (sums_of book) o.masks).opened) next) ∙ run.ends;
+    }
+
+-- after every list of events a server waits or has ended so
+pub ends-always : (a : Auction) (o : Opening) (rounds : ℕ) (finish : Finish) → AuctionEnds a o rounds finish → EndsAlways a o rounds finish
+ends-always a o rounds finish e es s = elim (cases_Bool (passed rounds (after rounds es) s == rounds)) [
+  | inl there ↦ inr (rw there (ap Ends e.finish_named))
+  | inr before ↦ inl (rw before refl)
+]

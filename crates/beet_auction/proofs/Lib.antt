@@ -1,0 +1,4 @@
+pub mod Inputs
+pub mod BookLines
+pub mod Ends
+pub mod Adding

@@ -1,0 +1,15 @@
+use Rattle.std.proofs.Common.{refl}
+use Rattle.beet_auction.specs.Openings.{book_of, book_opening, auction_over}
+use Rattle.beet_auction.specs.Endings.{book_finish, book_rounds}
+use Rattle.beet_auction.proofs.BookLines.{book-lines, slopes_of}
+use Rattle.beet_auction.proofs.Ends.{book-ends, ends-always}
+use Rattle.beet_auction.proofs.an_opened_outcome_is_the_books.Goals as goal
+
+pub returns-clause-ends : goal.returns-clause-ends
+returns-clause-ends c = λ grid farmers masks coefficients b m.
+    book-ends (book_of grid farmers) (book_opening grid farmers masks coefficients) (slopes_of grid farmers) b m refl (book-lines grid farmers b)
+
+pub returns-clause-always : goal.returns-clause-always
+returns-clause-always c = λ grid farmers masks coefficients b m.
+    ends-always (auction_over grid) (book_opening grid farmers masks coefficients) (book_rounds (book_of grid farmers) masks) (book_finish (book_of grid farmers) masks)
+    (book-ends (book_of grid farmers) (book_opening grid farmers masks coefficients) (slopes_of grid farmers) b m refl (book-lines grid farmers b))

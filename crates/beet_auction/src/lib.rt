@@ -1,0 +1,50 @@
+//! The auction of a book among three servers: what they begin with, and how they end.
+//!
+//! There is no code here: the laws are contracts of functions that do nothing.
+#![tactic(auto)]
+
+ghost use Rattle.std.specs.Prelude.{◌≡◌, ◌≤◌, ◌*◌, ◌++◌, ◌∷◌, [], ℕ, List, length};
+ghost use Rattle.beet_field.specs.declared.trio.Trio.{Trio};
+ghost use Rattle.beet_bids.specs.Books.{Book, IsBook};
+ghost use Rattle.beet_bids.specs.Grids.{Grid};
+ghost use Rattle.beet_words.specs.Words.{accepted};
+ghost use Rattle.beet_book.specs.Dealing.{dealt_points, quantities};
+ghost use Rattle.beet_book.specs.Totals.{added, none_of, wires_of};
+ghost use Rattle.beet_plan.specs.Auction.{auction_batch};
+ghost use Rattle.beet_plan.specs.Runs.{AreMasks, sums_of};
+ghost use Rattle.beet_server.specs.Runs.{Opening};
+ghost use Rattle.beet_server.specs.Lines.{OnLines};
+ghost use Rattle.beet_auction.specs.Openings.{Farmer, book_inputs, book_of, book_opening, auction_over, summed_points};
+ghost use Rattle.beet_auction.specs.Endings.{AuctionEnds, EndsAlways, book_finish, book_rounds};
+
+/// Where the inputs are points of lines with a book's sums, the run ends with the book's outcome, or spent exactly where
+/// the mask words say so, after the number of rounds that the book and the mask words tell.
+pub fn runs_end_with_the_outcome()
+    ensures { (book : Book) (o : Opening) (slopes : List ℕ) → IsBook book → AreMasks o.masks →
+        o.next ≡ auction_batch (record { prices = book.grid.prices }) → OnLines (sums_of book) slopes o.inputs →
+        AuctionEnds (record { prices = book.grid.prices }) o (book_rounds book o.masks) (book_finish book o.masks) }
+{}
+
+/// The same of the points that the bidders of a book deal, and after every list of events: a server that does not wait has
+/// ended with the book's outcome, or spent. So it is for every order, repeat or delay of the messages.
+pub fn an_opened_outcome_is_the_books()
+    ensures ends { (grid : Grid) (farmers : List Farmer) (masks coefficients : Trio (List ℕ)) →
+        IsBook (book_of grid farmers) → AreMasks masks →
+        AuctionEnds (auction_over grid) (book_opening grid farmers masks coefficients)
+        (book_rounds (book_of grid farmers) masks) (book_finish (book_of grid farmers) masks) }
+    ensures always { (grid : Grid) (farmers : List Farmer) (masks coefficients : Trio (List ℕ)) →
+        IsBook (book_of grid farmers) → AreMasks masks →
+        EndsAlways (auction_over grid) (book_opening grid farmers masks coefficients)
+        (book_rounds (book_of grid farmers) masks) (book_finish (book_of grid farmers) masks) }
+{}
+
+/// The points of bidders that are dealt and added one after another are the points that the auction of their book begins with.
+pub fn totals_are_the_inputs()
+    ensures none { (prices : ℕ) → summed_points prices [] ≡ (none_of prices).points }
+    ensures more { (prices : ℕ) (farmers : List Farmer) (farmer : Farmer) →
+        length (quantities farmer.bidder.curve) ≡ 2 * prices → 2 * prices ≤ length (accepted farmer.words) →
+        summed_points prices (farmers ++ farmer ∷ [])
+        ≡ added (summed_points prices farmers) (dealt_points farmer.bidder.curve (accepted farmer.words)) }
+    ensures inputs { (prices : ℕ) (farmers : List Farmer) →
+        book_inputs prices farmers ≡ wires_of (record { prices = prices; points = summed_points prices farmers }) }
+{}

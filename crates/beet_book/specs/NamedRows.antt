@@ -1,0 +1,36 @@
+-- Files of a header and then at most 2,000 rows, each of which begins with a name of its own.
+use Rattle.std.specs.Prelude.{ℕ, Bool, ◌-◌, ◌==◌, if◌then◌else◌, List, [], take, drop, Option, unwrap_or, Result, Ok, Err, bytes_eq}
+use Rattle.std.specs.List.{filter_map, list_any, slice_get}
+use Rattle.std.specs.Result.{result_ok, result_err}
+use Rattle.beet_forms.specs.declared.row.Row.{Row}
+use Rattle.beet_forms.specs.Faults.{Reading, at_row, reading_of, first_row_fault}
+use Rattle.beet_forms.specs.Rows.{begins_with}
+
+-- the first field of a row
+abbrev pub first_field : Row → List ℕ
+first_field row = unwrap_or (slice_get row 0) []
+
+-- whether one of the rows has this name
+abbrev pub has_name : List ℕ → List Row → Bool
+has_name name rows = list_any (λ row. bytes_eq (first_field row) name) rows
+
+-- the value of a row, unless its name is taken
+abbrev pub untaken : {A : Type 0} → Bool → Result A ℕ → Result A ℕ
+untaken taken (Ok value) = if taken then Err 4 else Ok value
+untaken taken (Err reason) = Err reason
+
+-- the value of a row with this number, or the reason against it: 5 for one row too many, then what stands against the row by itself, 4 for a name that is taken
+abbrev pub named_in : {A : Type 0} → (Row → Result A ℕ) → Bool → ℕ → Row → Result A ℕ
+named_in value_in taken number row = if number == 2002 then Err 5 else untaken taken (value_in row)
+
+-- the reason against a row, where the name of an earlier row is taken; the first of the rows is row 2
+abbrev pub reason_against : {A : Type 0} → (Row → Result A ℕ) → List Row → ℕ → Row → Option ℕ
+reason_against value_in rows number row = result_err (named_in value_in (has_name (first_field row) (take (number - 2) rows)) number row)
+
+-- what the rows after the header read as: their values, or the first row that is refused
+abbrev pub named_rows : {A : Type 0} → (Row → Result A ℕ) → List Row → Reading (List A)
+named_rows value_in rows = reading_of (first_row_fault (reason_against value_in rows) 2 rows) (filter_map (λ row. result_ok (value_in row)) rows)
+
+-- what the rows of a file with this header read as
+abbrev pub named_file : {A : Type 0} → (Row → Result A ℕ) → Row → List Row → Reading (List A)
+named_file value_in header rows = if begins_with rows header then named_rows value_in (drop 1 rows) else Err (at_row 1 1)

@@ -1,0 +1,2 @@
+pub mod EnvelopeAgain
+pub mod ListRows

@@ -1,0 +1,192 @@
+//! Envelopes: the points of a bidder for one server.
+
+ghost use Rattle.std.specs.Prelude.{◌≡◌, ◌≤◌, ◌*◌, ◌++◌, length, All, IfOk, OnOk, Ok};
+ghost use Rattle.std.specs.List.{flat_map};
+ghost use Rattle.beet_field.specs.Field.{IsElement};
+ghost use Rattle.beet_forms.specs.Faults.{Answers};
+ghost use Rattle.beet_words.specs.Fields.{number_bytes, times};
+ghost use Rattle.beet_bids.specs.Grids.{IsGrid};
+ghost use Rattle.beet_farmer.specs.Envelopes.{only as only_number, below_p, point_at, after_header, envelope_of, header_bytes, envelope_bytes};
+
+use beet_bids::Grid;
+use beet_field::{Fe, P, Point};
+use beet_forms::ReadFault;
+use beet_words::{Allowed, FeList, read_end, read_magic, read_number, room};
+use std::alloc::{AllocError, Global};
+
+/// The points of a bidder for one server.
+#[derive(Drop)]
+pub struct Envelope {
+    /// The server that the points are for.
+    pub server: Point,
+    /// The points: buy at each place of the grid, and then sell at each place.
+    pub points: FeList,
+}
+
+/// The text that an envelope begins with.
+const MAGIC: &[u8] = b"BEETENV1";
+
+/// How many bytes stand before the points.
+const HEADER: usize = 40;
+
+/// How many bytes the two points at a price have.
+const PRICE: usize = 16;
+
+/// The one number that a field may hold.
+fn only(number: u64, reason: u32) -> Allowed
+    ensures { result ≡ only_number number reason }
+{
+    Allowed {
+        low: number,
+        high: number,
+        truncated: 3,
+        outside: reason,
+    }
+}
+
+/// The numbers that a point may be.
+fn point() -> Allowed
+    ensures { result ≡ below_p }
+{
+    Allowed {
+        low: 0,
+        high: P - 1,
+        truncated: 3,
+        outside: 4,
+    }
+}
+
+/// A point.
+fn read_point(bytes: &[u8], at: usize) -> Result<(Fe, usize), ReadFault>
+    requires { at ≤ length bytes.now }
+    ensures point { Answers (λ read. read) (point_at bytes.now at) result }
+    ensures within { IfOk result (λ read. read.1 ≤ length bytes.now) }
+{
+    let (number, at) = read_number(bytes, point(), at)?;
+    let Some(point) = Fe::of(number) else {
+        unreachable!()
+    };
+    Ok((point, at))
+}
+
+/// So many points.
+fn read_points(
+    alloc: Global,
+    bytes: &[u8],
+    count: u32,
+    at: usize,
+) -> Result<(FeList, usize), ReadFault>
+    requires { at ≤ length bytes.now }
+    ensures points { Answers (λ read. read) (times count (point_at bytes.now) at) result }
+    ensures count { IfOk result (λ read. length read.0 ≡ count) }
+    ensures within { IfOk result (λ read. read.1 ≤ length bytes.now) }
+{
+    let Ok(mut points) = Vec::with_capacity(alloc, room(bytes, at, count as u64)) else {
+        return Err(ReadFault::OutOfMemory);
+    };
+    let mut next = at;
+    for _k in 0..count {
+        let (point, after) = read_point(bytes, next)?;
+        let Ok(()) = points.push(point) else {
+            return Err(ReadFault::OutOfMemory);
+        };
+        next = after;
+    }
+    Ok((FeList::of(points), next))
+}
+
+/// The offset after the fields before the points, which have to name this server and this grid.
+#[tactic(auto, unfolding(crate::specs::Envelopes::after_header))]
+fn read_header(grid: &Grid, server: Point, bytes: &[u8]) -> Result<usize, ReadFault>
+    ensures header { Answers (λ at. at) (after_header grid.now server bytes.now) result }
+    ensures within { IfOk result (λ at. at ≤ length bytes.now) }
+{
+    let at = read_magic(bytes, MAGIC, 1)?;
+    let (_, at) = read_number(bytes, only(server.number(), 6), at)?;
+    let (_, at) = read_number(bytes, only(grid.base(), 2), at)?;
+    let (_, at) = read_number(bytes, only(grid.tick(), 2), at)?;
+    let (_, at) = read_number(bytes, only(grid.prices() as u64, 2), at)?;
+    Ok(at)
+}
+
+/// The envelope for this server, of this grid.
+///
+/// An envelope is refused at the first place from the left that breaks its format: for the reason 1 at 0 where it does not
+/// begin with `BEETENV1`; for the reason 3 at a field that is cut off; for the reason 6 at 8 where it is for another server;
+/// for the reason 2 at a base, a tick or a number of prices that is not the grid's; for the reason 4 at a point of 2^61 - 1
+/// or more; for the reason 5 at the first byte after the last point. The file is gone over once, and memory is taken for no
+/// more points than it can hold.
+#[tactic(auto, unfolding(crate::specs::Envelopes::envelope_of))]
+pub fn read_envelope(
+    alloc: Global,
+    grid: &Grid,
+    server: Point,
+    bytes: &[u8],
+) -> Result<Envelope, ReadFault>
+    requires { length bytes.now ≤ 67108864 }
+    ensures reads { Answers (λ envelope. envelope) (envelope_of grid.now server bytes.now) result }
+    ensures lengths { IfOk result (λ envelope. length envelope.points ≡ 2 * grid.now.prices) }
+{
+    let at = read_header(grid, server, bytes)?;
+    let (points, at) = read_points(alloc, bytes, 2 * grid.prices(), at)?;
+    read_end(bytes, 5, at)?;
+    Ok(Envelope { server, points })
+}
+
+/// Appends a number.
+fn push_number(file: &mut Vec<u8>, number: u64) -> Result<(), AllocError>
+    ensures { OnOk result (file.new.items ≡ file.old.items ++ number_bytes number) }
+{
+    file.extend_from_slice(&number.to_be_bytes())
+}
+
+/// Appends points.
+fn push_points(file: &mut Vec<u8>, points: &[Fe]) -> Result<(), AllocError>
+    ensures bytes { OnOk result (file.new.items ≡ file.old.items ++ flat_map number_bytes points.now) }
+    ensures points { OnOk result (All IsElement points.now) }
+{
+    for point in points {
+        push_number(file, point.value())?;
+    }
+    Ok(())
+}
+
+/// A file that has what stands before the points, and room for these.
+fn begin_file(alloc: Global, grid: &Grid, server: Point) -> Result<Vec<u8>, AllocError>
+    ensures bytes { IfOk result (λ file. file.items ≡ header_bytes grid.now server) }
+    ensures limits { OnOk result (IsGrid grid.now) }
+{
+    let mut file = Vec::with_capacity(alloc, HEADER + PRICE * grid.prices() as usize)?;
+    file.extend_from_slice(MAGIC)?;
+    push_number(&mut file, server.number())?;
+    push_number(&mut file, grid.base())?;
+    push_number(&mut file, grid.tick())?;
+    push_number(&mut file, grid.prices() as u64)?;
+    Ok(file)
+}
+
+/// The bytes of an envelope.
+fn bytes_of(alloc: Global, grid: &Grid, envelope: &Envelope) -> Result<Vec<u8>, AllocError>
+    ensures bytes { IfOk result (λ file. file.items ≡ envelope_bytes grid.now envelope.now) }
+    ensures limits { OnOk result (IsGrid grid.now) }
+    ensures points { OnOk result (All IsElement envelope.now.points) }
+{
+    let mut file = begin_file(alloc, grid, envelope.server)?;
+    push_points(&mut file, envelope.points.as_slice())?;
+    Ok(file)
+}
+
+/// The file of an envelope of this grid, with two points for each price. Want of memory is the only error.
+pub fn write_envelope(
+    alloc: Global,
+    grid: &Grid,
+    envelope: &Envelope,
+) -> Result<Vec<u8>, AllocError>
+    requires { length envelope.now.points ≡ 2 * grid.now.prices }
+    ensures bytes { IfOk result (λ file. file.items ≡ envelope_bytes grid.now envelope.now) }
+    ensures again { IfOk result
+        (λ file. envelope_of grid.now envelope.now.server file.items ≡ Ok envelope.now) }
+{
+    let file = bytes_of(alloc, grid, envelope)?;
+    Ok(file)
+}

@@ -1,0 +1,13 @@
+//! What a farmer does: the points of a bid in three envelopes, one for each server, and the list that names them.
+#![tactic(auto)]
+
+mod envelope;
+mod list_file;
+mod sealing;
+
+pub use envelope::{Envelope, read_envelope, write_envelope};
+pub use list_file::{ListEntry, read_list};
+pub use sealing::seal;
+
+#[cfg(test)]
+mod tests;

@@ -1,0 +1,2 @@
+pub mod SideFacts
+pub mod BoxFacts

@@ -1,0 +1,565 @@
+-- A core that fits a run goes on fitting it.
+use Rattle.std.proofs.Common.{◌≡◌, ◌≢◌, ◌≤◌, ◌<◌, ◌+◌, ◌==◌, ◌&&◌, ◌||◌, if◌then◌else◌, ℕ, suc, Bool, true, false, true≢false, Some, None, is_some, List, [], ◌∷◌, ◌++◌, drop, sym, refl, ap, subst, ◌∙◌, ◌⊎◌, inl, inr, ⊎_elim, arith, add-one}
+use Rattle.std.proofs.lemmas.Bool.Decides.{nat_tests}
+use Rattle.std.proofs.lemmas.List.{drop-drop}
+use Rattle.arrayvec.specs.ArrayVec.{array_vec_len}
+use Rattle.beet_field.specs.Trio.{member}
+use Rattle.beet_field.specs.declared.point.Point.{Point}
+use Rattle.beet_field.specs.declared.point.Point.TheVariants.{One, Two, Three}
+use Rattle.beet_words.specs.Tapes.{Tape, left_of}
+use Rattle.beet_words.specs.Words.{accepted}
+use Rattle.beet_gates.specs.Clear.{with_lets, is_end}
+use Rattle.beet_gates.specs.Each.{each}
+use Rattle.beet_gates.specs.Scripts.{size_of}
+use Rattle.beet_gates.specs.declared.Act.{Act}
+use Rattle.beet_gates.specs.declared.Batch.{Batch}
+use Rattle.beet_gates.proofs.EachFacts.{each-more}
+use Rattle.beet_round.specs.Boxes.{Mailbox, place_at, with_place, numbers_of, numbers_at, HasBoth, Judged, JudgedFrom, kept, turned}
+use Rattle.beet_round.specs.Sides.{peer}
+use Rattle.beet_round.proofs.BoxFacts.{judged-from}
+use Rattle.beet_round.specs.declared.message.RoundMessage.{RoundMessage}
+use Rattle.beet_round.specs.declared.places.Places.{Places}
+use Rattle.beet_round.specs.declared.mailbox.Verdict.{Verdict}
+use Rattle.beet_round.specs.declared.mailbox.Verdict.TheVariants.{Stored, Ready, Repeat, Old, TooEarly, WrongLength, Stranger}
+use Rattle.beet_round.specs.declared.sides.Side.{Side}
+use Rattle.beet_round.specs.declared.sides.Side.TheVariants.{Low, High}
+use Rattle.beet_server.specs.Runs.{Opening, Shared, coming, message, sent_for, shared_at, standing_at, draws_in, gained}
+use Rattle.beet_server.specs.Events.{Delivered, same, both_in, with_triple}
+use Rattle.beet_server.specs.Answers.{IsUsual}
+use Rattle.beet_server.specs.Cores.{Core, coming_at, has_ended}
+use Rattle.beet_server.specs.Fits.{Fits, IsRound, message_of, messages_to, messages_from, some_if, taken}
+use Rattle.beet_server.specs.Steps.{Work, work_of, core_of, batch_of, sends, handing, came_from, wires_given, moved_on, points_given, numbers_opened}
+use Rattle.beet_server.proofs.RunSteps.{by-sender, length-sent_for, sends-run, gains-run, opens-run, member-of_each}
+use Rattle.beet_server.proofs.Soundness.{member-trio_of}
+
+-- all that fits but for the wait
+pub record Almost {S : Type 0} (next : S → ℕ → List ℕ → Batch) (o : Opening) (x : Delivered) (c : Core S) : Type 0 where
+  pub script : o.next ≡ next c.script
+  pub words : c.masks.words ≡ member o.masks c.me
+  pub numbers : accepted c.coefficients.words ≡ member o.numbers c.me
+  pub rounds : (t : ℕ) → t < c.round → is_end (coming o t).act ≡ false
+  pub wires : c.wires ≡ member (standing_at o c.round).wires c.me
+  pub opened : c.opened ≡ (shared_at o c.round).opened
+  pub received : c.received ≡ each (messages_to o c.me) c.round
+  pub dealt : c.masks.passed ≡ (shared_at o (taken c.round c.handed)).dealt
+  pub drawn : left_of c.coefficients ≡ drop (shared_at o (taken c.round c.handed)).drawn (member o.numbers c.me)
+  pub own : c.own ≡ (if c.handed then message o c.me c.me c.round else [])
+  pub now : (s : Side) → place_at c.mail.now s ≡ some_if (x (peer c.me s) c.me c.round) (message_of o (peer c.me s) c.me c.round)
+  pub early : (s : Side) →
+      place_at c.mail.next s ≡ some_if (x (peer c.me s) c.me (c.round + 1)) (message_of o (peer c.me s) c.me (c.round + 1))
+  pub before : (s : Side) (t : ℕ) → t < c.round → x (peer c.me s) c.me t ≡ true
+  pub soon : (s : Side) (t : ℕ) → x (peer c.me s) c.me t ≡ true → (t ≤ taken c.round c.handed) × IsRound o t
+
+pub almost : {S : Type 0} (next : S → ℕ → List ℕ → Batch) (o : Opening) (x : Delivered) (c : Core S) → Fits next o x c → Almost next o x c
+almost next o x c f = record {
+  script = f.script;
+  words = f.words;
+  numbers = f.numbers;
+  rounds = f.rounds;
+  wires = f.wires;
+  opened = f.opened;
+  received = f.received;
+  dealt = f.dealt;
+  drawn = f.drawn;
+  own = f.own;
+  now = f.now;
+  early = f.early;
+  before = f.before;
+  soon = f.soon;
+}
+
+pub wholly : {S : Type 0} (next : S → ℕ → List ℕ → Batch) (o : Opening) (x : Delivered) (c : Core S) → Almost next o x c →
+    (c.handed ≡ true → both_in x c.me c.round ≡ false) → Fits next o x c
+wholly next o x c f waits = record {
+  script = f.script;
+  words = f.words;
+  numbers = f.numbers;
+  rounds = f.rounds;
+  wires = f.wires;
+  opened = f.opened;
+  received = f.received;
+  dealt = f.dealt;
+  drawn = f.drawn;
+  own = f.own;
+  now = f.now;
+  early = f.early;
+  before = f.before;
+  soon = f.soon;
+  waits = waits;
+}
+
+some-place : (b : Bool) (m : RoundMessage) → is_some (some_if b m) ≡ b
+some-place true m = refl
+some-place false m = refl
+
+and-both : (a b : Bool) → a ≡ true → b ≡ true → (a && b) ≡ true
+and-both a b e f = rw (e, f) refl
+
+and-cases : (a b : Bool) → (a && b) ≡ true → (a ≡ true) × (b ≡ true)
+and-cases true b e = (refl, e)
+and-cases false b e = absurd (true≢false (sym e))
+
+not-true : (b : Bool) → (b ≡ true → ⊥) → b ≡ false
+not-true true f = absurd (f refl)
+not-true false f = refl
+
+below-cases : (t n : ℕ) → t < n + 1 → (t < n) ⊎ (t ≡ n)
+below-cases t n h = grind arith
+
+below-or : {P : Type 0} → (t n : ℕ) → t < n + 1 → (t < n → P) → (t ≡ n → P) → P
+below-or t n h f g = ⊎_elim f g (below-cases t n h)
+
+-- both messages of the round are in the box where they were delivered
+module _ {S : Type 0} (next : S → ℕ → List ℕ → Batch) (o : Opening) (x : Delivered) (c : Core S) (fits : Almost next o x c) where
+  place-delivered : (s : Side) → is_some (place_at c.mail.now s) ≡ x (peer c.me s) c.me c.round
+  place-delivered s = ap is_some (fits.now s) ∙ some-place _ _
+
+  pub both-delivered : HasBoth c.mail.now → both_in x c.me c.round ≡ true
+  both-delivered both =
+      and-both _ _ (sym (place-delivered Low) ∙ both.0) (sym (place-delivered High) ∙ both.1)
+
+  pub still-waits : (HasBoth c.mail.now → ⊥) → both_in x c.me c.round ≡ false
+  still-waits not = not-true _ (λ e. let b = and-cases _ _ e in not (place-delivered Low ∙ b.0, place-delivered High ∙ b.1))
+
+  -- the batch that comes is that of the run
+  pub coming-is : coming_at next c ≡ coming o c.round
+  coming-is = λ i. sym fits.script i c.round (fits.opened i)
+
+  -- what is handed out is what the run says
+  pub sends-is : c.handed ≡ false → (to : Point) → sends next (work_of c) to ≡ message o c.me to c.round
+  sends-is h to =
+      let dealt = rw h at fits.dealt in
+      let drawn = rw h at fits.drawn in
+      let there : Shared = standing_at o c.round in
+      rw (coming-is, fits.wires, fits.words, dealt, drawn) (sends-run o there (coming o c.round).act c.me to)
+
+  -- the messages of the round are handed out
+  pub hands-out : (rest : Tape) → c.handed ≡ false → has_ended next c ≡ false → rest.words ≡ c.coefficients.words →
+      left_of rest ≡ drop (draws_in (coming_at next c).act) (left_of c.coefficients) →
+      Almost next o x (core_of (handing next (work_of c) rest) c.received c.mail)
+  hands-out rest h goes words left =
+      let dealt = rw h at fits.dealt in
+      let drawn = rw h at fits.drawn in
+      record {
+        script = fits.script;
+        words = fits.words;
+        numbers = ap accepted words ∙ fits.numbers;
+        rounds = fits.rounds;
+        wires = fits.wires;
+        opened = fits.opened;
+        received = fits.received;
+        dealt = rw (coming-is, dealt) refl;
+        drawn = left ∙ rw (coming-is, drawn) (drop-drop (draws_in (coming o c.round).act) (shared_at o c.round).drawn (member o.numbers c.me));
+        own = sends-is h c.me;
+        now = fits.now;
+        early = fits.early;
+        before = fits.before;
+        soon = λ s t e. let q = fits.soon s t e in let low = rw h at q.0 in (omega (arith, low), q.1);
+      }
+
+  -- both messages of the round are in, and the round is passed
+  module _ (handed : c.handed ≡ true) (goes : has_ended next c ≡ false) (both : HasBoth c.mail.now) where
+    abbrev there : Shared
+    there = standing_at o c.round
+
+    abbrev act : Act
+    act = (coming o c.round).act
+
+    abbrev given : Point → List ℕ
+    given j = sent_for o there act j c.me
+
+    abbrev new_batch : Batch
+    new_batch = coming o (suc c.round)
+
+    delivered : (s : Side) → x (peer c.me s) c.me c.round ≡ true
+    delivered Low = sym (place-delivered Low) ∙ both.0
+    delivered High = sym (place-delivered High) ∙ both.1
+
+    in_place : (s : Side) → place_at c.mail.now s ≡ Some (message_of o (peer c.me s) c.me c.round)
+    in_place s = fits.now s ∙ ap (λ b. some_if b (message_of o (peer c.me s) c.me c.round)) (delivered s)
+
+    numbers_are : (s : Side) → numbers_at c.mail.now s ≡ given (peer c.me s)
+    numbers_are s = ap numbers_of (in_place s)
+
+    own_is : c.own ≡ given c.me
+    own_is = rw handed at fits.own
+
+    abbrev from : Point → List ℕ
+    from j = came_from (work_of c) (numbers_at c.mail.now Low) (numbers_at c.mail.now High) j
+
+    from_is : (j : Point) → from j ≡ given j
+    from_is j = by-sender c.me j given c.own _ _ own_is (numbers_are Low) (numbers_are High)
+
+    opened_is : (moved_on next c).opened ≡ (shared_at o (suc c.round)).opened
+    opened_is =
+        (λ i. fits.opened i ++ numbers_opened (coming-is i).act (from_is One i) (from_is Two i) (from_is Three i))
+        ∙ ap (λ l. (shared_at o c.round).opened ++ l) (opens-run o there act c.me)
+
+    next_round : suc c.round ≡ c.round + 1
+    next_round = omega arith
+
+    new_coming : next c.script (c.round + 1) (moved_on next c).opened ≡ new_batch
+    new_coming = λ i. sym fits.script i (sym next_round i) (opened_is i)
+
+    gained_is : wires_given next (work_of c) (numbers_at c.mail.now Low) (numbers_at c.mail.now High) ≡ member (shared_at o (suc c.round)).wires c.me
+    gained_is =
+        (λ i. fits.wires i ++ points_given (coming-is i).act (from_is One i) (from_is Two i) (from_is Three i))
+        ∙ ap (λ l. member there.wires c.me ++ l) (gains-run o there act c.me)
+        ∙ sym (member-trio_of (λ (j : Point). member there.wires j ++ gained o there act j) c.me)
+
+    wires_are : (moved_on next c).wires ≡ member (standing_at o (suc c.round)).wires c.me
+    wires_are =
+        (λ i. with_lets (gained_is i) (new_coming i).lets.items)
+        ∙ sym (member-of_each (λ (points : List ℕ). with_lets points new_batch.lets.items) (shared_at o (suc c.round)).wires c.me)
+
+    abbrev want : ℕ
+    want = size_of (next c.script (c.round + 1) (moved_on next c).opened).act
+
+    size_is : (s : Side) → array_vec_len (message_of o (peer c.me s) c.me (c.round + 1)).numbers ≡ want
+    size_is s =
+        rw (new_coming, add-one) (length-sent_for o (standing_at o (suc c.round)) new_batch.act (peer c.me s) c.me)
+
+    kept_place : (n : ℕ) (b : Bool) (m : RoundMessage) → array_vec_len m.numbers ≡ n → kept n (some_if b m) ≡ some_if b m
+    kept_place n false m e = refl
+    kept_place n true m e = rw e (ap (λ b. if b then Some m else None) (equal n)) where
+      equal : (n : ℕ) → (n == n) ≡ true
+      equal n = grind (arith, nat_tests)
+
+    turned_now : (box : Mailbox) (n : ℕ) (s : Side) → place_at (turned box n).now s ≡ kept n (place_at box.next s)
+    turned_now box n Low = refl
+    turned_now box n High = refl
+
+    turned_next : (box : Mailbox) (n : ℕ) (s : Side) → place_at (turned box n).next s ≡ None
+    turned_next box n Low = refl
+    turned_next box n High = refl
+
+    none_later : (s : Side) → x (peer c.me s) c.me (c.round + 1 + 1) ≡ false
+    none_later s = not-true _ (λ e. absurd (let h = rw handed at (fits.soon s (c.round + 1 + 1) e).0 in omega (arith, h)))
+
+    pub moves-on : Fits next o x (moved_on next c)
+    moves-on = record {
+      script = fits.script;
+      words = fits.words;
+      numbers = fits.numbers;
+      rounds = λ t h. below-or t c.round h (fits.rounds t) (λ e. rw e (ap (λ (b : Batch). is_end b.act) (sym coming-is) ∙ goes));
+      wires = wires_are ∙ ap (λ n. member (standing_at o n).wires c.me) next_round;
+      opened = opened_is ∙ ap (λ n. (shared_at o n).opened) next_round;
+      received = rw (fits.received, in_place Low, in_place High) (sym (each-more (messages_to o c.me) c.round));
+      dealt = rw add-one (rw handed at fits.dealt);
+      drawn = rw add-one (rw handed at fits.drawn);
+      own = refl;
+      now = λ s. turned_now c.mail want s ∙ ap (kept want) (fits.early s)
+          ∙ kept_place want (x (peer c.me s) c.me (c.round + 1)) (message_of o (peer c.me s) c.me (c.round + 1)) (size_is s);
+      early = λ s. turned_next c.mail want s ∙ ap (λ b. some_if b (message_of o (peer c.me s) c.me (c.round + 1 + 1))) (sym (none_later s));
+      before = λ s t h. below-or t c.round h (fits.before s t) (λ e. rw e (delivered s));
+      soon = λ s t e. let h = fits.soon s t e in let low = rw handed at h.0 in (omega (arith, low), h.1);
+      waits = λ e. absurd (true≢false (sym e));
+    }
+
+same-itself : (s : Point) → same s s ≡ true
+same-itself One = refl
+same-itself Two = refl
+same-itself Three = refl
+
+same-is : (a b : Point) → same a b ≡ true → a ≡ b
+same-is One One e = refl
+same-is One Two e = cc e
+same-is One Three e = cc e
+same-is Two One e = cc e
+same-is Two Two e = refl
+same-is Two Three e = cc e
+same-is Three One e = cc e
+same-is Three Two e = cc e
+same-is Three Three e = refl
+
+peers-one : (me : Point) (s t : Side) → peer me s ≡ peer me t → s ≡ t
+peers-one One Low Low e = refl
+peers-one One Low High e = cc e
+peers-one One High Low e = cc e
+peers-one One High High e = refl
+peers-one Two Low Low e = refl
+peers-one Two Low High e = cc e
+peers-one Two High Low e = cc e
+peers-one Two High High e = refl
+peers-one Three Low Low e = refl
+peers-one Three Low High e = cc e
+peers-one Three High Low e = cc e
+peers-one Three High High e = refl
+
+eq-itself : (n : ℕ) → (n == n) ≡ true
+eq-itself n = grind (arith, nat_tests)
+
+eq-is : (m n : ℕ) → (m == n) ≡ true → m ≡ n
+eq-is m n e = grind (arith, nat_tests)
+
+eq-not : (m n : ℕ) → m ≢ n → (m == n) ≡ false
+eq-not m n e = grind (arith, nat_tests)
+
+or-cases : (a b : Bool) → (a || b) ≡ true → (a ≡ true) ⊎ (b ≡ true)
+or-cases true b e = inl refl
+or-cases false b e = inr e
+
+or-left : (a b : Bool) → a ≡ true → (a || b) ≡ true
+or-left true b e = refl
+or-left false b e = absurd (true≢false (sym e))
+
+or-right : (a b : Bool) → b ≡ true → (a || b) ≡ true
+or-right true b e = refl
+or-right false b e = e
+
+or-false : (a b : Bool) → b ≡ false → (a || b) ≡ a
+or-false true b e = refl
+or-false false b e = e
+
+or-same : (a b : Bool) → (b ≡ true → a ≡ true) → (a || b) ≡ a
+or-same true b f = refl
+or-same false true f = sym (f refl)
+or-same false false f = refl
+
+and-false : (a b : Bool) → b ≡ false → (a && b) ≡ false
+and-false true b e = e
+and-false false b e = refl
+
+-- a set with the message of a round from the peer at a side more
+module _ (x : Delivered) (me : Point) (side : Side) (t : ℕ) where
+  abbrev new_set : Delivered
+  new_set = with_triple x (record { from = peer me side; to = me; round = t })
+
+  new-here : new_set (peer me side) me t ≡ true
+  new-here = or-right _ _ (and-both _ _ (and-both _ _ (same-itself (peer me side)) (same-itself me)) (eq-itself t))
+
+  new-apart : (s : Side) (r : ℕ) → r ≢ t → new_set (peer me s) me r ≡ x (peer me s) me r
+  new-apart s r other = or-false _ _ (and-false _ _ (eq-not r t other))
+
+  new-other : (s : Side) (r : ℕ) → s ≢ side → new_set (peer me s) me r ≡ x (peer me s) me r
+  new-other s r other =
+      or-false _ _ (not-true _ (λ e. let b = (and-cases _ _ e).0 in other (peers-one me s side (same-is (peer me s) (peer me side) (and-cases _ _ b).0))))
+
+  new-kept : (s : Side) (r : ℕ) → x (peer me s) me r ≡ true → new_set (peer me s) me r ≡ true
+  new-kept s r e = or-left _ _ e
+
+  new-cases : (s : Side) (r : ℕ) → new_set (peer me s) me r ≡ true → (x (peer me s) me r ≡ true) ⊎ (r ≡ t)
+  new-cases s r e = ⊎_elim (λ a. inl a) (λ b. inr (eq-is r t (and-cases _ _ b).1)) (or-cases _ _ e)
+
+  pub new-again : x (peer me side) me t ≡ true → new_set ≡ x
+  new-again e = λ i from to r. or-same (x from to r) (same from (peer me side) && same to me && (r == t))
+      (λ b. let c = and-cases _ _ b in let d = and-cases _ _ c.0 in
+      rw (same-is from (peer me side) d.0, same-is to me d.1, eq-is r t c.1) e) i
+
+order : (m n : ℕ) → (m < n) ⊎ (n ≤ m)
+order m n = grind arith
+
+-- a box of which one place changed
+placed-here : (places : Places) (side : Side) (m : RoundMessage) → place_at (with_place places side m) side ≡ Some m
+placed-here places Low m = refl
+placed-here places High m = refl
+
+placed-other : (places : Places) (side s : Side) (m : RoundMessage) → s ≢ side → place_at (with_place places side m) s ≡ place_at places s
+placed-other places Low Low m other = absurd (other refl)
+placed-other places Low High m other = refl
+placed-other places High Low m other = refl
+placed-other places High High m other = absurd (other refl)
+
+-- the sides one by one
+split : (P : Side → Type 0) (side : Side) → P side → ((s : Side) → s ≢ side → P s) → (s : Side) → P s
+split P Low here other Low = here
+split P Low here other High = other High (λ e. cc e)
+split P High here other Low = other Low (λ e. cc e)
+split P High here other High = here
+
+-- a message of the run to a core that fits it, of a round that it may get
+module _ {S : Type 0} (next : S → ℕ → List ℕ → Batch) (o : Opening) (x : Delivered) (c : Core S) (fits : Fits next o x c)
+    (side : Side) (t : ℕ) (is_round : IsRound o t) (near : t ≤ c.round + 1) where
+  abbrev the_message : RoundMessage
+  the_message = message_of o (peer c.me side) c.me t
+
+  abbrev the_set : Delivered
+  the_set = new_set x c.me side t
+
+  pub unchanged : x (peer c.me side) c.me t ≡ true → Fits next o the_set c
+  unchanged old = subst (λ (y : Delivered). Fits next o y c) (sym (new-again x c.me side t old)) fits
+
+  -- an ended core has all that may come
+  pub late : has_ended next c ≡ true → Fits next o the_set c
+  late ended =
+      let lt : t < c.round = below (is_end (coming o c.round).act) refl in
+      unchanged (fits.before side t lt)
+    where
+      below : (b : Bool) → is_end (coming o c.round).act ≡ b → t < c.round
+      below true e = elim (order t c.round) [ inl h ↦ h | inr h ↦ absurd (true≢false (sym e ∙ is_round c.round h)) ]
+      below false e = absurd (true≢false (sym ended ∙ ap (λ (b : Batch). is_end b.act) (coming-is next o x c (almost next o x c fits)) ∙ e))
+
+  -- the core has handed out the messages of the round
+  module _ (handed : c.handed ≡ true) where
+    soon_stays : (s : Side) (r : ℕ) → the_set (peer c.me s) c.me r ≡ true → (r ≤ taken c.round c.handed) × IsRound o r
+    soon_stays s r e = ⊎_elim (λ a. fits.soon s r a) (λ (b : r ≡ t). rw (b, handed) (omega (arith, near), is_round)) (new-cases x c.me side t s r e)
+
+    before_stays : (s : Side) (r : ℕ) → r < c.round → the_set (peer c.me s) c.me r ≡ true
+    before_stays s r h = new-kept x c.me side t s r (fits.before s r h)
+
+    -- a change of the box alone
+    boxed : (box : Mailbox) →
+        ((s : Side) → place_at box.now s ≡ some_if (the_set (peer c.me s) c.me c.round) (message_of o (peer c.me s) c.me c.round)) →
+        ((s : Side) → place_at box.next s ≡ some_if (the_set (peer c.me s) c.me (c.round + 1)) (message_of o (peer c.me s) c.me (c.round + 1))) →
+        Almost next o the_set (record c { mail = box })
+    boxed box now early = record {
+      script = fits.script;
+      words = fits.words;
+      numbers = fits.numbers;
+      rounds = fits.rounds;
+      wires = fits.wires;
+      opened = fits.opened;
+      received = fits.received;
+      dealt = fits.dealt;
+      drawn = fits.drawn;
+      own = fits.own;
+      now = now;
+      early = early;
+      before = before_stays;
+      soon = soon_stays;
+    }
+
+    -- the message is put in its place of this round
+    pub put-now : (box : Mailbox) → t ≡ c.round → box ≡ record c.mail { now = with_place c.mail.now side the_message } →
+        Almost next o the_set (record c { mail = box })
+    put-now box e is =
+        boxed box
+        (λ s. ap (λ (b : Mailbox). place_at b.now s) is ∙ split
+        (λ s. place_at (with_place c.mail.now side the_message) s ≡ some_if (the_set (peer c.me s) c.me c.round) (message_of o (peer c.me s) c.me c.round)) side
+        (placed-here c.mail.now side the_message ∙ rw (← e, new-here x c.me side t) refl)
+        (λ s other. placed-other c.mail.now side s the_message other ∙ fits.now s ∙ rw (new-other x c.me side t s c.round other) refl) s)
+        (λ s. ap (λ (b : Mailbox). place_at b.next s) is ∙ fits.early s ∙ rw (new-apart x c.me side t s (c.round + 1) (λ f. absurd (omega (arith, e, f)))) refl)
+
+    -- the message is put in its place of the next round
+    put-next : (box : Mailbox) → t ≡ c.round + 1 → box ≡ record c.mail { next = with_place c.mail.next side the_message } →
+        Fits next o the_set (record c { mail = box })
+    put-next box e is =
+        let apart : (s : Side) → the_set (peer c.me s) c.me c.round ≡ x (peer c.me s) c.me c.round =
+        λ s. new-apart x c.me side t s c.round (λ f. absurd (omega (arith, e, f))) in
+        wholly next o the_set (record c { mail = box }) (boxed box
+        (λ s. ap (λ (b : Mailbox). place_at b.now s) is ∙ fits.now s ∙ rw (apart s) refl)
+        (λ s. ap (λ (b : Mailbox). place_at b.next s) is ∙ split
+        (λ s. place_at (with_place c.mail.next side the_message) s ≡ some_if (the_set (peer c.me s) c.me (c.round + 1)) (message_of o (peer c.me s) c.me (c.round + 1))) side
+        (placed-here c.mail.next side the_message ∙ rw (← e, new-here x c.me side t) refl)
+        (λ s other. placed-other c.mail.next side s the_message other ∙ fits.early s ∙ rw (new-other x c.me side t s (c.round + 1) other) refl) s))
+        (λ h. rw (apart Low, apart High) (fits.waits h))
+
+    filled-now : is_some (place_at c.mail.now side) ≡ true → t ≡ c.round → x (peer c.me side) c.me t ≡ true
+    filled-now filled e = rw e (sym (place-delivered next o x c (almost next o x c fits) side) ∙ filled)
+
+    filled-next : is_some (place_at c.mail.next side) ≡ true → t ≡ c.round + 1 → x (peer c.me side) c.me t ≡ true
+    filled-next filled e = rw e (sym (some-place _ (message_of o (peer c.me side) c.me (c.round + 1))) ∙ ap is_some (sym (fits.early side)) ∙ filled)
+
+    -- every verdict but Ready
+    pub stays : (box : Mailbox) (v : Verdict) → c.mail.round ≡ c.round → c.mail.want ≡ size_of (coming_at next c).act →
+        JudgedFrom c.mail box side the_message v → v ≢ Ready → Fits next o the_set (record c { mail = box })
+    stays box Stranger at want judged other = absurd judged
+    stays box Old at want judged other = rw judged.1 (unchanged (fits.before side t (omega (arith, judged.0, at))))
+    stays box (TooEarly n) at want judged other = absurd (omega (arith, judged.0, at, near))
+    stays box Repeat at want judged other =
+        rw judged.1 (unchanged (⊎_elim (λ a. filled-now a.1 (a.0 ∙ at)) (λ b. filled-next b.1 (b.0 ∙ ap (λ n. n + 1) at)) judged.0))
+    stays box (WrongLength n) at want judged other =
+        let e : t ≡ c.round = judged.0.0 ∙ at in
+        let size : array_vec_len the_message.numbers ≡ c.mail.want =
+        rw (e, want, coming-is next o x c (almost next o x c fits)) (length-sent_for o (standing_at o c.round) (coming o c.round).act (peer c.me side) c.me) in
+        absurd (judged.2 (judged.1 ∙ size))
+    stays box Ready at want judged other = absurd (other refl)
+    stays box Stored at want judged other =
+        ⊎_elim
+        (λ a. wholly next o the_set (record c { mail = box }) (put-now box (a.0.0 ∙ at) a.3)
+        (λ h. still-waits next o the_set (record c { mail = box }) (put-now box (a.0.0 ∙ at) a.3) a.2))
+        (λ b. put-next box (b.0.0 ∙ ap (λ n. n + 1) at) b.1)
+        judged
+
+  -- no other verdict comes
+  pub usual : (box : Mailbox) (v : Verdict) → c.mail.round ≡ c.round → c.mail.want ≡ size_of (coming_at next c).act →
+      JudgedFrom c.mail box side the_message v → IsUsual v
+  usual box Stranger at want judged = absurd judged
+  usual box Old at want judged = tt
+  usual box (TooEarly n) at want judged = absurd (omega (arith, judged.0, at, near))
+  usual box Repeat at want judged = tt
+  usual box (WrongLength n) at want judged =
+      let e : t ≡ c.round = judged.0.0 ∙ at in
+      let size : array_vec_len the_message.numbers ≡ c.mail.want =
+      rw (e, want, coming-is next o x c (almost next o x c fits)) (length-sent_for o (standing_at o c.round) (coming o c.round).act (peer c.me side) c.me) in
+      absurd (judged.2 (judged.1 ∙ size))
+  usual box Ready at want judged = tt
+  usual box Stored at want judged = tt
+
+-- the verdict on a delivered message of the run
+abbrev pub UsualAfter : {S : Type 0} → (S → ℕ → List ℕ → Batch) → Core S → RoundMessage → Verdict → Type 0
+UsualAfter next old m v =
+    (o : Opening) (x : Delivered) (s : Side) (t : ℕ) → Fits next o x old → m ≡ message_of o (peer old.me s) old.me t → IsRound o t →
+    t ≤ old.round + 1 → IsUsual v
+
+-- what a delivered message of the run leaves
+abbrev pub FitsAfter : {S : Type 0} → (S → ℕ → List ℕ → Batch) → Core S → Core S → RoundMessage → Type 0
+FitsAfter next old new m =
+    (o : Opening) (x : Delivered) (s : Side) (t : ℕ) → Fits next o x old → m ≡ message_of o (peer old.me s) old.me t → IsRound o t →
+    t ≤ old.round + 1 → Fits next o (with_triple x (record { from = peer old.me s; to = old.me; round = t })) new
+
+pub handed-first : (a b : Bool) → (a || b) ≡ true → b ≡ false → a ≡ true
+handed-first true b e f = refl
+handed-first false b e f = cc (e, f)
+
+pub not-handed : (a b : Bool) → (a || b) ≡ false → (a ≡ false) × (b ≡ false)
+not-handed true b e = cc e
+not-handed false b e = (refl, e)
+
+module _ {S : Type 0} (next : S → ℕ → List ℕ → Batch) (c : Core S) where
+  from-side : (box : Mailbox) (v : Verdict) (o : Opening) (s : Side) (t : ℕ) → c.mail.me ≡ c.me →
+      Judged c.mail box (message_of o (peer c.me s) c.me t) v → JudgedFrom c.mail box s (message_of o (peer c.me s) c.me t) v
+  from-side box v o s t me judged = judged-from c.mail box _ s v (sym me) (ap (λ p. peer p s) (sym me)) judged
+
+  pub after-late : (m : RoundMessage) → has_ended next c ≡ true → FitsAfter next c c m
+  after-late m ended o x s t fits is is_round near = late next o x c fits s t is_round near ended
+
+  pub after-offer : (box : Mailbox) (m : RoundMessage) (v : Verdict) → c.mail.me ≡ c.me → c.mail.round ≡ c.round →
+      c.mail.want ≡ size_of (coming_at next c).act → Judged c.mail box m v → v ≢ Ready → c.handed ≡ true →
+      FitsAfter next c (record c { mail = box }) m
+  after-offer box m v me at want judged other handed o x s t fits is is_round near =
+      let judged' = subst (λ (n : RoundMessage). Judged c.mail box n v) is judged in
+      stays next o x c fits s t is_round near handed box v at want (from-side box v o s t me judged') other
+
+  pub usual-offer : (box : Mailbox) (m : RoundMessage) (v : Verdict) → c.mail.me ≡ c.me → c.mail.round ≡ c.round →
+      c.mail.want ≡ size_of (coming_at next c).act → Judged c.mail box m v → UsualAfter next c m v
+  usual-offer box m v me at want judged o x s t fits is is_round near =
+      let judged' = subst (λ (n : RoundMessage). Judged c.mail box n v) is judged in
+      usual next o x c fits s t is_round near box v at want (from-side box v o s t me judged')
+
+  pub after-ready : (box : Mailbox) (m : RoundMessage) → c.mail.me ≡ c.me → c.mail.round ≡ c.round → Judged c.mail box m Ready →
+      c.handed ≡ true → has_ended next c ≡ false → FitsAfter next c (moved_on next (record c { mail = box })) m
+  after-ready box m me at judged handed goes o x s t fits is is_round near =
+      let judged' = subst (λ (n : RoundMessage). Judged c.mail box n Ready) is judged in
+      let j = from-side box Ready o s t me judged' in
+      moves-on next o (new_set x c.me s t) (record c { mail = box })
+      (put-now next o x c fits s t is_round near handed box (j.0.0 ∙ at) j.3) handed goes j.2
+
+  -- the messages are handed out, and the round is passed where both messages to the server are in
+  module _ (w : Work S) (handed : c.handed ≡ false) (goes : has_ended next c ≡ false) (work : w ≡ handing next (work_of c) w.coefficients)
+      (left : left_of w.coefficients ≡ drop (draws_in (coming_at next c).act) (left_of c.coefficients))
+      (words : w.coefficients.words ≡ c.coefficients.words) where
+    after-handing : (o : Opening) (x : Delivered) → Fits next o x c → Almost next o x (core_of w c.received c.mail)
+    after-handing o x fits =
+        subst (λ (v : Work S). Almost next o x (core_of v c.received c.mail)) (sym work)
+        (hands-out next o x c (almost next o x c fits) w.coefficients handed goes words left)
+
+    pub after-out : (o : Opening) (x : Delivered) → Fits next o x c → (HasBoth c.mail.now → ⊥) → Fits next o x (core_of w c.received c.mail)
+    after-out o x fits not =
+        let a = after-handing o x fits in
+        wholly next o x (core_of w c.received c.mail) a (λ _. still-waits next o x (core_of w c.received c.mail) a not)
+
+    pub after-pass : (o : Opening) (x : Delivered) → Fits next o x c → HasBoth c.mail.now → Fits next o x (moved_on next (core_of w c.received c.mail))
+    after-pass o x fits both =
+        let goes' = ap (λ (v : Work S). is_end (batch_of next v).act) work ∙ goes in
+        moves-on next o x (core_of w c.received c.mail) (after-handing o x fits) (ap (λ (v : Work S). v.handed) work) goes' both
+
+  -- the two messages that are handed out
+  pub handed-messages : (o : Opening) (x : Delivered) → Fits next o x c → c.handed ≡ false → (low high : RoundMessage) →
+      low ≡ record { from = c.me; to = peer c.me Low; round = c.round; numbers = record { items = sends next (work_of c) (peer c.me Low) } } →
+      high ≡ record { from = c.me; to = peer c.me High; round = c.round; numbers = record { items = sends next (work_of c) (peer c.me High) } } →
+      low ∷ high ∷ [] ≡ messages_from o c.me c.round
+  handed-messages o x fits handed low high e f =
+      let is : (s : Side) → sends next (work_of c) (peer c.me s) ≡ message o c.me (peer c.me s) c.round =
+      λ s. sends-is next o x c (almost next o x c fits) handed (peer c.me s) in
+      rw (e, f, is Low, is High) refl

@@ -1,0 +1,17 @@
+pub mod Lined
+pub mod LinesLaw
+pub mod Walk
+pub mod Rounds
+pub mod Examples
+pub mod EventFacts
+pub mod Undelivered
+pub mod Passing
+pub mod EventExamples
+pub mod Counting
+pub mod Listing
+pub mod Lists
+pub mod Soundness
+pub mod RunSteps
+pub mod Starting
+pub mod Receiving
+pub mod Delivering

@@ -1,0 +1,170 @@
+-- How many rounds a run has.
+use Rattle.std.proofs.Common.{◌≡◌, ℕ, zero, suc, ◌+◌, ◌<◌, ◌≤◌, ◌⊎◌, inl, inr, true, false, Bool, List, [], length, refl, sym, ◌∙◌, ap, subst, arith}
+use Rattle.std.proofs.lemmas.Bool.{cases_eq}
+use Rattle.beet_gates.specs.Clear.{Values, act_on, batch_on, clear_at, clear_values, is_end, rounds_run, with_lets}
+use Rattle.beet_gates.specs.Deals.{deals_of}
+use Rattle.beet_gates.specs.Scripts.{Standing, LawFrom, start_of}
+use Rattle.beet_gates.specs.declared.Act.{Act}
+use Rattle.beet_gates.specs.declared.Act.TheVariants.{Deal, Mul, Reveal, End}
+use Rattle.beet_gates.specs.declared.Batch.{Batch}
+use Rattle.beet_gates.proofs.ClearAt.{run-ends}
+use Rattle.beet_server.specs.Runs.{Opening, HasRounds, coming, end_from, rounds_among, shared_at, standing_at}
+use Rattle.beet_server.specs.Lines.{OnLines, slopes_at, slopes_standing}
+use Rattle.beet_server.proofs.LinesLaw.{at-one, lets-on-lines, same-rounds}
+use Rattle.beet_server.specs.Fits.{IsRound}
+use Rattle.beet_server.specs.Rounds.{HasInputs, RoundIsWithin}
+use Rattle.beet_server.proofs.Walk.{Goes, Lawful, Walks, deals-fit, draws-fit, lawful-last, lawful-next, lawful-start, message-length, size-small, size-some, walks, wires-fit}
+
+less-or : (r s : ℕ) → (r < s) ⊎ ((r ≡ s) ⊎ (s < r))
+less-or r s = grind arith
+
+-- the first end is one
+pub rounds-unique : (o : Opening) (r s : ℕ) → HasRounds o r → HasRounds o s → r ≡ s
+rounds-unique o r s h k = elim (less-or r s) [
+  | inl less ↦ cc (h.ends, k.goes r less)
+  | inr rest ↦ elim rest [
+    | inl same ↦ same
+    | inr more ↦ cc (k.ends, h.goes s more)
+  ]
+]
+
+-- the end that the search from t on finds among n batches is the first
+record Found (o : Opening) (n t : ℕ) : Type 0 where
+  ends : is_end (coming o (end_from o n t)).act ≡ true
+  going : (k : ℕ) → t ≤ k → k < end_from o n t → is_end (coming o k).act ≡ false
+  few : end_from o n t ≤ t + n
+
+found : (o : Opening) (bounds : Standing) (inputs n t : ℕ) → Lawful o bounds inputs n t → Found o n t
+found o bounds inputs zero t l = record {
+  ends = lawful-last o bounds inputs t l;
+  going = λ k le lt. absurd (omega (arith, le, lt));
+  few = omega arith;
+}
+found o bounds inputs (suc n) t l = by_end (is_end (coming o t).act) refl (λ more. found o bounds inputs n (suc t) (lawful-next o bounds inputs n t l more)) where
+  by_end : (e : Bool) → is_end (coming o t).act ≡ e → (is_end (coming o t).act ≡ false → Found o n (suc t)) → Found o (suc n) t
+  by_end true e more = record {
+    ends = rw e e;
+    going = λ k le lt. absurd (omega (arith, le, rw e at lt));
+    few = rw e (omega arith);
+  }
+  by_end false e more =
+      let rest = more e in
+      record {
+        ends = rw e rest.ends;
+        going = λ k le lt. elim (cases_eq k t) [
+          | inl same ↦ rw same e
+          | inr other ↦ rest.going k (omega (arith, other, le)) (rw e at lt)
+        ];
+        few = rw e (omega (arith, rest.few));
+      }
+
+-- a lawful run ends after at most so many rounds
+pub lawful-rounds : (o : Opening) (bounds : Standing) (most inputs : ℕ) → LawFrom o.next bounds most (start_of inputs) [] →
+    HasRounds o (rounds_among o most) × (rounds_among o most ≤ most)
+lawful-rounds o bounds most inputs law =
+    let f = found o bounds inputs most 0 (lawful-start o bounds most inputs law) in
+    (record { ends = f.ends; goes = λ k lt. f.going k (omega arith) lt }, omega (arith, f.few))
+
+-- of a run that has r rounds the search finds them
+found-among : (o : Opening) (r n t : ℕ) → HasRounds o r → t ≤ r → r ≤ t + n → end_from o n t ≡ r
+found-among o r zero t h le few = omega (arith, le, few)
+found-among o r (suc n) t h le few = by_end (is_end (coming o t).act) refl (λ below within. found-among o r n (suc t) h below within) where
+  by_end : (e : Bool) → is_end (coming o t).act ≡ e → (suc t ≤ r → r ≤ suc t + n → end_from o n (suc t) ≡ r) → end_from o (suc n) t ≡ r
+  by_end true e more = elim (cases_eq t r) [
+    | inl same ↦ rw e same
+    | inr other ↦ cc (e, h.goes t (omega (arith, le, other)))
+  ]
+  by_end false e more = elim (cases_eq t r) [
+    | inl same ↦ cc (e, ap (λ k. is_end (coming o k).act) same ∙ h.ends)
+    | inr other ↦ rw e (more (omega (arith, le, other)) (omega (arith, few)))
+  ]
+
+pub among-rounds : (o : Opening) (r most : ℕ) → HasRounds o r → r ≤ most → rounds_among o most ≡ r
+among-rounds o r most h le = found-among o r most 0 h (omega arith) (omega (arith, le))
+
+-- a batch with the end opens nothing
+end-opens : (deals : ℕ → List ℕ) (b : Batch) (v : Values) → is_end b.act ≡ true → (batch_on deals b v).opened ≡ v.opened
+end-opens deals b v e = by_act b.act (record v { wires = with_lets v.wires b.lets.items }) e where
+  by_act : (a : Act) (w : Values) → is_end a ≡ true → (act_on deals a w).opened ≡ w.opened
+  by_act Deal w h = refl
+  by_act (Mul pairs) w h = refl
+  by_act (Reveal shown) w h = cc h
+  by_act End w h = refl
+
+-- a lawful run on lines has the clear run's rounds, and opens its numbers
+pub ends-alike : (o : Opening) (bounds : Standing) (most : ℕ) (values slopes : List ℕ) → LawFrom o.next bounds most (start_of (length values)) [] →
+    OnLines values slopes o.inputs →
+    (rounds_among o most ≡ rounds_run o.next most values o.masks)
+    × ((shared_at o (rounds_among o most)).opened ≡ (clear_values o.next most values o.masks).opened)
+ends-alike o bounds most values slopes law lines =
+    let clear = run-ends o.next o.masks bounds most values law in
+    let r = rounds_run o.next most values o.masks in
+    let same : rounds_among o most ≡ r = among-rounds o r most ((same-rounds o values slopes lines r).1 clear.0) clear.1 in
+    let deals = deals_of o.masks in
+    let v = clear_at o.next deals values r in (
+      same,
+      ap (λ k. (shared_at o k).opened) same ∙ (at-one o values slopes lines r).opened
+          ∙ sym (end-opens deals (o.next r v.opened) v clear.0.0) ∙ sym (ap (λ x. x.opened) clear.2),
+    )
+
+-- and only appends its lets
+end-wires : (deals : ℕ → List ℕ) (b : Batch) (v : Values) → is_end b.act ≡ true → (batch_on deals b v).wires ≡ with_lets v.wires b.lets.items
+end-wires deals b v e = by_act b.act (record v { wires = with_lets v.wires b.lets.items }) e where
+  by_act : (a : Act) (w : Values) → is_end a ≡ true → (act_on deals a w).wires ≡ w.wires
+  by_act Deal w h = cc h
+  by_act (Mul pairs) w h = cc h
+  by_act (Reveal shown) w h = refl
+  by_act End w h = refl
+
+-- and at its end the points of each wire are those of the line with the clear run's value
+pub wires-alike : (o : Opening) (bounds : Standing) (most : ℕ) (values slopes : List ℕ) → LawFrom o.next bounds most (start_of (length values)) [] →
+    OnLines values slopes o.inputs →
+    OnLines (clear_values o.next most values o.masks).wires (slopes_standing o slopes (rounds_among o most)) (standing_at o (rounds_among o most)).wires
+wires-alike o bounds most values slopes law lines =
+    let clear = run-ends o.next o.masks bounds most values law in
+    let r = rounds_run o.next most values o.masks in
+    let same : rounds_among o most ≡ r = (ends-alike o bounds most values slopes law lines).0 in
+    let deals = deals_of o.masks in
+    let v = clear_at o.next deals values r in
+    let at = at-one o values slopes lines r in
+    let are : with_lets v.wires (coming o r).lets.items ≡ (clear_values o.next most values o.masks).wires =
+    ap (λ x. with_lets v.wires (o.next r x).lets.items) at.opened ∙ sym (end-wires deals (o.next r v.opened) v clear.0.0) ∙ sym (ap (λ x. x.wires) clear.2) in
+    subst (λ n. OnLines (clear_values o.next most values o.masks).wires (slopes_standing o slopes n) (standing_at o n).wires) (sym same)
+    (subst (λ w. OnLines w (slopes_standing o slopes r) (standing_at o r).wires) are (lets-on-lines (coming o r) v.wires (slopes_at o slopes r) (shared_at o r) at.lines))
+
+-- the end does not come before the rounds are over
+pub goes-before : (o : Opening) (r t : ℕ) → HasRounds o r → t ≤ r → Goes o t
+goes-before o r t h le k lt = h.goes k (omega (arith, le, lt))
+
+-- what is no end, nor comes after one, is a round, and no other
+pub round-below : (o : Opening) (r t : ℕ) → HasRounds o r → IsRound o t → t < r
+round-below o r t h is = elim (less-or t r) [
+  | inl less ↦ less
+  | inr rest ↦ elim rest [
+    | inl same ↦ cc (h.ends, is r (omega (arith, same)))
+    | inr more ↦ cc (h.ends, is r (omega (arith, more)))
+  ]
+]
+
+pub below-round : (o : Opening) (r t : ℕ) → HasRounds o r → t < r → IsRound o t
+below-round o r t h lt k le = h.goes k (omega (arith, le, lt))
+
+-- a lawful run after t of its rounds
+pub walks-among : (o : Opening) (bounds : Standing) (most inputs : ℕ) → LawFrom o.next bounds most (start_of inputs) [] → HasInputs o inputs → (t : ℕ) →
+    t ≤ rounds_among o most → Walks o bounds most t
+walks-among o bounds most inputs law h t le =
+    walks o bounds most inputs law h t (goes-before o (rounds_among o most) t (lawful-rounds o bounds most inputs law).0 le)
+
+-- a round of a lawful run
+pub rounds-within : (o : Opening) (bounds : Standing) (most inputs : ℕ) → LawFrom o.next bounds most (start_of inputs) [] → HasInputs o inputs → (t : ℕ) →
+    t < rounds_among o most → RoundIsWithin o bounds t
+rounds-within o bounds most inputs law h t lt =
+    let w = walks-among o bounds most inputs law h t (omega (arith, lt)) in
+    record {
+      drawn = draws-fit o bounds most t w;
+      dealt = deals-fit o bounds most t w;
+      points = wires-fit o bounds most t w;
+      numbers = λ from to. message-length o from to t;
+      some = size-some o bounds most t w ((lawful-rounds o bounds most inputs law).0.goes t lt);
+      few = size-small o bounds most t w;
+    }

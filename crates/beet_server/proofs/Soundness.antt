@@ -1,0 +1,223 @@
+-- What computes in a server stays sound.
+use Rattle.std.proofs.Common.{◌≡◌, ◌+◌, ◌*◌, ◌^◌, ◌<◌, ◌≤◌, ℕ, zero, suc, Bool, true, false, List, [], ◌∷◌, ◌++◌, drop, length, refl, sym, ap, ◌∙◌, arith, true≢false, length-append}
+use Rattle.std.proofs.lemmas.List.{length-map}
+use Rattle.std.specs.Int.{bit_at}
+use Rattle.arrayvec.specs.ArrayVec.{ArrayVec}
+use Rattle.beet_field.specs.Trio.{member}
+use Rattle.beet_field.specs.declared.trio.Trio.{Trio}
+use Rattle.beet_field.specs.declared.point.Point.{Point}
+use Rattle.beet_field.specs.declared.point.Point.TheVariants.{One, Two, Three}
+use Rattle.beet_words.specs.Tapes.{Tape, left_of}
+use Rattle.beet_gates.specs.Clear.{with_lets, product_of, is_end}
+use Rattle.beet_gates.specs.Scripts.{Standing, LawFrom, BatchStands, LetsBelow, IsWithin, after, acted, revealed, deals_in, size_of, start_of}
+use Rattle.beet_gates.specs.declared.Act.{Act}
+use Rattle.beet_gates.specs.declared.Act.TheVariants.{Deal, Mul, Reveal, End}
+use Rattle.beet_gates.specs.declared.Batch.{Batch}
+use Rattle.beet_gates.proofs.ClearFacts.{length-with_lets}
+use Rattle.beet_gates.proofs.EachFacts.{length-each}
+use Rattle.beet_gates.proofs.Laws.{law-now, law-next, law-last}
+use Rattle.beet_server.specs.Runs.{draws_in, trio_of}
+use Rattle.beet_server.specs.Sound.{IsSound}
+use Rattle.beet_server.specs.Steps.{numbers_for, gained_in}
+
+pub member-trio_of : {A : Type 0} (f : Point → A) → (i : Point) → member (trio_of f) i ≡ f i
+member-trio_of f One = refl
+member-trio_of f Two = refl
+member-trio_of f Three = refl
+
+-- a message has the size of its batch
+pub length-numbers_for : (a : Act) (points : List ℕ) (word : ℕ) (drawn : List ℕ) (to : Point) → length (numbers_for a points word drawn to) ≡ size_of a
+length-numbers_for Deal points word drawn to = length-each _ _ ∙ length-each (bit_at word) 61
+length-numbers_for (Mul pairs) points word drawn to = length-each _ _ ∙ length-map pairs.items (product_of points)
+length-numbers_for (Reveal shown) points word drawn to = length-map shown.items _
+length-numbers_for End points word drawn to = refl
+
+pub length-own : (numbers : Trio (ArrayVec ℕ)) (own : ArrayVec ℕ) (a : Act) (points : List ℕ) (word : ℕ) (drawn : List ℕ) (me : Point) →
+    numbers ≡ trio_of (λ to. record { items = numbers_for a points word drawn to }) → own ≡ member numbers me → length own.items ≡ size_of a
+length-own numbers own a points word drawn me e f =
+    rw (f, e, member-trio_of (λ (to : Point). the_numbers to) me) (length-numbers_for a points word drawn me)
+  where
+    the_numbers : Point → ArrayVec ℕ
+    the_numbers to = record { items = numbers_for a points word drawn to }
+
+-- how far a batch leads
+pub record Leads (s t : Standing) (b : Batch) : Type 0 where
+  pub wires : t.wires ≡ s.wires + length b.lets.items + gained_in b.act
+  pub masks : t.masks ≡ s.masks + deals_in b.act
+  pub coefficients : t.coefficients ≡ s.coefficients + draws_in b.act
+
+pub leads : (s : Standing) (b : Batch) → Leads s (after s b) b
+leads s b = by_act b.act where
+  by_act : (a : Act) → Leads s (acted (record s { wires = s.wires + length b.lets.items }) a) (record { lets = b.lets; act = a })
+  by_act Deal = record { wires = refl; masks = refl; coefficients = refl }
+  by_act (Mul pairs) = record { wires = refl; masks = omega arith; coefficients = refl }
+  by_act (Reveal shown) = record { wires = omega arith; masks = omega arith; coefficients = omega arith }
+  by_act End = record { wires = omega arith; masks = omega arith; coefficients = omega arith }
+
+done-after : (s : Standing) (b : Batch) → is_end b.act ≡ false → (after s b).done ≡ s.done + 1
+done-after s b h = by_act b.act h where
+  by_act : (a : Act) → is_end a ≡ false → (acted (record s { wires = s.wires + length b.lets.items }) a).done ≡ s.done + 1
+  by_act Deal h = refl
+  by_act (Mul pairs) h = refl
+  by_act (Reveal shown) h = refl
+  by_act End h = cc h
+
+few-opened : (a : Act) → revealed a ≤ size_of a
+few-opened Deal = omega arith
+few-opened (Mul pairs) = omega arith
+few-opened (Reveal shown) = omega arith
+few-opened End = omega arith
+
+module _ (next : ℕ → List ℕ → Batch) (bounds : Standing) (rounds : ℕ) where
+  -- a script begins
+  module _ (n : ℕ) (law : LawFrom next bounds rounds (start_of n) []) where
+    pub first-room : n + length (next 0 []).lets.items ≤ bounds.wires
+    first-room =
+        let now = law-now next bounds rounds (start_of n) [] law in
+        let l = leads (start_of n) (next 0 []) in
+        omega (arith, now.1.0, l.wires)
+
+    pub first-lets : LetsBelow n (next 0 []).lets.items
+    first-lets = (law-now next bounds rounds (start_of n) [] law).0.0
+
+    pub first-sound : (batch : Batch) (given wires opened own : List ℕ) (masks coefficients : Tape) (wire_room opened_room : ℕ) →
+        batch ≡ next 0 [] → length given ≡ n → wires ≡ with_lets given batch.lets.items → opened ≡ [] → own ≡ [] → masks.passed ≡ 0 →
+        bounds.masks ≤ length masks.words → bounds.coefficients ≤ length (left_of coefficients) → bounds.wires ≤ wire_room →
+        64 * rounds ≤ opened_room → rounds < 2 ^ 32 →
+        IsSound next bounds rounds batch 0 wires opened own masks coefficients false wire_room opened_room
+    first-sound batch given wires opened own masks coefficients wire_room opened_room comes count is_wires no_opened no_own none words numbers room answers small = record {
+      coming = rw no_opened comes;
+      standing = start_of n;
+      left = rounds;
+      done = refl;
+      few = omega arith;
+      law = rw no_opened law;
+      counted = ap length is_wires ∙ length-with_lets given batch.lets.items ∙ ap (λ k. k + length batch.lets.items) count;
+      answers = rw no_opened (omega arith);
+      dealt = omega (arith, none);
+      words = words;
+      drawn = omega (arith, numbers);
+      sent = ap length no_own;
+      wires_fit = room;
+      opened_fit = answers;
+      small = small;
+    }
+
+  module _ (batch : Batch) (round : ℕ) (wires opened own : List ℕ) (masks coefficients : Tape) (handed : Bool) (wire_room opened_room : ℕ)
+      (sound : IsSound next bounds rounds batch round wires opened own masks coefficients handed wire_room opened_room) where
+    -- the batch that comes is that of the standing
+    at : next sound.standing.done opened ≡ batch
+    at = ap (λ k. next k opened) sound.done ∙ sym sound.coming
+
+    now : BatchStands sound.standing batch × IsWithin bounds (after sound.standing batch)
+    now = rw at at (law-now next bounds sound.left sound.standing opened sound.law)
+
+    pub enough : handed ≡ false → draws_in batch.act ≤ length (left_of coefficients)
+    enough h =
+        let drawn = rw h at sound.drawn in
+        omega (arith, drawn, now.1.2, (leads sound.standing batch).coefficients)
+
+    -- the messages of the round are handed out
+    pub hands-sound : handed ≡ false → (own' : List ℕ) (masks' coefficients' : Tape) → length own' ≡ size_of batch.act →
+        masks' ≡ record masks { passed = masks.passed + deals_in batch.act } →
+        left_of coefficients' ≡ drop (draws_in batch.act) (left_of coefficients) →
+        IsSound next bounds rounds batch round wires opened own' masks' coefficients' true wire_room opened_room
+    hands-sound h own' masks' coefficients' size dealt left =
+        let before = rw h at sound.dealt in
+        let drawn = rw h at sound.drawn in
+        let rest : length (left_of coefficients') + draws_in batch.act ≡ length (left_of coefficients) =
+        ap (λ l. length l + draws_in batch.act) left ∙ dropped (draws_in batch.act) (left_of coefficients) (enough h) in
+        record {
+          coming = sound.coming;
+          standing = sound.standing;
+          left = sound.left;
+          done = sound.done;
+          few = sound.few;
+          law = sound.law;
+          counted = sound.counted;
+          answers = sound.answers;
+          dealt = ap (λ (t : Tape). t.passed) dealt ∙ omega (arith, before);
+          words = rw dealt sound.words;
+          drawn = omega (arith, drawn, rest);
+          sent = size;
+          wires_fit = sound.wires_fit;
+          opened_fit = sound.opened_fit;
+          small = sound.small;
+        }
+      where
+        dropped : (n : ℕ) (xs : List ℕ) → n ≤ length xs → length (drop n xs) + n ≡ length xs
+        dropped zero xs h = omega arith
+        dropped (suc n) [] h = absurd (omega arith)
+        dropped (suc n) (x ∷ xs) h = omega (arith, dropped n xs (omega arith))
+
+    -- where the batch is not the end, more rounds may come
+    pub still-going : is_end batch.act ≡ false → round < rounds
+    still-going goes = by_left sound.left refl where
+      by_left : (k : ℕ) → sound.left ≡ k → round < rounds
+      by_left zero e =
+          let law = rw e at sound.law in
+          let last = rw at at (law-last next bounds sound.standing opened law) in
+          absurd (true≢false (sym last ∙ goes))
+      by_left (suc n) e = omega (arith, sound.few, e)
+
+    -- the round is passed
+    module _ (is_handed : handed ≡ true) (goes : is_end batch.act ≡ false) where
+      more : (n : ℕ) × (sound.left ≡ suc n) × ((new : List ℕ) → length new ≡ revealed batch.act → LawFrom next bounds n (after sound.standing batch) (opened ++ new))
+      more = by_left sound.left refl where
+        by_left : (k : ℕ) → sound.left ≡ k → (n : ℕ) × (sound.left ≡ suc n) × ((new : List ℕ) → length new ≡ revealed batch.act → LawFrom next bounds n (after sound.standing batch) (opened ++ new))
+        by_left zero e =
+            let law = rw e at sound.law in
+            let last = rw at at (law-last next bounds sound.standing opened law) in
+            absurd (true≢false (sym last ∙ goes))
+        by_left (suc n) e =
+            let law = rw e at sound.law in
+            (n, e, (rw at at (law-next next bounds n sound.standing opened law)) goes)
+
+      pub not-last : round < rounds
+      not-last = omega (arith, sound.few, more.1)
+
+      module _ (wires' opened' new : List ℕ) (count : length wires' ≡ length wires + gained_in batch.act)
+          (is_opened : opened' ≡ opened ++ new) (revealed_is : length new ≡ revealed batch.act) where
+        then_law : LawFrom next bounds more.0 (after sound.standing batch) opened'
+        then_law = rw is_opened (more.2 new revealed_is)
+
+        then_at : next (after sound.standing batch).done opened' ≡ next (round + 1) opened'
+        then_at = ap (λ k. next k opened') (done-after sound.standing batch goes ∙ ap (λ k. k + 1) sound.done)
+
+        then_now : BatchStands (after sound.standing batch) (next (round + 1) opened') × IsWithin bounds (after (after sound.standing batch) (next (round + 1) opened'))
+        then_now = rw then_at at (law-now next bounds more.0 (after sound.standing batch) opened' then_law)
+
+        then_count : length wires' ≡ (after sound.standing batch).wires
+        then_count = omega (arith, count, sound.counted, (leads sound.standing batch).wires)
+
+        pub next-lets : LetsBelow (length wires') (next (round + 1) opened').lets.items
+        next-lets = rw then_count then_now.0.0
+
+        pub next-room : length wires' + length (next (round + 1) opened').lets.items ≤ wire_room
+        next-room =
+            omega (arith, then_count, then_now.1.0, sound.wires_fit, (leads (after sound.standing batch) (next (round + 1) opened')).wires)
+
+        pub passes-sound : (batch' : Batch) (wires'' own' : List ℕ) → batch' ≡ next (round + 1) opened' → wires'' ≡ with_lets wires' batch'.lets.items → own' ≡ [] →
+            IsSound next bounds rounds batch' (round + 1) wires'' opened' own' masks coefficients false wire_room opened_room
+        passes-sound batch' wires'' own' comes is_wires no_own =
+            let dealt = rw is_handed at sound.dealt in
+            let drawn = rw is_handed at sound.drawn in
+            let l = leads sound.standing batch in
+            record {
+              coming = comes;
+              standing = after sound.standing batch;
+              left = more.0;
+              done = done-after sound.standing batch goes ∙ ap (λ k. k + 1) sound.done;
+              few = omega (arith, sound.few, more.1);
+              law = then_law;
+              counted = ap length is_wires ∙ length-with_lets wires' batch'.lets.items ∙ ap (λ k. k + length batch'.lets.items) then_count;
+              answers = let few = few-opened batch.act in let small = now.0.2.1 in
+                  omega (arith, sound.answers, ap length is_opened, length-append opened new, revealed_is, few, small);
+              dealt = omega (arith, dealt, l.masks);
+              words = sound.words;
+              drawn = omega (arith, drawn, l.coefficients);
+              sent = ap length no_own;
+              wires_fit = sound.wires_fit;
+              opened_fit = sound.opened_fit;
+              small = sound.small;
+            }

@@ -1,0 +1,48 @@
+use Rattle.std.proofs.Common.{◌≡◌, ◌+◌, length, length-append, ap, ◌∙◌, arith, true, false}
+use Rattle.beet_gates.specs.Clear.{with_lets, is_end}
+use Rattle.beet_gates.specs.Scripts.{revealed}
+use Rattle.beet_gates.specs.declared.Batch.{Batch}
+use Rattle.beet_server.specs.Steps.{Work, batch_of, numbers_opened}
+use Rattle.beet_server.proofs.Soundness.{next-lets, next-room, passes-sound}
+use Rattle.beet_server.proofs.engine.Engine.pass.Goals as goal
+
+pub append_lets-requires-clause-below : goal.append_lets-requires-clause-below
+append_lets-requires-clause-below g c =
+    let s = c.self.invariant in
+    let handed : c.self.inside.handed ≡ true = ap (λ (w : Work g.row.S.Denot). w.handed) c.self.view_is ∙ c.requires.handed in
+    let goes : is_end c.self.inside.batch.act ≡ false =
+    ap (λ (b : Batch). is_end b.act) s.coming ∙ ap (λ (w : Work g.row.S.Denot). is_end (batch_of g.S.Script.batch_of w).act) c.self.view_is ∙ c.requires.goes in
+    let new = numbers_opened c.self.inside.batch.act c.of_sender-one.result.now c.of_sender-two.result.now c.of_sender-three.result.now in
+    let count : length new ≡ revealed c.self.inside.batch.act =
+    omega (arith, ap length c.absorb.ensures.opened, length-append c.self.inside.opened.items new, c.absorb.ensures.opened_count) in
+    let batch_is = c.next-self-inside.ensures ∙ ap (λ l. g.S.Script.batch_of c.self.inside.script (c.self.inside.round + 1) l) c.as_slice.ensures.value in
+    let lets_are = c.as_slice-2.ensures.value ∙ ap (λ (b : Batch). b.lets.items) batch_is in
+    rw lets_are (next-lets _ _ _ _ _ _ _ _ _ _ _ _ _ s handed goes _ _ new c.absorb.ensures.wires_count c.absorb.ensures.opened count)
+
+pub append_lets-requires-clause-room : goal.append_lets-requires-clause-room
+append_lets-requires-clause-room g c =
+    let s = c.self.invariant in
+    let handed : c.self.inside.handed ≡ true = ap (λ (w : Work g.row.S.Denot). w.handed) c.self.view_is ∙ c.requires.handed in
+    let goes : is_end c.self.inside.batch.act ≡ false =
+    ap (λ (b : Batch). is_end b.act) s.coming ∙ ap (λ (w : Work g.row.S.Denot). is_end (batch_of g.S.Script.batch_of w).act) c.self.view_is ∙ c.requires.goes in
+    let new = numbers_opened c.self.inside.batch.act c.of_sender-one.result.now c.of_sender-two.result.now c.of_sender-three.result.now in
+    let count : length new ≡ revealed c.self.inside.batch.act =
+    omega (arith, ap length c.absorb.ensures.opened, length-append c.self.inside.opened.items new, c.absorb.ensures.opened_count) in
+    let batch_is = c.next-self-inside.ensures ∙ ap (λ l. g.S.Script.batch_of c.self.inside.script (c.self.inside.round + 1) l) c.as_slice.ensures.value in
+    let lets_are = c.as_slice-2.ensures.value ∙ ap (λ (b : Batch). b.lets.items) batch_is in
+    rw (lets_are, c.absorb.ensures.wires_capacity)
+    (next-room _ _ _ _ _ _ _ _ _ _ _ _ _ s handed goes _ _ new c.absorb.ensures.wires_count c.absorb.ensures.opened count)
+
+pub invariant_of-self : goal.invariant_of-self
+invariant_of-self g c =
+    let s = c.self.invariant in
+    let handed : c.self.inside.handed ≡ true = ap (λ (w : Work g.row.S.Denot). w.handed) c.self.view_is ∙ c.requires.handed in
+    let goes : is_end c.self.inside.batch.act ≡ false =
+    ap (λ (b : Batch). is_end b.act) s.coming ∙ ap (λ (w : Work g.row.S.Denot). is_end (batch_of g.S.Script.batch_of w).act) c.self.view_is ∙ c.requires.goes in
+    let new = numbers_opened c.self.inside.batch.act c.of_sender-one.result.now c.of_sender-two.result.now c.of_sender-three.result.now in
+    let count : length new ≡ revealed c.self.inside.batch.act =
+    omega (arith, ap length c.absorb.ensures.opened, length-append c.self.inside.opened.items new, c.absorb.ensures.opened_count) in
+    let batch_is = c.next-self-inside.ensures ∙ ap (λ l. g.S.Script.batch_of c.self.inside.script (c.self.inside.round + 1) l) c.as_slice.ensures.value in
+    rw (c.append_lets.ensures.capacity, c.absorb.ensures.wires_capacity, c.absorb.ensures.opened_capacity)
+    (passes-sound _ _ _ _ _ _ _ _ _ _ _ _ _ s handed goes _ _ new c.absorb.ensures.wires_count c.absorb.ensures.opened count
+    _ _ _ batch_is (c.append_lets.ensures.wires ∙ ap (λ l. with_lets c.absorb.new.wires.items l) c.as_slice-2.ensures.value) c.new-self-inside.ensures)

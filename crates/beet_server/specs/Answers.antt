@@ -1,0 +1,47 @@
+-- What a core answers, and what it keeps.
+use Rattle.std.specs.Prelude.{◌≡◌, ◌≢◌, ℕ, ◌+◌, ◌<◌, ◌≤◌, ◌⊎◌, List, true, false, ⊤}
+use Rattle.beet_gates.specs.declared.Batch.{Batch}
+use Rattle.beet_round.specs.Boxes.{HasBoth, Mailbox, Judged, IsStranger}
+use Rattle.beet_round.specs.declared.message.RoundMessage.{RoundMessage}
+use Rattle.beet_round.specs.declared.mailbox.Verdict.{Verdict}
+use Rattle.beet_round.specs.declared.mailbox.Verdict.TheVariants.{Stored, Ready, Repeat, Old, TooEarly, WrongLength, Stranger}
+use Rattle.beet_server.specs.Cores.{Core}
+use Rattle.beet_server.specs.Steps.{moved_on}
+
+-- what stays of a core: its server, its script and the words of its tapes
+pub record Keeps {S : Type 0} (old new : Core S) : Type 0 where
+  pub me : new.me ≡ old.me
+  pub script : new.script ≡ old.script
+  pub masks : new.masks.words ≡ old.masks.words
+  pub coefficients : new.coefficients.words ≡ old.coefficients.words
+
+-- what handing out its messages makes of how far a core is: it passes the round where both messages to it are in, and else it stays in
+-- the round
+abbrev pub Moves : {S : Type 0} → Core S → Core S → Type 0
+Moves old new =
+    (HasBoth old.mail.now × (new.round ≡ old.round + 1) × (new.handed ≡ false))
+    ⊎ ((HasBoth old.mail.now → ⊥) × (new.round ≡ old.round) × (new.handed ≡ true))
+
+-- the verdict of an ended core on a message
+abbrev pub IsLateVerdict : {S : Type 0} → Core S → RoundMessage → Verdict → Type 0
+IsLateVerdict c m Stranger = IsStranger c.me m
+IsLateVerdict c m Old = (m.to ≡ c.me) × (m.from ≢ c.me) × (m.round < c.round)
+IsLateVerdict c m (TooEarly t) = (m.to ≡ c.me) × (m.from ≢ c.me) × (c.round ≤ m.round) × (t ≡ c.round)
+IsLateVerdict c m _ = ⊥
+
+-- the box says the verdict; at Ready the core passes the round, and else only the box changes
+pub record Answers {S : Type 0} (next : S → ℕ → List ℕ → Batch) (old new : Core S) (m : RoundMessage) (v : Verdict) : Type 0 where
+  pub box : Mailbox
+  pub judged : Judged old.mail box m v
+  pub waits : v ≢ Ready → new ≡ record old { mail = box }
+  pub passes : v ≡ Ready → new ≡ moved_on next (record old { mail = box })
+
+-- a verdict on a message of the run that is of no later round than the next
+abbrev pub IsUsual : Verdict → Type 0
+IsUsual Stored = ⊤
+IsUsual Ready = ⊤
+IsUsual Repeat = ⊤
+IsUsual Old = ⊤
+IsUsual (TooEarly t) = ⊥
+IsUsual (WrongLength n) = ⊥
+IsUsual Stranger = ⊥

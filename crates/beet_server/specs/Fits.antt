@@ -1,0 +1,75 @@
+-- When a core fits a run and a set of delivered messages.
+use Rattle.std.specs.Prelude.{◌≡◌, ℕ, suc, ◌+◌, ◌<◌, ◌≤◌, List, [], ◌∷◌, drop, Option, Some, None, Bool, true, false, if◌then◌else◌}
+use Rattle.beet_field.specs.Trio.{member}
+use Rattle.beet_field.specs.declared.point.Point.{Point}
+use Rattle.beet_words.specs.Tapes.{left_of}
+use Rattle.beet_words.specs.Words.{accepted}
+use Rattle.beet_gates.specs.Clear.{is_end}
+use Rattle.beet_gates.specs.Each.{each}
+use Rattle.beet_gates.specs.declared.Batch.{Batch}
+use Rattle.beet_round.specs.Boxes.{place_at}
+use Rattle.beet_round.specs.Sides.{peer}
+use Rattle.beet_round.specs.declared.message.RoundMessage.{RoundMessage}
+use Rattle.beet_round.specs.declared.sides.Side.{Side}
+use Rattle.beet_round.specs.declared.sides.Side.TheVariants.{Low, High}
+use Rattle.beet_server.specs.Runs.{Opening, coming, message, shared_at, standing_at}
+use Rattle.beet_server.specs.Events.{Delivered, both_in}
+use Rattle.beet_server.specs.Cores.{Core}
+
+-- t is a round of the run: the end does not come after t batches or before
+abbrev pub IsRound : Opening → ℕ → Type 0
+IsRound o t = (k : ℕ) → k ≤ t → is_end (coming o k).act ≡ false
+
+-- the message of a run from one server to another in a round
+abbrev pub message_of : Opening → Point → Point → ℕ → RoundMessage
+message_of o from to t = record { from = from; to = to; round = t; numbers = record { items = message o from to t } }
+
+-- both messages to a server in a round, the lower sender's first
+abbrev pub messages_to : Opening → Point → ℕ → List RoundMessage
+messages_to o me t = message_of o (peer me Low) me t ∷ message_of o (peer me High) me t ∷ []
+
+-- both messages of a server in a round, the lower receiver's first
+abbrev pub messages_from : Opening → Point → ℕ → List RoundMessage
+messages_from o me t = message_of o me (peer me Low) t ∷ message_of o me (peer me High) t ∷ []
+
+-- a message where it was delivered
+abbrev pub some_if : Bool → RoundMessage → Option RoundMessage
+some_if true m = Some m
+some_if false m = None
+
+-- how many rounds' numbers and words are taken from the tapes: those of the round too, once its messages are handed out
+abbrev pub taken : ℕ → Bool → ℕ
+taken round true = suc round
+taken round false = round
+
+-- the core stands in the run as its server, and has what was delivered to it; that its box is of the same server and round, and wants as
+-- many numbers as a message of the round has, is kept by the core's invariant
+pub record Fits {S : Type 0} (next : S → ℕ → List ℕ → Batch) (o : Opening) (x : Delivered) (c : Core S) : Type 0 where
+  -- it holds the script, the words and the numbers of its server, and has passed rounds of the run
+  pub script : o.next ≡ next c.script
+  pub words : c.masks.words ≡ member o.masks c.me
+  pub numbers : accepted c.coefficients.words ≡ member o.numbers c.me
+  pub rounds : (t : ℕ) → t < c.round → is_end (coming o t).act ≡ false
+  -- its points, opened and received numbers are those of the run, and so is what it took from its tapes
+  pub wires : c.wires ≡ member (standing_at o c.round).wires c.me
+  pub opened : c.opened ≡ (shared_at o c.round).opened
+  pub received : c.received ≡ each (messages_to o c.me) c.round
+  pub dealt : c.masks.passed ≡ (shared_at o (taken c.round c.handed)).dealt
+  pub drawn : left_of c.coefficients ≡ drop (shared_at o (taken c.round c.handed)).drawn (member o.numbers c.me)
+  pub own : c.own ≡ (if c.handed then message o c.me c.me c.round else [])
+  -- its box has the delivered messages of its round and the next
+  pub now : (s : Side) → place_at c.mail.now s ≡ some_if (x (peer c.me s) c.me c.round) (message_of o (peer c.me s) c.me c.round)
+  pub early : (s : Side) →
+      place_at c.mail.next s ≡ some_if (x (peer c.me s) c.me (c.round + 1)) (message_of o (peer c.me s) c.me (c.round + 1))
+  -- both messages of each passed round are delivered, and nothing above the round, or above the next once the messages of the round are
+  -- handed out; then one of those to the server is still missing
+  pub before : (s : Side) (t : ℕ) → t < c.round → x (peer c.me s) c.me t ≡ true
+  pub soon : (s : Side) (t : ℕ) → x (peer c.me s) c.me t ≡ true → (t ≤ taken c.round c.handed) × IsRound o t
+  pub waits : c.handed ≡ true → both_in x c.me c.round ≡ false
+
+-- an opening has this script, these points of the inputs, these words and these numbers at a server
+pub record OpensAt {S : Type 0} (next : S → ℕ → List ℕ → Batch) (o : Opening) (me : Point) (script : S) (inputs masks coefficients : List ℕ) : Type 0 where
+  pub has_script : o.next ≡ next script
+  pub has_inputs : member o.inputs me ≡ inputs
+  pub has_words : member o.masks me ≡ masks
+  pub has_numbers : member o.numbers me ≡ accepted coefficients

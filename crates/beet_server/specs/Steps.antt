@@ -1,0 +1,171 @@
+-- What one server does in a round: what it sends, and what the three messages to it give.
+use Rattle.std.specs.Prelude.{ℕ, ◌+◌, List, [], ◌∷◌, ◌++◌, map, length, slice_index, slice_get, take, Option, Some, None, Bool, true, false, option_map, option_and_then}
+use Rattle.std.specs.Int.{bit_at}
+use Rattle.beet_field.specs.declared.point.Point.{Point}
+use Rattle.beet_field.specs.declared.point.Point.TheVariants.{One, Two, Three}
+use Rattle.beet_field.specs.declared.trio.Trio.{Trio}
+use Rattle.beet_shamir.specs.Line.{point_of, recombined, reshared}
+use Rattle.beet_words.specs.Tapes.{Tape, left_of}
+use Rattle.beet_gates.specs.Clear.{with_lets, product_of}
+use Rattle.beet_gates.specs.Each.{each}
+use Rattle.beet_gates.specs.Scripts.{deals_in, size_of}
+use Rattle.beet_gates.specs.declared.Act.{Act}
+use Rattle.beet_gates.specs.declared.Act.TheVariants.{Deal, Mul, Reveal, End}
+use Rattle.beet_gates.specs.declared.Batch.{Batch}
+use Rattle.beet_round.specs.Boxes.{Mailbox, numbers_at, turned}
+use Rattle.beet_round.specs.Sides.{side_of}
+use Rattle.beet_round.specs.declared.message.RoundMessage.{RoundMessage}
+use Rattle.beet_round.specs.declared.sides.Side.{Side}
+use Rattle.beet_round.specs.declared.sides.Side.TheVariants.{Low, High}
+use Rattle.beet_server.specs.Runs.{draws_in}
+use Rattle.beet_server.specs.Cores.{Core}
+
+-- the points at a server of the lines with these values and slopes
+abbrev pub hidden : List ℕ → List ℕ → Point → List ℕ
+hidden values slopes to = each (λ k. point_of (slice_index values k) (slice_index slopes k) to) (length values)
+
+-- the numbers for a server, from the sender's points of the wires, the word that it deals and the numbers that it draws
+abbrev pub numbers_for : Act → List ℕ → ℕ → List ℕ → Point → List ℕ
+numbers_for Deal points word drawn to = hidden (each (bit_at word) 61) drawn to
+numbers_for (Mul pairs) points word drawn to = hidden (map (product_of points) pairs.items) drawn to
+numbers_for (Reveal shown) points word drawn to = map (slice_index points) shown.items
+numbers_for End points word drawn to = []
+
+-- the items at a place of three lists
+abbrev pub three_at : List ℕ → List ℕ → List ℕ → ℕ → Trio ℕ
+three_at one two three k = record { one = slice_index one k; two = slice_index two k; three = slice_index three k }
+
+-- the points of the wires that the messages of the three servers give
+abbrev pub points_given : Act → List ℕ → List ℕ → List ℕ → List ℕ
+points_given Deal one two three = one ++ (two ++ three)
+points_given (Mul pairs) one two three = each (λ k. reshared (three_at one two three k)) (length one)
+points_given (Reveal shown) one two three = []
+points_given End one two three = []
+
+-- the numbers that they open
+abbrev pub numbers_opened : Act → List ℕ → List ℕ → List ℕ → List ℕ
+numbers_opened Deal one two three = []
+numbers_opened (Mul pairs) one two three = []
+numbers_opened (Reveal shown) one two three = each (λ k. recombined (three_at one two three k)) (length one)
+numbers_opened End one two three = []
+
+-- how many points of wires an act gives
+abbrev pub gained_in : Act → ℕ
+gained_in Deal = 183
+gained_in (Mul pairs) = length pairs.items
+gained_in (Reveal shown) = 0
+gained_in End = 0
+
+-- what is of a sender, at a server: its own, or that of its lower or higher peer
+abbrev pub at_side : {A : Type 0} → Option Side → A → A → A → A
+at_side None own low high = own
+at_side (Some Low) own low high = low
+at_side (Some High) own low high = high
+
+-- what computes in a server
+pub record Work (S : Type 0) : Type 0 where
+  pub me : Point
+  pub script : S
+  pub masks : Tape
+  pub coefficients : Tape
+  pub round : ℕ
+  pub wires : List ℕ
+  pub opened : List ℕ
+  pub own : List ℕ
+  pub handed : Bool
+
+-- a core is what computes, the messages of the passed rounds, and the box
+abbrev pub core_of : {S : Type 0} → Work S → List (List RoundMessage) → Mailbox → Core S
+core_of w received mail = record {
+  me = w.me;
+  script = w.script;
+  masks = w.masks;
+  coefficients = w.coefficients;
+  round = w.round;
+  received = received;
+  wires = w.wires;
+  opened = w.opened;
+  own = w.own;
+  mail = mail;
+  handed = w.handed;
+}
+
+-- what computes in a core
+abbrev pub work_of : {S : Type 0} → Core S → Work S
+work_of c = record {
+  me = c.me;
+  script = c.script;
+  masks = c.masks;
+  coefficients = c.coefficients;
+  round = c.round;
+  wires = c.wires;
+  opened = c.opened;
+  own = c.own;
+  handed = c.handed;
+}
+
+-- the numbers of a sender, where these came from the lower and the higher peer
+abbrev pub came_from : {S : Type 0} → Work S → List ℕ → List ℕ → Point → List ℕ
+came_from w low high sender = at_side (side_of w.me sender) w.own low high
+
+module _ {S : Type 0} (next : S → ℕ → List ℕ → Batch) where
+  -- the batch that comes
+  abbrev pub batch_of : Work S → Batch
+  batch_of w = next w.script w.round w.opened
+
+  -- the numbers of the round for a server
+  abbrev pub sends : Work S → Point → List ℕ
+  sends w to =
+      let act = (batch_of w).act in
+      numbers_for act w.wires (slice_index w.masks.words w.masks.passed) (take (draws_in act) (left_of w.coefficients)) to
+
+  -- the messages of the round are handed out, and the words and numbers are taken for them; the tape of numbers is then this one
+  abbrev pub handing : Work S → Tape → Work S
+  handing w rest = record w {
+    masks = record w.masks { passed = w.masks.passed + deals_in (batch_of w).act };
+    coefficients = rest;
+    own = sends w w.me;
+    handed = true;
+  }
+
+  -- the points of the wires with those that these numbers from the peers give
+  abbrev pub wires_given : Work S → List ℕ → List ℕ → List ℕ
+  wires_given w low high =
+      let from = came_from w low high in
+      w.wires ++ points_given (batch_of w).act (from One) (from Two) (from Three)
+
+  -- the opened numbers with those that they open
+  abbrev pub opened_after : Work S → List ℕ → List ℕ → List ℕ
+  opened_after w low high =
+      let from = came_from w low high in
+      w.opened ++ numbers_opened (batch_of w).act (from One) (from Two) (from Three)
+
+  -- the round is passed with these numbers from the peers, and the lets of the next batch are there
+  abbrev pub passing : Work S → List ℕ → List ℕ → Work S
+  passing w low high =
+      let opened = opened_after w low high in
+      record w {
+        round = w.round + 1;
+        wires = with_lets (wires_given w low high) (next w.script (w.round + 1) opened).lets.items;
+        opened = opened;
+        own = [];
+        handed = false;
+      }
+
+  -- both messages, where they are there
+  abbrev pub both_of : Option RoundMessage → Option RoundMessage → List RoundMessage
+  both_of (Some low) (Some high) = low ∷ high ∷ []
+  both_of None high = []
+  both_of (Some low) None = []
+
+  -- a core passes the round whose messages are in its box
+  abbrev pub moved_on : Core S → Core S
+  moved_on c =
+      let w = passing (work_of c) (numbers_at c.mail.now Low) (numbers_at c.mail.now High) in
+      core_of w (c.received ++ both_of c.mail.now.low c.mail.now.high ∷ []) (turned c.mail (size_of (batch_of w).act))
+
+-- the numbers of a sender in a passed round
+abbrev pub received_from : {S : Type 0} → Core S → ℕ → Point → Option (List ℕ)
+received_from c round sender =
+    option_and_then (λ messages. option_map (λ m. m.numbers.items) (at_side (side_of c.me sender) None (slice_get messages 0) (slice_get messages 1)))
+    (slice_get c.received round)

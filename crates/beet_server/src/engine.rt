@@ -1,0 +1,230 @@
+//! What computes in a server: its points of the wires, the opened numbers, and the batch that
+//! comes.
+
+ghost use Rattle.std.specs.Prelude.{◌≡◌, ◌<◌, ◌≤◌, ◌+◌, ◌-◌, ◌^◌, [], length, drop, IfOk, true, false, vec_capacity};
+ghost use Rattle.beet_words.specs.Tapes.{left_of};
+ghost use Rattle.beet_gates.specs.Clear.{is_end, with_lets};
+ghost use Rattle.beet_gates.specs.Scripts.{size_of};
+ghost use Rattle.beet_round.specs.Sides.{peer};
+ghost use Rattle.beet_round.specs.declared.sides.Side.TheVariants.{Low, High};
+ghost use Rattle.beet_server.specs.Runs.{draws_in};
+ghost use Rattle.beet_server.specs.Steps.{Work, batch_of, sends, handing, passing};
+
+use crate::parts::{Numbers, absorb, apart, append_all, append_lets, numbers_for_each, of_sender};
+use beet_field::{Fe, Point};
+use beet_gates::{Act, Batch, Script};
+use beet_words::Tape;
+use std::alloc::{AllocError, Global};
+use std::marker::Model;
+
+/// What computes in a server. `batch` is the one that comes; its lets are among the wires.
+#[derive(Drop)]
+pub struct Engine<S: Script> {
+    me: Point,
+    script: S,
+    masks: Tape,
+    coefficients: Tape,
+    round: u32,
+    wires: Vec<Fe>,
+    opened: Vec<Fe>,
+    own: Numbers,
+    handed: bool,
+    batch: Batch,
+}
+
+impl<S: Script> Model for Engine<S> {
+    ghost use Rattle.std.specs.Prelude.{vec_capacity};
+    ghost use Rattle.beet_gates.specs.Scripts.{bounds_of};
+    ghost use Rattle.beet_server.specs.Steps.{Work};
+    ghost use Rattle.beet_server.specs.Sound.{IsSound};
+
+    ghost Value = { Work S };
+
+    ghost view = { λ e. record {
+      me = e.me;
+      script = e.script;
+      masks = e.masks;
+      coefficients = e.coefficients;
+      round = e.round;
+      wires = e.wires.items;
+      opened = e.opened.items;
+      own = e.own.items;
+      handed = e.handed;
+    } };
+
+    ghost invariant = { λ e. IsSound (S.batch_of e.script)
+        (bounds_of (S.wires_of e.script) (S.masks_of e.script) (S.coefficients_of e.script))
+        (S.rounds_of e.script)
+        e.batch e.round e.wires.items e.opened.items e.own.items e.masks e.coefficients e.handed
+        (vec_capacity e.wires) (vec_capacity e.opened) };
+}
+
+impl<S: Script> Engine<S> {
+    /// Takes all the memory that the engine ever needs.
+    pub fn start(
+        alloc: Global,
+        me: Point,
+        script: S,
+        inputs: &[Fe],
+        masks: Tape,
+        coefficients: Tape,
+    ) -> Result<Engine<S>, AllocError>
+        requires inputs { length inputs.now ≡ S.inputs_of script }
+        requires masks_start { masks.passed ≡ 0 }
+        requires coefficients_start { coefficients.passed ≡ 0 }
+        requires words { S.masks_of script ≤ length masks.words }
+        requires numbers { S.coefficients_of script ≤ length (left_of coefficients) }
+        ensures { IfOk result (λ e. e ≡ record {
+          me = me;
+          script = script;
+          masks = masks;
+          coefficients = coefficients;
+          round = 0;
+          wires = with_lets inputs.now (S.batch_of script 0 []).lets.items;
+          opened = [];
+          own = [];
+          handed = false;
+        }) }
+    {
+        let opened = Vec::with_capacity(alloc, 64 * script.rounds() as usize)?;
+        let mut wires = Vec::with_capacity(alloc, script.wires() as usize)?;
+        let batch = script.next(0, &[]);
+        append_all(&mut wires, inputs);
+        append_lets(&mut wires, batch.lets.as_slice());
+        Ok(Engine {
+            me,
+            script,
+            masks,
+            coefficients,
+            round: 0,
+            wires,
+            opened,
+            own: Numbers::new(),
+            handed: false,
+            batch,
+        })
+    }
+
+    /// Takes the words and numbers of the round from the tapes. The answer is for the lower and for
+    /// the higher peer.
+    pub fn hand_out(&mut self) -> (Numbers, Numbers)
+        requires handed { self.old.handed ≡ false }
+        requires goes { is_end (batch_of S.batch_of self.old).act ≡ false }
+        ensures work { self.new ≡ handing S.batch_of self.old self.new.coefficients }
+        ensures left { left_of self.new.coefficients
+            ≡ drop (draws_in (batch_of S.batch_of self.old).act) (left_of self.old.coefficients) }
+        ensures words { self.new.coefficients.words ≡ self.old.coefficients.words }
+        ensures within { self.old.round < S.rounds_of self.old.script }
+        ensures low { result.0.items ≡ sends S.batch_of self.old (peer self.old.me Low) }
+        ensures high { result.1.items ≡ sends S.batch_of self.old (peer self.old.me High) }
+    {
+        let numbers = numbers_for_each(
+            &self.batch.act,
+            self.wires.as_slice(),
+            &mut self.masks,
+            &mut self.coefficients,
+        );
+        let (own, low, high) = apart(numbers, self.me);
+        self.own = own;
+        self.handed = true;
+        (low, high)
+    }
+
+    /// Passes the round with the numbers of the lower and of the higher peer.
+    pub fn pass(&mut self, low: &[Fe], high: &[Fe])
+        requires goes { is_end (batch_of S.batch_of self.old).act ≡ false }
+        requires handed { self.old.handed ≡ true }
+        requires low { length low.now ≡ size_of (batch_of S.batch_of self.old).act }
+        requires high { length high.now ≡ size_of (batch_of S.batch_of self.old).act }
+        ensures work { self.new ≡ passing S.batch_of self.old low.now high.now }
+        ensures within { self.old.round < S.rounds_of self.old.script }
+        ensures counted { self.old.round < 2 ^ 32 - 1 }
+    {
+        let own = self.own.as_slice();
+        let one = of_sender(self.me, Point::One, own, low, high);
+        let two = of_sender(self.me, Point::Two, own, low, high);
+        let three = of_sender(self.me, Point::Three, own, low, high);
+        absorb(
+            &self.batch.act,
+            &mut self.wires,
+            &mut self.opened,
+            one,
+            two,
+            three,
+        );
+        self.own = Numbers::new();
+        self.handed = false;
+        self.round += 1;
+        self.batch = self.script.next(self.round, self.opened.as_slice());
+        append_lets(&mut self.wires, self.batch.lets.as_slice());
+    }
+
+    /// How many numbers a message of the round has.
+    pub fn size(&self) -> u32
+        ensures size { result ≡ size_of (batch_of S.batch_of self.now).act }
+        ensures few { result ≤ 64 }
+    {
+        match &self.batch.act {
+            Act::Deal => 61,
+            Act::Mul(pairs) => pairs.len() as u32,
+            Act::Reveal(shown) => shown.len() as u32,
+            Act::End => 0,
+        }
+    }
+
+    /// Whether the script has ended.
+    pub fn ended(&self) -> bool
+        ensures { result ≡ is_end (batch_of S.batch_of self.now).act }
+    {
+        matches!(self.batch.act, Act::End)
+    }
+
+    /// Whether the messages of the round were handed out.
+    pub fn handed(&self) -> bool
+        ensures { result ≡ self.now.handed }
+    {
+        self.handed
+    }
+
+    /// The server.
+    pub fn me(&self) -> Point
+        ensures { result ≡ self.now.me }
+    {
+        self.me
+    }
+
+    /// The rounds passed.
+    pub fn round(&self) -> u32
+        ensures { result ≡ self.now.round }
+    {
+        self.round
+    }
+
+    /// The script.
+    pub fn script(&self) -> &S
+        ensures { result.now ≡ self.now.script }
+    {
+        &self.script
+    }
+
+    /// The opened numbers.
+    pub fn opened(&self) -> &[Fe]
+        ensures { result.now ≡ self.now.opened }
+    {
+        self.opened.as_slice()
+    }
+
+    /// The words that the server deals.
+    pub fn masks(&self) -> &Tape
+        ensures { result.now ≡ self.now.masks }
+    {
+        &self.masks
+    }
+
+    /// The words from which it draws.
+    pub fn coefficients(&self) -> &Tape
+        ensures { result.now ≡ self.now.coefficients }
+    {
+        &self.coefficients
+    }
+}

@@ -1,0 +1,327 @@
+//! What a batch does to lists of numbers.
+
+ghost use Rattle.std.specs.Prelude.{◌≡◌, ◌<◌, ◌≤◌, ◌+◌, ◌%◌, ◌++◌, take, drop, map, length, slice_index, vec_capacity};
+ghost use Rattle.std.specs.Int.{bit_at};
+ghost use Rattle.beet_field.specs.Field.{p};
+ghost use Rattle.beet_field.specs.Trio.{member};
+ghost use Rattle.beet_shamir.specs.Line.{recombined, reshared};
+ghost use Rattle.beet_words.specs.Tapes.{left_of};
+ghost use Rattle.beet_gates.specs.Each.{each};
+ghost use Rattle.beet_gates.specs.Scripts.{TermsBelow, LetsBelow, PairsBelow, WiresBelow, ActBelow, deals_in, revealed, size_of};
+ghost use Rattle.beet_gates.specs.Clear.{weighed, let_of, with_lets, product_of};
+ghost use Rattle.beet_round.specs.Sides.{peer, side_of};
+ghost use Rattle.beet_round.specs.declared.sides.Side.TheVariants.{Low, High};
+ghost use Rattle.beet_server.specs.Runs.{draws_in, trio_of};
+ghost use Rattle.beet_server.specs.Steps.{hidden, numbers_for, three_at, points_given, numbers_opened, gained_in, at_side};
+
+use arrayvec::ArrayVec;
+use beet_field::{Fe, Point, Trio};
+use beet_gates::{Act, Linear};
+use beet_round::Side;
+use beet_shamir::{Line, recombine, reshare};
+use beet_words::{Tape, Word};
+
+/// The numbers of one server for another in a round.
+pub type Numbers = ArrayVec<Fe, 64>;
+
+/// The sum of the terms.
+#[tactic(auto, unfolding(beet_gates::specs::Clear::weighed))]
+fn weigh(wires: &[Fe], terms: &[(Fe, u32)]) -> Fe
+    requires { TermsBelow (length wires.now) terms.now }
+    ensures { result ≡ weighed wires.now terms.now % p }
+{
+    let mut sum = Fe::reduce(0);
+    for (factor, wire) in terms {
+        sum = sum.add(factor.mul(wires[*wire as usize]));
+    }
+    sum
+}
+
+/// The value of a let.
+fn evaluate(wires: &[Fe], linear: &Linear) -> Fe
+    requires { TermsBelow (length wires.now) linear.now.terms }
+    ensures { result ≡ let_of wires.now linear.now }
+{
+    linear.constant.add(weigh(wires, &linear.terms))
+}
+
+/// Appends the lets, each of which may use those before it.
+pub fn append_lets(wires: &mut Vec<Fe>, lets: &[Linear])
+    requires below { LetsBelow (length wires.old.items) lets.now }
+    requires room { length wires.old.items + length lets.now ≤ vec_capacity wires.old }
+    ensures wires { wires.new.items ≡ with_lets wires.old.items lets.now }
+    ensures capacity { vec_capacity wires.new ≡ vec_capacity wires.old }
+{
+    for linear in lets {
+        let value = evaluate(wires.as_slice(), linear);
+        wires.push_reserved(value);
+    }
+}
+
+/// Appends the numbers.
+pub fn append_all(list: &mut Vec<Fe>, numbers: &[Fe])
+    requires room { length list.old.items + length numbers.now ≤ vec_capacity list.old }
+    ensures items { list.new.items ≡ list.old.items ++ numbers.now }
+    ensures capacity { vec_capacity list.new ≡ vec_capacity list.old }
+{
+    for number in numbers {
+        list.push_reserved(*number);
+    }
+}
+
+/// Appends the shares of the products, from what the three servers sent.
+#[tactic(auto, using(beet_gates::proofs::EachFacts::each_steps))]
+fn append_products(wires: &mut Vec<Fe>, one: &[Fe], two: &[Fe], three: &[Fe])
+    requires two { length two.now ≡ length one.now }
+    requires three { length three.now ≡ length one.now }
+    requires room { length wires.old.items + length one.now ≤ vec_capacity wires.old }
+    ensures items { wires.new.items
+        ≡ wires.old.items
+        ++ each (λ k. reshared (three_at one.now two.now three.now k)) (length one.now) }
+    ensures count { length wires.new.items ≡ length wires.old.items + length one.now }
+    ensures capacity { vec_capacity wires.new ≡ vec_capacity wires.old }
+{
+    for k in 0..one.len() {
+        wires.push_reserved(reshare(Trio {
+            one: one[k],
+            two: two[k],
+            three: three[k],
+        }));
+    }
+}
+
+/// Appends the opened numbers, from what the three servers sent.
+#[tactic(auto, using(beet_gates::proofs::EachFacts::each_steps))]
+fn append_opened(opened: &mut Vec<Fe>, one: &[Fe], two: &[Fe], three: &[Fe])
+    requires two { length two.now ≡ length one.now }
+    requires three { length three.now ≡ length one.now }
+    requires room { length opened.old.items + length one.now ≤ vec_capacity opened.old }
+    ensures items { opened.new.items
+        ≡ opened.old.items
+        ++ each (λ k. recombined (three_at one.now two.now three.now k)) (length one.now) }
+    ensures count { length opened.new.items ≡ length opened.old.items + length one.now }
+    ensures capacity { vec_capacity opened.new ≡ vec_capacity opened.old }
+{
+    for k in 0..one.len() {
+        opened.push_reserved(recombine(Trio {
+            one: one[k],
+            two: two[k],
+            three: three[k],
+        }));
+    }
+}
+
+/// Appends the points of the wires and the opened numbers that the messages of the three servers
+/// give.
+pub fn absorb(
+    act: &Act,
+    wires: &mut Vec<Fe>,
+    opened: &mut Vec<Fe>,
+    one: &[Fe],
+    two: &[Fe],
+    three: &[Fe],
+)
+    requires one { length one.now ≡ size_of act.now }
+    requires two { length two.now ≡ size_of act.now }
+    requires three { length three.now ≡ size_of act.now }
+    requires wires_room { length wires.old.items + gained_in act.now ≤ vec_capacity wires.old }
+    requires opened_room { length opened.old.items + revealed act.now ≤ vec_capacity opened.old }
+    ensures wires { wires.new.items
+        ≡ wires.old.items ++ points_given act.now one.now two.now three.now }
+    ensures opened { opened.new.items
+        ≡ opened.old.items ++ numbers_opened act.now one.now two.now three.now }
+    ensures wires_count { length wires.new.items ≡ length wires.old.items + gained_in act.now }
+    ensures opened_count { length opened.new.items ≡ length opened.old.items + revealed act.now }
+    ensures wires_capacity { vec_capacity wires.new ≡ vec_capacity wires.old }
+    ensures opened_capacity { vec_capacity opened.new ≡ vec_capacity opened.old }
+{
+    match act {
+        Act::Deal => {
+            append_all(wires, one);
+            append_all(wires, two);
+            append_all(wires, three);
+        }
+        Act::Mul(_) => append_products(wires, one, two, three),
+        Act::Reveal(_) => append_opened(opened, one, two, three),
+        Act::End => (),
+    }
+}
+
+/// The product of two wires.
+fn multiply(wires: &[Fe], pair: (u32, u32)) -> Fe
+    requires first { pair.0 < length wires.now }
+    requires second { pair.1 < length wires.now }
+    ensures { result ≡ product_of wires.now pair }
+{
+    wires[pair.0 as usize].mul(wires[pair.1 as usize])
+}
+
+/// The products of the pairs.
+fn products(wires: &[Fe], pairs: &[(u32, u32)]) -> Numbers
+    requires below { PairsBelow (length wires.now) pairs.now }
+    requires few { length pairs.now ≤ 64 }
+    ensures { result.items ≡ map (product_of wires.now) pairs.now }
+{
+    let mut numbers = Numbers::new();
+    for pair in pairs {
+        numbers.push(multiply(wires, *pair));
+    }
+    numbers
+}
+
+/// The bit of a word at the place, as a number.
+fn bit_of(word: Word, k: u32) -> Fe
+    requires { k < 61 }
+    ensures { result ≡ bit_at word k }
+{
+    Fe::reduce(((word.value() >> k) & 1) as u128)
+}
+
+/// The bits of a word, the lowest first.
+#[tactic(auto, using(beet_gates::proofs::EachFacts::each_steps))]
+fn bits(word: Word) -> Numbers
+    ensures bits { result.items ≡ each (bit_at word) 61 }
+    ensures count { length result.items ≡ 61 }
+{
+    let mut numbers = Numbers::new();
+    for k in 0..61u32 {
+        numbers.push(bit_of(word, k));
+    }
+    numbers
+}
+
+/// The points of the wires.
+fn pick(wires: &[Fe], shown: &[u32]) -> Numbers
+    requires below { WiresBelow (length wires.now) shown.now }
+    requires few { length shown.now ≤ 64 }
+    ensures { result.items ≡ map (slice_index wires.now) shown.now }
+{
+    let mut numbers = Numbers::new();
+    for wire in shown {
+        numbers.push(wires[*wire as usize]);
+    }
+    numbers
+}
+
+/// The next numbers of the tape.
+fn draw(tape: &mut Tape, count: usize) -> Numbers
+    requires few { count ≤ 64 }
+    requires enough { count ≤ length (left_of tape.old) }
+    ensures items { result.items ≡ take count (left_of tape.old) }
+    ensures count { length result.items ≡ count }
+    ensures left { left_of tape.new ≡ drop count (left_of tape.old) }
+    ensures words { tape.new.words ≡ tape.old.words }
+{
+    let mut numbers = Numbers::new();
+    for _ in 0..count {
+        numbers.push(tape.draw());
+    }
+    numbers
+}
+
+/// The points at a server of the lines with these values and slopes.
+#[tactic(auto, using(beet_gates::proofs::EachFacts::each_steps))]
+fn hide(values: &[Fe], slopes: &[Fe], to: Point) -> Numbers
+    requires slopes { length slopes.now ≡ length values.now }
+    requires few { length values.now ≤ 64 }
+    ensures { result.items ≡ hidden values.now slopes.now to }
+{
+    let mut numbers = Numbers::new();
+    for k in 0..values.len() {
+        let line = Line {
+            value: values[k],
+            slope: slopes[k],
+        };
+        numbers.push(line.at(to));
+    }
+    numbers
+}
+
+/// The points at each server of the lines with these values and slopes.
+fn hide_for_each(values: Numbers, slopes: Numbers) -> Trio<Numbers>
+    requires slopes { length slopes.items ≡ length values.items }
+    requires few { length values.items ≤ 64 }
+    ensures { result ≡ trio_of (λ to. record { items = hidden values.items slopes.items to }) }
+{
+    let values = values.as_slice();
+    let slopes = slopes.as_slice();
+    Trio {
+        one: hide(values, slopes, Point::One),
+        two: hide(values, slopes, Point::Two),
+        three: hide(values, slopes, Point::Three),
+    }
+}
+
+/// The numbers of a batch for each server. The words and the numbers that they need are taken from
+/// the tapes.
+pub fn numbers_for_each(
+    act: &Act,
+    wires: &[Fe],
+    masks: &mut Tape,
+    coefficients: &mut Tape,
+) -> Trio<Numbers>
+    requires below { ActBelow (length wires.now) act.now }
+    requires few { size_of act.now ≤ 64 }
+    requires words { masks.old.passed + deals_in act.now ≤ length masks.old.words }
+    requires enough { draws_in act.now ≤ length (left_of coefficients.old) }
+    ensures numbers { result ≡ trio_of (λ to. record {
+      items = numbers_for act.now wires.now
+          (slice_index masks.old.words masks.old.passed)
+          (take (draws_in act.now) (left_of coefficients.old)) to;
+    }) }
+    ensures dealt { masks.new ≡ record masks.old { passed = masks.old.passed + deals_in act.now } }
+    ensures left { left_of coefficients.new ≡ drop (draws_in act.now) (left_of coefficients.old) }
+    ensures kept { coefficients.new.words ≡ coefficients.old.words }
+{
+    match act {
+        Act::Deal => {
+            let values = bits(masks.next_mask());
+            hide_for_each(values, draw(coefficients, 61))
+        }
+        Act::Mul(pairs) => {
+            let values = products(wires, pairs.as_slice());
+            hide_for_each(values, draw(coefficients, pairs.len()))
+        }
+        Act::Reveal(shown) => Trio {
+            one: pick(wires, shown.as_slice()),
+            two: pick(wires, shown.as_slice()),
+            three: pick(wires, shown.as_slice()),
+        },
+        Act::End => Trio {
+            one: Numbers::new(),
+            two: Numbers::new(),
+            three: Numbers::new(),
+        },
+    }
+}
+
+/// The numbers for the server itself, for its lower and for its higher peer.
+pub fn apart(numbers: Trio<Numbers>, me: Point) -> (Numbers, Numbers, Numbers)
+    ensures own { result.0 ≡ member numbers me }
+    ensures low { result.1 ≡ member numbers (peer me Low) }
+    ensures high { result.2 ≡ member numbers (peer me High) }
+{
+    let Trio { one, two, three } = numbers;
+    match me {
+        Point::One => (one, two, three),
+        Point::Two => (two, one, three),
+        Point::Three => (three, one, two),
+    }
+}
+
+/// The numbers of a sender, from a server's own and those of its peers.
+pub fn of_sender<'a>(
+    me: Point,
+    sender: Point,
+    own: &'a [Fe],
+    low: &'a [Fe],
+    high: &'a [Fe],
+) -> &'a [Fe]
+    ensures { result.now ≡ at_side (side_of me sender) own.now low.now high.now }
+{
+    match Side::of(me, sender) {
+        None => own,
+        Some(Side::Low) => low,
+        Some(Side::High) => high,
+    }
+}

@@ -1,0 +1,4 @@
+pub mod QuantityTurns
+pub mod ReadFacts
+pub mod SeenFacts
+pub mod ViewAgain

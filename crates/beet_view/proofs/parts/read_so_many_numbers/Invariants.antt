@@ -1,0 +1,12 @@
+use Rattle.std.proofs.Common.{◌≡◌, ◌≤◌, ◌-◌, length}
+use Rattle.beet_words.specs.Fields.{times}
+use Rattle.beet_words.proofs.Times.{onto}
+use Rattle.beet_view.specs.Transcripts.{point_at}
+use Rattle.beet_view.proofs.parts.read_so_many_numbers.Given as goal
+
+abbrev pub invariant-loop-k : goal.invariant-loop-k
+invariant-loop-k l = record {
+  read : onto l.numbers.items (times (l.count - l._k) (point_at l.bytes) l.next) ≡ times l.count (point_at l.bytes) l.at;
+  within : l.next ≤ length l.bytes;
+  room : length l.numbers.items ≡ l._k;
+}

@@ -1,0 +1,11 @@
+use Rattle.std.proofs.Common.{arith}
+use Rattle.std.proofs.lemmas.Grind.{common_steps}
+use Rattle.std.proofs.lemmas.List.Elements.{All-more}
+use Rattle.beet_view.specs.Transcripts.{HasNumbers}
+use Rattle.beet_view.proofs.writing.push_bidders.Goals as goal
+
+pub loop-seen-preserved : goal.loop-seen-preserved
+loop-seen-preserved c = record {
+  file = grind (arith, common_steps);
+  numbers = All-more HasNumbers c.args.bidders.now c.loop-seen.seen-index c.seen-item.result c.loop-seen-test.true c.loop-seen.invariant.numbers (rw (← c.seen-item.is) c.in_ok-push_seen.ensures.numbers);
+}

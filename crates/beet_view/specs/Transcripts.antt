@@ -1,0 +1,228 @@
+-- Transcripts: a view in one binary file.
+use Rattle.std.specs.Prelude.{ℕ, zero, suc, ◌+◌, ◌-◌, ◌*◌, ◌/◌, ◌≤◌, ◌++◌, min, nat_eq, if◌then◌else◌, List, [], ◌∷◌, length, codes, Option, None, Some, Ok, All, IfSome}
+use Rattle.std.specs.List.{flat_map}
+use Rattle.beet_field.specs.Field.{p, IsElement}
+use Rattle.beet_field.specs.Point.{number_of}
+use Rattle.beet_field.specs.declared.point.Point.{Point}
+use Rattle.beet_field.specs.declared.point.Point.TheVariants.{One, Two, Three}
+use Rattle.beet_forms.specs.Faults.{Reading}
+use Rattle.beet_words.specs.declared.fields.Allowed.{Allowed}
+use Rattle.beet_words.specs.Words.{IsWord, ones}
+use Rattle.beet_words.specs.Fields.{◌>>=◌, Part, number_bytes, number_at, times, counted_at, after_magic, ended}
+use Rattle.beet_gates.specs.declared.Gates.{Gates}
+use Rattle.beet_gates.specs.declared.Gates.TheVariants.{Chain, Tree}
+use Rattle.beet_bids.specs.Grids.{Grid, IsGrid, comparisons_of}
+use Rattle.beet_bids.specs.Curves.{Curve, IsCurve, largest_quantity}
+use Rattle.beet_view.specs.declared.quantities.Course.{Course}
+use Rattle.beet_view.specs.declared.quantities.Course.TheVariants.{Falling, Rising}
+use Rattle.beet_view.specs.declared.view.Seen.{Seen}
+use Rattle.beet_view.specs.Views.{Viewed}
+
+-- the text that a transcript begins with
+abbrev pub magic : List ℕ
+magic = codes "BEETVW01"
+
+-- a number of a transcript, from the lowest to the highest
+abbrev pub from_to : ℕ → ℕ → Allowed
+from_to lowest highest = record { low = lowest; high = highest; truncated = 2; outside = 3 }
+
+-- the most bidders: 2,000, and 500,000 where each is counted once for each price
+abbrev pub most_bidders : ℕ → ℕ
+most_bidders prices = min 2000 (500000 / prices)
+
+-- the most words of a known bidder
+abbrev pub most_words : ℕ → ℕ
+most_words prices = 2 * prices + 8
+
+-- the most mask words
+abbrev pub most_masks : ℕ → ℕ
+most_masks prices = comparisons_of prices + 2
+
+-- the most coefficient words
+abbrev pub most_coefficients : ℕ → ℕ
+most_coefficients prices = 512 * (comparisons_of prices + 2) + 8
+
+-- the server of a number from 1 to 3
+abbrev pub server_of : ℕ → Point
+server_of n = if nat_eq n 1 then One else if nat_eq n 2 then Two else Three
+
+-- the server that a mark names, or none for the mark 0
+abbrev pub known_of : ℕ → Option Point
+known_of mark = if nat_eq mark 0 then None else Some (server_of mark)
+
+-- the mark that names a server, or 0 for none
+abbrev pub mark_of : Option Point → ℕ
+mark_of None = 0
+mark_of (Some at) = number_of at
+
+-- the kind of gates of a number
+abbrev pub gates_of : ℕ → Gates
+gates_of n = if nat_eq n 0 then Chain else Tree
+
+-- the number of a kind of gates
+abbrev pub number_of_gates : Gates → ℕ
+number_of_gates Chain = 0
+number_of_gates Tree = 1
+
+-- a server
+unfoldable pub server_at : List ℕ → Part Point
+server_at bytes at = do
+  number ← number_at bytes (from_to 1 3) at
+  Ok (server_of number.0, number.1)
+
+-- a grid within its limits
+unfoldable pub grid_at : List ℕ → Part Grid
+grid_at bytes at = do
+  base ← number_at bytes (from_to 0 1000000000000) at
+  tick ← number_at bytes (from_to 1 1000000000) base.1
+  prices ← number_at bytes (from_to 1 4096) tick.1
+  gates ← number_at bytes (from_to 0 1) prices.1
+  Ok (record { base = base.0; tick = tick.0; prices = prices.0; gates = gates_of gates.0 }, gates.1)
+
+-- a number of the field
+abbrev pub point_at : List ℕ → Part ℕ
+point_at bytes = number_at bytes (from_to 0 (p - 1))
+
+-- a word
+abbrev pub word_at : List ℕ → Part ℕ
+word_at bytes = number_at bytes (from_to 0 ones)
+
+-- words after their count, at most so many
+abbrev pub words_at : List ℕ → ℕ → Part (List ℕ)
+words_at bytes most = counted_at bytes (from_to 0 most) (word_at bytes)
+
+-- what a quantity may be after the one before it
+abbrev pub allowed_after : Course → ℕ → Allowed
+allowed_after Falling before = from_to 0 before
+allowed_after Rising before = from_to before largest_quantity
+
+-- what stands before the first quantity
+abbrev pub start_of : Course → ℕ
+start_of Falling = largest_quantity
+start_of Rising = 0
+
+-- so many quantities, each allowed after the one before it
+unfoldable pub quantities_at : List ℕ → Course → ℕ → ℕ → Part (List ℕ)
+quantities_at bytes course zero before at = Ok ([], at)
+quantities_at bytes course (suc count) before at = do
+  first ← number_at bytes (allowed_after course before) at
+  others ← quantities_at bytes course count first.0 first.1
+  Ok (first.0 ∷ others.0, others.1)
+
+-- the curve and the words of a known bidder
+unfoldable pub own_at : List ℕ → ℕ → Part (Curve × List ℕ)
+own_at bytes prices at = do
+  buy ← quantities_at bytes Falling prices (start_of Falling) at
+  sell ← quantities_at bytes Rising prices (start_of Rising) buy.1
+  words ← words_at bytes (most_words prices) sell.1
+  Ok ((record { buy = buy.0; sell = sell.0 }, words.0), words.1)
+
+-- the curve and the words, where the mark is the server's number
+unfoldable pub own_where_known : List ℕ → Point → ℕ → ℕ → Part (Option (Curve × List ℕ))
+own_where_known bytes server prices mark at =
+    if nat_eq mark (number_of server) then (own_at bytes prices at >>= λ own. Ok (Some own.0, own.1)) else Ok (None, at)
+
+-- a bidder: the mark, two points for each price, and the curve and the words where this server knows them
+unfoldable pub seen_at : List ℕ → Point → ℕ → Part Seen
+seen_at bytes server prices at = do
+  mark ← number_at bytes (from_to 0 3) at
+  points ← times (2 * prices) (point_at bytes) mark.1
+  own ← own_where_known bytes server prices mark.0 points.1
+  Ok (record { known = known_of mark.0; points = points.0; own = own.0 }, own.1)
+
+-- a message: one to 64 numbers of the field, after their count
+abbrev pub message_at : List ℕ → Part (List ℕ)
+message_at bytes = counted_at bytes (from_to 1 64) (point_at bytes)
+
+-- the messages of a round, first the lower peer's
+unfoldable pub round_at : List ℕ → Part (List ℕ × List ℕ)
+round_at bytes at = do
+  lower ← message_at bytes at
+  higher ← message_at bytes lower.1
+  Ok ((lower.0, higher.0), higher.1)
+
+-- what a transcript reads as
+unfoldable pub view_in : List ℕ → Reading Viewed
+view_in bytes = do
+  start ← after_magic bytes magic 1
+  server ← server_at bytes start
+  grid ← grid_at bytes server.1
+  bidders ← counted_at bytes (from_to 0 (most_bidders grid.0.prices)) (seen_at bytes server.0 grid.0.prices) grid.1
+  masks ← words_at bytes (most_masks grid.0.prices) bidders.1
+  coefficients ← words_at bytes (most_coefficients grid.0.prices) masks.1
+  rounds ← counted_at bytes (from_to 0 4096) (round_at bytes) coefficients.1
+  done ← ended bytes 4 rounds.1
+  Ok (record {
+    server = server.0;
+    grid = grid.0;
+    bidders = bidders.0;
+    masks = masks.0;
+    coefficients = coefficients.0;
+    rounds = rounds.0;
+  })
+
+-- the bytes of numbers, one after another
+abbrev pub numbers_bytes : List ℕ → List ℕ
+numbers_bytes numbers = flat_map number_bytes numbers
+
+-- the bytes of a list, after its count
+abbrev pub counted_bytes : {A : Type 0} → (A → List ℕ) → List A → List ℕ
+counted_bytes item_bytes items = number_bytes (length items) ++ flat_map item_bytes items
+
+-- the bytes of a grid
+abbrev pub grid_bytes : Grid → List ℕ
+grid_bytes grid = numbers_bytes (grid.base ∷ grid.tick ∷ grid.prices ∷ number_of_gates grid.gates ∷ [])
+
+-- the bytes of the curve and the words of a known bidder
+abbrev pub own_bytes : Option (Curve × List ℕ) → List ℕ
+own_bytes None = []
+own_bytes (Some own) = numbers_bytes own.0.buy ++ (numbers_bytes own.0.sell ++ counted_bytes number_bytes own.1)
+
+-- the bytes of a bidder
+abbrev pub seen_bytes : Seen → List ℕ
+seen_bytes seen = number_bytes (mark_of seen.known) ++ (numbers_bytes seen.points ++ own_bytes seen.own)
+
+-- the bytes of the messages of a round
+abbrev pub round_bytes : List ℕ × List ℕ → List ℕ
+round_bytes round = counted_bytes number_bytes round.0 ++ counted_bytes number_bytes round.1
+
+-- the bytes of a view
+abbrev pub view_bytes : Viewed → List ℕ
+view_bytes view =
+    magic ++ (number_bytes (number_of view.server)
+    ++ (grid_bytes view.grid
+    ++ (counted_bytes seen_bytes view.bidders
+    ++ (counted_bytes number_bytes view.masks
+    ++ (counted_bytes number_bytes view.coefficients
+    ++ counted_bytes round_bytes view.rounds)))))
+
+-- from 1 to 64 numbers
+abbrev pub IsMessage : List ℕ → Type 0
+IsMessage numbers = (1 ≤ length numbers) × (length numbers ≤ 64)
+
+-- the view may stand in a transcript
+pub record FitsFile (view : Viewed) : Type 0 where
+  pub product : length view.bidders * view.grid.prices ≤ 500000
+  pub words : All (λ seen. IfSome seen.own (λ own. length own.1 ≤ most_words view.grid.prices)) view.bidders
+  pub masks : length view.masks ≤ most_masks view.grid.prices
+  pub coefficients : length view.coefficients ≤ most_coefficients view.grid.prices
+  pub rounds : length view.rounds ≤ 4096
+  pub messages : All (λ round. IsMessage round.0 × IsMessage round.1) view.rounds
+
+-- the numbers of a bidder are points, quantities and words
+pub record HasNumbers (seen : Seen) : Type 0 where
+  pub points : All IsElement seen.points
+  pub own : IfSome seen.own (λ own. IsCurve own.0 × All IsWord own.1)
+
+-- the numbers of a round are numbers of the field
+pub record HasElements (round : List ℕ × List ℕ) : Type 0 where
+  pub lower : All IsElement round.0
+  pub higher : All IsElement round.1
+
+-- all numbers are within the limits of their types
+pub record AreNumbers (view : Viewed) : Type 0 where
+  pub grid : IsGrid view.grid
+  pub bidders : All HasNumbers view.bidders
+  pub masks : All IsWord view.masks
+  pub coefficients : All IsWord view.coefficients
+  pub rounds : All HasElements view.rounds

@@ -1,0 +1,43 @@
+-- What one server sees of an auction.
+use Rattle.std.specs.Prelude.{◌≡◌, ◌≢◌, ℕ, ◌*◌, ◌^◌, ◌<◌, ◌≤◌, List, length, slice_get, Option, None, Some, option_and_then, MatchOption, All}
+use Rattle.beet_field.specs.declared.point.Point.{Point}
+use Rattle.beet_field.specs.declared.point.Point.TheVariants.{One, Two, Three}
+use Rattle.beet_bids.specs.Grids.{Grid}
+use Rattle.beet_bids.specs.Curves.{IsOfGrid}
+use Rattle.beet_view.specs.declared.view.Seen.{Seen}
+
+-- the server, its grid, the bidders, its tapes, and in each round the numbers from its lower and from its higher peer
+pub record Viewed : Type 0 where
+  pub server : Point
+  pub grid : Grid
+  pub bidders : List Seen
+  pub masks : List ℕ
+  pub coefficients : List ℕ
+  pub rounds : List (List ℕ × List ℕ)
+
+-- a bidder at a server: two points for each price, and a curve of the grid exactly where the server knows the bidder
+pub record IsSeenAt (server : Point) (grid : Grid) (seen : Seen) : Type 0 where
+  pub points : length seen.points ≡ 2 * grid.prices
+  pub own : MatchOption seen.own (seen.known ≢ Some server) (λ own. (seen.known ≡ Some server) × IsOfGrid grid own.0)
+
+-- at most 2,000 bidders, each as a server of the grid sees it, and fewer than 2^32 rounds
+pub record IsView (view : Viewed) : Type 0 where
+  pub few : length view.bidders ≤ 2000
+  pub seen : All (λ seen. IsSeenAt view.server view.grid seen) view.bidders
+  pub rounds : length view.rounds < 2 ^ 32
+
+-- of the numbers from the lower and from the higher peer of a server, those of a sender; none from the server itself
+abbrev pub from_peer : Point → Point → List ℕ × List ℕ → Option (List ℕ)
+from_peer One One round = None
+from_peer One Two round = Some round.0
+from_peer One Three round = Some round.1
+from_peer Two One round = Some round.0
+from_peer Two Two round = None
+from_peer Two Three round = Some round.1
+from_peer Three One round = Some round.0
+from_peer Three Two round = Some round.1
+from_peer Three Three round = None
+
+-- the numbers of a sender in a round
+abbrev pub numbers_of : Viewed → ℕ → Point → Option (List ℕ)
+numbers_of view round sender = option_and_then (from_peer view.server sender) (slice_get view.rounds round)

@@ -1,0 +1,15 @@
+//! What one server sees of an auction, and the file that keeps it.
+#![tactic(auto)]
+
+mod parts;
+mod quantities;
+mod reading;
+mod view;
+mod writing;
+
+pub use reading::read_view;
+pub use view::{Seen, View};
+pub use writing::write_view;
+
+#[cfg(test)]
+mod tests;

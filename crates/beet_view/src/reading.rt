@@ -1,0 +1,311 @@
+//! The reader of transcripts.
+
+ghost use Rattle.std.specs.Prelude.{◌≡◌, ◌≤◌, length, IfOk, IfSome};
+ghost use Rattle.beet_forms.specs.Faults.{Answers};
+ghost use Rattle.beet_words.specs.Fields.{times, counted_at};
+ghost use Rattle.beet_bids.specs.Grids.{IsGrid};
+ghost use Rattle.beet_view.specs.Transcripts.{from_to as allowed_from_to, gates_of, known_of, server_at, grid_at, most_bidders, own_at, own_where_known, seen_at, round_at, view_in, FitsFile};
+
+use crate::parts::{read_message, read_points, read_words};
+use crate::quantities::{Course, from_to};
+use crate::view::{Received, Seen, View};
+use beet_bids::{Curve, Grid};
+use beet_field::Point;
+use beet_forms::ReadFault;
+use beet_gates::Gates;
+use beet_words::{WordList, read_end, read_magic, read_number, room};
+use std::alloc::Global;
+
+/// The text that a transcript begins with.
+pub(crate) const MAGIC: &[u8] = b"BEETVW01";
+
+/// The largest base price.
+const LARGEST_BASE: u64 = 1_000_000_000_000;
+
+/// The largest step from one price to the next.
+const LARGEST_TICK: u64 = 1_000_000_000;
+
+/// The largest number of prices.
+const MOST_PRICES: u64 = 4_096;
+
+/// The largest number of bidders.
+const MOST_BIDDERS: u64 = 2_000;
+
+/// The largest number of bidders, each counted once for each price.
+const MOST_PRODUCT: u64 = 500_000;
+
+/// The largest number of rounds.
+const MOST_ROUNDS: u64 = 4_096;
+
+/// A server.
+#[tactic(auto, unfolding(crate::specs::Transcripts::server_at))]
+fn read_server(bytes: &[u8], at: usize) -> Result<(Point, usize), ReadFault>
+    requires { at ≤ length bytes.now }
+    ensures server { Answers (λ read. read) (server_at bytes.now at) result }
+    ensures within { IfOk result (λ read. read.1 ≤ length bytes.now) }
+{
+    let (number, at) = read_number(bytes, from_to(1, 3), at)?;
+    let server = match number {
+        1 => Point::One,
+        2 => Point::Two,
+        _ => Point::Three,
+    };
+    Ok((server, at))
+}
+
+/// The kind of gates of a number.
+fn gates_of(number: u64) -> Gates
+    ensures { result ≡ gates_of number }
+{
+    if number == 0 {
+        Gates::Chain
+    } else {
+        Gates::Tree
+    }
+}
+
+/// A grid.
+#[tactic(auto, unfolding(crate::specs::Transcripts::grid_at))]
+fn read_grid(bytes: &[u8], at: usize) -> Result<(Grid, usize), ReadFault>
+    requires { at ≤ length bytes.now }
+    ensures grid { Answers (λ read. read) (grid_at bytes.now at) result }
+    ensures limits { IfOk result (λ read. IsGrid read.0) }
+    ensures within { IfOk result (λ read. read.1 ≤ length bytes.now) }
+{
+    let (base, at) = read_number(bytes, from_to(0, LARGEST_BASE), at)?;
+    let (tick, at) = read_number(bytes, from_to(1, LARGEST_TICK), at)?;
+    let (prices, at) = read_number(bytes, from_to(1, MOST_PRICES), at)?;
+    let (gates, at) = read_number(bytes, from_to(0, 1), at)?;
+    let Some(grid) = Grid::new(base, tick, prices as u32, gates_of(gates)) else {
+        unreachable!()
+    };
+    Ok((grid, at))
+}
+
+/// The curve and the words of a known bidder.
+#[tactic(auto, unfolding(crate::specs::Transcripts::own_at))]
+fn read_own(
+    alloc: Global,
+    bytes: &[u8],
+    grid: &Grid,
+    at: usize,
+) -> Result<((Curve, WordList), usize), ReadFault>
+    requires { at ≤ length bytes.now }
+    ensures own { Answers (λ read. read) (own_at bytes.now grid.now.prices at) result }
+    ensures within { IfOk result (λ read. read.1 ≤ length bytes.now) }
+{
+    let prices = grid.prices() as u64;
+    let (buy, at) = Course::Falling.read(alloc, bytes, prices, at)?;
+    let (sell, at) = Course::Rising.read(alloc, bytes, prices, at)?;
+    let Some(curve) = Curve::of(grid, buy, sell) else {
+        unreachable!()
+    };
+    let (words, at) = read_words(alloc, bytes, 2 * prices + 8, at)?;
+    Ok(((curve, words), at))
+}
+
+/// The server that a mark from 0 to 3 names, or none for the mark 0.
+fn known_of(mark: u64) -> Option<Point>
+    ensures { result ≡ known_of mark }
+{
+    match mark {
+        0 => None,
+        1 => Some(Point::One),
+        2 => Some(Point::Two),
+        _ => Some(Point::Three),
+    }
+}
+
+/// The curve and the words of a bidder with this mark, where the server knows it.
+#[tactic(auto, unfolding(crate::specs::Transcripts::own_where_known))]
+fn read_own_where_known(
+    alloc: Global,
+    bytes: &[u8],
+    server: Point,
+    grid: &Grid,
+    mark: u64,
+    at: usize,
+) -> Result<(Option<(Curve, WordList)>, usize), ReadFault>
+    requires { at ≤ length bytes.now }
+    ensures own { Answers (λ read. read)
+        (own_where_known bytes.now server grid.now.prices mark at) result }
+    ensures within { IfOk result (λ read. read.1 ≤ length bytes.now) }
+{
+    if mark != server.number() {
+        return Ok((None, at));
+    }
+    let (own, at) = read_own(alloc, bytes, grid, at)?;
+    Ok((Some(own), at))
+}
+
+/// A bidder.
+#[tactic(auto, unfolding(crate::specs::Transcripts::seen_at))]
+fn read_seen(
+    alloc: Global,
+    bytes: &[u8],
+    server: Point,
+    grid: &Grid,
+    at: usize,
+) -> Result<(Seen, usize), ReadFault>
+    requires { at ≤ length bytes.now }
+    ensures seen { Answers (λ read. read) (seen_at bytes.now server grid.now.prices at) result }
+    ensures within { IfOk result (λ read. read.1 ≤ length bytes.now) }
+{
+    let (mark, at) = read_number(bytes, from_to(0, 3), at)?;
+    let (points, at) = read_points(alloc, bytes, 2 * grid.prices() as u64, at)?;
+    let (own, at) = read_own_where_known(alloc, bytes, server, grid, mark, at)?;
+    let known = known_of(mark);
+    Ok((Seen { known, points, own }, at))
+}
+
+/// So many bidders.
+fn read_so_many_bidders(
+    alloc: Global,
+    bytes: &[u8],
+    server: Point,
+    grid: &Grid,
+    count: u64,
+    at: usize,
+) -> Result<(Vec<Seen>, usize), ReadFault>
+    requires { at ≤ length bytes.now }
+    ensures bidders { Answers (λ read. (read.0.items, read.1))
+        (times count (seen_at bytes.now server grid.now.prices) at) result }
+    ensures within { IfOk result (λ read. read.1 ≤ length bytes.now) }
+{
+    let Ok(mut bidders) = Vec::with_capacity(alloc, room(bytes, at, count)) else {
+        return Err(ReadFault::OutOfMemory);
+    };
+    let mut next = at;
+    for _k in 0..count {
+        let (seen, after) = read_seen(alloc, bytes, server, grid, next)?;
+        let Ok(()) = bidders.push(seen) else {
+            return Err(ReadFault::OutOfMemory);
+        };
+        next = after;
+    }
+    Ok((bidders, next))
+}
+
+/// The most bidders of a grid.
+fn most_bidders(grid: &Grid) -> u64
+    ensures { result ≡ most_bidders grid.now.prices }
+{
+    let most = MOST_PRODUCT / grid.prices() as u64;
+    if most < MOST_BIDDERS {
+        most
+    } else {
+        MOST_BIDDERS
+    }
+}
+
+/// The bidders, after their count.
+#[tactic(auto, unfolding(beet_words::specs::Fields::counted_at))]
+fn read_bidders(
+    alloc: Global,
+    bytes: &[u8],
+    server: Point,
+    grid: &Grid,
+    at: usize,
+) -> Result<(Vec<Seen>, usize), ReadFault>
+    requires { at ≤ length bytes.now }
+    ensures bidders { Answers (λ read. (read.0.items, read.1))
+        (counted_at bytes.now (allowed_from_to 0 (most_bidders grid.now.prices))
+        (seen_at bytes.now server grid.now.prices) at) result }
+    ensures within { IfOk result (λ read. read.1 ≤ length bytes.now) }
+{
+    let (count, at) = read_number(bytes, from_to(0, most_bidders(grid)), at)?;
+    read_so_many_bidders(alloc, bytes, server, grid, count, at)
+}
+
+/// What came in a round.
+#[tactic(auto, unfolding(crate::specs::Transcripts::round_at))]
+fn read_round(bytes: &[u8], at: usize) -> Result<(Received, usize), ReadFault>
+    requires { at ≤ length bytes.now }
+    ensures round { Answers (λ read. read) (round_at bytes.now at) result }
+    ensures within { IfOk result (λ read. read.1 ≤ length bytes.now) }
+{
+    let (lower, at) = read_message(bytes, at)?;
+    let (higher, at) = read_message(bytes, at)?;
+    Ok((Received { lower, higher }, at))
+}
+
+/// What came in so many rounds.
+fn read_so_many_rounds(
+    alloc: Global,
+    bytes: &[u8],
+    count: u64,
+    at: usize,
+) -> Result<(Vec<Received>, usize), ReadFault>
+    requires { at ≤ length bytes.now }
+    ensures rounds { Answers (λ read. (read.0.items, read.1)) (times count (round_at bytes.now) at) result }
+    ensures within { IfOk result (λ read. read.1 ≤ length bytes.now) }
+{
+    let Ok(mut rounds) = Vec::with_capacity(alloc, room(bytes, at, count)) else {
+        return Err(ReadFault::OutOfMemory);
+    };
+    let mut next = at;
+    for _k in 0..count {
+        let (round, after) = read_round(bytes, next)?;
+        let Ok(()) = rounds.push(round) else {
+            return Err(ReadFault::OutOfMemory);
+        };
+        next = after;
+    }
+    Ok((rounds, next))
+}
+
+/// What came in all rounds, after their count.
+#[tactic(auto, unfolding(beet_words::specs::Fields::counted_at))]
+fn read_rounds(alloc: Global, bytes: &[u8], at: usize) -> Result<(Vec<Received>, usize), ReadFault>
+    requires { at ≤ length bytes.now }
+    ensures rounds { Answers (λ read. (read.0.items, read.1))
+        (counted_at bytes.now (allowed_from_to 0 4096) (round_at bytes.now) at) result }
+    ensures within { IfOk result (λ read. read.1 ≤ length bytes.now) }
+{
+    let (count, at) = read_number(bytes, from_to(0, MOST_ROUNDS), at)?;
+    read_so_many_rounds(alloc, bytes, count, at)
+}
+
+/// The view of a transcript.
+///
+/// After `BEETVW01` all is numbers of 8 bytes, the highest byte first: the server, the base, the tick and the number of
+/// prices, 0 for a chain of gates or 1 for a tree, and the number of bidders. For each bidder: its mark, which is 0 or
+/// the number of the server that knows it, its buy points and its sell points; where the mark is the server, its buy and
+/// its sell quantities, and its words after their count. Then the mask words and the coefficient words, each after their
+/// count, the number of rounds, and for each round the numbers of the lower and then of the higher peer, each after
+/// their count.
+///
+/// A transcript is refused at the first place from the left that breaks its format: for the reason 1 at 0 where it does
+/// not begin so; for the reason 2 at a field that is cut off; for the reason 3 at a field with a number that is not
+/// allowed; for the reason 4 at the first byte after the last field. Allowed are 1 to 3 for the server; the limits of a
+/// grid; at most 2,000 bidders, and at most 500,000 where each is counted once for each price; 0 to 3 for a mark;
+/// points below the modulus; quantities below 2^48, where none that is bought is above and none that is sold is below
+/// the one before it; at most 2 words for each price and 8 more for a bidder; at most 2 mask words more than the search
+/// has comparisons; at most 512 coefficient words for each of as many, and 8 more; words below 2^61; at most 4,096
+/// rounds; 1 to 64 numbers below the modulus in a message.
+///
+/// The file is gone over once, and memory is taken for no more items than it can hold.
+#[tactic(auto, unfolding(crate::specs::Transcripts::view_in))]
+pub fn read_view(alloc: Global, bytes: &[u8]) -> Result<View, ReadFault>
+    requires { length bytes.now ≤ 67108864 }
+    ensures view { Answers (λ view. view) (view_in bytes.now) result }
+    ensures fits { IfOk result (λ view. FitsFile view) }
+{
+    let at = read_magic(bytes, MAGIC, 1)?;
+    let (server, at) = read_server(bytes, at)?;
+    let (grid, at) = read_grid(bytes, at)?;
+    let (bidders, at) = read_bidders(alloc, bytes, server, &grid, at)?;
+    let most_masks = grid.comparisons() as u64 + 2;
+    let (masks, at) = read_words(alloc, bytes, most_masks, at)?;
+    let (coefficients, at) = read_words(alloc, bytes, 512 * most_masks + 8, at)?;
+    let (rounds, at) = read_rounds(alloc, bytes, at)?;
+    read_end(bytes, 4, at)?;
+    Ok(View {
+        server,
+        grid,
+        bidders,
+        masks,
+        coefficients,
+        rounds,
+    })
+}

@@ -1,0 +1,215 @@
+//! The writer of transcripts.
+
+ghost use Rattle.std.specs.Prelude.{◌≡◌, ◌≤◌, ◌++◌, Ok, IfOk, IfSome, OnOk, All, length};
+ghost use Rattle.std.specs.List.{flat_map};
+ghost use Rattle.beet_field.specs.Field.{IsElement};
+ghost use Rattle.beet_words.specs.Words.{IsWord};
+ghost use Rattle.beet_words.specs.Fields.{number_bytes};
+ghost use Rattle.beet_bids.specs.Grids.{IsGrid};
+ghost use Rattle.beet_bids.specs.Curves.{IsCurve, IsOfGrid};
+ghost use Rattle.beet_view.specs.Views.{IsView};
+ghost use Rattle.beet_view.specs.Transcripts.{mark_of, number_of_gates, numbers_bytes, counted_bytes, grid_bytes, own_bytes, seen_bytes, round_bytes, view_bytes, view_in, FitsFile, HasElements, HasNumbers, AreNumbers};
+
+use crate::reading::MAGIC;
+use crate::view::{Received, Seen, View};
+use beet_bids::{Curve, Grid};
+use beet_field::{Fe, Point};
+use beet_gates::Gates;
+use beet_words::Word;
+use std::alloc::{AllocError, Global};
+
+/// Appends a number.
+fn push_number(file: &mut Vec<u8>, number: u64) -> Result<(), AllocError>
+    ensures { OnOk result (file.new.items ≡ file.old.items ++ number_bytes number) }
+{
+    file.extend_from_slice(&number.to_be_bytes())
+}
+
+/// Appends numbers.
+fn push_numbers(file: &mut Vec<u8>, numbers: &[u64]) -> Result<(), AllocError>
+    ensures { OnOk result (file.new.items ≡ file.old.items ++ numbers_bytes numbers.now) }
+{
+    for number in numbers {
+        push_number(file, *number)?;
+    }
+    Ok(())
+}
+
+/// Appends numbers of the field.
+fn push_points(file: &mut Vec<u8>, points: &[Fe]) -> Result<(), AllocError>
+    ensures bytes { OnOk result (file.new.items ≡ file.old.items ++ numbers_bytes points.now) }
+    ensures points { OnOk result (All IsElement points.now) }
+{
+    for point in points {
+        push_number(file, point.value())?;
+    }
+    Ok(())
+}
+
+/// Appends words.
+fn push_words(file: &mut Vec<u8>, words: &[Word]) -> Result<(), AllocError>
+    ensures bytes { OnOk result (file.new.items ≡ file.old.items ++ numbers_bytes words.now) }
+    ensures words { OnOk result (All IsWord words.now) }
+{
+    for word in words {
+        push_number(file, word.value())?;
+    }
+    Ok(())
+}
+
+/// Appends words after their count.
+fn push_tape(file: &mut Vec<u8>, words: &[Word]) -> Result<(), AllocError>
+    ensures bytes { OnOk result (file.new.items ≡ file.old.items ++ counted_bytes number_bytes words.now) }
+    ensures words { OnOk result (All IsWord words.now) }
+{
+    push_number(file, words.len() as u64)?;
+    push_words(file, words)
+}
+
+/// The mark that names a server, or 0 for none.
+fn mark_of(known: Option<Point>) -> u64
+    ensures { result ≡ mark_of known }
+{
+    match known {
+        None => 0,
+        Some(at) => at.number(),
+    }
+}
+
+/// The number of a kind of gates.
+fn number_of_gates(gates: Gates) -> u64
+    ensures { result ≡ number_of_gates gates }
+{
+    match gates {
+        Gates::Chain => 0,
+        Gates::Tree => 1,
+    }
+}
+
+/// Appends a grid.
+fn push_grid(file: &mut Vec<u8>, grid: &Grid) -> Result<(), AllocError>
+    ensures bytes { OnOk result (file.new.items ≡ file.old.items ++ grid_bytes grid.now) }
+    ensures grid { IsGrid grid.now }
+{
+    push_numbers(
+        file,
+        &[
+            grid.base(),
+            grid.tick(),
+            grid.prices() as u64,
+            number_of_gates(grid.gates()),
+        ],
+    )
+}
+
+/// Appends what a curve buys at so many prices.
+fn push_bought(file: &mut Vec<u8>, curve: &Curve, prices: u32) -> Result<(), AllocError>
+    requires some { 1 ≤ prices }
+    requires length { length curve.now.buy ≡ prices }
+    ensures bytes { OnOk result (file.new.items ≡ file.old.items ++ numbers_bytes curve.now.buy) }
+    ensures curve { OnOk result (IsCurve curve.now) }
+{
+    for place in 0..prices {
+        push_number(file, curve.buy(place))?;
+    }
+    Ok(())
+}
+
+/// Appends what a curve sells at so many prices.
+fn push_sold(file: &mut Vec<u8>, curve: &Curve, prices: u32) -> Result<(), AllocError>
+    requires { length curve.now.sell ≡ prices }
+    ensures { OnOk result (file.new.items ≡ file.old.items ++ numbers_bytes curve.now.sell) }
+{
+    for place in 0..prices {
+        push_number(file, curve.sell(place))?;
+    }
+    Ok(())
+}
+
+/// Appends a bidder.
+fn push_seen(file: &mut Vec<u8>, grid: &Grid, seen: &Seen) -> Result<(), AllocError>
+    requires { IfSome seen.now.own (λ own. IsOfGrid grid.now own.0) }
+    ensures bytes { OnOk result (file.new.items ≡ file.old.items ++ seen_bytes seen.now) }
+    ensures numbers { OnOk result (HasNumbers seen.now) }
+{
+    push_number(file, mark_of(seen.known))?;
+    push_points(file, seen.points.as_slice())?;
+    if let Some((curve, words)) = &seen.own {
+        push_bought(file, curve, grid.prices())?;
+        push_sold(file, curve, grid.prices())?;
+        push_tape(file, words.as_slice())?;
+    }
+    Ok(())
+}
+
+/// Appends bidders.
+fn push_bidders(file: &mut Vec<u8>, grid: &Grid, bidders: &[Seen]) -> Result<(), AllocError>
+    requires { All (λ seen. IfSome seen.own (λ own. IsOfGrid grid.now own.0)) bidders.now }
+    ensures bytes { OnOk result (file.new.items ≡ file.old.items ++ flat_map seen_bytes bidders.now) }
+    ensures numbers { OnOk result (All HasNumbers bidders.now) }
+{
+    for seen in bidders {
+        push_seen(file, grid, seen)?;
+    }
+    Ok(())
+}
+
+/// Appends a message.
+fn push_message(file: &mut Vec<u8>, numbers: &[Fe]) -> Result<(), AllocError>
+    ensures bytes { OnOk result (file.new.items ≡ file.old.items ++ counted_bytes number_bytes numbers.now) }
+    ensures numbers { OnOk result (All IsElement numbers.now) }
+{
+    push_number(file, numbers.len() as u64)?;
+    push_points(file, numbers)
+}
+
+/// Appends what came in a round.
+fn push_round(file: &mut Vec<u8>, round: &Received) -> Result<(), AllocError>
+    ensures bytes { OnOk result (file.new.items ≡ file.old.items ++ round_bytes round.now) }
+    ensures numbers { OnOk result (HasElements round.now) }
+{
+    push_message(file, round.lower())?;
+    push_message(file, round.higher())
+}
+
+/// Appends what came in rounds.
+fn push_rounds(file: &mut Vec<u8>, rounds: &[Received]) -> Result<(), AllocError>
+    ensures bytes { OnOk result (file.new.items ≡ file.old.items ++ flat_map round_bytes rounds.now) }
+    ensures numbers { OnOk result (All HasElements rounds.now) }
+{
+    for round in rounds {
+        push_round(file, round)?;
+    }
+    Ok(())
+}
+
+/// The bytes of a view.
+fn bytes_of(alloc: Global, view: &View) -> Result<Vec<u8>, AllocError>
+    ensures bytes { IfOk result (λ file. file.items ≡ view_bytes view.now) }
+    ensures view { OnOk result (IsView view.now) }
+    ensures numbers { OnOk result (AreNumbers view.now) }
+{
+    let mut file = Vec::new(alloc);
+    file.extend_from_slice(MAGIC)?;
+    push_number(&mut file, view.server().number())?;
+    push_grid(&mut file, view.grid())?;
+    push_number(&mut file, view.bidders().len() as u64)?;
+    push_bidders(&mut file, view.grid(), view.bidders())?;
+    push_tape(&mut file, view.masks())?;
+    push_tape(&mut file, view.coefficients())?;
+    push_number(&mut file, view.rounds() as u64)?;
+    push_rounds(&mut file, view.received())?;
+    Ok(file)
+}
+
+/// The transcript of a view, which [`read_view`](crate::read_view) describes. Want of memory is the only error.
+///
+/// The transcript of a view within the limits of the format is read back as the view. One beyond them is written too,
+/// and refused by the reader.
+pub fn write_view(alloc: Global, view: &View) -> Result<Vec<u8>, AllocError>
+    ensures bytes { IfOk result (λ file. file.items ≡ view_bytes view.now) }
+    ensures again { FitsFile view.now → IfOk result (λ file. view_in file.items ≡ Ok view.now) }
+{
+    let file = bytes_of(alloc, view)?;
+    Ok(file)
+}
