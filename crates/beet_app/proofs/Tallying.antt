@@ -1,5 +1,5 @@
 -- How the job `tally` ends.
-use Rattle.std.proofs.Common.{◌≡◌, ◌≢◌, ◌≤◌, arith, ℕ, List, [], length, Option, Err, true, false, ◌==◌}
+use Rattle.std.proofs.Common.{◌≡◌, ◌≢◌, ◌≤◌, arith, ℕ, List, [], length, Option, None, Err, true, false, ◌==◌}
 use Rattle.std.proofs.lemmas.Grind.{common_steps}
 use Rattle.beet_field.specs.declared.trio.Trio.{Trio}
 use Rattle.beet_shamir.specs.Line.{recombined}
@@ -47,15 +47,15 @@ not_one_price old now auction book grid OutOfMemory g h r = (tally_book auction 
 -- the auction has one price, and its book is next
 pub comes_to_book : (old now : Option Told) (auction book : List ℕ) (grid : Grid) →
     ((next : Grid → Errand) → Went old now (reads auction 4096 auction_of next) (next grid)) → grid.prices ≡ 1 →
-    Went old now (tally_errand auction book) (reads book 4194304 book_of (λ entries. farmers_errand grid [] entries tallied))
+    Went old now (tally_errand auction book) (reads book 4194304 book_of (λ entries. farmers_errand grid None [] entries tallied))
 comes_to_book old now auction book grid g one = rw (is_one grid.prices one) at (g (tally_book auction book))
 
 -- all bidders are read
 pub comes_to_sums : (old middle now : Option Told) (auction book : List ℕ) (grid : Grid) (entries : List Entry) (totals : Totals) (wires : Trio (List ℕ)) →
-    Went old middle (tally_errand auction book) (farmers_errand grid [] entries tallied) →
-    Collected grid entries [] middle now totals (length entries) → length entries ≤ 2000 → CarriesValues totals wires →
+    grid.prices ≡ 1 → Went old middle (tally_errand auction book) (farmers_errand grid None [] entries tallied) →
+    Collected grid None entries [] middle now totals (length entries) → length entries ≤ 2000 → CarriesValues totals wires →
     Went old now (tally_errand auction book) (answers Done (sums_text (recombined (points_on wires 0)) (recombined (points_on wires 1))))
-comes_to_sums old middle now auction book grid entries totals wires w (farmers, many, c) few carries =
+comes_to_sums old middle now auction book grid entries totals wires one w (farmers, many, c) few carries =
     let fewer : length farmers ≤ 2000 = rw many few in
-    rw (opens_supply grid entries middle now totals farmers wires c fewer carries, opens_demand grid entries middle now totals farmers wires c fewer carries)
+    rw (opens_supply grid None entries middle now totals farmers wires one c fewer carries, opens_demand grid None entries middle now totals farmers wires one c fewer carries)
     (went_on old middle now _ _ _ w (c.went tallied))

@@ -1,5 +1,5 @@
 -- What a job does outside before it answers: it fetches files, one after another, and judges each before the next.
-use Rattle.std.specs.Prelude.{ℕ, List, length, Option, Some, None, Ok, Err, Bool, nat_lt, if◌then◌else◌}
+use Rattle.std.specs.Prelude.{ℕ, List, [], length, Option, Some, None, Ok, Err, Bool, nat_lt, if◌then◌else◌}
 use Rattle.beet_store.specs.Files.{File, bytes_of}
 use Rattle.beet_forms.specs.Faults.{Fault, Reading, at_row}
 use Rattle.beet_app.specs.declared.answer.Status.{Status}
@@ -7,9 +7,10 @@ use Rattle.beet_app.specs.declared.answer.Status.TheVariants.{ReadFault, BadFile
 use Rattle.beet_app.specs.Texts.{read_fault_text}
 use Rattle.beet_forms.specs.FaultLines.{fault_line_of}
 
--- what a job answers: its status, and the text that it says
+-- what a job answers: its status, the files that it puts, in order, and the text that it says after them
 pub record Answer : Type 0 where
   pub status : Status
+  pub files : List File
   pub text : List ℕ
 
 -- an errand ends with its answer, or wants the file of a name, of at most so many bytes, which say how it goes on
@@ -17,9 +18,13 @@ pub data Errand : Type 0 where
   Ends : Answer → Errand
   Wants : List ℕ → ℕ → (List ℕ → Errand) → Errand
 
--- the errand ends with this status and this text
+-- an answer that puts no file
+abbrev pub text_answer : Status → List ℕ → Answer
+text_answer status text = record { status = status; files = []; text = text }
+
+-- the errand ends with this status and this text, and puts no file
 abbrev pub answers : Status → List ℕ → Errand
-answers status text = Ends (record { status = status; text = text })
+answers status text = Ends (text_answer status text)
 
 -- the file cannot be fetched
 abbrev pub unread : List ℕ → Errand

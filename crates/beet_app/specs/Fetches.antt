@@ -1,11 +1,10 @@
 -- How far a list of fetches brings an errand.
-use Rattle.std.specs.Prelude.{◌≡◌, ℕ, List, [], ◌∷◌, ◌++◌, Option, Some, None, Result, Ok, Err, Vec}
-use Rattle.std.specs.Global.{Global}
+use Rattle.std.specs.Prelude.{◌≡◌, ℕ, List, [], ◌∷◌, ◌++◌, Option, Some, None, Result, Ok, Err}
 use Rattle.beet_store.specs.Causes.{Rose}
 use Rattle.beet_store.specs.Files.{File, Fetch, Told}
-use Rattle.beet_app.specs.Errands.{Errand, Ends, Wants, after_fetch, answers}
+use Rattle.beet_app.specs.Errands.{Answer, Errand, Ends, Wants, after_fetch, answers}
 use Rattle.beet_app.specs.declared.answer.Status.{Status}
-use Rattle.beet_app.specs.declared.answer.Status.TheVariants.{Done, OutOfMemory as NoMemory, Usage, ReadFault as Unread, WriteFault, BadFile, TooFewWords}
+use Rattle.beet_app.specs.declared.answer.Status.TheVariants.{Done, OutOfMemory as NoMemory, Usage, ReadFault as Unread, WriteFault, BadFile, MasksSpent, TooFewWords}
 use Rattle.beet_forms.specs.FaultLines.{fault_line_of}
 use Rattle.beet_forms.specs.declared.faults.ReadFault.{ReadFault}
 use Rattle.beet_forms.specs.declared.faults.ReadFault.TheVariants.{Bad, OutOfMemory as MemoryOut}
@@ -38,6 +37,12 @@ abbrev pub Gives : {A T : Type 0} → (T → A) → Option Told → Option Told 
 Gives {A = A} view old now step (Ok value) = (next : A → Errand) → Went old now (step next) (next (view value))
 Gives view old now step (Err stop) = Stops old now step stop
 
+-- a test that fetches nothing: the errand goes on, or the test ends it with the line that was made for it, unless memory ran out
+abbrev pub Passes : (Errand → Errand) → Result (Unit {0}) Stop → Type 0
+Passes test (Ok done) = (next : Errand) → test next ≡ next
+Passes test (Err (Refused status text)) = (next : Errand) → test next ≡ answers status text.items
+Passes test (Err OutOfMemory) = Unit {0}
+
 -- the job is refused with this status and this line, unless memory ran out
 abbrev pub Refuses : Status → List ℕ → Stop → Type 0
 Refuses status text (Refused s line) = (s ≡ status) × (line.items ≡ text)
@@ -58,11 +63,12 @@ Causes before now (Refused Usage text) = ⊥
 Causes before now (Refused Unread text) = Rose before now
 Causes before now (Refused WriteFault text) = ⊥
 Causes before now (Refused BadFile text) = Unit {0}
+Causes before now (Refused MasksSpent text) = ⊥
 Causes before now (Refused TooFewWords text) = Unit {0}
 Causes before now OutOfMemory = Unit {0}
 
 -- a job has gone from its errand to its end, unless memory ran out on the way
-abbrev pub Finishes : Option Told → Option Told → Errand → Result (Vec ℕ Global) Stop → Type 0
-Finishes old now errand (Ok text) = Went old now errand (answers Done text.items)
+abbrev pub Finishes : Option Told → Option Told → Errand → Result Answer Stop → Type 0
+Finishes old now errand (Ok answer) = Went old now errand (Ends answer)
 Finishes old now errand (Err (Refused status text)) = Went old now errand (answers status text.items)
 Finishes old now errand (Err OutOfMemory) = (rest : Errand) × Went old now errand rest

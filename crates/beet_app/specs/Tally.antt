@@ -1,5 +1,5 @@
 -- The job `tally`: at an auction of one price, the sums of what is supplied and demanded.
-use Rattle.std.specs.Prelude.{ℕ, List, [], ◌==◌, if◌then◌else◌}
+use Rattle.std.specs.Prelude.{ℕ, List, [], ◌==◌, if◌then◌else◌, None}
 use Rattle.beet_forms.specs.Faults.{at_row}
 use Rattle.beet_bids.specs.Grids.{Grid}
 use Rattle.beet_bids.specs.AuctionFiles.{auction_of}
@@ -21,7 +21,7 @@ one_price auction grid next = if grid.prices == 1 then next else bad_file auctio
 -- the book of an auction whose grid is read
 abbrev pub tally_book : List ℕ → List ℕ → Grid → Errand
 tally_book auction book grid =
-    one_price auction grid (reads book 4194304 book_of (λ entries. farmers_errand grid [] entries tallied))
+    one_price auction grid (reads book 4194304 book_of (λ entries. farmers_errand grid None [] entries tallied))
 
 -- the auction, its book, and the bidders of the book
 abbrev pub tally_errand : List ℕ → List ℕ → Errand

@@ -1,9 +1,11 @@
 //! How a run of the program ends.
 
 ghost use Rattle.std.specs.Prelude.{◌≡◌};
+ghost use Rattle.beet_app.specs.Errands.{text_answer};
 ghost use Rattle.beet_app.specs.Statuses.{code_of};
 
-use std::alloc::AllocError;
+use std::alloc::{AllocError, Global};
+use std::marker::Model;
 
 /// The end of a run.
 #[derive(Clone, Copy, PartialEq, Eq, Debug)]
@@ -20,6 +22,8 @@ pub enum Status {
     WriteFault,
     /// A file is too long, breaks its format, or breaks a limit of the job.
     BadFile,
+    /// The job is done, and a run of it has met the third rejected mask.
+    MasksSpent,
     /// A tape holds too few words.
     TooFewWords,
 }
@@ -36,7 +40,53 @@ impl Status {
             Status::ReadFault => 3,
             Status::WriteFault => 4,
             Status::BadFile => 5,
+            Status::MasksSpent => 6,
             Status::TooFewWords => 9,
+        }
+    }
+}
+
+/// A file that a job puts: its name and its bytes.
+#[derive(Drop)]
+pub(crate) struct NewFile {
+    pub name: String,
+    pub bytes: Vec<u8>,
+}
+
+impl Model for NewFile {
+    ghost use Rattle.std.specs.Prelude.{string_bytes};
+    ghost use Rattle.beet_store.specs.Files.{File};
+
+    ghost Value = { File };
+
+    ghost view = { λ a. (string_bytes a.name, a.bytes.items) };
+}
+
+/// What a job answers: its status, the files that it puts, in order, and the text that it says after them.
+#[derive(Drop)]
+pub(crate) struct Reply {
+    pub status: Status,
+    pub files: Vec<NewFile>,
+    pub text: Vec<u8>,
+}
+
+impl Model for Reply {
+    ghost use Rattle.beet_app.specs.Errands.{Answer};
+
+    ghost Value = { Answer };
+
+    ghost view = { λ a. record { status = a.status; files = a.files.items; text = a.text.items } };
+}
+
+impl Reply {
+    /// The reply of a job that puts no file. It takes no memory.
+    pub(crate) fn of_text(alloc: Global, status: Status, text: Vec<u8>) -> Reply
+        ensures { result ≡ text_answer status text.items }
+    {
+        Reply {
+            status,
+            files: Vec::new(alloc),
+            text,
         }
     }
 }

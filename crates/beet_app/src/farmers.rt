@@ -1,6 +1,6 @@
 //! Reading the bidders of a book.
 
-ghost use Rattle.std.specs.Prelude.{◌≡◌, ◌≤◌, ◌<◌, ◌^◌, ◌+◌, ◌*◌, ℕ, IfErr, IfOk, length, decimal};
+ghost use Rattle.std.specs.Prelude.{◌≡◌, ◌≤◌, ◌<◌, ◌^◌, ◌+◌, ◌*◌, ℕ, IfErr, IfOk, length, take, decimal, option_map, None};
 ghost use Rattle.beet_forms.specs.Faults.{Answers};
 ghost use Rattle.beet_words.specs.Words.{accepted};
 ghost use Rattle.beet_words.specs.TapeFiles.{tape_of};
@@ -19,7 +19,7 @@ use beet_bids::{Curve, Grid, read_bid};
 use beet_book::{BidderSource, Entry};
 use beet_forms::ReadFault;
 use beet_store::Shelf;
-use beet_words::{Tape, read_tape};
+use beet_words::{Tape, WordList, read_tape};
 use std::alloc::{AllocError, Global};
 
 /// The limits of a bid file and a tape file in bytes.
@@ -60,7 +60,7 @@ fn tape_in(alloc: Global, bytes: &[u8], kept: u32) -> Result<Tape, ReadFault>
 }
 
 /// The tape of a file, cut to the words that are kept.
-fn read_tape_file<S: Shelf>(
+pub(crate) fn read_tape_file<S: Shelf>(
     alloc: Global,
     shelf: &mut S,
     name: &str,
@@ -76,6 +76,16 @@ fn read_tape_file<S: Shelf>(
     judge(alloc, name, tape_in(alloc, bytes.as_slice(), kept))
 }
 
+/// The tape of the first words of a list, in memory of its own.
+pub(crate) fn front(alloc: Global, words: &WordList, kept: u32) -> Result<Tape, AllocError>
+    ensures { IfOk result (λ tape. tape ≡ record { words = take kept words.now; passed = 0 }) }
+{
+    let words = words.as_slice();
+    let count = words.len().min(kept as usize);
+    let words = Vec::from_slice(alloc, &words[..count])?;
+    Ok(Tape::of_words(WordList::of(words)))
+}
+
 /// The tape of a source, at its first word.
 fn source_tape<S: Shelf>(
     alloc: Global,
@@ -87,7 +97,7 @@ fn source_tape<S: Shelf>(
     ensures cause { IfErr result (λ stop. Causes (S.faults shelf.old) (S.faults shelf.new) stop) }
     ensures fresh { IfOk result (λ tape. tape.passed ≡ 0) }
     ensures gives { Gives (λ tape. tape.words) (S.told shelf.old) (S.told shelf.new)
-        (words_errand source.now kept) result }
+        (words_errand None source.now kept) result }
 {
     match source {
         BidderSource::Seed(seed) => match Tape::of_seed(alloc, seed, 0, kept) {
@@ -95,6 +105,29 @@ fn source_tape<S: Shelf>(
             Err(_) => Err(Stop::OutOfMemory),
         },
         BidderSource::Tape(name) => read_tape_file(alloc, shelf, name.as_str(), kept),
+    }
+}
+
+/// The tape of the words that are given, or else of the source, at its first word.
+fn bidder_tape<S: Shelf>(
+    alloc: Global,
+    shelf: &mut S,
+    given: Option<&WordList>,
+    source: &BidderSource,
+    kept: u32,
+) -> Result<Tape, Stop>
+    ensures later { S.faults shelf.old ≤ S.faults shelf.new }
+    ensures cause { IfErr result (λ stop. Causes (S.faults shelf.old) (S.faults shelf.new) stop) }
+    ensures fresh { IfOk result (λ tape. tape.passed ≡ 0) }
+    ensures gives { Gives (λ tape. tape.words) (S.told shelf.old) (S.told shelf.new)
+        (words_errand (option_map (λ words. words.now) given.entry) source.now kept) result }
+{
+    match given {
+        Some(words) => match front(alloc, words, kept) {
+            Ok(tape) => Ok(tape),
+            Err(_) => Err(Stop::OutOfMemory),
+        },
+        None => source_tape(alloc, shelf, source, kept),
     }
 }
 
@@ -122,11 +155,12 @@ pub(crate) struct Farmer {
     pub tape: Tape,
 }
 
-/// The bidder of an entry of the book, which has this number.
+/// The bidder of an entry of the book, which has this number, with the words that are given or those of its source.
 pub(crate) fn read_farmer<S: Shelf>(
     alloc: Global,
     shelf: &mut S,
     grid: &Grid,
+    given: Option<&WordList>,
     number: u32,
     entry: &Entry,
 ) -> Result<Farmer, Stop>
@@ -137,11 +171,11 @@ pub(crate) fn read_farmer<S: Shelf>(
     ensures fresh { IfOk result (λ farmer. farmer.tape.passed ≡ 0) }
     ensures enough { IfOk result (λ farmer. words_wanted grid.now ≤ length (accepted farmer.tape.words)) }
     ensures gives { Gives (farmer_of entry.now) (S.told shelf.old) (S.told shelf.new)
-        (farmer_errand grid.now number entry.now) result }
+        (farmer_errand grid.now (option_map (λ words. words.now) given.entry) number entry.now) result }
 {
     let curve = read_curve(alloc, shelf, grid, entry.bid.as_str())?;
     let wanted = 2 * grid.prices();
-    let tape = source_tape(alloc, shelf, &entry.source, wanted + SPARE_WORDS)?;
+    let tape = bidder_tape(alloc, shelf, given, &entry.source, wanted + SPARE_WORDS)?;
     let held = tape.accepted_left();
     if held < wanted {
         return Err(too_few_words(alloc, number, held, wanted));

@@ -3,50 +3,77 @@
 
 ghost use Rattle.std.specs.Prelude.{◌≡◌, ◌≤◌, ◌⊎◌, ℕ, map, string_bytes, None};
 ghost use Rattle.beet_store.specs.Causes.{Rose};
+ghost use Rattle.beet_store.specs.Desks.{HasPutCause};
 ghost use Rattle.beet_app.specs.Jobs.{job_of, errand_of};
 ghost use Rattle.beet_app.specs.Texts.{usage_text};
-ghost use Rattle.beet_app.specs.Runs.{Runs, IsStatus, Said, SaysBy, AnswersBy};
+ghost use Rattle.beet_app.specs.Runs.{Runs, IsStatus, Said, GivesAll, AnswersBy, EndGoesOut};
 
 mod answer;
+mod books;
+mod clear;
+mod collecting;
 mod farmers;
 mod fetching;
 mod jobs;
+mod loading;
+mod outcome;
+mod servers;
 mod tally;
 
 pub use answer::Status;
-use answer::Stop;
+use answer::{NewFile, Reply, Stop};
 use beet_store::{Desk, PutFault, Shelf};
 use std::alloc::Global;
 
-/// Says a text, and answers the status that is due, or the one of a text that is not taken.
-fn say<K: Desk>(desk: &mut K, status: Status, text: &[u8]) -> Status
-    ensures later { K.faults desk.old ≤ K.faults desk.new }
-    ensures ends { SaysBy (K.given desk.old) (K.given desk.new) (K.faults desk.old) (K.faults desk.new) status text.now result }
+/// Puts the files in order, and then says the text. The first call that is refused is the last.
+fn give<K: Desk>(
+    alloc: Global,
+    desk: &mut K,
+    files: &[NewFile],
+    text: &[u8],
+) -> Result<(), PutFault>
+    ensures cause { HasPutCause (K.faults desk.old) (K.faults desk.new) result }
+    ensures gives { GivesAll (K.given desk.old) (K.given desk.new) files.now text.now result }
 {
-    match desk.say(text) {
-        Ok(()) => status,
+    for file in files {
+        desk.put(alloc, file.name.as_str(), file.bytes.as_slice())?;
+    }
+    desk.say(text)
+}
+
+/// Gives the files and the text of a reply to the desk. The status is the reply's, or that of the call that was refused.
+fn send<K: Desk>(alloc: Global, desk: &mut K, reply: &Reply) -> Status
+    ensures later { K.faults desk.old ≤ K.faults desk.new }
+    ensures ends { AnswersBy reply.now (K.given desk.old) (K.given desk.new) (K.faults desk.old) (K.faults desk.new) result }
+{
+    match give(alloc, desk, reply.files.as_slice(), reply.text.as_slice()) {
+        Ok(()) => reply.status,
         Err(PutFault::Failed) => Status::WriteFault,
         Err(PutFault::OutOfMemory) => Status::OutOfMemory,
     }
 }
 
-/// Says what a job answers. Where memory ran out nothing is said.
-fn give_answer<K: Desk>(desk: &mut K, job: Result<Vec<u8>, Stop>) -> Status
+/// Gives what a job answers to the desk. Where memory ran out nothing is given.
+fn give_answer<K: Desk>(alloc: Global, desk: &mut K, job: Result<Reply, Stop>) -> Status
     ensures later { K.faults desk.old ≤ K.faults desk.new }
-    ensures ends { AnswersBy (K.given desk.old) (K.given desk.new) (K.faults desk.old) (K.faults desk.new) job result }
+    ensures ends { EndGoesOut (K.given desk.old) (K.given desk.new) (K.faults desk.old) (K.faults desk.new) job result }
 {
     match job {
-        Ok(text) => say(desk, Status::Done, text.as_slice()),
-        Err(Stop::Refused(status, line)) => say(desk, status, line.as_slice()),
+        Ok(reply) => send(alloc, desk, &reply),
+        Err(Stop::Refused(status, line)) => {
+            send(alloc, desk, &Reply::of_text(alloc, status, line))
+        }
         Err(Stop::OutOfMemory) => Status::OutOfMemory,
     }
 }
 
-/// Does the job that the words after the program's name ask for: `tally AUCTION BOOK`, with two names of files.
+/// Does the job that the words after the program's name ask for: `tally AUCTION BOOK` or `clear AUCTION SERVERS BOOK`,
+/// with names of files.
 ///
 /// Answers the exit status: 0 where the job is done; 1 for want of memory, and then nothing is said; 2 where the words
 /// name no job; 3 where a file cannot be fetched; 4 where the text is not taken; 5 for a file that is too long or breaks
-/// its format, and for an auction of several prices; 9 for a bidder whose tape holds too few words. At 2, 3, 5 and 9 the
+/// its format, and for an auction of several prices where `tally` is asked for; 6 where a run met the third rejected
+/// mask, which is said with its rounds; 9 for a bidder or a server whose tape holds too few words. At 2, 3, 5 and 9 the
 /// line that tells the cause is said.
 pub fn run<S: Shelf, K: Desk>(alloc: Global, words: &[String], shelf: &mut S, desk: &mut K) -> u8
     ensures known { IsStatus result }
@@ -67,8 +94,10 @@ pub fn run<S: Shelf, K: Desk>(alloc: Global, words: &[String], shelf: &mut S, de
         (K.given desk.old) (K.given desk.new) result }
 {
     let job = jobs::do_job(alloc, words, shelf);
-    give_answer(desk, job).code()
+    give_answer(alloc, desk, job).code()
 }
 
+#[cfg(test)]
+mod clear_tests;
 #[cfg(test)]
 mod tests;

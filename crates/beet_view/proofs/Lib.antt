@@ -1,4 +1,5 @@
 pub mod QuantityTurns
 pub mod ReadFacts
+pub mod RunFacts
 pub mod SeenFacts
 pub mod ViewAgain

@@ -4,10 +4,12 @@
 mod parts;
 mod quantities;
 mod reading;
+mod running;
 mod view;
 mod writing;
 
 pub use reading::read_view;
+pub use running::view_of;
 pub use view::{Seen, View};
 pub use writing::write_view;
 

@@ -1,6 +1,13 @@
+ghost use Rattle.std.specs.Prelude.{◌≡◌, IfOk};
+
 use super::*;
-use beet_field::{P, Point};
+use beet_bids::Grid;
+use beet_field::{Fe, P, Point};
 use beet_forms::{Place, ReadFault};
+use beet_gates::{Gates, Product};
+use beet_round::{RoundMessage, Verdict};
+use beet_server::{ServerCore, StartFault};
+use beet_words::{FeList, Tape, Word, WordList};
 use std::alloc::{AllocError, Global};
 use std::process::Abort;
 use std::test::Fail;
@@ -184,5 +191,111 @@ fn quantities_out_of_order(rt: HostRuntime) -> Result<(), Fail> {
     assert_eq!(rt; fault_with(&rt, alloc, 17, 10)?, Some((144, 3)));
     assert_eq!(rt; fault_with(&rt, alloc, 19, 0)?, Some((160, 3)));
     assert_eq!(rt; fault_with(&rt, alloc, 17, 9)?, None);
+    Ok(())
+}
+
+/// The tape of one word, or of none where the number is no word.
+fn tape(alloc: Global, number: u64) -> Result<Tape, AllocError>
+    ensures { IfOk result (λ tape. tape.passed ≡ 0) }
+{
+    let words = match Word::of(number) {
+        Some(word) => Vec::from_slice(alloc, &[word])?,
+        None => Vec::new(alloc),
+    };
+    Ok(Tape::of_words(WordList::of(words)))
+}
+
+/// A server of the script that opens a product, with its points of the two inputs and one coefficient word.
+fn product(
+    alloc: Global,
+    me: Point,
+    a: u128,
+    b: u128,
+    word: u64,
+) -> Result<ServerCore<Product>, StartFault> {
+    let inputs = Vec::from_slice(alloc, &[Fe::reduce(a), Fe::reduce(b)])?;
+    let masks = Tape::of_words(WordList::of(Vec::new(alloc)));
+    let coefficients = tape(alloc, word)?;
+    ServerCore::start(alloc, me, Product, FeList::of(inputs), masks, coefficients)
+}
+
+/// The two messages that the server hands out.
+fn send(core: &mut ServerCore<Product>) -> Option<(RoundMessage, RoundMessage)> {
+    let [low, high] = core.out()?;
+    Some((low, high))
+}
+
+/// Gives the server both messages of its round; answers whether it passes the round.
+fn take(core: &mut ServerCore<Product>, one: RoundMessage, other: RoundMessage) -> Option<bool> {
+    if !core.sent() {
+        return None;
+    }
+    core.deliver(one);
+    if !core.sent() {
+        return None;
+    }
+    Some(core.deliver(other) == Verdict::Ready)
+}
+
+/// Passes a round at each server; answers whether each passes it.
+fn pass_round(
+    one: &mut ServerCore<Product>,
+    two: &mut ServerCore<Product>,
+    three: &mut ServerCore<Product>,
+) -> Option<bool> {
+    let (one_two, one_three) = send(one)?;
+    let (two_one, two_three) = send(two)?;
+    let (three_one, three_two) = send(three)?;
+    let passed_one = take(one, three_one, two_one)?;
+    let passed_two = take(two, three_two, one_two)?;
+    let passed_three = take(three, two_three, one_three)?;
+    Some(passed_one && passed_two && passed_three)
+}
+
+/// The server 2 after so many rounds of the product of 3 and 4.
+fn second_after(alloc: Global, rounds: u32) -> Result<Option<ServerCore<Product>>, StartFault> {
+    let mut one = product(alloc, Point::One, 8, 6, 1)?;
+    let mut two = product(alloc, Point::Two, 13, 8, 2)?;
+    let mut three = product(alloc, Point::Three, 18, 10, 4)?;
+    for _k in 0..rounds {
+        if pass_round(&mut one, &mut two, &mut three) != Some(true) {
+            return Ok(None);
+        }
+    }
+    Ok(Some(two))
+}
+
+/// The view of the server, without bidders, or `None` where it has not ended.
+fn view_without_bidders(
+    alloc: Global,
+    core: &ServerCore<Product>,
+) -> Result<Option<View>, AllocError> {
+    if !core.ended() {
+        return Ok(None);
+    }
+    let Some(grid) = Grid::new(100, 5, 2, Gates::Tree) else {
+        return Ok(None);
+    };
+    Ok(Some(view_of(alloc, core, &grid, Vec::new(alloc))?))
+}
+
+/// The first numbers of a round's messages from the server 1 and from the server 3.
+fn first_numbers(view: &View, round: u32) -> Option<(u64, u64)> {
+    let one = first_number(view, round, Point::One)?;
+    let three = first_number(view, round, Point::Three)?;
+    Some((one, three))
+}
+
+#[test]
+fn view_of_a_product(rt: HostRuntime) -> Result<(), Fail> {
+    let two = second_after(rt.alloc(), 2)
+        .expect(&rt, "memory")
+        .expect(&rt, "two rounds");
+    let view = view_without_bidders(rt.alloc(), &two)?.expect(&rt, "it has ended");
+    assert_eq!(rt; view.server(), Point::Two);
+    assert_eq!(rt; view.coefficients().len(), 1);
+    assert_eq!(rt; view.rounds(), 2);
+    assert_eq!(rt; first_numbers(&view, 0), Some((50, 188)));
+    assert_eq!(rt; first_numbers(&view, 1), Some((13, 15)));
     Ok(())
 }

@@ -1,6 +1,21 @@
 use Rattle.std.proofs.Common.{sym, ◌∙◌}
-use Rattle.beet_app.proofs.Running.{runs_of, usage_said}
+use Rattle.beet_app.proofs.Running.{runs_of, run_codes, run_no_job, usage_said, is_status}
 use Rattle.beet_app.proofs.run.Goals as goal
+
+pub returns-clause-known : goal.returns-clause-known
+returns-clause-known g c = rw c.code.ensures (is_status c.give_answer.result)
+
+pub returns-clause-usage : goal.returns-clause-usage
+returns-clause-usage g c = λ two. (run_codes _ _ _ _ _ _ _ _ _ c.do_job-job.ensures.cause c.give_answer.ensures.ends).0 (sym c.code.ensures ∙ two)
+
+pub returns-clause-write : goal.returns-clause-write
+returns-clause-write g c = λ four. (run_codes _ _ _ _ _ _ _ _ _ c.do_job-job.ensures.cause c.give_answer.ensures.ends).1 (sym c.code.ensures ∙ four)
+
+pub returns-clause-read : goal.returns-clause-read
+returns-clause-read g c = λ three. (run_codes _ _ _ _ _ _ _ _ _ c.do_job-job.ensures.cause c.give_answer.ensures.ends).2 (sym c.code.ensures ∙ three)
+
+pub returns-clause-no_job : goal.returns-clause-no_job
+returns-clause-no_job g c = λ none. rw c.code.ensures (run_no_job _ _ _ _ _ _ _ _ _ c.do_job-job.ensures.cause c.give_answer.ensures.ends none)
 
 pub returns-clause-runs : goal.returns-clause-runs
 returns-clause-runs g c =

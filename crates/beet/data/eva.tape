@@ -1,2 +1,0 @@
-1ffffffffffffffe
-0000000000000000

@@ -1,0 +1,70 @@
+-- Files that are put in order, and the text that is said after them.
+use Rattle.std.proofs.Common.{◌≡◌, ◌≤◌, ◌<◌, ◌⊎◌, inl, inr, ℕ, List, [], ◌∷◌, ◌+◌, length, drop, get_or, Option, Some, None, Ok, Err, refl, sym, ◌∙◌, ap, arith}
+use Rattle.std.proofs.lemmas.List.{drop_more, drop_all}
+use Rattle.beet_store.specs.Causes.{Rose}
+use Rattle.beet_store.specs.Files.{File}
+use Rattle.beet_store.specs.Desks.{Given, Done, HasPutCause, GivesPut, GivesSay}
+use Rattle.beet_store.specs.declared.desk.PutFault.{PutFault}
+use Rattle.beet_store.specs.declared.desk.PutFault.TheVariants.{Failed, OutOfMemory}
+use Rattle.beet_app.specs.Runs.{GivesAll, status_after, Said}
+use Rattle.beet_app.specs.declared.answer.Status.{Status}
+use Rattle.beet_app.specs.declared.answer.Status.TheVariants.{WriteFault, OutOfMemory as NoMemory}
+
+next_file : (files : List File) (i : ℕ) (file : File) → i < length files → file ≡ get_or files i file →
+    drop i files ≡ file ∷ drop (i + 1) files
+next_file files i file h e = drop_more files i file h ∙ ap (λ f. f ∷ drop (i + 1) files) (sym e)
+
+-- one more file is put
+pub put_more : (files : List File) (i : ℕ) (file : File) (text : List ℕ) (old given middle : Option Given) →
+    i < length files → file ≡ get_or files i file →
+    ((now : Option Given) (done : Done) → GivesAll given now (drop i files) text done → GivesAll old now files text done) →
+    GivesPut given middle file.0 file.1 (Ok tt) →
+    (now : Option Given) (done : Done) → GivesAll middle now (drop (i + 1) files) text done → GivesAll old now files text done
+put_more files i file text old given middle h e before put = λ now done rest.
+    before now done (rw (next_file files i file h e) (inl (middle, put, rest)))
+
+-- the next file is refused
+pub put_refused : (files : List File) (i : ℕ) (file : File) (text : List ℕ) (old given now : Option Given) (fault : PutFault) →
+    i < length files → file ≡ get_or files i file →
+    ((now : Option Given) (done : Done) → GivesAll given now (drop i files) text done → GivesAll old now files text done) →
+    GivesPut given now file.0 file.1 (Err fault) → GivesAll old now files text (Err fault)
+put_refused files i file text old given now fault h e before put =
+    before now (Err fault) (rw (next_file files i file h e) (inr (fault, refl, put)))
+
+-- all files are put, and the text is next
+pub said_last : (files : List File) (i : ℕ) (text : List ℕ) (old given now : Option Given) (done : Done) → length files ≤ i →
+    ((now : Option Given) (done : Done) → GivesAll given now (drop i files) text done → GivesAll old now files text done) →
+    GivesSay given now text done → GivesAll old now files text done
+said_last files i text old given now done h before said = before now done (rw (drop_all i files h) said)
+
+rose_on : (before middle now : ℕ) → before ≤ middle → Rose middle now → Rose before now
+rose_on before middle now h r ne = let less = r ne in omega (arith, less, h)
+
+-- the cause of a call that comes after others
+pub cause_on : (before middle now : ℕ) (done : Done) → before ≤ middle → HasPutCause middle now done → HasPutCause before now done
+cause_on before middle now done h c = record {
+  later = omega (arith, h, c.later);
+  failed = λ e. rose_on before middle now h (c.failed e);
+}
+
+-- the status of an answer that went out or was refused
+pub status_cases : (due end : Status) (before now : ℕ) (done : Done) → HasPutCause before now done → end ≡ status_after due done →
+    (end ≡ due) ⊎ ((end ≡ WriteFault) × Rose before now) ⊎ (end ≡ NoMemory)
+status_cases due end before now (Ok x) c e = inl e
+status_cases due end before now (Err Failed) c e = inr (inl (e, c.failed refl))
+status_cases due end before now (Err OutOfMemory) c e = inr (inr e)
+
+same_put : (given : Option Given) (file : File) → GivesPut given given file.0 file.1 (Err OutOfMemory)
+same_put None file = refl
+same_put (Some given) file = refl
+
+-- memory ran out before anything was given
+pub given_none : (given : Option Given) (files : List File) (text : List ℕ) → GivesAll given given files text (Err OutOfMemory)
+given_none None [] text = refl
+given_none (Some given) [] text = refl
+given_none given (file ∷ files) text = inr (OutOfMemory, refl, same_put given file)
+
+-- a text that was taken is said
+pub said_whole : (given now : Option Given) (text : List ℕ) → GivesSay given now text (Ok tt) → Said given now text
+said_whole None now text s = s
+said_whole (Some given) now text s = s

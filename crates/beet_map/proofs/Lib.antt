@@ -1,0 +1,13 @@
+pub mod Moves
+pub mod Alike
+pub mod Unique
+pub mod Extending
+pub mod Symmetry
+pub mod Openings
+pub mod Rounds
+pub mod Gained
+pub mod Turning
+pub mod Places
+pub mod WordLists
+pub mod Whole
+pub mod Grounds

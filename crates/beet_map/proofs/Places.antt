@@ -1,0 +1,33 @@
+-- Lists that are the same at each place.
+use Rattle.std.proofs.Common.{◌≡◌, ◌<◌, ◌≤◌, ℕ, zero, suc, List, [], ◌∷◌, ◌++◌, length, take, slice_get, slice_index, get_or, Some, None, sym, refl, ◌∙◌, ⊎_elim, arith}
+use Rattle.beet_field.specs.Field.{IsElement}
+use Rattle.beet_gates.proofs.EachFacts.{get-past}
+use Rattle.beet_map.proofs.Unique.{split_at}
+
+get_ext : (xs ys : List ℕ) → ((k : ℕ) → slice_get xs k ≡ slice_get ys k) → xs ≡ ys
+get_ext [] [] f = refl
+get_ext [] (y ∷ ys) f = let e : None ≡ Some y = f 0 in cc
+get_ext (x ∷ xs) [] f = let e : Some x ≡ None = f 0 in cc
+get_ext (x ∷ xs) (y ∷ ys) f =
+    let e : Some x ≡ Some y = f 0 in
+    let here : x ≡ y = cc in
+    let others : xs ≡ ys = get_ext xs ys (λ k. f (suc k)) in λ i. here i ∷ others i
+
+pub same_all : (xs ys : List ℕ) (n : ℕ) → length xs ≤ n → length ys ≤ n → ((k : ℕ) → k < n → slice_get xs k ≡ slice_get ys k) → xs ≡ ys
+same_all xs ys n a b f = get_ext xs ys (λ k. ⊎_elim
+    (λ (lt : k < n). f k lt)
+    (λ (ge : n ≤ k). get-past xs k (omega arith) ∙ sym (get-past ys k (omega arith)))
+    (split_at k n))
+
+pub get_take : (xs : List ℕ) (n k : ℕ) → k < n → k < length xs → slice_get (take n xs) k ≡ Some (get_or xs k 0)
+get_take [] n k lt h = absurd (omega arith)
+get_take (x ∷ xs) zero k lt h = absurd (omega arith)
+get_take (x ∷ xs) (suc n) zero lt h = refl
+get_take (x ∷ xs) (suc n) (suc k) lt h = get_take xs n k (omega arith) (omega arith)
+
+-- one number more
+pub elements_more : (xs : List ℕ) (x : ℕ) → ((k : ℕ) → IsElement (slice_index xs k)) → IsElement x → (k : ℕ) → IsElement (slice_index (xs ++ x ∷ []) k)
+elements_more [] x few h zero = h
+elements_more [] x few h (suc k) = omega arith
+elements_more (y ∷ xs) x few h zero = few 0
+elements_more (y ∷ xs) x few h (suc k) = elements_more xs x (λ n. few (suc n)) h k

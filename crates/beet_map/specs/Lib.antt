@@ -1,0 +1,5 @@
+pub mod Worlds
+pub mod Mapped
+pub mod Refused
+pub mod Steps
+pub mod Premise

@@ -1,0 +1,21 @@
+//! What the servers of a world hold.
+
+use beet_field::Trio;
+use beet_shamir::Line;
+use beet_words::WordList;
+use std::marker::Model;
+
+/// A world of a script: the inputs with their lines, and the mask words of each server.
+#[derive(Drop)]
+pub struct Secrets {
+    pub inputs: Vec<Line>,
+    pub masks: Trio<WordList>,
+}
+
+impl Model for Secrets {
+    ghost use Rattle.beet_map.specs.Worlds.{World};
+
+    ghost Value = { World };
+
+    ghost view = { λ a. record { inputs = a.inputs.items; masks = a.masks } };
+}

@@ -1,0 +1,55 @@
+-- The view of a server that has run a script with two others.
+use Rattle.std.specs.Prelude.{ℕ, List, [], unwrap_or}
+use Rattle.beet_field.specs.declared.point.Point.{Point}
+use Rattle.beet_gates.specs.Each.{each}
+use Rattle.beet_bids.specs.Grids.{Grid}
+use Rattle.beet_round.specs.Sides.{peer}
+use Rattle.beet_round.specs.declared.sides.Side.{Side}
+use Rattle.beet_round.specs.declared.sides.Side.TheVariants.{Low, High}
+use Rattle.beet_server.specs.Runs.{Opening, message}
+use Rattle.beet_server.specs.Cores.{Core}
+use Rattle.beet_server.specs.Steps.{received_from}
+use Rattle.beet_view.specs.declared.view.Seen.{Seen}
+use Rattle.beet_view.specs.Views.{Viewed}
+
+-- the numbers that a core received from its peer of a side in a round that it has passed
+abbrev pub numbers_received : {S : Type 0} → Core S → Side → ℕ → List ℕ
+numbers_received c side t = unwrap_or (received_from c t (peer c.me side)) []
+
+-- those that it received in such a round, from the lower and from the higher peer
+abbrev pub round_received : {S : Type 0} → Core S → ℕ → List ℕ × List ℕ
+round_received c t = (numbers_received c Low t, numbers_received c High t)
+
+-- those that it received in each round that it has passed
+abbrev pub rounds_received : {S : Type 0} → Core S → List (List ℕ × List ℕ)
+rounds_received c = each (round_received c) c.round
+
+-- what a core has seen, with a grid and bidders
+abbrev pub view_of_core : {S : Type 0} → Core S → Grid → List Seen → Viewed
+view_of_core c grid bidders = record {
+  server = c.me;
+  grid = grid;
+  bidders = bidders;
+  masks = c.masks.words;
+  coefficients = c.coefficients.words;
+  rounds = rounds_received c;
+}
+
+-- the numbers that are sent to a server in a round of a run, by the lower and by the higher peer
+abbrev pub round_seen : Opening → Point → ℕ → List ℕ × List ℕ
+round_seen o server t = (message o (peer server Low) server t, message o (peer server High) server t)
+
+-- those that are sent to it in each of so many rounds
+abbrev pub rounds_seen : Opening → Point → ℕ → List (List ℕ × List ℕ)
+rounds_seen o server rounds = each (round_seen o server) rounds
+
+-- the view of a server of a run of so many rounds, with a grid, bidders, and the mask and coefficient words of the server
+abbrev pub view_of_run : Opening → Point → ℕ → Grid → List Seen → List ℕ → List ℕ → Viewed
+view_of_run o server rounds grid bidders masks coefficients = record {
+  server = server;
+  grid = grid;
+  bidders = bidders;
+  masks = masks;
+  coefficients = coefficients;
+  rounds = rounds_seen o server rounds;
+}

@@ -1,0 +1,106 @@
+//! The view of a server that has run a script.
+
+ghost use Rattle.std.specs.Prelude.{◌≡◌, ◌<◌, ◌≤◌, ◌^◌, true, length, All, IfOk, IsOk};
+ghost use Rattle.beet_server.specs.Runs.{Opening, HasRounds};
+ghost use Rattle.beet_server.specs.Events.{Delivered};
+ghost use Rattle.beet_server.specs.Cores.{has_ended};
+ghost use Rattle.beet_server.specs.Fits.{Fits};
+ghost use Rattle.beet_view.specs.Views.{IsSeenAt};
+ghost use Rattle.beet_view.specs.RunViews.{numbers_received, round_received, rounds_received, view_of_core, view_of_run};
+
+use crate::view::{Received, Seen, View};
+use arrayvec::ArrayVec;
+use beet_bids::Grid;
+use beet_field::Fe;
+use beet_gates::Script;
+use beet_round::Side;
+use beet_server::ServerCore;
+use beet_words::{Word, WordList};
+use std::alloc::{AllocError, Global};
+
+/// A copy of the numbers of a message. It is refused where there are more than a message has room for.
+fn copy_of(numbers: &[Fe]) -> Result<ArrayVec<Fe, 64>, AllocError>
+    ensures numbers { IfOk result (λ copy. copy.items ≡ numbers.now) }
+    ensures taken { length numbers.now ≤ 64 → IsOk result }
+{
+    let mut copy = ArrayVec::new();
+    if copy.try_extend_from_slice(numbers).is_err() {
+        return Err(AllocError);
+    }
+    Ok(copy)
+}
+
+/// A copy of the numbers from a peer in a passed round.
+fn numbers_of<S: Script>(
+    core: &ServerCore<S>,
+    side: Side,
+    round: u32,
+) -> Result<ArrayVec<Fe, 64>, AllocError>
+    requires { round < core.now.round }
+    ensures { IfOk result (λ copy. copy.items ≡ numbers_received core.now side round) }
+{
+    let Some(numbers) = core.received(round, side.peer(core.me())) else {
+        unreachable!()
+    };
+    copy_of(numbers)
+}
+
+/// Copies of the numbers from both peers in a passed round.
+fn received_in<S: Script>(core: &ServerCore<S>, round: u32) -> Result<Received, AllocError>
+    requires { round < core.now.round }
+    ensures { IfOk result (λ received. received ≡ round_received core.now round) }
+{
+    Ok(Received {
+        lower: numbers_of(core, Side::Low, round)?,
+        higher: numbers_of(core, Side::High, round)?,
+    })
+}
+
+/// Copies of the numbers from both peers in all passed rounds.
+#[tactic(auto, using(beet_gates::proofs::EachFacts::each_steps))]
+fn rounds_of<S: Script>(alloc: Global, core: &ServerCore<S>) -> Result<Vec<Received>, AllocError>
+    ensures rounds { IfOk result (λ rounds. rounds.items ≡ rounds_received core.now) }
+    ensures small { IfOk result (λ rounds. length rounds.items < 2 ^ 32) }
+{
+    let mut rounds = Vec::with_capacity(alloc, core.round() as usize)?;
+    for round in 0..core.round() {
+        let received = received_in(core, round)?;
+        rounds.push_reserved(received);
+    }
+    Ok(rounds)
+}
+
+/// A copy of words.
+fn words_of(alloc: Global, words: &[Word]) -> Result<WordList, AllocError>
+    ensures { IfOk result (λ copy. copy ≡ words.now) }
+{
+    Ok(WordList::of(Vec::from_slice(alloc, words)?))
+}
+
+/// The view of a server that has ended, with these bidders in their order, as it sees them. The view has the words and
+/// numbers in memory of its own. Want of memory is the only error.
+pub fn view_of<S: Script>(
+    alloc: Global,
+    core: &ServerCore<S>,
+    grid: &Grid,
+    bidders: Vec<Seen>,
+) -> Result<View, AllocError>
+    requires ended { has_ended S.batch_of core.now ≡ true }
+    requires few { length bidders.items ≤ 2000 }
+    requires seen { All (IsSeenAt core.now.me grid.now) bidders.items }
+    ensures core { IfOk result (λ view. view ≡ view_of_core core.now grid.now bidders.items) }
+    ensures run { (o : Opening) (x : Delivered) → Fits S.batch_of o x core.now
+        → IfOk result (λ view. view ≡ view_of_run o core.now.me core.now.round grid.now
+        bidders.items core.now.masks.words core.now.coefficients.words) }
+    ensures rounds { (o : Opening) (x : Delivered) → Fits S.batch_of o x core.now
+        → HasRounds o core.now.round }
+{
+    Ok(View {
+        server: core.me(),
+        grid: *grid,
+        bidders,
+        masks: words_of(alloc, core.masks().words())?,
+        coefficients: words_of(alloc, core.coefficients().words())?,
+        rounds: rounds_of(alloc, core)?,
+    })
+}

@@ -1,0 +1,71 @@
+-- A world begins with three fresh cores that have handed out what they had to.
+use Rattle.std.proofs.Common.{◌≡◌, ◌<◌, ◌≤◌, ◌*◌, ℕ, List, [], Bool, true, false, true≢false, refl, sym, ◌∙◌, ap, subst}
+use Rattle.std.proofs.lemmas.List.{length-replicate}
+use Rattle.beet_field.specs.Trio.{member}
+use Rattle.beet_field.specs.declared.point.Point.{Point}
+use Rattle.beet_field.specs.declared.point.Point.TheVariants.{One, Two, Three}
+use Rattle.beet_field.specs.declared.trio.Trio.{Trio}
+use Rattle.beet_gates.specs.declared.Batch.{Batch}
+use Rattle.beet_gates.specs.Each.{each}
+use Rattle.beet_gates.proofs.EachFacts.{each-zero}
+use Rattle.beet_round.specs.declared.message.RoundMessage.{RoundMessage}
+use Rattle.beet_server.specs.Answers.{Keeps}
+use Rattle.beet_server.specs.Cores.{AreFresh, Core, IsFresh, is_quiet, opening_of}
+use Rattle.beet_server.specs.Events.{Delivered, nothing}
+use Rattle.beet_server.specs.Fits.{Fits, messages_from, taken}
+use Rattle.beet_server.specs.Runs.{HasRounds, Opening, rounds_among}
+use Rattle.beet_world.specs.Marks.{set_of, unmarked}
+use Rattle.beet_world.specs.Worlds.{IsCoreOf, IsWorld, World, sent_by}
+use Rattle.beet_world.proofs.Beginning.{fresh-all-fit}
+use Rattle.beet_world.proofs.MarkFacts.{set-unmarked}
+use Rattle.beet_world.proofs.Rounds.{by_point}
+
+module _ {S : Type 0} (next : S → ℕ → List ℕ → Batch) (inputs most : S → ℕ) where
+  -- what is known of a core that has handed out all that it had to
+  pub record HasHandedOut (old new : Core S) (sent : List (List RoundMessage)) : Type 0 where
+    pub keeps : Keeps old new
+    pub quiet : is_quiet next new ≡ true
+    pub fits : (o : Opening) (x : Delivered) → Fits next o x old → Fits next o x new
+    pub sends : (o : Opening) (x : Delivered) → Fits next o x old → [] ≡ sent_by o old → sent ≡ sent_by o new
+    pub going : (o : Opening) (x : Delivered) (rounds : ℕ) → HasRounds o rounds → Fits next o x old → (old.handed ≡ true → old.round < rounds) →
+        new.handed ≡ true → new.round < rounds
+
+  named : (t : Trio (Core S)) → AreFresh next inputs t → (s : Point) → (member t s).me ≡ s
+  named t f = by_point (λ s. (member t s).me ≡ s) f.one.0 f.two.0 f.three.0
+
+  is_fresh : (t : Trio (Core S)) → AreFresh next inputs t → (s : Point) → IsFresh next inputs (member t s)
+  is_fresh t f = by_point (λ s. IsFresh next inputs (member t s)) f.one.1 f.two.1 f.three.1
+
+  module _ (start cores : Trio (Core S)) (sent : Trio (List (List RoundMessage))) (f : AreFresh next inputs start)
+      (h : HasRounds (opening_of next inputs start) (rounds_among (opening_of next inputs start) (most start.one.script)))
+      (out : (s : Point) → HasHandedOut (member start s) (member cores s) (member sent s)) where
+    abbrev pub begun : World S
+    begun = record { start = start; marks = unmarked (most start.one.script) }
+
+    none_sent : (s : Point) → [] ≡ sent_by (opening_of next inputs start) (member start s)
+    none_sent s =
+        let is = is_fresh start f s in
+        let none : taken (member start s).round (member start s).handed ≡ 0 = ap (λ (k : Core S). taken k.round k.handed) is in
+        sym (ap (each (messages_from (opening_of next inputs start) (member start s).me)) none ∙ each-zero (messages_from (opening_of next inputs start) (member start s).me))
+
+    idle : (s : Point) → (member start s).handed ≡ true → (member start s).round < rounds_among (opening_of next inputs start) (most start.one.script)
+    idle s e = absurd (true≢false (sym e ∙ ap (λ (k : Core S). k.handed) (is_fresh start f s)))
+
+    pub world-begins : IsWorld next inputs most (record { start = start; marks = unmarked (most start.one.script) }) cores sent
+    world-begins =
+        let o = opening_of next inputs start in
+        let fits = fresh-all-fit next inputs most start f in
+        let none : set_of (unmarked (most start.one.script)) ≡ nothing = set-unmarked (most start.one.script) in
+        record {
+          fresh = f;
+          standing = λ s. record {
+            name = (out s).keeps.me ∙ named start f s;
+            fits = subst (λ (x : Delivered). Fits next o x (member cores s)) (sym none) ((out s).fits o nothing (fits s));
+            quiet = (out s).quiet;
+            going = (out s).going o nothing (rounds_among o (most start.one.script)) h (fits s) (idle s);
+          };
+          sent_all = λ s. (out s).sends o nothing (fits s) (none_sent s);
+          events = [];
+          reached = none;
+          room = length-replicate (6 * most start.one.script) false;
+        }

@@ -1,0 +1,9 @@
+pub mod ScheduleRows
+pub mod MarkFacts
+pub mod Rounds
+pub mod Happening
+pub mod GivenFacts
+pub mod TwoRounds
+pub mod Beginning
+pub mod Founding
+pub mod Delivered

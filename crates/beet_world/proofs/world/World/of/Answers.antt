@@ -1,0 +1,46 @@
+use Rattle.std.proofs.Common.{rules, false, ◌≡◌, ◌≤◌, ◌*◌, List, [], Vec, Global, refl, sym, ◌∙◌, ap, arith, subst}
+use Rattle.std.specs.Prelude.{replicate, vec_capacity}
+use Rattle.beet_field.specs.Trio.{member}
+use Rattle.beet_field.specs.declared.point.Point.{Point}
+use Rattle.beet_field.specs.declared.trio.Trio.{Trio}
+use Rattle.beet_gates.specs.Scripts.{bounds_of}
+use Rattle.beet_round.specs.declared.message.RoundMessage.{RoundMessage}
+use Rattle.beet_server.specs.Cores.{Core, opening_of}
+use Rattle.beet_server.proofs.Rounds.{lawful-rounds}
+use Rattle.beet_world.specs.Marks.{unmarked}
+use Rattle.beet_world.specs.Worlds.{HoldsWorld}
+use Rattle.beet_world.proofs.Founding.{HasHandedOut, world-begins}
+use Rattle.beet_world.proofs.Rounds.{by_point}
+use Rattle.beet_world.proofs.world.World.of.Goals as goal
+
+pub invariant_of-result : goal.invariant_of-result
+invariant_of-result g c =
+    let script = g.S.Script in
+    let next = script.batch_of in
+    let start = c.args.cores in
+    let first = start.one.script in
+    let f = c.requires in
+    let o = opening_of next script.inputs_of start in
+    let bounds = bounds_of (script.wires_of first) (script.masks_of first) (script.coefficients_of first) in
+    let h = (lawful-rounds o bounds (script.rounds_of first) (script.inputs_of first) (g.met.S.Script.lawful first)).0 in
+    let cores : Trio (Core g.row.S.Denot) = record { one = c.hand_out.new.core; two = c.hand_out-2.new.core; three = c.hand_out-3.new.core } in
+    let sent : Trio (List (List RoundMessage)) = record { one = c.hand_out.new.sent.items; two = c.hand_out-2.new.sent.items; three = c.hand_out-3.new.sent.items } in
+    let vecs : Trio (Vec (List RoundMessage) Global) = record { one = c.hand_out.new.sent; two = c.hand_out-2.new.sent; three = c.hand_out-3.new.sent } in
+    let one = c.hand_out.ensures in
+    let two = c.hand_out-2.ensures in
+    let three = c.hand_out-3.ensures in
+    let rounds : c.rounds-rounds.result ≡ script.rounds_of first = c.rounds-rounds.ensures ∙ ap script.rounds_of c.script.ensures in
+    let raw : c.in_ok-marks.marks.items ≡ replicate (6 * c.rounds-rounds.result) false = search rules in
+    let marks : c.in_ok-marks.marks.items ≡ unmarked (script.rounds_of first) = rw rounds at raw in
+    let out = by_point (λ s. HasHandedOut next script.inputs_of script.rounds_of (member start s) (member cores s) (member sent s))
+    (record { keeps = one.keeps; quiet = one.quiet; fits = one.fits; going = one.going; sends = λ o x k e. one.sends o x k (c.in_ok-with_capacity.ensures.items ∙ e) })
+    (record { keeps = two.keeps; quiet = two.quiet; fits = two.fits; going = two.going; sends = λ o x k e. two.sends o x k (c.in_ok-with_capacity-2.ensures.items ∙ e) })
+    (record { keeps = three.keeps; quiet = three.quiet; fits = three.fits; going = three.going; sends = λ o x k e. three.sends o x k (c.in_ok-with_capacity-3.ensures.items ∙ e) }) in
+    rw (c.of-start.ensures, marks) (record {
+      is_world = world-begins next script.inputs_of script.rounds_of start cores sent f h out;
+      room = by_point (λ s. script.rounds_of first ≤ vec_capacity (member vecs s))
+          (omega (arith, rounds, one.capacity, c.in_ok-with_capacity.ensures.capacity))
+          (omega (arith, rounds, two.capacity, c.in_ok-with_capacity-2.ensures.capacity))
+          (omega (arith, rounds, three.capacity, c.in_ok-with_capacity-3.ensures.capacity));
+      script = by_point (λ s. (member cores s).script ≡ first) one.keeps.script (two.keeps.script ∙ f.script_two) (three.keeps.script ∙ f.script_three);
+    })

@@ -1,0 +1,35 @@
+use Rattle.std.proofs.Common.{◌≡◌, ◌≤◌, ◌+◌, ℕ, List, arith, refl, sym, ◌∙◌, ap, subst}
+use Rattle.std.specs.Prelude.{min}
+use Rattle.beet_field.specs.Trio.{member}
+use Rattle.beet_field.specs.declared.point.Point.{Point}
+use Rattle.beet_field.specs.declared.point.Point.TheVariants.{One, Two, Three}
+use Rattle.beet_field.specs.declared.trio.Trio.{Trio}
+use Rattle.beet_gates.specs.Scripts.{bounds_of}
+use Rattle.beet_server.specs.Events.{undelivered}
+use Rattle.beet_world.specs.Missing.{is_missing, six}
+use Rattle.beet_world.specs.Worlds.{World, delivered_in, rounds_in}
+use Rattle.beet_world.proofs.Delivered.{two-rounds}
+use Rattle.beet_world.proofs.Rounds.{by_point}
+use Rattle.beet_world.proofs.TwoRounds.{least-of}
+use Rattle.beet_world.proofs.world.World.undelivered.Goals as goal
+
+pub returns : goal.returns
+returns g c =
+    let script = g.S.Script in
+    let next = script.batch_of in
+    let w : World g.row.S.Denot = record { start = c.self.inside.start.value; marks = c.self.inside.marks.items } in
+    let first = w.start.one.script in
+    let bounds = bounds_of (script.wires_of first) (script.masks_of first) (script.coefficients_of first) in
+    let law = g.met.S.Script.lawful first in
+    let cores = c.self.inside.cores in
+    let behind = c.min-behind.result in
+    let is : behind ≡ min (min cores.one.round cores.two.round) cores.three.round =
+    c.min-behind.ensures ∙ (λ i. min ((c.min.ensures ∙ (λ j. min (c.round.ensures j) (c.round-2.ensures j))) i) (c.round-3.ensures i)) in
+    let least = least-of cores.one.round cores.two.round cores.three.round in
+    let at : behind ≡ (member cores least.0).round =
+    is ∙ least.1 ∙ by_point (λ s. member (record { one = cores.one.round; two = cores.two.round; three = cores.three.round }) s ≡ (member cores s).round) refl refl refl least.0 in
+    let two = two-rounds next script.inputs_of script.rounds_of bounds w cores c.self.inside.sent law c.self.invariant behind least.0 at
+    (by_point (λ s. behind ≤ (member cores s).round) (omega (arith, is, least.2)) (omega (arith, is, least.3)) (omega (arith, is, least.4))) in
+    (λ i. c.missing_of.ensures.missing i + c.missing_of-2.ensures.missing i)
+    ∙ sym (subst (λ (v : World g.row.S.Denot). undelivered (rounds_in next script.inputs_of script.rounds_of v) (delivered_in v)
+    ≡ six (is_missing (rounds_in next script.inputs_of script.rounds_of v) (delivered_in v)) behind + six (is_missing (rounds_in next script.inputs_of script.rounds_of v) (delivered_in v)) (behind + 1)) c.self.view_is two)

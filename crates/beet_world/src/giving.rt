@@ -1,0 +1,69 @@
+//! Messages go out of a server and come to it.
+
+ghost use Rattle.std.specs.Prelude.{◌≡◌, ◌<◌, ◌≤◌, ◌+◌, IfSome, true, false, ℕ, length, vec_capacity};
+ghost use Rattle.beet_round.specs.Sides.{peer};
+ghost use Rattle.beet_round.specs.declared.sides.Side.{Side as SideOf};
+ghost use Rattle.beet_server.specs.Answers.{IsUsual, Keeps};
+ghost use Rattle.beet_server.specs.Cores.{is_quiet};
+ghost use Rattle.beet_server.specs.Events.{Delivered, with_triple};
+ghost use Rattle.beet_server.specs.Fits.{Fits, IsRound, message_of, taken};
+ghost use Rattle.beet_server.specs.Runs.{HasRounds, Opening};
+ghost use Rattle.beet_world.specs.Worlds.{sent_by};
+ghost use Rattle.beet_world.specs.Happens.{IsGiven, MayGive};
+
+use beet_gates::Script;
+use beet_round::{RoundMessage, Verdict};
+use beet_server::ServerCore;
+
+/// Takes all messages that a server has to hand out, so that nothing is left. There is room for
+/// those of all rounds.
+pub(crate) fn hand_out<S: Script>(core: &mut ServerCore<S>, sent: &mut Vec<[RoundMessage; 2]>)
+    requires room { S.rounds_of core.old.script ≤ vec_capacity sent.old }
+    requires counted { length sent.old.items ≡ taken core.old.round core.old.handed }
+    requires within { length sent.old.items ≤ S.rounds_of core.old.script }
+    ensures capacity { vec_capacity sent.new ≡ vec_capacity sent.old }
+    ensures keeps { Keeps core.old core.new }
+    ensures quiet { is_quiet S.batch_of core.new ≡ true }
+    ensures counted { length sent.new.items ≡ taken core.new.round core.new.handed }
+    ensures within { length sent.new.items ≤ S.rounds_of core.old.script }
+    ensures fits { (o : Opening) (x : Delivered) → Fits S.batch_of o x core.old
+        → Fits S.batch_of o x core.new }
+    ensures sends { (o : Opening) (x : Delivered) → Fits S.batch_of o x core.old
+        → sent.old.items ≡ sent_by o core.old → sent.new.items ≡ sent_by o core.new }
+    ensures going { (o : Opening) (x : Delivered) (rounds : ℕ) → HasRounds o rounds
+        → Fits S.batch_of o x core.old → (core.old.handed ≡ true → core.old.round < rounds)
+        → core.new.handed ≡ true → core.new.round < rounds }
+{
+    let rounds = core.script().rounds() as usize;
+    for _turn in 0..rounds + 1 {
+        let Some(messages) = core.out() else {
+            return;
+        };
+        sent.push_reserved(messages);
+    }
+    unreachable!()
+}
+
+/// Gives a server a message, and takes all messages that it then has to hand out.
+pub(crate) fn give<S: Script>(
+    core: &mut ServerCore<S>,
+    sent: &mut Vec<[RoundMessage; 2]>,
+    message: RoundMessage,
+) -> Verdict
+    requires quiet { is_quiet S.batch_of core.old ≡ true }
+    requires room { S.rounds_of core.old.script ≤ vec_capacity sent.old }
+    requires counted { length sent.old.items ≡ taken core.old.round core.old.handed }
+    requires within { length sent.old.items ≤ S.rounds_of core.old.script }
+    ensures capacity { vec_capacity sent.new ≡ vec_capacity sent.old }
+    ensures keeps { Keeps core.old core.new }
+    ensures quiet { is_quiet S.batch_of core.new ≡ true }
+    ensures counted { length sent.new.items ≡ taken core.new.round core.new.handed }
+    ensures within { length sent.new.items ≤ S.rounds_of core.old.script }
+    ensures given { (o : Opening) (x : Delivered) (rounds : ℕ) (s : SideOf) (t : ℕ)
+        → MayGive S.batch_of o x rounds s t core.old sent.old.items message
+        → IsGiven S.batch_of o x rounds s t core.old core.new sent.new.items result }
+{
+    let verdict = core.deliver(message);
+    hand_out(core, sent);
+    verdict
+}

@@ -1,0 +1,236 @@
+//! Three servers, the messages that they have sent, and which of these were delivered.
+
+ghost use Rattle.std.specs.Prelude.{◌≡◌, ◌≢◌, ◌↔◌, ◌<◌, ◌≤◌, ◌^◌, ◌*◌, ◌+◌, IfOk, IfSome, IsNone, Some, true, false, List, [], ◌∷◌, ℕ, length, slice_get, vec_capacity};
+ghost use Rattle.beet_field.specs.Trio.{member};
+ghost use Rattle.beet_field.specs.declared.point.Point.{Point as Server};
+ghost use Rattle.beet_round.specs.declared.message.RoundMessage.{RoundMessage as Message};
+ghost use Rattle.beet_round.specs.declared.sides.Side.{Side as SideOf};
+ghost use Rattle.beet_server.specs.Answers.{Keeps};
+ghost use Rattle.beet_server.specs.Cores.{AreFresh, is_quiet};
+ghost use Rattle.beet_server.specs.Events.{Delivered, after_from, deliver, is_sent, undelivered as undelivered_in};
+ghost use Rattle.beet_server.specs.Runs.{Opening};
+ghost use Rattle.beet_world.specs.Happens.{IsGiven, IsUsualEvent, MayGive, MayTakeMessages, of_side};
+ghost use Rattle.beet_world.specs.Marks.{mark_at, unmarked};
+ghost use Rattle.beet_world.specs.Missing.{is_missing, one_if, six, to_side};
+ghost use Rattle.beet_world.specs.Worlds.{IsCoreOf, delivered_in, named_in, rounds_in};
+ghost use Rattle.beet_world.specs.declared.world.Event.TheVariants.{NotSent};
+
+use crate::giving::{give, hand_out};
+use crate::schedule::Delivery;
+use beet_field::{Point, Trio};
+use beet_gates::Script;
+use beet_round::{RoundMessage, Side, Verdict};
+use beet_server::ServerCore;
+use std::alloc::{AllocError, Global};
+use std::marker::Model;
+use std::snapshot::Snapshot;
+
+/// What became of a message that was to be delivered.
+#[derive(Clone, Copy, PartialEq, Eq, Debug)]
+pub enum Event {
+    /// The receiver got a copy, and said so.
+    Delivered(Verdict),
+    /// It was never sent.
+    NotSent,
+}
+
+/// Three servers, the messages that each has sent, and a mark for each message that was delivered.
+#[derive(Drop)]
+pub struct World<S: Script> {
+    cores: Trio<ServerCore<S>>,
+    sent: Trio<Vec<[RoundMessage; 2]>>,
+    marks: Vec<bool>,
+    start: Snapshot<Trio<ServerCore<S>>>,
+}
+
+impl<S: Script> Model for World<S> {
+    ghost use Rattle.beet_world.specs.Worlds.{World as Seen, HoldsWorld};
+
+    ghost Value = { Seen S };
+
+    ghost view = { λ w. record { start = w.start.value; marks = w.marks.items } };
+
+    ghost invariant = { λ w. HoldsWorld S.batch_of S.inputs_of S.rounds_of
+        (record { start = w.start.value; marks = w.marks.items }) w.cores w.sent };
+}
+
+/// The place of the mark of a message.
+fn mark_place(from: Point, side: Side, round: usize) -> usize
+    requires { 6 * round + 5 < 2 ^ 64 }
+    ensures { result ≡ mark_at from side round }
+{
+    let side = match side {
+        Side::Low => 0,
+        Side::High => 1,
+    };
+    6 * round + (2 * (from.number() as usize - 1) + side)
+}
+
+/// A copy of the message of a server to its peer on a side in a round, or `None` where it was not
+/// sent.
+fn sent_message(
+    sent: &Trio<Vec<[RoundMessage; 2]>>,
+    from: Point,
+    side: Side,
+    round: u32,
+) -> Option<RoundMessage>
+    ensures none { IsNone result ↔ (length (member sent.now from).items ≤ round) }
+    ensures message { IfSome result (λ m. (low high : Message)
+        → slice_get (member sent.now from).items round ≡ Some (low ∷ high ∷ [])
+        → m ≡ of_side side low high) }
+{
+    let [low, high] = sent.get(from).get(round as usize)?;
+    match side {
+        Side::Low => Some(low.copy()),
+        Side::High => Some(high.copy()),
+    }
+}
+
+/// Gives a server a message, and takes what it then has to hand out.
+fn give_to<S: Script>(
+    cores: &mut Trio<ServerCore<S>>,
+    sent: &mut Trio<Vec<[RoundMessage; 2]>>,
+    to: Point,
+    message: RoundMessage,
+) -> Verdict
+    requires { MayTakeMessages S.batch_of (S.rounds_of (member cores.old to).script)
+        (member cores.old to) (member sent.old to) }
+    ensures others { (s : Server) → s ≢ to → (member cores.new s ≡ member cores.old s)
+        × (member sent.new s ≡ member sent.old s) }
+    ensures capacity { vec_capacity (member sent.new to) ≡ vec_capacity (member sent.old to) }
+    ensures keeps { Keeps (member cores.old to) (member cores.new to) }
+    ensures quiet { is_quiet S.batch_of (member cores.new to) ≡ true }
+    ensures given { (o : Opening) (x : Delivered) (rounds : ℕ) (s : SideOf) (t : ℕ)
+        → MayGive S.batch_of o x rounds s t (member cores.old to) (member sent.old to).items message
+        → IsGiven S.batch_of o x rounds s t (member cores.old to) (member cores.new to)
+        (member sent.new to).items result }
+{
+    match to {
+        Point::One => give(&mut cores.one, &mut sent.one, message),
+        Point::Two => give(&mut cores.two, &mut sent.two, message),
+        Point::Three => give(&mut cores.three, &mut sent.three, message),
+    }
+}
+
+impl<S: Script> World<S> {
+    /// A world of three fresh servers, of which each has sent its messages of round 0. It takes the
+    /// memory for the messages of all rounds, and fails only where there is too little; no other
+    /// call takes memory.
+    pub fn of(alloc: Global, cores: Trio<ServerCore<S>>) -> Result<World<S>, AllocError>
+        requires { AreFresh S.batch_of S.inputs_of cores }
+        ensures { IfOk result (λ w. w ≡ record {
+          start = cores;
+          marks = unmarked (S.rounds_of cores.one.script);
+        }) }
+    {
+        let rounds = cores.one.script().rounds() as usize;
+        let start = Snapshot::of(&cores);
+        let mut sent = Trio {
+            one: Vec::with_capacity(alloc, rounds)?,
+            two: Vec::with_capacity(alloc, rounds)?,
+            three: Vec::with_capacity(alloc, rounds)?,
+        };
+        let marks = vec![in alloc; false; 6 * rounds]?;
+        let mut cores = cores;
+        hand_out(&mut cores.one, &mut sent.one);
+        hand_out(&mut cores.two, &mut sent.two);
+        hand_out(&mut cores.three, &mut sent.three);
+        Ok(World {
+            cores,
+            sent,
+            marks,
+            start,
+        })
+    }
+
+    /// The core of a server.
+    pub fn core(&self, at: Point) -> &ServerCore<S>
+        ensures { IsCoreOf S.batch_of S.inputs_of S.rounds_of self.now at result.now }
+    {
+        self.cores.get(at)
+    }
+
+    /// Delivers the message of one server to another in a round, from 0, if it was sent. It may be
+    /// delivered again. What the receiver then sends is sent.
+    pub fn event(&mut self, from: Point, to: Point, round: u32) -> Event
+        ensures delivered { delivered_in self.new
+            ≡ deliver (rounds_in S.batch_of S.inputs_of S.rounds_of self.old) (delivered_in self.old)
+            (record { from = from; to = to; round = round }) }
+        ensures start { self.new.start ≡ self.old.start }
+        ensures refused { (result ≡ NotSent)
+            ↔ (is_sent (rounds_in S.batch_of S.inputs_of S.rounds_of self.old)
+            (delivered_in self.old) (record { from = from; to = to; round = round }) ≡ false) }
+        ensures unchanged { result ≡ NotSent → self.new ≡ self.old }
+        ensures usual { IsUsualEvent result }
+    {
+        let Some(side) = Side::of(from, to) else {
+            return Event::NotSent;
+        };
+        let Some(message) = sent_message(&self.sent, from, side, round) else {
+            return Event::NotSent;
+        };
+        let verdict = give_to(&mut self.cores, &mut self.sent, to, message);
+        self.marks[mark_place(from, side, round as usize)] = true;
+        Event::Delivered(verdict)
+    }
+
+    /// Delivers the messages of a schedule, one after another. One that is not sent when its turn
+    /// comes is passed over.
+    pub fn play(&mut self, schedule: &[Delivery])
+        ensures delivered { delivered_in self.new
+            ≡ after_from (rounds_in S.batch_of S.inputs_of S.rounds_of self.old)
+            (delivered_in self.old) (named_in schedule.now) }
+        ensures start { self.new.start ≡ self.old.start }
+    {
+        for delivery in schedule {
+            self.event(delivery.from, delivery.to, delivery.round);
+        }
+    }
+
+    /// 1 for a message of a round that was sent and not delivered, and else 0.
+    fn missing(&self, from: Point, side: Side, round: usize) -> u32
+        ensures missing { result
+            ≡ one_if (is_missing (rounds_in S.batch_of S.inputs_of S.rounds_of self.now)
+            (delivered_in self.now) (to_side from side round)) }
+        ensures few { result ≤ 1 }
+    {
+        if round >= self.sent.get(from).len() {
+            return 0;
+        }
+        if self.marks[mark_place(from, side, round)] {
+            return 0;
+        }
+        1
+    }
+
+    /// How many messages of a round were sent and not delivered.
+    fn missing_of(&self, round: usize) -> u32
+        ensures missing { result
+            ≡ six (is_missing (rounds_in S.batch_of S.inputs_of S.rounds_of self.now)
+            (delivered_in self.now)) round }
+        ensures few { result ≤ 6 }
+    {
+        self.missing(Point::One, Side::Low, round)
+            + self.missing(Point::One, Side::High, round)
+            + self.missing(Point::Two, Side::Low, round)
+            + self.missing(Point::Two, Side::High, round)
+            + self.missing(Point::Three, Side::Low, round)
+            + self.missing(Point::Three, Side::High, round)
+    }
+
+    /// How many messages were sent that no event has delivered. They are of the round of the server
+    /// that is behind, and of the next.
+    pub fn undelivered(&self) -> u32
+        ensures { result
+            ≡ undelivered_in (rounds_in S.batch_of S.inputs_of S.rounds_of self.now)
+            (delivered_in self.now) }
+    {
+        let behind = self
+            .cores
+            .one
+            .round()
+            .min(self.cores.two.round())
+            .min(self.cores.three.round()) as usize;
+        self.missing_of(behind) + self.missing_of(behind + 1)
+    }
+}

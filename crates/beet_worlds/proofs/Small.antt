@@ -1,0 +1,83 @@
+-- Mapped mask words are words.
+use Rattle.std.proofs.Common.{◌≢◌, ℕ, ◌^◌, ◌<◌, inl, inr, List, length, slice_index, Option, Some, None, refl, arith}
+use Rattle.std.specs.Prelude.{All}
+use Rattle.std.proofs.lemmas.Bool.{cases_lt}
+use Rattle.std.proofs.lemmas.List.{get_or_past}
+use Rattle.std.proofs.lemmas.List.Elements.{All-get_or, All-from_get_or}
+use Rattle.std.proofs.lemmas.Nat.{xor_lt}
+use Rattle.beet_field.specs.Trio.{member}
+use Rattle.beet_field.specs.declared.point.Point.{Point}
+use Rattle.beet_field.specs.declared.point.Point.TheVariants.{One, Two, Three}
+use Rattle.beet_field.specs.declared.trio.Trio.{Trio}
+use Rattle.beet_words.specs.Words.{IsWord}
+use Rattle.beet_bids.specs.Books.{Book}
+use Rattle.beet_gates.specs.Deals.{deals_of}
+use Rattle.beet_plan.specs.Runs.{AreMasks}
+use Rattle.beet_plan.specs.Search.{mask_at}
+use Rattle.beet_plan.proofs.BlockSteps.{Deals}
+use Rattle.beet_worlds.specs.MappedMasks.{MasksMapped, lower_other, compared_in, lost_at, word_mapped}
+use Rattle.beet_worlds.proofs.Turned.{turned-small}
+
+-- a word at any place, past the end too, where it is read as 0
+pub word-small : (words : List ℕ) → All IsWord words → (i : ℕ) → slice_index words i < 2 ^ 61
+word-small words all i = elim (cases_lt i (length words)) [
+  | inl h ↦ All-get_or IsWord words i 0 h all
+  | inr past ↦ rw (get_or_past words i 0 past) (omega arith)
+]
+
+pub mask-small : (words : Trio (List ℕ)) → AreMasks words → (i : ℕ) → mask_at words i < 2 ^ 61
+mask-small words m i = xor_lt 61 _ _ (xor_lt 61 _ _ (word-small words.one m.one i) (word-small words.two m.two i)) (word-small words.three m.three i)
+
+-- each deal hands out the bits of three words
+pub deals-words : (words : Trio (List ℕ)) → AreMasks words → Deals (deals_of words) (mask_at words)
+deals-words words m = record {
+  one = slice_index words.one;
+  two = slice_index words.two;
+  three = slice_index words.three;
+  bits = λ i. refl;
+  mask = λ i. refl;
+  small_one = word-small words.one m.one;
+  small_two = word-small words.two m.two;
+  small_three = word-small words.three m.three;
+  small = mask-small words m;
+}
+
+module _ (first second : Book) where
+  mapped-small : (mask word : ℕ) (place : Option ℕ) → mask < 2 ^ 61 → word < 2 ^ 61 → word_mapped first second mask word place < 2 ^ 61
+  mapped-small mask word None h l = l
+  mapped-small mask word (Some m) h l = xor_lt 61 _ _ (xor_lt 61 _ _ l h) (turned-small mask (lost_at first second m) h)
+
+  module _ (s : Point) (words words' : Trio (List ℕ)) (m : AreMasks words) (mapped : MasksMapped s first second words words') where
+    member-words : (j : Point) → All IsWord (member words j)
+    member-words One = m.one
+    member-words Two = m.two
+    member-words Three = m.three
+
+    lower-words : All IsWord (member words' (lower_other s))
+    lower-words =
+        let l = lower_other s in
+        All-from_get_or IsWord (member words' l) 0
+        (λ i lt.
+        let h : i < length (member words l) = omega (arith, mapped.lengths l) in
+        rw (mapped.turns i h)
+        (mapped-small (mask_at words i) (slice_index (member words l) i) (compared_in first words i) (mask-small words m i) (word-small (member words l) (member-words l) i)))
+
+    other-words : (j : Point) → j ≢ lower_other s → All IsWord (member words' j)
+    other-words j ne = rw (mapped.others j ne) (member-words j)
+
+  pub mapped-masks : (s : Point) (words words' : Trio (List ℕ)) → AreMasks words → MasksMapped s first second words words' → AreMasks words'
+  mapped-masks One words words' m mapped = record {
+    one = other-words One words words' m mapped One (λ e. cc);
+    two = lower-words One words words' m mapped;
+    three = other-words One words words' m mapped Three (λ e. cc);
+  }
+  mapped-masks Two words words' m mapped = record {
+    one = lower-words Two words words' m mapped;
+    two = other-words Two words words' m mapped Two (λ e. cc);
+    three = other-words Two words words' m mapped Three (λ e. cc);
+  }
+  mapped-masks Three words words' m mapped = record {
+    one = lower-words Three words words' m mapped;
+    two = other-words Three words words' m mapped Two (λ e. cc);
+    three = other-words Three words words' m mapped Three (λ e. cc);
+  }

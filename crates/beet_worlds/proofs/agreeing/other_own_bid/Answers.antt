@@ -1,0 +1,26 @@
+use Rattle.std.proofs.Common.{◌≡◌, length, map, refl, sym, ap, ◌∙◌, arith}
+use Rattle.std.proofs.lemmas.Option.{slice_get_read}
+use Rattle.beet_bids.specs.declared.book.Bidder.{Bidder}
+use Rattle.beet_worlds.proofs.Disagreeing.{known-all, known-more}
+use Rattle.beet_worlds.proofs.EachMapped.{as-many}
+use Rattle.beet_worlds.proofs.agreeing.other_own_bid.Goals as goal
+
+pub loop-i-preserved : goal.loop-i-preserved
+loop-i-preserved c =
+    let bidders = c.bidders-bidders.result.now in
+    let others = c.bidders-others.result.now in
+    let same : map (λ (b : Bidder). b.known) others ≡ map (λ (b : Bidder). b.known) bidders =
+    ap (map (λ (b : Bidder). b.known)) c.bidders-others.ensures.value ∙ c.requires.marks ∙ sym (ap (map (λ (b : Bidder). b.known)) c.bidders-bidders.ensures.value) in
+    let many = as-many bidders others same in
+    let lt = c.loop-i-test.true in
+    record {
+      same = known-more bidders others c.args.me c.loop-i.i c.index-bidders-i.result c.index-others-i.result
+          (slice_get_read bidders (length bidders) c.loop-i.i c.index-bidders-i.result refl lt c.index-bidders-i.is)
+          (slice_get_read others (length others) c.loop-i.i c.index-others-i.result refl (omega (arith, many, lt)) c.index-others-i.is)
+          (c.is_changed.ensures.kept c.if-is_changed.false) c.loop-i.invariant.same;
+    }
+
+pub returns-clause-place : goal.returns-clause-place
+returns-clause-place c =
+    let all = known-all c.bidders-bidders.result.now c.bidders-others.result.now c.args.me c.loop-i.i c.loop-i-test.false c.loop-i.invariant.same in
+    rw (← c.bidders-bidders.ensures.value, ← c.bidders-others.ensures.value) all

@@ -1,0 +1,53 @@
+use Rattle.std.proofs.Common.{rules, ◌≡◌, map, length, refl, sym, ap, ◌∙◌, arith}
+use Rattle.std.proofs.lemmas.Option.{slice_get_read}
+use Rattle.beet_bids.specs.declared.book.Bidder.{Bidder}
+use Rattle.beet_worlds.proofs.EachMapped.{as-many, bidders-mapped, each-mapped-more, mark-at}
+use Rattle.beet_worlds.proofs.bidders.map_bidders.Goals as goal
+
+pub words_in_second-requires-clause-mark : goal.words_in_second-requires-clause-mark
+words_in_second-requires-clause-mark c =
+    let bidders = c.bidders-bidders.result.now in
+    let others = c.bidders-others.result.now in
+    let same : map (λ (b : Bidder). b.known) others ≡ map (λ (b : Bidder). b.known) bidders =
+    ap (map (λ (b : Bidder). b.known)) c.bidders-others.ensures.value ∙ c.requires.marks ∙ sym (ap (map (λ (b : Bidder). b.known)) c.bidders-bidders.ensures.value) in
+    let many = as-many bidders others same in
+    let few = ap length c.bidders-bidders.ensures.value in
+    let lt = c.loop-i-test.true in
+    mark-at bidders others c.loop-i.i c.index-bidders-i.result c.index-others-i.result same
+    (slice_get_read bidders (length bidders) c.loop-i.i c.index-bidders-i.result refl (omega (arith, few, lt, c.requires.count)) c.index-bidders-i.is)
+    (slice_get_read others (length others) c.loop-i.i c.index-others-i.result refl (omega (arith, many, few, lt, c.requires.count)) c.index-others-i.is)
+
+pub loop-i-preserved : goal.loop-i-preserved
+loop-i-preserved c =
+    let inv = c.loop-i.invariant in
+    let bidders = c.bidders-bidders.result.now in
+    let others = c.bidders-others.result.now in
+    let words = c.args.words.now in
+    let same : map (λ (b : Bidder). b.known) others ≡ map (λ (b : Bidder). b.known) bidders =
+    ap (map (λ (b : Bidder). b.known)) c.bidders-others.ensures.value ∙ c.requires.marks ∙ sym (ap (map (λ (b : Bidder). b.known)) c.bidders-bidders.ensures.value) in
+    let many = as-many bidders others same in
+    let few = ap length c.bidders-bidders.ensures.value in
+    let lt = c.loop-i-test.true in
+    let items = c.in_ok-push.ensures.items in
+    let more = each-mapped-more c.args.me c.grid-grid.result.now.prices bidders others words c.loop-i.mapped.items c.loop-i.i c.index-bidders-i.result c.index-others-i.result
+    c.index-words-i.result c.in_ok-words_in_second.field-0 inv.each inv.count
+    (slice_get_read bidders (length bidders) c.loop-i.i c.index-bidders-i.result refl (omega (arith, few, lt, c.requires.count)) c.index-bidders-i.is)
+    (slice_get_read others (length others) c.loop-i.i c.index-others-i.result refl (omega (arith, many, few, lt, c.requires.count)) c.index-others-i.is)
+    (slice_get_read words (length words) c.loop-i.i c.index-words-i.result refl lt c.index-words-i.is)
+    c.in_ok-words_in_second.ensures in
+    record {
+      count = search rules;
+      each = rw items more;
+    }
+
+pub returns-clause-mapped : goal.returns-clause-mapped
+returns-clause-mapped c =
+    let inv = c.loop-i.invariant in
+    let bidders = c.bidders-bidders.result.now in
+    let others = c.bidders-others.result.now in
+    let same : map (λ (b : Bidder). b.known) others ≡ map (λ (b : Bidder). b.known) bidders =
+    ap (map (λ (b : Bidder). b.known)) c.bidders-others.ensures.value ∙ c.requires.marks ∙ sym (ap (map (λ (b : Bidder). b.known)) c.bidders-bidders.ensures.value) in
+    let few = ap length c.bidders-bidders.ensures.value in
+    let all = bidders-mapped c.args.me c.grid-grid.result.now.prices bidders others c.args.words.now c.loop-i.mapped.items
+    (omega (arith, few, c.requires.count)) (as-many bidders others same) (omega (arith, inv.count, c.loop-i-test.false)) inv.each in
+    rw (← c.bidders-bidders.ensures.value, ← c.bidders-others.ensures.value, ← c.grid-grid.ensures.value) all

@@ -1,0 +1,65 @@
+//! The summed supply and demand of a book, and how they differ.
+
+ghost use Rattle.std.specs.Prelude.{◌≡◌, ◌<◌, ◌≤◌};
+ghost use Rattle.beet_field.specs.Field.{IsElement};
+ghost use Rattle.beet_bids.specs.Outcomes.{clearing_place};
+ghost use Rattle.beet_bids.specs.Sums.{supply_at, demand_at};
+ghost use Rattle.beet_worlds.specs.MappedMasks.{doubled_at, lost_at};
+
+use beet_bids::{Book, Outcome, outcome};
+use beet_field::Fe;
+
+/// The place at which a book clears, or the number of its prices.
+pub(crate) fn clearing(book: &Book) -> u32
+    ensures { result ≡ clearing_place book.now }
+{
+    match outcome(book) {
+        Outcome::Price { place, .. } => place,
+        Outcome::No => book.grid().prices(),
+    }
+}
+
+/// What all bidders together sell at a place.
+pub(crate) fn supply(book: &Book, place: u32) -> u64
+    requires { place < book.now.grid.prices }
+    ensures value { result ≡ supply_at book.now.bidders place }
+    ensures below { IsElement result }
+{
+    let mut sum = 0;
+    for bidder in book.bidders() {
+        sum += bidder.curve.sell(place);
+    }
+    sum
+}
+
+/// What all bidders together buy at a place.
+pub(crate) fn demand(book: &Book, place: u32) -> u64
+    requires { place < book.now.grid.prices }
+    ensures value { result ≡ demand_at book.now.bidders place }
+    ensures below { IsElement result }
+{
+    let mut sum = 0;
+    for bidder in book.bidders() {
+        sum += bidder.curve.buy(place);
+    }
+    sum
+}
+
+/// Twice the difference of supply and demand at a place.
+fn doubled(book: &Book, place: u32) -> Fe
+    requires { place < book.now.grid.prices }
+    ensures { result ≡ doubled_at book.now place }
+{
+    let supply = Fe::reduce(supply(book, place) as u128);
+    let demand = Fe::reduce(demand(book, place) as u128);
+    Fe::reduce(2).mul(supply.sub(demand))
+}
+
+/// By how much that is more in the first book than in the second.
+pub(crate) fn lost(first: &Book, second: &Book, place: u32) -> Fe
+    requires first { place < first.now.grid.prices }
+    requires second { place < second.now.grid.prices }
+    ensures { result ≡ lost_at first.now second.now place }
+{
+    doubled(first, place).sub(doubled(second, place))
+}

@@ -1,0 +1,107 @@
+//! The lines on which the inputs of a book's auction lie.
+
+ghost use Rattle.std.specs.Prelude.{◌≡◌, ◌≢◌, ◌<◌, ◌≤◌, ◌+◌, ◌*◌, ◌%◌, ◌++◌, ◌∷◌, [], ℕ, length, map, slice_index, sum_by, IfOk, OnOk};
+ghost use Rattle.std.specs.List.{range_with_len};
+ghost use Rattle.beet_field.specs.Field.{p, add_of};
+ghost use Rattle.beet_shamir.specs.declared.Line.{Line as Seen};
+ghost use Rattle.beet_words.specs.Words.{accepted};
+ghost use Rattle.beet_gates.specs.Each.{each};
+ghost use Rattle.beet_bids.specs.Sums.{supply_at, demand_at};
+ghost use Rattle.beet_worlds.specs.InputLines.{AreInputLines, summed_slope};
+
+use crate::differences::{demand, supply};
+use beet_bids::Book;
+use beet_field::Fe;
+use beet_shamir::Line;
+use beet_words::{Word, WordList};
+use std::alloc::{AllocError, Global};
+
+/// Appends the number of a word, if it has one.
+fn keep(numbers: &mut Vec<Fe>, word: Word) -> Result<(), AllocError>
+    ensures { OnOk result (numbers.new.items ≡ numbers.old.items ++ accepted (word ∷ [])) }
+{
+    if let Some(number) = word.field() {
+        numbers.push(number)?;
+    }
+    Ok(())
+}
+
+/// The numbers that are drawn from words, in order.
+fn numbers_in(alloc: Global, words: &[Word]) -> Result<Vec<Fe>, AllocError>
+    ensures { IfOk result (λ numbers. numbers.items ≡ accepted words.now) }
+{
+    let mut numbers = Vec::with_capacity(alloc, words.len())?;
+    for word in words {
+        keep(&mut numbers, *word)?;
+    }
+    Ok(numbers)
+}
+
+/// The number at a place, or 0 past the end.
+fn number_at(numbers: &[Fe], place: usize) -> Fe
+    ensures { result ≡ slice_index numbers.now place }
+{
+    match numbers.get(place) {
+        Some(number) => *number,
+        None => Fe::default(),
+    }
+}
+
+/// Adds the numbers to the sums, place by place.
+fn add_numbers(sums: &mut [Fe], numbers: &[Fe])
+    ensures same_length { length sums.new ≡ length sums.old }
+    ensures added { (k : ℕ) → k < length sums.old →
+        slice_index sums.new k ≡ add_of (slice_index sums.old k) (slice_index numbers.now k) }
+{
+    for (i, sum) in sums.iter_mut().enumerate() {
+        *sum = sum.add(number_at(numbers, i));
+    }
+}
+
+/// The sums of so many slopes of all bidders, buy first.
+fn summed_slopes(alloc: Global, words: &[WordList], count: usize) -> Result<Vec<Fe>, AllocError>
+    ensures { IfOk result (λ sums. sums.items ≡ each (summed_slope words.now) count) }
+{
+    let mut sums = vec![in alloc; Fe::default(); count]?;
+    for list in words {
+        let numbers = numbers_in(alloc, list.as_slice())?;
+        add_numbers(&mut sums, numbers.as_slice());
+    }
+    Ok(sums)
+}
+
+/// The lines with the sums of a book and these slopes, which have buy first: supply at each place, and then demand.
+fn lines_with(alloc: Global, book: &Book, slopes: &[Fe]) -> Result<Vec<Line>, AllocError>
+    requires { length slopes.now ≡ 2 * book.now.grid.prices }
+    ensures values { IfOk result (λ lines. map (λ (l : Seen). l.value) lines.items
+        ≡ each (supply_at book.now.bidders) book.now.grid.prices
+        ++ each (demand_at book.now.bidders) book.now.grid.prices) }
+    ensures slopes { IfOk result (λ lines. map (λ (l : Seen). l.slope) lines.items
+        ≡ each (λ k. slice_index slopes.now (book.now.grid.prices + k)) book.now.grid.prices
+        ++ each (slice_index slopes.now) book.now.grid.prices) }
+{
+    let prices = book.grid().prices();
+    let mut lines = Vec::with_capacity(alloc, 2 * prices as usize)?;
+    for place in 0..prices {
+        let value = Fe::reduce(supply(book, place) as u128);
+        let slope = slopes[(prices + place) as usize];
+        lines.push(Line { value, slope })?;
+    }
+    for place in 0..prices {
+        let value = Fe::reduce(demand(book, place) as u128);
+        let slope = slopes[place as usize];
+        lines.push(Line { value, slope })?;
+    }
+    Ok(lines)
+}
+
+/// The lines of the inputs of a book's auction, where the bidders deal by these words: supply at each place, and then demand.
+pub fn input_lines(alloc: Global, book: &Book, words: &[WordList]) -> Result<Vec<Line>, AllocError>
+    requires { length words.now ≡ length book.now.bidders }
+    ensures { IfOk result (λ lines. AreInputLines book.now words.now lines.items) }
+{
+    let prices = book.grid().prices();
+    let slopes = summed_slopes(alloc, words, 2 * prices as usize)?;
+    let lines = lines_with(alloc, book, slopes.as_slice())?;
+    Ok(lines)
+}

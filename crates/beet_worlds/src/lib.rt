@@ -1,0 +1,26 @@
+//! Two worlds of an auction that one server cannot tell apart: their books, and how the mask words and the bidders' words of one
+//! are mapped to those of the other.
+#![tactic(auto)]
+
+mod agreeing;
+mod bidders;
+mod differences;
+mod inputs;
+mod laws;
+mod masks;
+#[cfg(test)]
+mod tests;
+mod turning;
+mod wanted;
+
+pub use agreeing::{Disagreement, agreement};
+pub use bidders::map_bidders;
+pub use inputs::input_lines;
+pub use laws::{
+    agreeing_books_open_alike, enough_words_can_be_drawn, farmers_are_bidders_and_words,
+    mapped_bidders_give_the_same_points, mapped_masks_count_alike, mapped_words_are_enough,
+    mapped_words_are_the_only_ones, mapped_worlds_map_back, turned_masks,
+};
+pub use masks::map_masks;
+pub use turning::turn;
+pub use wanted::enough;
