@@ -1,5 +1,6 @@
 -- A core that fits a run goes on fitting it.
 use Rattle.std.proofs.Common.{◌≡◌, ◌≢◌, ◌≤◌, ◌<◌, ◌+◌, ◌==◌, ◌&&◌, ◌||◌, if◌then◌else◌, ℕ, suc, Bool, true, false, true≢false, Some, None, is_some, List, [], ◌∷◌, ◌++◌, drop, sym, refl, ap, subst, ◌∙◌, ◌⊎◌, inl, inr, ⊎_elim, arith, add-one}
+use Rattle.std.proofs.lemmas.Bool.{eq-eqb, le-ltb, lt-ltb}
 use Rattle.std.proofs.lemmas.Bool.Decides.{nat_tests}
 use Rattle.std.proofs.lemmas.List.{drop-drop}
 use Rattle.arrayvec.specs.ArrayVec.{array_vec_len}
@@ -17,6 +18,7 @@ use Rattle.beet_gates.proofs.EachFacts.{each-more}
 use Rattle.beet_round.specs.Boxes.{Mailbox, place_at, with_place, numbers_of, numbers_at, HasBoth, Judged, JudgedFrom, kept, turned}
 use Rattle.beet_round.specs.Sides.{peer}
 use Rattle.beet_round.proofs.BoxFacts.{judged-from}
+use Rattle.beet_round.proofs.SideFacts.{peer-apart}
 use Rattle.beet_round.specs.declared.message.RoundMessage.{RoundMessage}
 use Rattle.beet_round.specs.declared.places.Places.{Places}
 use Rattle.beet_round.specs.declared.mailbox.Verdict.{Verdict}
@@ -25,7 +27,7 @@ use Rattle.beet_round.specs.declared.sides.Side.{Side}
 use Rattle.beet_round.specs.declared.sides.Side.TheVariants.{Low, High}
 use Rattle.beet_server.specs.Runs.{Opening, Shared, coming, message, sent_for, shared_at, standing_at, draws_in, gained}
 use Rattle.beet_server.specs.Events.{Delivered, same, both_in, with_triple}
-use Rattle.beet_server.specs.Answers.{IsUsual}
+use Rattle.beet_server.specs.Answers.{IsLateVerdict, other_side, verdict_on}
 use Rattle.beet_server.specs.Cores.{Core, coming_at, has_ended}
 use Rattle.beet_server.specs.Fits.{Fits, IsRound, message_of, messages_to, messages_from, some_if, taken}
 use Rattle.beet_server.specs.Steps.{Work, work_of, core_of, batch_of, sends, handing, came_from, wires_given, moved_on, points_given, numbers_opened}
@@ -367,6 +369,34 @@ split P Low here other High = other High (λ e. cc e)
 split P High here other Low = other Low (λ e. cc e)
 split P High here other High = here
 
+-- the other place of a round, where the message of one side is put in
+other-in : (old new : Mailbox) (side : Side) (m : RoundMessage) → new ≡ record old { now = with_place old.now side m } → HasBoth new.now →
+    is_some (place_at old.now (other_side side)) ≡ true
+other-in old new Low m is both = (subst (λ (k : Mailbox). HasBoth k.now) is both).1
+other-in old new High m is both = (subst (λ (k : Mailbox). HasBoth k.now) is both).0
+
+other-out : (old new : Mailbox) (side : Side) (m : RoundMessage) → new ≡ record old { now = with_place old.now side m } → (HasBoth new.now → ⊥) →
+    is_some (place_at old.now (other_side side)) ≡ false
+other-out old new Low m is not = not-true _ (λ e. not (subst (λ (k : Mailbox). HasBoth k.now) (sym is) (refl, e)))
+other-out old new High m is not = not-true _ (λ e. not (subst (λ (k : Mailbox). HasBoth k.now) (sym is) (e, refl)))
+
+-- the verdict in each of its cases
+module _ (x : Delivered) (s : Point) (round : ℕ) (side : Side) (t : ℕ) where
+  verdict-old : t < round → Old ≡ verdict_on x s round side t
+  verdict-old lt = rw (lt-ltb t round lt) refl
+
+  verdict-repeat : round ≤ t → x (peer s side) s t ≡ true → Repeat ≡ verdict_on x s round side t
+  verdict-repeat le there = rw (le-ltb t round le, there) refl
+
+  verdict-ready : t ≡ round → x (peer s side) s t ≡ false → x (peer s (other_side side)) s t ≡ true → Ready ≡ verdict_on x s round side t
+  verdict-ready e out other = rw (le-ltb t round (omega (arith, e)), out, eq-eqb t round e, other) refl
+
+  verdict-stored : t ≡ round → x (peer s side) s t ≡ false → x (peer s (other_side side)) s t ≡ false → Stored ≡ verdict_on x s round side t
+  verdict-stored e out other = rw (le-ltb t round (omega (arith, e)), out, eq-eqb t round e, other) refl
+
+  verdict-early : t ≡ round + 1 → x (peer s side) s t ≡ false → Stored ≡ verdict_on x s round side t
+  verdict-early e out = rw (le-ltb t round (omega (arith, e)), out, eq-not t round (λ f. absurd (omega (arith, e, f)))) refl
+
 -- a message of the run to a core that fits it, of a round that it may get
 module _ {S : Type 0} (next : S → ℕ → List ℕ → Batch) (o : Opening) (x : Delivered) (c : Core S) (fits : Fits next o x c)
     (side : Side) (t : ℕ) (is_round : IsRound o t) (near : t ≤ c.round + 1) where
@@ -380,14 +410,29 @@ module _ {S : Type 0} (next : S → ℕ → List ℕ → Batch) (o : Opening) (x
   unchanged old = subst (λ (y : Delivered). Fits next o y c) (sym (new-again x c.me side t old)) fits
 
   -- an ended core has all that may come
-  pub late : has_ended next c ≡ true → Fits next o the_set c
-  late ended =
-      let lt : t < c.round = below (is_end (coming o c.round).act) refl in
-      unchanged (fits.before side t lt)
+  passed-before : has_ended next c ≡ true → t < c.round
+  passed-before ended = below (is_end (coming o c.round).act) refl
     where
       below : (b : Bool) → is_end (coming o c.round).act ≡ b → t < c.round
       below true e = elim (order t c.round) [ inl h ↦ h | inr h ↦ absurd (true≢false (sym e ∙ is_round c.round h)) ]
       below false e = absurd (true≢false (sym ended ∙ ap (λ (b : Batch). is_end b.act) (coming-is next o x c (almost next o x c fits)) ∙ e))
+
+  pub late : has_ended next c ≡ true → Fits next o the_set c
+  late ended = unchanged (fits.before side t (passed-before ended))
+
+  -- a message is in the set where its place is filled
+  in-now : (s : Side) (b : Bool) → is_some (place_at c.mail.now s) ≡ b → t ≡ c.round → x (peer c.me s) c.me t ≡ b
+  in-now s b filled e = rw e (sym (place-delivered next o x c (almost next o x c fits) s) ∙ filled)
+
+  in-next : (b : Bool) → is_some (place_at c.mail.next side) ≡ b → t ≡ c.round + 1 → x (peer c.me side) c.me t ≡ b
+  in-next b filled e =
+      rw e (sym (some-place _ (message_of o (peer c.me side) c.me (c.round + 1))) ∙ ap is_some (sym (fits.early side)) ∙ filled)
+
+  -- a message of the run has the length that is wanted
+  not-long : c.mail.round ≡ c.round → c.mail.want ≡ size_of (coming_at next c).act → t ≡ c.mail.round → array_vec_len the_message.numbers ≡ c.mail.want
+  not-long at want due =
+      let e : t ≡ c.round = due ∙ at in
+      rw (e, want, coming-is next o x c (almost next o x c fits)) (length-sent_for o (standing_at o c.round) (coming o c.round).act (peer c.me side) c.me)
 
   -- the core has handed out the messages of the round
   module _ (handed : c.handed ≡ true) where
@@ -444,12 +489,6 @@ module _ {S : Type 0} (next : S → ℕ → List ℕ → Batch) (o : Opening) (x
         (λ s other. placed-other c.mail.next side s the_message other ∙ fits.early s ∙ rw (new-other x c.me side t s (c.round + 1) other) refl) s))
         (λ h. rw (apart Low, apart High) (fits.waits h))
 
-    filled-now : is_some (place_at c.mail.now side) ≡ true → t ≡ c.round → x (peer c.me side) c.me t ≡ true
-    filled-now filled e = rw e (sym (place-delivered next o x c (almost next o x c fits) side) ∙ filled)
-
-    filled-next : is_some (place_at c.mail.next side) ≡ true → t ≡ c.round + 1 → x (peer c.me side) c.me t ≡ true
-    filled-next filled e = rw e (sym (some-place _ (message_of o (peer c.me side) c.me (c.round + 1))) ∙ ap is_some (sym (fits.early side)) ∙ filled)
-
     -- every verdict but Ready
     pub stays : (box : Mailbox) (v : Verdict) → c.mail.round ≡ c.round → c.mail.want ≡ size_of (coming_at next c).act →
         JudgedFrom c.mail box side the_message v → v ≢ Ready → Fits next o the_set (record c { mail = box })
@@ -457,12 +496,8 @@ module _ {S : Type 0} (next : S → ℕ → List ℕ → Batch) (o : Opening) (x
     stays box Old at want judged other = rw judged.1 (unchanged (fits.before side t (omega (arith, judged.0, at))))
     stays box (TooEarly n) at want judged other = absurd (omega (arith, judged.0, at, near))
     stays box Repeat at want judged other =
-        rw judged.1 (unchanged (⊎_elim (λ a. filled-now a.1 (a.0 ∙ at)) (λ b. filled-next b.1 (b.0 ∙ ap (λ n. n + 1) at)) judged.0))
-    stays box (WrongLength n) at want judged other =
-        let e : t ≡ c.round = judged.0.0 ∙ at in
-        let size : array_vec_len the_message.numbers ≡ c.mail.want =
-        rw (e, want, coming-is next o x c (almost next o x c fits)) (length-sent_for o (standing_at o c.round) (coming o c.round).act (peer c.me side) c.me) in
-        absurd (judged.2 (judged.1 ∙ size))
+        rw judged.1 (unchanged (⊎_elim (λ a. in-now side true a.1 (a.0 ∙ at)) (λ b. in-next true b.1 (b.0 ∙ ap (λ n. n + 1) at)) judged.0))
+    stays box (WrongLength n) at want judged other = absurd (judged.2 (judged.1 ∙ not-long at want judged.0.0))
     stays box Ready at want judged other = absurd (other refl)
     stays box Stored at want judged other =
         ⊎_elim
@@ -471,26 +506,48 @@ module _ {S : Type 0} (next : S → ℕ → List ℕ → Batch) (o : Opening) (x
         (λ b. put-next box (b.0.0 ∙ ap (λ n. n + 1) at) b.1)
         judged
 
-  -- no other verdict comes
-  pub usual : (box : Mailbox) (v : Verdict) → c.mail.round ≡ c.round → c.mail.want ≡ size_of (coming_at next c).act →
-      JudgedFrom c.mail box side the_message v → IsUsual v
-  usual box Stranger at want judged = absurd judged
-  usual box Old at want judged = tt
-  usual box (TooEarly n) at want judged = absurd (omega (arith, judged.0, at, near))
-  usual box Repeat at want judged = tt
-  usual box (WrongLength n) at want judged =
+  -- the set and the round tell the verdict
+  pub told : (box : Mailbox) (v : Verdict) → c.mail.round ≡ c.round → c.mail.want ≡ size_of (coming_at next c).act →
+      JudgedFrom c.mail box side the_message v → v ≡ verdict_on x c.me c.round side t
+  told box Stranger at want judged = absurd judged
+  told box Old at want judged = verdict-old x c.me c.round side t (omega (arith, judged.0, at))
+  told box (TooEarly n) at want judged = absurd (omega (arith, judged.0, at, near))
+  told box Repeat at want judged =
+      ⊎_elim
+      (λ a. verdict-repeat x c.me c.round side t (omega (arith, a.0, at)) (in-now side true a.1 (a.0 ∙ at)))
+      (λ b. verdict-repeat x c.me c.round side t (omega (arith, b.0, at)) (in-next true b.1 (b.0 ∙ ap (λ n. n + 1) at)))
+      judged.0
+  told box (WrongLength n) at want judged = absurd (judged.2 (judged.1 ∙ not-long at want judged.0.0))
+  told box Ready at want judged =
       let e : t ≡ c.round = judged.0.0 ∙ at in
-      let size : array_vec_len the_message.numbers ≡ c.mail.want =
-      rw (e, want, coming-is next o x c (almost next o x c fits)) (length-sent_for o (standing_at o c.round) (coming o c.round).act (peer c.me side) c.me) in
-      absurd (judged.2 (judged.1 ∙ size))
-  usual box Ready at want judged = tt
-  usual box Stored at want judged = tt
+      verdict-ready x c.me c.round side t e (in-now side false judged.0.1 e)
+      (in-now (other_side side) true (other-in c.mail box side the_message judged.3 judged.2) e)
+  told box Stored at want judged =
+      ⊎_elim
+      (λ a.
+      let e : t ≡ c.round = a.0.0 ∙ at in
+      verdict-stored x c.me c.round side t e (in-now side false a.0.1 e)
+      (in-now (other_side side) false (other-out c.mail box side the_message a.3 a.2) e))
+      (λ b.
+      let e : t ≡ c.round + 1 = b.0.0 ∙ ap (λ n. n + 1) at in
+      verdict-early x c.me c.round side t e (in-next false b.0.1 e))
+      judged
+
+  -- and so of an ended core
+  pub told-late : (v : Verdict) → has_ended next c ≡ true → IsLateVerdict c the_message v → v ≡ verdict_on x c.me c.round side t
+  told-late Stranger ended late = absurd (⊎_elim (λ a. a refl) (λ b. peer-apart c.me side b) late)
+  told-late Old ended late = verdict-old x c.me c.round side t (passed-before ended)
+  told-late (TooEarly n) ended late = absurd (let lt = passed-before ended in omega (arith, lt, late.2))
+  told-late Stored ended late = absurd late
+  told-late Ready ended late = absurd late
+  told-late Repeat ended late = absurd late
+  told-late (WrongLength n) ended late = absurd late
 
 -- the verdict on a delivered message of the run
-abbrev pub UsualAfter : {S : Type 0} → (S → ℕ → List ℕ → Batch) → Core S → RoundMessage → Verdict → Type 0
-UsualAfter next old m v =
+abbrev pub ToldAfter : {S : Type 0} → (S → ℕ → List ℕ → Batch) → Core S → RoundMessage → Verdict → Type 0
+ToldAfter next old m v =
     (o : Opening) (x : Delivered) (s : Side) (t : ℕ) → Fits next o x old → m ≡ message_of o (peer old.me s) old.me t → IsRound o t →
-    t ≤ old.round + 1 → IsUsual v
+    t ≤ old.round + 1 → v ≡ verdict_on x old.me old.round s t
 
 -- what a delivered message of the run leaves
 abbrev pub FitsAfter : {S : Type 0} → (S → ℕ → List ℕ → Batch) → Core S → Core S → RoundMessage → Type 0
@@ -521,11 +578,15 @@ module _ {S : Type 0} (next : S → ℕ → List ℕ → Batch) (c : Core S) whe
       let judged' = subst (λ (n : RoundMessage). Judged c.mail box n v) is judged in
       stays next o x c fits s t is_round near handed box v at want (from-side box v o s t me judged') other
 
-  pub usual-offer : (box : Mailbox) (m : RoundMessage) (v : Verdict) → c.mail.me ≡ c.me → c.mail.round ≡ c.round →
-      c.mail.want ≡ size_of (coming_at next c).act → Judged c.mail box m v → UsualAfter next c m v
-  usual-offer box m v me at want judged o x s t fits is is_round near =
+  pub told-offer : (box : Mailbox) (m : RoundMessage) (v : Verdict) → c.mail.me ≡ c.me → c.mail.round ≡ c.round →
+      c.mail.want ≡ size_of (coming_at next c).act → Judged c.mail box m v → ToldAfter next c m v
+  told-offer box m v me at want judged o x s t fits is is_round near =
       let judged' = subst (λ (n : RoundMessage). Judged c.mail box n v) is judged in
-      usual next o x c fits s t is_round near box v at want (from-side box v o s t me judged')
+      told next o x c fits s t is_round near box v at want (from-side box v o s t me judged')
+
+  pub told-ended : (m : RoundMessage) (v : Verdict) → has_ended next c ≡ true → IsLateVerdict c m v → ToldAfter next c m v
+  told-ended m v ended late o x s t fits is is_round near =
+      told-late next o x c fits s t is_round near v ended (subst (λ (n : RoundMessage). IsLateVerdict c n v) is late)
 
   pub after-ready : (box : Mailbox) (m : RoundMessage) → c.mail.me ≡ c.me → c.mail.round ≡ c.round → Judged c.mail box m Ready →
       c.handed ≡ true → has_ended next c ≡ false → FitsAfter next c (moved_on next (record c { mail = box })) m

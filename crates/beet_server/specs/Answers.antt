@@ -1,11 +1,16 @@
 -- What a core answers, and what it keeps.
-use Rattle.std.specs.Prelude.{◌≡◌, ◌≢◌, ℕ, ◌+◌, ◌<◌, ◌≤◌, ◌⊎◌, List, true, false, ⊤}
+use Rattle.std.specs.Prelude.{◌≡◌, ◌≢◌, ℕ, ◌+◌, ◌<◌, ◌≤◌, ◌==◌, ◌&&◌, ◌⊎◌, nat_lt, if◌then◌else◌, List, true, false}
+use Rattle.beet_field.specs.declared.point.Point.{Point}
 use Rattle.beet_gates.specs.declared.Batch.{Batch}
 use Rattle.beet_round.specs.Boxes.{HasBoth, Mailbox, Judged, IsStranger}
+use Rattle.beet_round.specs.Sides.{peer}
 use Rattle.beet_round.specs.declared.message.RoundMessage.{RoundMessage}
 use Rattle.beet_round.specs.declared.mailbox.Verdict.{Verdict}
-use Rattle.beet_round.specs.declared.mailbox.Verdict.TheVariants.{Stored, Ready, Repeat, Old, TooEarly, WrongLength, Stranger}
+use Rattle.beet_round.specs.declared.mailbox.Verdict.TheVariants.{Stored, Ready, Repeat, Old, TooEarly, Stranger}
+use Rattle.beet_round.specs.declared.sides.Side.{Side}
+use Rattle.beet_round.specs.declared.sides.Side.TheVariants.{Low, High}
 use Rattle.beet_server.specs.Cores.{Core}
+use Rattle.beet_server.specs.Events.{Delivered}
 use Rattle.beet_server.specs.Steps.{moved_on}
 
 -- what stays of a core: its server, its script and the words of its tapes
@@ -36,12 +41,17 @@ pub record Answers {S : Type 0} (next : S → ℕ → List ℕ → Batch) (old n
   pub waits : v ≢ Ready → new ≡ record old { mail = box }
   pub passes : v ≡ Ready → new ≡ moved_on next (record old { mail = box })
 
--- a verdict on a message of the run that is of no later round than the next
-abbrev pub IsUsual : Verdict → Type 0
-IsUsual Stored = ⊤
-IsUsual Ready = ⊤
-IsUsual Repeat = ⊤
-IsUsual Old = ⊤
-IsUsual (TooEarly t) = ⊥
-IsUsual (WrongLength n) = ⊥
-IsUsual Stranger = ⊥
+-- the other side
+abbrev pub other_side : Side → Side
+other_side Low = High
+other_side High = Low
+
+-- the verdict of a server in a round on a message of the run from its peer of a side, of a round that is no later than the next: old below
+-- the server's round, else a repeat where it is in the set, else ready where it is of the round and the other peer's message of it is in,
+-- and else stored
+abbrev pub verdict_on : Delivered → Point → ℕ → Side → ℕ → Verdict
+verdict_on x s round side t =
+    if nat_lt t round then Old
+    else if x (peer s side) s t then Repeat
+    else if (t == round) && x (peer s (other_side side)) s t then Ready
+    else Stored

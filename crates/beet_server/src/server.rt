@@ -11,7 +11,7 @@ ghost use Rattle.beet_server.specs.Events.{Delivered, nothing, with_triple};
 ghost use Rattle.beet_server.specs.Cores.{has_ended, is_quiet, fresh, IsFresh};
 ghost use Rattle.beet_server.specs.Fits.{Fits, OpensAt, IsRound, message_of, messages_from};
 ghost use Rattle.beet_server.specs.Steps.{moved_on, received_from};
-ghost use Rattle.beet_server.specs.Answers.{Keeps, Moves, IsLateVerdict, IsUsual, Answers};
+ghost use Rattle.beet_server.specs.Answers.{Keeps, Moves, IsLateVerdict, Answers, verdict_on};
 ghost use Rattle.beet_server.specs.declared.server.StartFault.TheVariants.{TooFewWords, TooFewMasks};
 
 use crate::engine::Engine;
@@ -173,9 +173,10 @@ impl<S: Script> ServerCore<S> {
             → t ≤ self.old.round + 1 → Fits S.batch_of o
             (with_triple x (record { from = peer self.old.me s; to = self.old.me; round = t }))
             self.new }
-        ensures usual { (o : Opening) (x : Delivered) (s : SideOf) (t : ℕ) → Fits S.batch_of o x self.old
+        ensures told { (o : Opening) (x : Delivered) (s : SideOf) (t : ℕ) → Fits S.batch_of o x self.old
             → m ≡ message_of o (peer self.old.me s) self.old.me t → IsRound o t
-            → t ≤ self.old.round + 1 → IsUsual result }
+            → t ≤ self.old.round + 1
+            → result ≡ verdict_on x self.old.me self.old.round s t }
     {
         if self.engine.ended() {
             return self.late_verdict(&m);
@@ -270,6 +271,7 @@ impl<S: Script> ServerCore<S> {
         ensures none { IsNone result ↔ ((self.now.round ≤ round) ⊎ (sender ≡ self.now.me)) }
         ensures numbers { option_map (λ numbers. numbers.now) result
             ≡ received_from self.now round sender }
+        ensures few { IfSome result (λ numbers. length numbers.now ≤ 64) }
     {
         let side = Side::of(self.engine.me(), sender)?;
         if round >= self.engine.round() {

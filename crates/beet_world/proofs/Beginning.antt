@@ -1,5 +1,5 @@
 -- Three fresh cores stand at round 0 of their run, and what has passed all rounds has ended.
-use Rattle.std.proofs.Common.{◌≡◌, ◌<◌, ◌≤◌, ℕ, List, [], Bool, true, false, true≢false, inl, inr, arith, refl, sym, ◌∙◌, ap, subst, nat_lt}
+use Rattle.std.proofs.Common.{◌≡◌, ℕ, List, [], true, false, inl, inr, arith, refl, sym, ◌∙◌, ap, subst, nat_lt}
 use Rattle.std.specs.Prelude.{take}
 use Rattle.std.proofs.lemmas.Bool.{cases_eq}
 use Rattle.std.proofs.lemmas.Bool.Decides.{nat_tests}
@@ -10,11 +10,10 @@ use Rattle.beet_field.specs.declared.trio.Trio.{Trio}
 use Rattle.beet_words.specs.Words.{accepted}
 use Rattle.beet_gates.specs.Scripts.{LawFrom, Standing, start_of}
 use Rattle.beet_gates.specs.declared.Batch.{Batch}
-use Rattle.beet_round.specs.Sides.{peer}
 use Rattle.beet_server.specs.Answers.{Keeps}
-use Rattle.beet_server.specs.Cores.{AreFresh, Core, IsFresh, fresh, has_ended, opening_of, unpassed}
+use Rattle.beet_server.specs.Cores.{AreFresh, Core, IsFresh, has_ended, opening_of, unpassed}
 use Rattle.beet_server.specs.Events.{all_delivered, nothing}
-use Rattle.beet_server.specs.Fits.{Fits, IsRound, OpensAt}
+use Rattle.beet_server.specs.Fits.{Fits, IsRound}
 use Rattle.beet_gates.specs.Clear.{is_end}
 use Rattle.beet_server.specs.Runs.{HasRounds, Opening, coming, rounds_among}
 use Rattle.beet_server.proofs.Passing.{coming_is, elsewhere, ended_at, round_most}

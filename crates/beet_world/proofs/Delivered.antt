@@ -1,6 +1,6 @@
 -- A message of a world is delivered.
-use Rattle.std.proofs.Common.{◌≡◌, ◌≢◌, ℕ, ◌+◌, ◌*◌, ◌<◌, ◌≤◌, List, [], ◌∷◌, Bool, true, false, true≢false, inl, inr, arith, refl, sym, ◌∙◌, ap, subst, length, slice_get, Some, Vec, Global, vec_capacity}
-use Rattle.std.proofs.lemmas.Bool.{cases_Bool, cases_lt, false_from_ne_true}
+use Rattle.std.proofs.Common.{◌≡◌, ◌≢◌, ℕ, ◌+◌, ◌<◌, ◌≤◌, List, [], ◌∷◌, Bool, true, false, inl, inr, arith, refl, sym, ◌∙◌, ap, subst, length, slice_get, Some, Vec, Global, vec_capacity}
+use Rattle.std.proofs.lemmas.Bool.{false_from_ne_true}
 use Rattle.beet_field.specs.Trio.{member}
 use Rattle.beet_field.specs.declared.point.Point.{Point}
 use Rattle.beet_field.specs.declared.point.Point.TheVariants.{One, Two, Three}
@@ -12,25 +12,25 @@ use Rattle.beet_round.specs.declared.message.RoundMessage.{RoundMessage}
 use Rattle.beet_round.specs.declared.mailbox.Verdict.{Verdict}
 use Rattle.beet_round.specs.declared.sides.Side.{Side}
 use Rattle.beet_round.specs.declared.sides.Side.TheVariants.{Low, High}
-use Rattle.beet_server.specs.Answers.{IsUsual, Keeps}
+use Rattle.beet_server.specs.Answers.{Keeps, verdict_on}
 use Rattle.beet_server.specs.Cores.{Core, is_quiet}
 use Rattle.beet_server.specs.Events.{Delivered, deliver, is_sent, same}
-use Rattle.beet_server.specs.Fits.{message_of, messages_from, taken}
+use Rattle.beet_server.specs.Fits.{message_of, taken}
 use Rattle.beet_server.specs.Runs.{HasRounds, Opening}
 use Rattle.beet_server.proofs.EventFacts.{side_of as side_from}
 use Rattle.beet_server.proofs.Passing.{round_most}
 use Rattle.beet_server.proofs.Rounds.{lawful-rounds}
-use Rattle.beet_world.specs.Happens.{IsGiven, MayGive, MayTakeMessages, of_side}
+use Rattle.beet_world.specs.Happens.{IsGiven, MayGive, MayTakeMessages, event_of, of_side}
+use Rattle.beet_world.specs.declared.world.Event.TheVariants.{Delivered as DeliveredBy, NotSent}
 use Rattle.std.specs.Prelude.{slice_index_or}
 use Rattle.beet_round.proofs.SideFacts.{side_of-peer}
 use Rattle.beet_server.specs.Events.{passed, undelivered}
-use Rattle.beet_server.proofs.EventFacts.{WasSent, was_sent}
+use Rattle.beet_server.proofs.EventFacts.{WasSent, one_apart, was_sent}
 use Rattle.beet_world.specs.Missing.{is_missing, one_if, six, to_side}
 use Rattle.beet_world.proofs.TwoRounds.{missing-two}
 use Rattle.beet_world.specs.Marks.{mark_at, with_mark}
-use Rattle.beet_world.specs.Worlds.{HoldsWorld, IsCoreOf, IsWorld, World, delivered_in, opening_in, rounds_in, sent_by}
-use Rattle.beet_world.proofs.Happening.{at_round, close, counted, given-stands, is-delivered, may-give, sent-at, sent-there, there-sent, which, within, world-after}
-use Rattle.beet_world.proofs.Rounds.{by_point}
+use Rattle.beet_world.specs.Worlds.{HoldsWorld, IsCoreOf, IsWorld, World, delivered_in, opening_in, rounds_in}
+use Rattle.beet_world.proofs.Happening.{at_round, counted, given-stands, is-delivered, may-give, sent-at, sent-there, there-sent, which, within, world-after}
 
 -- the items of three lists
 abbrev pub items_of : Trio (Vec (List RoundMessage) Global) → Trio (List (List RoundMessage))
@@ -97,14 +97,34 @@ module _ {S : Type 0} (next : S → ℕ → List ℕ → Batch) (inputs most : S
       one_if (is_missing (rounds_in next inputs most w) (delivered_in w) (to_side from side t)) ≡ 1
   is-unmarked from side t lt m = rw (is-there from side t lt, side_of-peer from side, m) refl
 
+  -- each message that was delivered was sent
+  was : WasSent (rounds_in next inputs most w) (delivered_in w)
+  was = subst (λ (x : Delivered). WasSent (rounds_in next inputs most w) x) (sym i.reached) (was_sent (rounds_in next inputs most w) i.events)
+
+  -- the core of each server
+  pub core-in : (s : Point) → IsCoreOf next inputs most w s (member cores s)
+  core-in s =
+      let c = i.standing s in
+      record {
+        name = c.name;
+        script = k.script s;
+        masks = k.masks s;
+        coefficients = k.coefficients s;
+        fits = c.fits;
+        quiet = c.quiet;
+        going = c.going;
+        round = at_round next inputs most w cores (items_of sent) has i few s;
+        near = one_apart (rounds_in next inputs most w) (delivered_in w) was s;
+        events = i.events;
+        reached = i.reached;
+      }
+
   -- what is undelivered is of the round of the server that is behind, and of the next
   pub two-rounds : (behind : ℕ) (s : Point) → behind ≡ (member cores s).round → ((other : Point) → behind ≤ (member cores other).round) →
       undelivered (rounds_in next inputs most w) (delivered_in w)
       ≡ six (is_missing (rounds_in next inputs most w) (delivered_in w)) behind + six (is_missing (rounds_in next inputs most w) (delivered_in w)) (behind + 1)
   two-rounds behind s is least =
       let at = at_round next inputs most w cores (items_of sent) has i few in
-      let was : WasSent (rounds_in next inputs most w) (delivered_in w) =
-      subst (λ (x : Delivered). WasSent (rounds_in next inputs most w) x) (sym i.reached) (was_sent (rounds_in next inputs most w) i.events) in
       let same : passed (rounds_in next inputs most w) (delivered_in w) s ≡ behind = sym (is ∙ at s) in
       missing-two (rounds_in next inputs most w) (delivered_in w) s was (λ other. omega (arith, same, least other, at other))
       ∙ (λ j. six (is_missing (rounds_in next inputs most w) (delivered_in w)) (same j) + six (is_missing (rounds_in next inputs most w) (delivered_in w)) (same j + 1))
@@ -119,6 +139,11 @@ module _ {S : Type 0} (next : S → ℕ → List ℕ → Batch) (inputs most : S
       is_sent (rounds_in next inputs most w) (delivered_in w) (record { from = from; to = to; round = t }) ≡ true
   sent-to from to side t e lt =
       (λ j. is_sent (rounds_in next inputs most w) (delivered_in w) (record { from = from; to = e j; round = t })) ∙ is-there from side t lt
+
+  -- a message that is not there is not sent
+  pub not-sent-event : (from to : Point) (side : Side) (t : ℕ) → to ≡ peer from side → length (member sent from).items ≤ t →
+      NotSent ≡ event_of (rounds_in next inputs most w) (delivered_in w) (record { from = from; to = to; round = t })
+  not-sent-event from to side t e le = rw (not-sent-to from to side t e le) refl
 
   -- each server may be given a message
   pub may-take : (s : Point) → MayTakeMessages next (most (member cores s).script) (member cores s) (member sent s)
@@ -174,6 +199,18 @@ module _ {S : Type 0} (next : S → ℕ → List ℕ → Batch) (inputs most : S
     pub mark-within : mark_at from side t < length w.marks
     mark-within = within next inputs most w cores (items_of sent) has i few from side t lt'
 
+    side-is : side_of to from ≡ Some (back_side from side).0
+    side-is = (λ j. side_of (is_to j) (sym (back_side from side).1 j)) ∙ side_of-peer (peer from side) (back_side from side).0
+
+    -- the event is that it is delivered with this verdict
+    pub told-event : (v : Verdict) → v ≡ verdict_on (delivered_in w) (member cores to).me (member cores to).round (back_side from side).0 t →
+        DeliveredBy v ≡ event_of (rounds_in next inputs most w) (delivered_in w) (record { from = from; to = to; round = t })
+    told-event v is =
+        let at = at_round next inputs most w cores (items_of sent) has i few to in
+        let told : v ≡ verdict_on (delivered_in w) to (passed (rounds_in next inputs most w) (delivered_in w) to) (back_side from side).0 t =
+        is ∙ (λ j. verdict_on (delivered_in w) ((i.standing to).name j) (at j) (back_side from side).0 t) in
+        rw (sent-to from to side t is_to lt, side-is) (ap DeliveredBy told)
+
     -- the world holds after it
     pub holds-after : (cores' : Trio (Core S)) (sent' : Trio (Vec (List RoundMessage) Global)) (v : Verdict) →
         ((s : Point) → s ≢ to → (member cores' s ≡ member cores s) × (member sent' s ≡ member sent s)) →
@@ -198,5 +235,13 @@ module _ {S : Type 0} (next : S → ℕ → List ℕ → Batch) (inputs most : S
           script = λ s. elim (which s to) [
             | inl it ↦ (λ j. (member cores' (it j)).script) ∙ keeps.script ∙ (λ j. (member cores (sym it j)).script) ∙ k.script s
             | inr other ↦ ap (λ (q : Core S). q.script) (others s other).0 ∙ k.script s
+          ];
+          masks = λ s. elim (which s to) [
+            | inl it ↦ (λ j. (member cores' (it j)).masks.words) ∙ keeps.masks ∙ (λ j. (member cores (sym it j)).masks.words) ∙ k.masks s
+            | inr other ↦ ap (λ (q : Core S). q.masks.words) (others s other).0 ∙ k.masks s
+          ];
+          coefficients = λ s. elim (which s to) [
+            | inl it ↦ (λ j. (member cores' (it j)).coefficients.words) ∙ keeps.coefficients ∙ (λ j. (member cores (sym it j)).coefficients.words) ∙ k.coefficients s
+            | inr other ↦ ap (λ (q : Core S). q.coefficients.words) (others s other).0 ∙ k.coefficients s
           ];
         }

@@ -1,9 +1,8 @@
 -- A world begins with three fresh cores that have handed out what they had to.
-use Rattle.std.proofs.Common.{◌≡◌, ◌<◌, ◌≤◌, ◌*◌, ℕ, List, [], Bool, true, false, true≢false, refl, sym, ◌∙◌, ap, subst}
+use Rattle.std.proofs.Common.{◌≡◌, ◌<◌, ◌*◌, ℕ, List, [], true, false, true≢false, sym, ◌∙◌, ap, subst}
 use Rattle.std.proofs.lemmas.List.{length-replicate}
 use Rattle.beet_field.specs.Trio.{member}
 use Rattle.beet_field.specs.declared.point.Point.{Point}
-use Rattle.beet_field.specs.declared.point.Point.TheVariants.{One, Two, Three}
 use Rattle.beet_field.specs.declared.trio.Trio.{Trio}
 use Rattle.beet_gates.specs.declared.Batch.{Batch}
 use Rattle.beet_gates.specs.Each.{each}
@@ -15,7 +14,7 @@ use Rattle.beet_server.specs.Events.{Delivered, nothing}
 use Rattle.beet_server.specs.Fits.{Fits, messages_from, taken}
 use Rattle.beet_server.specs.Runs.{HasRounds, Opening, rounds_among}
 use Rattle.beet_world.specs.Marks.{set_of, unmarked}
-use Rattle.beet_world.specs.Worlds.{IsCoreOf, IsWorld, World, sent_by}
+use Rattle.beet_world.specs.Worlds.{IsWorld, World, sent_by}
 use Rattle.beet_world.proofs.Beginning.{fresh-all-fit}
 use Rattle.beet_world.proofs.MarkFacts.{set-unmarked}
 use Rattle.beet_world.proofs.Rounds.{by_point}

@@ -1,7 +1,6 @@
 -- What a message given to a core, and what it hands out then, makes of it.
-use Rattle.std.proofs.Common.{◌≡◌, ◌≢◌, ℕ, ◌+◌, ◌<◌, ◌≤◌, List, [], ◌∷◌, ◌++◌, Bool, true, false, true≢false, inl, inr, arith, refl, sym, ◌∙◌, ap, subst, ◌||◌, ◌⊎◌}
+use Rattle.std.proofs.Common.{◌≡◌, ℕ, ◌+◌, ◌<◌, ◌≤◌, List, [], ◌∷◌, ◌++◌, Bool, true, false, true≢false, inl, inr, arith, refl, sym, ◌∙◌, ap, subst, ◌||◌}
 use Rattle.std.proofs.lemmas.Bool.{cases_Bool, cases_eq}
-use Rattle.beet_field.specs.declared.point.Point.{Point}
 use Rattle.beet_gates.specs.Each.{each}
 use Rattle.beet_gates.specs.declared.Batch.{Batch}
 use Rattle.beet_gates.proofs.EachFacts.{each-more}
@@ -13,7 +12,7 @@ use Rattle.beet_server.specs.Runs.{Opening, HasRounds}
 use Rattle.beet_server.specs.Events.{Delivered, with_triple}
 use Rattle.beet_server.specs.Cores.{Core, is_quiet, has_ended}
 use Rattle.beet_server.specs.Fits.{Fits, IsRound, message_of, messages_from, taken}
-use Rattle.beet_server.specs.Answers.{Answers, IsUsual, Moves}
+use Rattle.beet_server.specs.Answers.{Answers, Moves, verdict_on}
 use Rattle.beet_server.proofs.Passing.{ended_at, round_most}
 use Rattle.beet_world.specs.Worlds.{sent_by}
 use Rattle.beet_world.specs.Happens.{IsGiven, MayGive}
@@ -97,19 +96,19 @@ module _ {S : Type 0} (next : S → ℕ → List ℕ → Batch) where
       is_quiet next c ≡ true → Takes c d m v → d.me ≡ c.me →
       ((o : Opening) (x : Delivered) (s : Side) (t : ℕ) → Fits next o x c → m ≡ message_of o (peer c.me s) c.me t → IsRound o t → t ≤ c.round + 1 →
       Fits next o (with_triple x (record { from = peer c.me s; to = c.me; round = t })) d) →
-      ((o : Opening) (x : Delivered) (s : Side) (t : ℕ) → Fits next o x c → m ≡ message_of o (peer c.me s) c.me t → IsRound o t → t ≤ c.round + 1 → IsUsual v) →
+      ((o : Opening) (x : Delivered) (s : Side) (t : ℕ) → Fits next o x c → m ≡ message_of o (peer c.me s) c.me t → IsRound o t → t ≤ c.round + 1 → v ≡ verdict_on x c.me c.round s t) →
       ((o : Opening) (x : Delivered) → Fits next o x d → Fits next o x e) →
       ((o : Opening) (x : Delivered) → Fits next o x d → sent ≡ sent_by o d → sent' ≡ sent_by o e) →
       ((o : Opening) (x : Delivered) (rounds : ℕ) → HasRounds o rounds → Fits next o x d → (d.handed ≡ true → d.round < rounds) → e.handed ≡ true → e.round < rounds) →
       MayGive next o x rounds s t c sent m → IsGiven next o x rounds s t c e sent' v
-  given-all o x rounds s t c d e sent sent' m v quiet takes me fits usual out sends going may =
+  given-all o x rounds s t c d e sent sent' m v quiet takes me fits told out sends going may =
       let y : Delivered = with_triple x (record { from = peer c.me s; to = c.me; round = t }) in
       let between : Fits next o y d = fits o x s t may.fits may.is_message may.is_round may.near in
       record {
         fits = out o y between;
         going = going o y rounds may.has_rounds between (given-going c d m v rounds takes may.going);
         sends = sends o y between (may.sends ∙ sym (given-sends o c d m v quiet takes me));
-        usual = usual o x s t may.fits may.is_message may.is_round may.near;
+        told = told o x s t may.fits may.is_message may.is_round may.near;
       }
 
   -- there is room for what goes out

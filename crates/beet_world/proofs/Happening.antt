@@ -1,9 +1,8 @@
 -- What an event makes of a world.
-use Rattle.std.proofs.Common.{◌≡◌, ◌≢◌, ℕ, ◌+◌, ◌*◌, ◌<◌, ◌≤◌, List, [], ◌∷◌, ◌++◌, Bool, true, false, true≢false, inl, inr, arith, refl, sym, ◌∙◌, ap, subst, ◌&&◌, ◌||◌, ◌==◌, ◌⊎◌, not, nat_lt, nat_le, length, length-set, slice_get, Some}
-use Rattle.std.proofs.lemmas.Bool.{and_parts, and_from, cases_Bool, cases_eq, ltb-true, lt-ltb, leb-true, le-leb, or_cases}
+use Rattle.std.proofs.Common.{◌≡◌, ◌≢◌, ℕ, ◌+◌, ◌<◌, ◌≤◌, List, [], ◌∷◌, ◌++◌, Bool, true, false, true≢false, inl, inr, arith, refl, sym, ◌∙◌, ap, subst, ◌||◌, ◌⊎◌, length, length-set, slice_get, Some}
+use Rattle.std.proofs.lemmas.Bool.{cases_Bool}
 use Rattle.beet_field.specs.Trio.{member}
 use Rattle.beet_field.specs.declared.point.Point.{Point}
-use Rattle.beet_field.specs.declared.point.Point.TheVariants.{One, Two, Three}
 use Rattle.beet_field.specs.declared.trio.Trio.{Trio}
 use Rattle.beet_gates.specs.declared.Batch.{Batch}
 use Rattle.beet_gates.proofs.EachFacts.{get-each, length-each}
@@ -11,8 +10,8 @@ use Rattle.beet_round.specs.Sides.{peer}
 use Rattle.beet_round.specs.declared.message.RoundMessage.{RoundMessage}
 use Rattle.beet_round.specs.declared.sides.Side.{Side}
 use Rattle.beet_round.proofs.SideFacts.{peer-apart}
-use Rattle.beet_server.specs.Runs.{Opening, HasRounds}
-use Rattle.beet_server.specs.Events.{Delivered, Triple, after, after_from, deliver, has, is_sent, nothing, passed, same, with_triple}
+use Rattle.beet_server.specs.Runs.{HasRounds}
+use Rattle.beet_server.specs.Events.{Delivered, deliver, is_sent, nothing, passed, same, with_triple}
 use Rattle.beet_server.specs.Cores.{Core, is_quiet, has_ended}
 use Rattle.beet_server.specs.Answers.{Keeps}
 use Rattle.beet_server.specs.Fits.{Fits, IsRound, message_of, messages_from, taken}
@@ -21,8 +20,8 @@ use Rattle.beet_world.specs.Happens.{IsGiven, MayGive}
 use Rattle.beet_server.proofs.EventFacts.{after_append, deliver_sent, WasSent, near, not_same, same_is, same_not, sent_from, sent_parts, was_sent}
 use Rattle.beet_server.proofs.Passing.{at_passed, away, ended_at, is_round}
 use Rattle.beet_world.specs.Missing.{to_side}
-use Rattle.beet_world.specs.Marks.{mark_at, set_of, with_mark}
-use Rattle.beet_world.specs.Worlds.{World, IsCoreOf, IsWorld, delivered_in, opening_in, rounds_in, sent_by}
+use Rattle.beet_world.specs.Marks.{mark_at, with_mark}
+use Rattle.beet_world.specs.Worlds.{World, StandsIn, IsWorld, delivered_in, opening_in, rounds_in, sent_by}
 use Rattle.beet_world.proofs.MarkFacts.{place-within, set-with_mark}
 
 pub which : (s t : Point) → (s ≡ t) ⊎ (s ≢ t)
@@ -132,7 +131,7 @@ module _ {S : Type 0} (next : S → ℕ → List ℕ → Batch) (inputs most : S
     pub given-stands : (back : Side) (d : Core S) (sent' : List (List RoundMessage)) (v : Verdict) → peer (peer from side) back ≡ from →
         Keeps (member cores (peer from side)) d → is_quiet next d ≡ true →
         IsGiven next (opening_in next inputs most w) (delivered_in w) (rounds_in next inputs most w) back t (member cores (peer from side)) d sent' v →
-        IsCoreOf next inputs most (record w { marks = with_mark w.marks from side t }) (peer from side) d
+        StandsIn next inputs most (record w { marks = with_mark w.marks from side t }) (peer from side) d
     given-stands back d sent' v other keeps quiet g =
         let c = i.standing (peer from side) in
         let e1 : with_triple (delivered_in w) (record { from = peer (member cores (peer from side)).me back; to = (member cores (peer from side)).me; round = t })
@@ -149,7 +148,7 @@ module _ {S : Type 0} (next : S → ℕ → List ℕ → Batch) (inputs most : S
         }
 
     -- a server that did not get it fits as before
-    other-stands : (s : Point) → s ≢ peer from side → IsCoreOf next inputs most (record w { marks = with_mark w.marks from side t }) s (member cores s)
+    other-stands : (s : Point) → s ≢ peer from side → StandsIn next inputs most (record w { marks = with_mark w.marks from side t }) s (member cores s)
     other-stands s other =
         let c = i.standing s in
         record {
@@ -162,15 +161,15 @@ module _ {S : Type 0} (next : S → ℕ → List ℕ → Batch) (inputs most : S
 
     -- the world after the event
     pub world-after : (cores' : Trio (Core S)) (sent' : Trio (List (List RoundMessage))) →
-        IsCoreOf next inputs most (record w { marks = with_mark w.marks from side t }) (peer from side) (member cores' (peer from side)) →
+        StandsIn next inputs most (record w { marks = with_mark w.marks from side t }) (peer from side) (member cores' (peer from side)) →
         member sent' (peer from side) ≡ sent_by (opening_in next inputs most w) (member cores' (peer from side)) →
         ((s : Point) → s ≢ peer from side → (member cores' s ≡ member cores s) × (member sent' s ≡ member sent s)) →
         IsWorld next inputs most (record w { marks = with_mark w.marks from side t }) cores' sent'
     world-after cores' sent' given sends others = record {
       fresh = i.fresh;
       standing = λ s. elim (which s (peer from side)) [
-        | inl it ↦ subst (λ (k : Point). IsCoreOf next inputs most (record w { marks = with_mark w.marks from side t }) k (member cores' k)) (sym it) given
-        | inr other ↦ subst (λ (c : Core S). IsCoreOf next inputs most (record w { marks = with_mark w.marks from side t }) s c) (sym (others s other).0) (other-stands s other)
+        | inl it ↦ subst (λ (k : Point). StandsIn next inputs most (record w { marks = with_mark w.marks from side t }) k (member cores' k)) (sym it) given
+        | inr other ↦ subst (λ (c : Core S). StandsIn next inputs most (record w { marks = with_mark w.marks from side t }) s c) (sym (others s other).0) (other-stands s other)
       ];
       sent_all = λ s. elim (which s (peer from side)) [
         | inl it ↦ subst (λ (k : Point). member sent' k ≡ sent_by (opening_in next inputs most w) (member cores' k)) (sym it) sends

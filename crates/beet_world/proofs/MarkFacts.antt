@@ -1,6 +1,6 @@
 -- Marks of delivered messages.
-use Rattle.std.proofs.Common.{◌≡◌, ◌≢◌, ℕ, ◌+◌, ◌*◌, ◌-◌, ◌<◌, ◌≤◌, List, length, Option, Some, None, Bool, true, false, true≢false, inl, inr, arith, refl, sym, ◌∙◌, ap, ◌==◌, ◌&&◌, ◌||◌, get_or}
-use Rattle.std.specs.Prelude.{slice_index_or, slice_set, replicate}
+use Rattle.std.proofs.Common.{◌≡◌, ◌≢◌, ℕ, ◌+◌, ◌*◌, ◌-◌, ◌<◌, ◌≤◌, List, length, Option, Some, None, Bool, true, false, true≢false, inl, inr, arith, refl, sym, ◌∙◌, ap, ◌==◌, ◌&&◌, ◌||◌}
+use Rattle.std.specs.Prelude.{slice_index_or, replicate}
 use Rattle.std.proofs.lemmas.Bool.{cases_eq, cases_lt, and_parts, or_cases, or_left, or_right, eq-eqb, eqb-true}
 use Rattle.std.proofs.lemmas.List.{get_or-set_same, get_or-set_other, get_or-replicate, length-replicate}
 use Rattle.std.proofs.Math.ListN.{get_or-eq_default}
@@ -10,7 +10,7 @@ use Rattle.beet_field.specs.declared.point.Point.TheVariants.{One, Two, Three}
 use Rattle.beet_round.specs.Sides.{peer, side_of}
 use Rattle.beet_round.specs.declared.sides.Side.{Side}
 use Rattle.beet_round.specs.declared.sides.Side.TheVariants.{Low, High}
-use Rattle.beet_server.specs.Events.{Delivered, Triple, nothing, same, with_triple}
+use Rattle.beet_server.specs.Events.{Triple, nothing, same, with_triple}
 use Rattle.beet_server.proofs.EventFacts.{same_is, same_self}
 use Rattle.beet_round.proofs.SideFacts.{side_of-peer}
 use Rattle.beet_world.specs.Marks.{mark_at, marked_to, number_at, set_of, unmarked, with_mark}

@@ -1,27 +1,21 @@
 -- One round of three servers, round by round.
-use Rattle.std.proofs.Common.{◌≡◌, ◌≢◌, ℕ, ◌+◌, ◌<◌, ◌≤◌, List, Bool, true, false, true≢false, inl, inr, arith, refl, sym, ◌∙◌, ap, subst, ◌&&◌, ◌||◌, ◌==◌, ◌⊎◌, not, nat_lt}
-use Rattle.std.proofs.lemmas.Bool.{cases_eq}
+use Rattle.std.proofs.Common.{◌≡◌, ◌≢◌, ℕ, ◌+◌, ◌≤◌, List, Bool, true, false, true≢false, inl, inr, arith, refl, sym, ◌∙◌, ap, subst, ◌&&◌, ◌||◌, ◌==◌, ◌⊎◌, not, nat_lt}
 use Rattle.std.proofs.lemmas.Bool.Decides.{nat_tests}
-use Rattle.std.specs.Prelude.{is_some}
 use Rattle.beet_field.specs.declared.point.Point.{Point}
 use Rattle.beet_field.specs.declared.point.Point.TheVariants.{One, Two, Three}
-use Rattle.beet_gates.specs.Clear.{is_end}
 use Rattle.beet_gates.specs.declared.Batch.{Batch}
-use Rattle.beet_round.specs.Boxes.{Mailbox, Judged}
 use Rattle.beet_round.specs.Sides.{peer}
 use Rattle.beet_round.specs.declared.message.RoundMessage.{RoundMessage}
 use Rattle.beet_round.specs.declared.mailbox.Verdict.{Verdict}
 use Rattle.beet_round.specs.declared.mailbox.Verdict.TheVariants.{Stored, Ready, Repeat, Old, TooEarly, WrongLength, Stranger}
 use Rattle.beet_round.specs.declared.sides.Side.{Side}
 use Rattle.beet_round.specs.declared.sides.Side.TheVariants.{Low, High}
-use Rattle.beet_server.specs.Runs.{Opening, coming}
-use Rattle.beet_server.specs.Events.{Delivered, Triple, all_delivered, both_in, has, same, with_triple}
+use Rattle.beet_server.specs.Runs.{Opening}
+use Rattle.beet_server.specs.Events.{Delivered, Triple, all_delivered, both_in, same, with_triple}
 use Rattle.beet_server.specs.Cores.{Core, is_quiet, has_ended}
 use Rattle.beet_server.specs.Fits.{Fits, IsRound, message_of}
 use Rattle.beet_server.specs.Answers.{Answers, Moves}
-use Rattle.beet_server.specs.Steps.{moved_on}
-use Rattle.beet_world.proofs.MarkFacts.{bool_same}
-use Rattle.beet_server.proofs.EventFacts.{peer_other, same_self, same_not}
+use Rattle.beet_server.proofs.EventFacts.{peer_other, same_self}
 use Rattle.beet_server.proofs.Passing.{coming_is, elsewhere}
 use Rattle.beet_world.specs.Lockstep.{AreSent, HasHanded, IsAtRound}
 

@@ -1,9 +1,9 @@
 -- Undelivered messages are of two rounds at most: that of the server that is behind, and the next.
-use Rattle.std.proofs.Common.{◌≡◌, ◌≢◌, ℕ, zero, suc, ◌+◌, ◌<◌, ◌≤◌, List, [], ◌∷◌, ◌++◌, Bool, true, false, true≢false, inl, inr, arith, refl, sym, ◌∙◌, ap, subst, ◌&&◌, ◌==◌, not, nat_lt, nat_le, length, cond}
+use Rattle.std.proofs.Common.{◌≡◌, ◌≢◌, ℕ, zero, suc, ◌+◌, ◌≤◌, [], ◌∷◌, ◌++◌, Bool, true, false, true≢false, inl, inr, arith, refl, sym, ◌∙◌, ap, ◌&&◌, ◌==◌, not, nat_lt, nat_le, length, cond}
 use Rattle.std.specs.Prelude.{filter, min}
 use Rattle.beet_field.specs.Trio.{member}
 use Rattle.std.specs.List.{range_with_len, flat_map}
-use Rattle.std.proofs.lemmas.Bool.{and_parts, cases_Bool, cases_eq, cases_lt, false_from_ne_true}
+use Rattle.std.proofs.lemmas.Bool.{cases_eq, cases_lt, false_from_ne_true}
 use Rattle.std.proofs.lemmas.Bool.Decides.{nat_tests}
 use Rattle.std.proofs.lemmas.List.{length-append}
 use Rattle.std.proofs.lemmas.List.Elements.{filter-append}
@@ -12,7 +12,7 @@ use Rattle.beet_field.specs.declared.point.Point.TheVariants.{One, Two, Three}
 use Rattle.beet_server.specs.Events.{Delivered, Triple, all_triples, has, is_sent, passed, same, triples_of, undelivered}
 use Rattle.beet_world.specs.Missing.{is_missing, one_if, six}
 use Rattle.beet_server.proofs.Counting.{count_more, one}
-use Rattle.beet_server.proofs.EventFacts.{WasSent, one_apart, passed_in, passed_most, sent_parts, side_of}
+use Rattle.beet_server.proofs.EventFacts.{WasSent, one_apart, passed_in, sent_parts, side_of}
 
 -- how many messages of a round pass a test
 abbrev pub of_round : (Triple → Bool) → ℕ → ℕ

@@ -1,17 +1,19 @@
 -- What is known when a message of a run is given to a server, and after it.
-use Rattle.std.specs.Prelude.{◌≡◌, ◌+◌, ◌<◌, ◌≤◌, ℕ, List, true, Vec, vec_capacity, length, ⊤}
+use Rattle.std.specs.Prelude.{◌≡◌, ◌+◌, ◌<◌, ◌≤◌, ℕ, List, true, Vec, vec_capacity, length, Option, Some, None, if◌then◌else◌}
 use Rattle.std.specs.Global.{Global}
 use Rattle.beet_round.specs.declared.sides.Side.TheVariants.{Low, High}
 use Rattle.beet_world.specs.declared.world.Event.{Event}
 use Rattle.beet_world.specs.declared.world.Event.TheVariants.{Delivered, NotSent}
 use Rattle.beet_gates.specs.declared.Batch.{Batch}
-use Rattle.beet_round.specs.Sides.{peer}
+use Rattle.beet_field.specs.declared.point.Point.{Point}
+use Rattle.beet_round.specs.Sides.{peer, side_of}
 use Rattle.beet_round.specs.declared.mailbox.Verdict.{Verdict}
+use Rattle.beet_round.specs.declared.mailbox.Verdict.TheVariants.{Stranger}
 use Rattle.beet_round.specs.declared.message.RoundMessage.{RoundMessage}
 use Rattle.beet_round.specs.declared.sides.Side.{Side}
-use Rattle.beet_server.specs.Answers.{IsUsual}
+use Rattle.beet_server.specs.Answers.{verdict_on}
 use Rattle.beet_server.specs.Cores.{Core, is_quiet}
-use Rattle.beet_server.specs.Events.{Delivered as Set, with_triple}
+use Rattle.beet_server.specs.Events.{Delivered as Set, Triple, is_sent, passed, with_triple}
 use Rattle.beet_server.specs.Fits.{Fits, IsRound, message_of, taken}
 use Rattle.beet_server.specs.Runs.{HasRounds, Opening}
 use Rattle.beet_world.specs.Worlds.{sent_by}
@@ -27,12 +29,12 @@ module _ {S : Type 0} (next : S → ℕ → List ℕ → Batch) (o : Opening) (x
     pub near : t ≤ c.round + 1
     pub is_message : m ≡ message_of o (peer c.me s) c.me t
 
-  -- the core fits with this message more, and what it has sent is that of the run
+  -- the core fits with this message more, what it has sent is that of the run, and the set and its round told the verdict
   pub record IsGiven (old new : Core S) (sent : List (List RoundMessage)) (v : Verdict) : Type 0 where
     pub fits : Fits next o (with_triple x (record { from = peer old.me s; to = old.me; round = t })) new
     pub going : new.handed ≡ true → new.round < rounds
     pub sends : sent ≡ sent_by o new
-    pub usual : IsUsual v
+    pub told : v ≡ verdict_on x old.me old.round s t
 
 -- of the messages to the lower and to the higher peer, that of a side
 abbrev pub of_side : Side → RoundMessage → RoundMessage → RoundMessage
@@ -46,7 +48,12 @@ pub record MayTakeMessages {S : Type 0} (next : S → ℕ → List ℕ → Batch
   pub counted : length sent.items ≡ taken c.round c.handed
   pub within : length sent.items ≤ rounds
 
--- an event of a world: of the verdicts only those on messages of the run come
-abbrev pub IsUsualEvent : Event → Type 0
-IsUsualEvent (Delivered verdict) = IsUsual verdict
-IsUsualEvent NotSent = ⊤
+-- the verdict of a server in a round on a message of the run; one from the server itself is a stranger's, and none is sent
+abbrev pub verdict_from : Set → Point → ℕ → Option Side → ℕ → Verdict
+verdict_from x s round None t = Stranger
+verdict_from x s round (Some side) t = verdict_on x s round side t
+
+-- what becomes of a message: not sent, or delivered with the verdict of its receiver, which is at its passed rounds
+abbrev pub event_of : ℕ → Set → Triple → Event
+event_of rounds x e =
+    if is_sent rounds x e then Delivered (verdict_from x e.to (passed rounds x e.to) (side_of e.to e.from) e.round) else NotSent

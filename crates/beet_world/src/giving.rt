@@ -3,7 +3,7 @@
 ghost use Rattle.std.specs.Prelude.{◌≡◌, ◌<◌, ◌≤◌, ◌+◌, IfSome, true, false, ℕ, length, vec_capacity};
 ghost use Rattle.beet_round.specs.Sides.{peer};
 ghost use Rattle.beet_round.specs.declared.sides.Side.{Side as SideOf};
-ghost use Rattle.beet_server.specs.Answers.{IsUsual, Keeps};
+ghost use Rattle.beet_server.specs.Answers.{Keeps};
 ghost use Rattle.beet_server.specs.Cores.{is_quiet};
 ghost use Rattle.beet_server.specs.Events.{Delivered, with_triple};
 ghost use Rattle.beet_server.specs.Fits.{Fits, IsRound, message_of, taken};

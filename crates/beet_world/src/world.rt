@@ -7,9 +7,9 @@ ghost use Rattle.beet_round.specs.declared.message.RoundMessage.{RoundMessage as
 ghost use Rattle.beet_round.specs.declared.sides.Side.{Side as SideOf};
 ghost use Rattle.beet_server.specs.Answers.{Keeps};
 ghost use Rattle.beet_server.specs.Cores.{AreFresh, is_quiet};
-ghost use Rattle.beet_server.specs.Events.{Delivered, after_from, deliver, is_sent, undelivered as undelivered_in};
+ghost use Rattle.beet_server.specs.Events.{Delivered, after_from, deliver, passed, undelivered as undelivered_in};
 ghost use Rattle.beet_server.specs.Runs.{Opening};
-ghost use Rattle.beet_world.specs.Happens.{IsGiven, IsUsualEvent, MayGive, MayTakeMessages, of_side};
+ghost use Rattle.beet_world.specs.Happens.{IsGiven, MayGive, MayTakeMessages, event_of, of_side};
 ghost use Rattle.beet_world.specs.Marks.{mark_at, unmarked};
 ghost use Rattle.beet_world.specs.Missing.{is_missing, one_if, six, to_side};
 ghost use Rattle.beet_world.specs.Worlds.{IsCoreOf, delivered_in, named_in, rounds_in};
@@ -157,11 +157,10 @@ impl<S: Script> World<S> {
             ≡ deliver (rounds_in S.batch_of S.inputs_of S.rounds_of self.old) (delivered_in self.old)
             (record { from = from; to = to; round = round }) }
         ensures start { self.new.start ≡ self.old.start }
-        ensures refused { (result ≡ NotSent)
-            ↔ (is_sent (rounds_in S.batch_of S.inputs_of S.rounds_of self.old)
-            (delivered_in self.old) (record { from = from; to = to; round = round }) ≡ false) }
+        ensures event { result
+            ≡ event_of (rounds_in S.batch_of S.inputs_of S.rounds_of self.old) (delivered_in self.old)
+            (record { from = from; to = to; round = round }) }
         ensures unchanged { result ≡ NotSent → self.new ≡ self.old }
-        ensures usual { IsUsualEvent result }
     {
         let Some(side) = Side::of(from, to) else {
             return Event::NotSent;
@@ -219,11 +218,14 @@ impl<S: Script> World<S> {
     }
 
     /// How many messages were sent that no event has delivered. They are of the round of the server
-    /// that is behind, and of the next.
+    /// that is behind, and of the next. Where there are none, each server has ended.
     pub fn undelivered(&self) -> u32
-        ensures { result
+        ensures count { result
             ≡ undelivered_in (rounds_in S.batch_of S.inputs_of S.rounds_of self.now)
             (delivered_in self.now) }
+        ensures ended { result ≡ 0 → (s : Server)
+            → passed (rounds_in S.batch_of S.inputs_of S.rounds_of self.now) (delivered_in self.now) s
+            ≡ rounds_in S.batch_of S.inputs_of S.rounds_of self.now }
     {
         let behind = self
             .cores

@@ -22,6 +22,16 @@ const BACKWARDS: &[u8] = b"beet-schedule,1
 3,2,1\n3,1,1\n2,3,1\n2,1,1\n1,3,1\n1,2,1
 3,2,0\n3,1,0\n2,3,0\n2,1,0\n1,3,0\n1,2,0\n";
 
+/// The messages of each round backwards, the first round first.
+const ROUNDS_BACKWARDS: &[u8] = b"beet-schedule,1
+3,2,0\n3,1,0\n2,3,0\n2,1,0\n1,3,0\n1,2,0
+3,2,1\n3,1,1\n2,3,1\n2,1,1\n1,3,1\n1,2,1\n";
+
+/// What server 1 sends to server 2 comes a round later than all else.
+const A_ROUND_LATE: &[u8] = b"beet-schedule,1
+2,1,0\n3,1,0\n3,2,0\n1,3,0\n2,3,0\n3,1,1\n3,2,1\n1,3,1
+1,2,0\n2,1,1\n2,3,1\n1,2,1\n";
+
 /// Each message three times, as lockstep delivers them.
 const THRICE: &[u8] = b"beet-schedule,1
 2,1,0\n2,1,0\n2,1,0\n3,1,0\n3,1,0\n3,1,0\n1,2,0\n1,2,0\n1,2,0
@@ -180,6 +190,22 @@ fn messages_backwards(rt: HostRuntime) -> Result<(), Fail> {
     assert_eq!(rt; left_after(rt.alloc(), &mut world, BACKWARDS)?, 6);
     assert!(rt; !all_have_twelve(&world));
     assert_eq!(rt; left_after(rt.alloc(), &mut world, BACKWARDS)?, 0);
+    assert!(rt; all_have_twelve(&world));
+    Ok(())
+}
+
+#[test]
+fn rounds_backwards(rt: HostRuntime) -> Result<(), Fail> {
+    let mut world = world(rt.alloc()).expect(&rt, "they start");
+    assert_eq!(rt; left_after(rt.alloc(), &mut world, ROUNDS_BACKWARDS)?, 0);
+    assert!(rt; all_have_twelve(&world));
+    Ok(())
+}
+
+#[test]
+fn a_link_is_a_round_late(rt: HostRuntime) -> Result<(), Fail> {
+    let mut world = world(rt.alloc()).expect(&rt, "they start");
+    assert_eq!(rt; left_after(rt.alloc(), &mut world, A_ROUND_LATE)?, 0);
     assert!(rt; all_have_twelve(&world));
     Ok(())
 }

@@ -1,8 +1,6 @@
-use Rattle.std.proofs.Common.{◌≡◌, ◌<◌, ◌≤◌, ◌+◌, ◌∷◌, [], ◌++◌, true, false, true≢false, length, length-append, arith, sym, ◌∙◌, ap, refl, List}
+use Rattle.std.proofs.Common.{◌≡◌, ◌<◌, ◌+◌, ◌∷◌, [], ◌++◌, false, true≢false, length, length-append, arith, sym, ◌∙◌, ap}
 use Rattle.std.proofs.lemmas.Bool.{false_from_ne_true}
-use Rattle.beet_round.specs.declared.message.RoundMessage.{RoundMessage}
 use Rattle.beet_server.specs.Cores.{is_quiet}
-use Rattle.beet_server.specs.Fits.{messages_from}
 use Rattle.beet_world.proofs.GivenFacts.{goes-more, loud, room-for, sends-more, taken-more}
 use Rattle.beet_world.proofs.giving.hand_out.Goals as goal
 

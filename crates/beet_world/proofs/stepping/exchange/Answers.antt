@@ -1,6 +1,5 @@
-use Rattle.std.proofs.Common.{◌≡◌, ◌+◌, refl}
+use Rattle.std.proofs.Common.{◌+◌}
 use Rattle.beet_field.specs.Trio.{member}
-use Rattle.beet_field.specs.declared.point.Point.{Point}
 use Rattle.beet_field.specs.declared.point.Point.TheVariants.{One, Two, Three}
 use Rattle.beet_field.specs.declared.trio.Trio.{Trio}
 use Rattle.beet_server.specs.Cores.{Core}

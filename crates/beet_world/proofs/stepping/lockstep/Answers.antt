@@ -1,8 +1,5 @@
-use Rattle.std.proofs.Common.{◌≡◌, ◌+◌, ◌≤◌, arith, refl, sym, ◌∙◌, ap}
-use Rattle.beet_field.specs.Trio.{member}
-use Rattle.beet_field.specs.declared.point.Point.{Point}
+use Rattle.std.proofs.Common.{◌≡◌, arith, refl, sym, ◌∙◌, ap}
 use Rattle.beet_gates.specs.Scripts.{bounds_of}
-use Rattle.beet_server.specs.Answers.{Keeps}
 use Rattle.beet_server.specs.Cores.{opening_of}
 use Rattle.beet_world.proofs.Beginning.{at-the-end, at-the-most, fresh-stand, goes-on, have-ended, may-pass}
 use Rattle.beet_world.proofs.stepping.lockstep.Goals as goal

@@ -1,5 +1,4 @@
-use Rattle.std.proofs.Common.{◌≡◌, rules, ◌∷◌, []}
-use Rattle.std.proofs.lemmas.Grind.{common_steps}
+use Rattle.std.proofs.Common.{◌≡◌, rules}
 use Rattle.beet_server.specs.Fits.{messages_from}
 use Rattle.beet_world.proofs.stepping.send.Goals as goal
 

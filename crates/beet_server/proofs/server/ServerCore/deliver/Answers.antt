@@ -2,7 +2,7 @@ use Rattle.std.proofs.Common.{true≢false, refl, sym, ap, subst, ◌∙◌}
 use Rattle.beet_server.specs.Cores.{Core, has_ended, is_quiet}
 use Rattle.beet_server.specs.Steps.{core_of, moved_on}
 use Rattle.beet_server.specs.Answers.{Keeps, Answers}
-use Rattle.beet_server.proofs.Delivering.{FitsAfter, UsualAfter, after-late, after-offer, after-ready, handed-first, usual-offer}
+use Rattle.beet_server.proofs.Delivering.{FitsAfter, ToldAfter, after-late, after-offer, after-ready, handed-first, told-ended, told-offer}
 use Rattle.beet_server.proofs.server.ServerCore.deliver.Goals as goal
 
 pub returns-then-ended-clause-fits : goal.returns-then-ended-clause-fits
@@ -10,6 +10,20 @@ returns-then-ended-clause-fits g c =
     let next = g.S.Script.batch_of in
     let ended = ap (λ (v : Core g.row.S.Denot). has_ended next v) (sym c.self.view_is) ∙ sym c.ended.ensures ∙ c.if-ended.true in
     after-late next c.args.self.now c.args.m ended
+
+pub returns-then-ended-clause-told : goal.returns-then-ended-clause-told
+returns-then-ended-clause-told g c =
+    let next = g.S.Script.batch_of in
+    let ended = ap (λ (v : Core g.row.S.Denot). has_ended next v) (sym c.self.view_is) ∙ sym c.ended.ensures ∙ c.if-ended.true in
+    told-ended next c.args.self.now c.args.m c.late_verdict.result ended c.late_verdict.ensures
+
+pub returns-in-Ready-clause-told : goal.returns-in-Ready-clause-told
+returns-in-Ready-clause-told g c =
+    let next = g.S.Script.batch_of in
+    let old = core_of c.self.inside.engine c.self.inside.received.items c.self.inside.mail in
+    subst (λ (v : Core g.row.S.Denot). ToldAfter next v c.args.m c.offer-verdict.result) c.self.view_is
+    (told-offer next old c.offer-verdict.new.self c.args.m c.offer-verdict.result c.self.invariant.me c.self.invariant.round
+    c.self.invariant.want c.offer-verdict.ensures)
 
 pub returns-in-Ready-clause-verdict : goal.returns-in-Ready-clause-verdict
 returns-in-Ready-clause-verdict g c = λ _.
@@ -54,7 +68,7 @@ returns-in_default g c =
       fits = subst (λ (v : Core g.row.S.Denot). FitsAfter next v new c.args.m) c.self.view_is
           (after-offer next old c.offer-verdict.new.self c.args.m c.offer-verdict.result c.self.invariant.me c.self.invariant.round
           c.self.invariant.want c.offer-verdict.ensures c.in_default.not-Ready handed);
-      usual = subst (λ (v : Core g.row.S.Denot). UsualAfter next v c.args.m c.offer-verdict.result) c.self.view_is
-          (usual-offer next old c.offer-verdict.new.self c.args.m c.offer-verdict.result c.self.invariant.me c.self.invariant.round
+      told = subst (λ (v : Core g.row.S.Denot). ToldAfter next v c.args.m c.offer-verdict.result) c.self.view_is
+          (told-offer next old c.offer-verdict.new.self c.args.m c.offer-verdict.result c.self.invariant.me c.self.invariant.round
           c.self.invariant.want c.offer-verdict.ensures);
     }

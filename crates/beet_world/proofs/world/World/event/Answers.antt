@@ -1,19 +1,17 @@
-use Rattle.std.proofs.Common.{◌≡◌, ◌<◌, ◌≤◌, ◌*◌, ◌∷◌, [], ℕ, List, Some, None, Bool, true, false, true≢false, inl, inr, arith, refl, sym, ◌∙◌, ap, subst, length, slice_get}
+use Rattle.std.proofs.Common.{◌≡◌, ◌<◌, true≢false, inl, inr, arith, refl, sym, ◌∙◌, ap, subst, length}
 use Rattle.std.proofs.lemmas.Bool.{cases_lt}
 use Rattle.beet_field.specs.Trio.{member}
-use Rattle.beet_field.specs.declared.point.Point.{Point}
 use Rattle.beet_gates.specs.Scripts.{bounds_of}
-use Rattle.beet_server.specs.Events.{deliver, is_sent}
+use Rattle.beet_server.specs.Events.{deliver}
 use Rattle.beet_server.proofs.EventFacts.{deliver_unsent}
-use Rattle.beet_world.specs.Marks.{mark_at, with_mark}
-use Rattle.beet_world.specs.Worlds.{HoldsWorld, World, delivered_in, rounds_in}
-use Rattle.beet_world.specs.declared.world.Event.{Event}
+use Rattle.beet_world.specs.Happens.{event_of}
+use Rattle.beet_world.specs.Worlds.{World, delivered_in, rounds_in}
 use Rattle.beet_world.specs.declared.world.Event.TheVariants.{Delivered as DeliveredBy, NotSent}
-use Rattle.beet_world.proofs.Delivered.{back_side, delivered, gives, holds-after, mark-within, may-take, not-sent-to, sent-to}
+use Rattle.beet_world.proofs.Delivered.{back_side, delivered, gives, holds-after, mark-within, may-take, not-sent-event, not-sent-to, told-event}
 use Rattle.beet_world.proofs.world.World.event.Goals as goal
 
-pub returns-in_default-sent_message-clause-refused : goal.returns-in_default-sent_message-clause-refused
-returns-in_default-sent_message-clause-refused g c =
+pub returns-in_default-sent_message-clause-event : goal.returns-in_default-sent_message-clause-event
+returns-in_default-sent_message-clause-event g c =
     let script = g.S.Script in
     let next = script.batch_of in
     let w : World g.row.S.Denot = record { start = c.self.inside.start.value; marks = c.self.inside.marks.items } in
@@ -23,11 +21,9 @@ returns-in_default-sent_message-clause-refused g c =
     let cores = c.self.inside.cores in
     let sent = c.self.inside.sent in
     let is_to = c.in-Some.ensures.other in
-    let none = not-sent-to next script.inputs_of script.rounds_of bounds w cores sent law c.self.invariant c.args.from c.args.to c.in-Some.side c.args.round is_to
-    (c.in_default-sent_message.ensures.none.0 refl) in (
-      λ _. subst (λ (v : World g.row.S.Denot). is_sent (rounds_in next script.inputs_of script.rounds_of v) (delivered_in v) (record { from = c.args.from; to = c.args.to; round = c.args.round }) ≡ false) c.self.view_is none,
-      λ _. refl,
-    )
+    subst (λ (v : World g.row.S.Denot). NotSent ≡ event_of (rounds_in next script.inputs_of script.rounds_of v) (delivered_in v) (record { from = c.args.from; to = c.args.to; round = c.args.round })) c.self.view_is
+    (not-sent-event next script.inputs_of script.rounds_of bounds w cores sent law c.self.invariant c.args.from c.args.to c.in-Some.side c.args.round is_to
+    (c.in_default-sent_message.ensures.none.0 refl))
 
 pub returns-in_default-sent_message-clause-delivered : goal.returns-in_default-sent_message-clause-delivered
 returns-in_default-sent_message-clause-delivered g c =
@@ -119,27 +115,8 @@ returns-clause-delivered g c =
     c.in-Some-sent_message.message c.in-Some-sent_message.ensures.message in
     rw c.mark_place.ensures (is ∙ ap (λ (v : World g.row.S.Denot). deliver (rounds_in next script.inputs_of script.rounds_of v) (delivered_in v) (record { from = c.args.from; to = c.args.to; round = c.args.round })) c.self.view_is)
 
-pub returns-clause-refused : goal.returns-clause-refused
-returns-clause-refused g c =
-    let script = g.S.Script in
-    let next = script.batch_of in
-    let w : World g.row.S.Denot = record { start = c.self.inside.start.value; marks = c.self.inside.marks.items } in
-    let first = w.start.one.script in
-    let bounds = bounds_of (script.wires_of first) (script.masks_of first) (script.coefficients_of first) in
-    let law = g.met.S.Script.lawful first in
-    let cores = c.self.inside.cores in
-    let sent = c.self.inside.sent in
-    let is_to = c.in-Some.ensures.other in
-    let lt : c.args.round < length (member sent c.args.from).items = elim (cases_lt c.args.round (length (member sent c.args.from).items)) [
-      | inl less ↦ less
-      | inr past ↦ absurd (true≢false (c.in-Some-sent_message.ensures.none.1 past))
-    ] in
-    let is = sent-to next script.inputs_of script.rounds_of bounds w cores sent law c.self.invariant c.args.from c.args.to c.in-Some.side c.args.round is_to lt in
-    let is' = subst (λ (v : World g.row.S.Denot). is_sent (rounds_in next script.inputs_of script.rounds_of v) (delivered_in v) (record { from = c.args.from; to = c.args.to; round = c.args.round }) ≡ true) c.self.view_is is in
-    (λ e. cc e, λ e. absurd (true≢false (sym is' ∙ e)))
-
-pub returns-clause-usual : goal.returns-clause-usual
-returns-clause-usual g c =
+pub returns-clause-event : goal.returns-clause-event
+returns-clause-event g c =
     let script = g.S.Script in
     let next = script.batch_of in
     let w : World g.row.S.Denot = record { start = c.self.inside.start.value; marks = c.self.inside.marks.items } in
@@ -155,4 +132,7 @@ returns-clause-usual g c =
     ] in
     let may = gives next script.inputs_of script.rounds_of bounds w cores sent law c.self.invariant c.args.from c.in-Some.side c.args.round lt c.args.to is_to
     c.in-Some-sent_message.message c.in-Some-sent_message.ensures.message in
-    (c.give_to-verdict.ensures.given _ _ _ (back_side c.args.from c.in-Some.side).0 c.args.round may).usual
+    let given = c.give_to-verdict.ensures.given _ _ _ (back_side c.args.from c.in-Some.side).0 c.args.round may in
+    subst (λ (v : World g.row.S.Denot). DeliveredBy c.give_to-verdict.result ≡ event_of (rounds_in next script.inputs_of script.rounds_of v) (delivered_in v) (record { from = c.args.from; to = c.args.to; round = c.args.round })) c.self.view_is
+    (told-event next script.inputs_of script.rounds_of bounds w cores sent law c.self.invariant c.args.from c.in-Some.side c.args.round lt c.args.to is_to
+    c.in-Some-sent_message.message c.in-Some-sent_message.ensures.message c.give_to-verdict.result given.told)

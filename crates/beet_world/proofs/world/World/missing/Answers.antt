@@ -1,4 +1,4 @@
-use Rattle.std.proofs.Common.{◌≡◌, ◌<◌, ◌≤◌, ◌*◌, ◌+◌, ℕ, List, Bool, true, false, arith, refl, sym, ◌∙◌, ap, subst, length, Vec, Global, vec_len, rules, get_or}
+use Rattle.std.proofs.Common.{◌≡◌, ◌<◌, List, true, false, arith, sym, ◌∙◌, ap, subst, length, Vec, Global, vec_len, rules, get_or}
 use Rattle.std.specs.Prelude.{slice_index_or}
 use Rattle.std.proofs.lemmas.List.{get_or_default}
 use Rattle.beet_field.specs.Trio.{member}

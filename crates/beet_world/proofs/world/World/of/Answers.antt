@@ -1,14 +1,12 @@
-use Rattle.std.proofs.Common.{rules, false, ◌≡◌, ◌≤◌, ◌*◌, List, [], Vec, Global, refl, sym, ◌∙◌, ap, arith, subst}
+use Rattle.std.proofs.Common.{rules, false, ◌≡◌, ◌≤◌, ◌*◌, List, Vec, Global, ◌∙◌, ap, arith}
 use Rattle.std.specs.Prelude.{replicate, vec_capacity}
 use Rattle.beet_field.specs.Trio.{member}
-use Rattle.beet_field.specs.declared.point.Point.{Point}
 use Rattle.beet_field.specs.declared.trio.Trio.{Trio}
 use Rattle.beet_gates.specs.Scripts.{bounds_of}
 use Rattle.beet_round.specs.declared.message.RoundMessage.{RoundMessage}
 use Rattle.beet_server.specs.Cores.{Core, opening_of}
 use Rattle.beet_server.proofs.Rounds.{lawful-rounds}
 use Rattle.beet_world.specs.Marks.{unmarked}
-use Rattle.beet_world.specs.Worlds.{HoldsWorld}
 use Rattle.beet_world.proofs.Founding.{HasHandedOut, world-begins}
 use Rattle.beet_world.proofs.Rounds.{by_point}
 use Rattle.beet_world.proofs.world.World.of.Goals as goal
@@ -43,4 +41,7 @@ invariant_of-result g c =
           (omega (arith, rounds, two.capacity, c.in_ok-with_capacity-2.ensures.capacity))
           (omega (arith, rounds, three.capacity, c.in_ok-with_capacity-3.ensures.capacity));
       script = by_point (λ s. (member cores s).script ≡ first) one.keeps.script (two.keeps.script ∙ f.script_two) (three.keeps.script ∙ f.script_three);
+      masks = by_point (λ s. (member cores s).masks.words ≡ (member start s).masks.words) one.keeps.masks two.keeps.masks three.keeps.masks;
+      coefficients = by_point (λ s. (member cores s).coefficients.words ≡ (member start s).coefficients.words) one.keeps.coefficients two.keeps.coefficients
+          three.keeps.coefficients;
     })

@@ -1,4 +1,4 @@
-use Rattle.std.proofs.Common.{◌≡◌, ◌+◌, ◌∷◌, ℕ, List, drop, length, refl, sym, ◌∙◌, ap, get_or}
+use Rattle.std.proofs.Common.{◌≡◌, ◌+◌, ℕ, List, drop, sym, ◌∙◌, ap, get_or}
 use Rattle.std.proofs.lemmas.List.{drop_more}
 use Rattle.beet_field.specs.declared.point.Point.TheVariants.{One}
 use Rattle.beet_field.specs.declared.trio.Trio.{Trio}

@@ -1,11 +1,9 @@
-use Rattle.std.proofs.Common.{◌≡◌, ◌≤◌, ◌+◌, ℕ, List, arith, refl, sym, ◌∙◌, ap, subst}
+use Rattle.std.proofs.Common.{◌≡◌, ◌≤◌, ◌+◌, arith, refl, sym, ◌∙◌, subst}
 use Rattle.std.specs.Prelude.{min}
 use Rattle.beet_field.specs.Trio.{member}
-use Rattle.beet_field.specs.declared.point.Point.{Point}
-use Rattle.beet_field.specs.declared.point.Point.TheVariants.{One, Two, Three}
-use Rattle.beet_field.specs.declared.trio.Trio.{Trio}
 use Rattle.beet_gates.specs.Scripts.{bounds_of}
 use Rattle.beet_server.specs.Events.{undelivered}
+use Rattle.beet_server.proofs.Undelivered.{passed_all}
 use Rattle.beet_world.specs.Missing.{is_missing, six}
 use Rattle.beet_world.specs.Worlds.{World, delivered_in, rounds_in}
 use Rattle.beet_world.proofs.Delivered.{two-rounds}
@@ -13,8 +11,8 @@ use Rattle.beet_world.proofs.Rounds.{by_point}
 use Rattle.beet_world.proofs.TwoRounds.{least-of}
 use Rattle.beet_world.proofs.world.World.undelivered.Goals as goal
 
-pub returns : goal.returns
-returns g c =
+pub returns-clause-count : goal.returns-clause-count
+returns-clause-count g c =
     let script = g.S.Script in
     let next = script.batch_of in
     let w : World g.row.S.Denot = record { start = c.self.inside.start.value; marks = c.self.inside.marks.items } in
@@ -33,3 +31,9 @@ returns g c =
     (λ i. c.missing_of.ensures.missing i + c.missing_of-2.ensures.missing i)
     ∙ sym (subst (λ (v : World g.row.S.Denot). undelivered (rounds_in next script.inputs_of script.rounds_of v) (delivered_in v)
     ≡ six (is_missing (rounds_in next script.inputs_of script.rounds_of v) (delivered_in v)) behind + six (is_missing (rounds_in next script.inputs_of script.rounds_of v) (delivered_in v)) (behind + 1)) c.self.view_is two)
+
+pub returns-clause-ended : goal.returns-clause-ended
+returns-clause-ended g c = λ none.
+    let script = g.S.Script in
+    passed_all (rounds_in script.batch_of script.inputs_of script.rounds_of c.args.self.now) (delivered_in c.args.self.now)
+    (sym (returns-clause-count g c) ∙ none)
