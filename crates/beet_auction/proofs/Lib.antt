@@ -2,3 +2,8 @@ pub mod Inputs
 pub mod BookLines
 pub mod Ends
 pub mod Adding
+pub mod Apart
+pub mod OwnBlocks
+pub mod SameOpened
+pub mod OtherPoints
+pub mod BookPoints

@@ -1,5 +1,5 @@
 -- What the three servers begin with in the auction of a book.
-use Rattle.std.specs.Prelude.{ℕ, ◌*◌, ◌%◌, List, map, slice_index, sum_by}
+use Rattle.std.specs.Prelude.{ℕ, ◌*◌, ◌%◌, List, [], ◌∷◌, map, slice_index, sum_by}
 use Rattle.beet_field.specs.Field.{p}
 use Rattle.beet_field.specs.declared.point.Point.{Point}
 use Rattle.beet_field.specs.declared.trio.Trio.{Trio}
@@ -18,6 +18,12 @@ use Rattle.beet_server.specs.Runs.{Opening, numbers_of, trio_of}
 pub record Farmer : Type 0 where
   pub bidder : Bidder
   pub words : List ℕ
+
+-- bidders with their words, in order
+abbrev pub farmers_of : List Bidder → List (List ℕ) → List Farmer
+farmers_of [] words = []
+farmers_of (bidder ∷ bidders) [] = []
+farmers_of (bidder ∷ bidders) (list ∷ words) = record { bidder = bidder; words = list } ∷ farmers_of bidders words
 
 -- the book of these bidders
 abbrev pub book_of : Grid → List Farmer → Book

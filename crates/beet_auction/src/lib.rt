@@ -10,11 +10,12 @@ ghost use Rattle.beet_bids.specs.Grids.{Grid};
 ghost use Rattle.beet_words.specs.Words.{accepted};
 ghost use Rattle.beet_book.specs.Dealing.{dealt_points, quantities};
 ghost use Rattle.beet_book.specs.Totals.{added, none_of, wires_of};
-ghost use Rattle.beet_plan.specs.Auction.{auction_batch};
+ghost use Rattle.beet_plan.specs.Auction.{Auction, auction_batch};
 ghost use Rattle.beet_plan.specs.Runs.{AreMasks, sums_of};
 ghost use Rattle.beet_server.specs.Runs.{Opening};
 ghost use Rattle.beet_server.specs.Lines.{OnLines};
 ghost use Rattle.beet_auction.specs.Openings.{Farmer, book_inputs, book_of, book_opening, auction_over, summed_points};
+ghost use Rattle.beet_auction.specs.AnyPoints.{ArePoints, points_finish, points_rounds};
 ghost use Rattle.beet_auction.specs.Endings.{AuctionEnds, EndsAlways, book_finish, book_rounds};
 
 /// Where the inputs are points of lines with a book's sums, the run ends with the book's outcome, or spent exactly where
@@ -36,6 +37,36 @@ pub fn an_opened_outcome_is_the_books()
         IsBook (book_of grid farmers) → AreMasks masks →
         EndsAlways (auction_over grid) (book_opening grid farmers masks coefficients)
         (book_rounds (book_of grid farmers) masks) (book_finish (book_of grid farmers) masks) }
+{}
+
+/// The points of the inputs need lie on no line: on any points below p the run ends with what the search over them finds,
+/// or spent exactly where the mask words say so. So it is after every list of events.
+pub fn any_points_end_with_what_they_open()
+    ensures ends { (a : Auction) (o : Opening) → ArePoints a o.inputs → AreMasks o.masks →
+        o.next ≡ auction_batch a →
+        AuctionEnds a o (points_rounds a o.inputs o.masks) (points_finish a o.inputs o.masks) }
+    ensures always { (a : Auction) (o : Opening) → ArePoints a o.inputs → AreMasks o.masks →
+        o.next ≡ auction_batch a →
+        EndsAlways a o (points_rounds a o.inputs o.masks) (points_finish a o.inputs o.masks) }
+{}
+
+/// Where the points are those of lines with a book's sums, as those that its bidders deal are, this is the end of the
+/// auction of the book.
+pub fn points_of_a_book_end_with_its_outcome()
+    ensures finish { (book : Book) (slopes : List ℕ) (inputs masks : Trio (List ℕ)) → IsBook book →
+        OnLines (sums_of book) slopes inputs →
+        points_finish (record { prices = book.grid.prices }) inputs masks ≡ book_finish book masks }
+    ensures rounds { (book : Book) (slopes : List ℕ) (inputs masks : Trio (List ℕ)) → IsBook book →
+        OnLines (sums_of book) slopes inputs →
+        points_rounds (record { prices = book.grid.prices }) inputs masks ≡ book_rounds book masks }
+    ensures dealt_finish { (grid : Grid) (farmers : List Farmer) (masks : Trio (List ℕ)) →
+        IsBook (book_of grid farmers) →
+        points_finish (auction_over grid) (book_inputs grid.prices farmers) masks
+        ≡ book_finish (book_of grid farmers) masks }
+    ensures dealt_rounds { (grid : Grid) (farmers : List Farmer) (masks : Trio (List ℕ)) →
+        IsBook (book_of grid farmers) →
+        points_rounds (auction_over grid) (book_inputs grid.prices farmers) masks
+        ≡ book_rounds (book_of grid farmers) masks }
 {}
 
 /// The points of bidders that are dealt and added one after another are the points that the auction of their book begins with.

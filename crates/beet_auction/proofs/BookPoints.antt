@@ -1,0 +1,76 @@
+-- On points of lines with the sums of a book the search over the points is that of the book.
+use Rattle.std.proofs.Common.{◌≡◌, ◌↔◌, ℕ, ◌+◌, ◌*◌, ◌<◌, ◌≤◌, inl, inr, Bool, true, false, List, slice_index, sym, ◌∙◌, ap, arith}
+use Rattle.std.specs.Prelude.{nat_le, IsTrue}
+use Rattle.std.proofs.lemmas.Bool.{cases_Bool, iff_false}
+use Rattle.std.proofs.lemmas.Bool.Decides.{nat_tests}
+use Rattle.std.proofs.lemmas.Grind.{same_number_lists}
+use Rattle.beet_field.specs.Trio.{member}
+use Rattle.beet_field.specs.declared.trio.Trio.{Trio}
+use Rattle.beet_bids.specs.Books.{Book, IsBook}
+use Rattle.beet_bids.specs.Grids.{comparisons_of}
+use Rattle.beet_bids.specs.Outcomes.{clearing_place}
+use Rattle.beet_bids.specs.Sums.{supply_at, demand_at}
+use Rattle.beet_compare.specs.Compare.{is_doubled_even}
+use Rattle.beet_compare.proofs.Parity.{doubled_even-≤}
+use Rattle.beet_gates.proofs.EachFacts.{length-each, item-each}
+use Rattle.beet_plan.specs.Auction.{Auction}
+use Rattle.beet_plan.specs.Runs.{found, place_of_inputs, run_finish, run_rounds, sums_of}
+use Rattle.beet_plan.specs.Search.{mask_at}
+use Rattle.beet_plan.proofs.AuctionLaw.{below_comparisons}
+use Rattle.beet_plan.proofs.BookFacts.{book-turn, clearing-within, found-outcome, length-sums, sums-supply, sums-demand, small}
+use Rattle.beet_plan.proofs.Searches.{place-turn}
+use Rattle.beet_server.specs.Lines.{OnLines}
+use Rattle.beet_server.specs.Runs.{opened_at}
+use Rattle.beet_server.proofs.Lined.{lined, opened-line}
+use Rattle.beet_auction.specs.AnyPoints.{points_finish, points_place, points_rounds, values_on}
+use Rattle.beet_auction.specs.Endings.{book_finish, book_rounds}
+
+-- two tests agree where both say the same
+same_test : (b : Bool) (s d : ℕ) → IsTrue b ↔ (d ≤ s) → b ≡ nat_le d s
+same_test b s d e = elim (cases_Bool b) [
+  | inl t ↦ let h = e.0 t in t ∙ (let le : nat_le d s ≡ true = grind (arith, nat_tests, h) in sym le)
+  | inr f ↦ f ∙ (let h = iff_false e f in let le : nat_le d s ≡ false = grind (arith, nat_tests, h) in sym le)
+]
+
+module _ (book : Book) where
+  abbrev auction : Auction
+  auction = record { prices = book.grid.prices }
+
+  -- the search over the sums ends at the clearing place
+  book-place : IsBook book → place_of_inputs auction (sums_of book) ≡ clearing_place book
+  book-place b =
+      let prices = book.grid.prices in
+      let test = λ (k : ℕ). is_doubled_even (slice_index (sums_of book) k) (slice_index (sums_of book) (prices + k)) in
+      let turns : (k : ℕ) → k < prices → test k ≡ nat_le (clearing_place book) k = λ k h.
+      let s = small book b k h in
+      let means = doubled_even-≤ (supply_at book.bidders k) (demand_at book.bidders k) (omega (arith, s.0)) (omega (arith, s.1)) (omega (arith, s.0)) (omega (arith, s.1)) in
+      rw (sums-supply book k h, sums-demand book k h)
+      (same_test (is_doubled_even (supply_at book.bidders k) (demand_at book.bidders k)) (supply_at book.bidders k) (demand_at book.bidders k) means)
+      ∙ book-turn book b k h in
+      place-turn test (comparisons_of prices) 0 prices (clearing_place book) (omega arith) (clearing-within book) (omega (arith, below_comparisons prices)) turns
+
+  -- the values of the points are the sums
+  book-values : (slopes : List ℕ) (inputs : Trio (List ℕ)) → OnLines (sums_of book) slopes inputs → values_on (2 * book.grid.prices) inputs ≡ sums_of book
+  book-values slopes inputs lines =
+      let n = 2 * book.grid.prices in
+      let long = length-each (opened_at inputs) n in
+      same_number_lists (values_on n inputs) (sums_of book) (long ∙ sym (length-sums book))
+      (λ k lt. item-each (opened_at inputs) n k (omega arith) ∙ opened-line (sums_of book) slopes (member inputs) (lined (sums_of book) slopes inputs lines) k)
+
+  points-place : (slopes : List ℕ) (inputs : Trio (List ℕ)) → IsBook book → OnLines (sums_of book) slopes inputs →
+      points_place auction inputs ≡ clearing_place book
+  points-place slopes inputs b lines = ap (place_of_inputs auction) (book-values slopes inputs lines) ∙ book-place b
+
+  pub points-rounds : (slopes : List ℕ) (inputs masks : Trio (List ℕ)) → IsBook book → OnLines (sums_of book) slopes inputs →
+      points_rounds auction inputs masks ≡ book_rounds book masks
+  points-rounds slopes inputs masks b lines = ap (run_rounds book.grid.prices (mask_at masks)) (points-place slopes inputs b lines)
+
+  pub points-finish : (slopes : List ℕ) (inputs masks : Trio (List ℕ)) → IsBook book → OnLines (sums_of book) slopes inputs →
+      points_finish auction inputs masks ≡ book_finish book masks
+  points-finish slopes inputs masks b lines =
+      let prices = book.grid.prices in
+      let demand = λ (k : ℕ). slice_index (sums_of book) (prices + k) in
+      ap (λ (values : List ℕ). run_finish prices (mask_at masks) (points_place auction inputs) (found prices (λ k. slice_index values (prices + k)) (points_place auction inputs)))
+      (book-values slopes inputs lines)
+      ∙ ap (λ (z : ℕ). run_finish prices (mask_at masks) z (found prices demand z)) (points-place slopes inputs b lines)
+      ∙ ap (run_finish prices (mask_at masks) (clearing_place book)) (found-outcome book demand (sums-demand book))
