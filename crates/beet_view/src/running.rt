@@ -1,6 +1,6 @@
 //! The view of a server that has run a script.
 
-ghost use Rattle.std.specs.Prelude.{◌≡◌, ◌<◌, ◌≤◌, ◌^◌, true, length, All, IfOk, IsOk};
+ghost use Rattle.std.specs.Prelude.{◌≡◌, ◌<◌, ◌≤◌, ◌^◌, true, length, All, IfOk};
 ghost use Rattle.beet_server.specs.Runs.{Opening, HasRounds};
 ghost use Rattle.beet_server.specs.Events.{Delivered};
 ghost use Rattle.beet_server.specs.Cores.{has_ended};
@@ -18,26 +18,21 @@ use beet_server::ServerCore;
 use beet_words::{Word, WordList};
 use std::alloc::{AllocError, Global};
 
-/// A copy of the numbers of a message. It is refused where there are more than a message has room for.
-fn copy_of(numbers: &[Fe]) -> Result<ArrayVec<Fe, 64>, AllocError>
-    ensures numbers { IfOk result (λ copy. copy.items ≡ numbers.now) }
-    ensures taken { length numbers.now ≤ 64 → IsOk result }
+/// A copy of the numbers of a message.
+fn copy_of(numbers: &[Fe]) -> ArrayVec<Fe, 64>
+    requires { length numbers.now ≤ 64 }
+    ensures { result.items ≡ numbers.now }
 {
-    let mut copy = ArrayVec::new();
-    if copy.try_extend_from_slice(numbers).is_err() {
-        return Err(AllocError);
-    }
-    Ok(copy)
+    let Ok(copy) = ArrayVec::try_from(numbers) else {
+        unreachable!()
+    };
+    copy
 }
 
 /// A copy of the numbers from a peer in a passed round.
-fn numbers_of<S: Script>(
-    core: &ServerCore<S>,
-    side: Side,
-    round: u32,
-) -> Result<ArrayVec<Fe, 64>, AllocError>
+fn numbers_of<S: Script>(core: &ServerCore<S>, side: Side, round: u32) -> ArrayVec<Fe, 64>
     requires { round < core.now.round }
-    ensures { IfOk result (λ copy. copy.items ≡ numbers_received core.now side round) }
+    ensures { result.items ≡ numbers_received core.now side round }
 {
     let Some(numbers) = core.received(round, side.peer(core.me())) else {
         unreachable!()
@@ -46,14 +41,14 @@ fn numbers_of<S: Script>(
 }
 
 /// Copies of the numbers from both peers in a passed round.
-fn received_in<S: Script>(core: &ServerCore<S>, round: u32) -> Result<Received, AllocError>
+fn received_in<S: Script>(core: &ServerCore<S>, round: u32) -> Received
     requires { round < core.now.round }
-    ensures { IfOk result (λ received. received ≡ round_received core.now round) }
+    ensures { result ≡ round_received core.now round }
 {
-    Ok(Received {
-        lower: numbers_of(core, Side::Low, round)?,
-        higher: numbers_of(core, Side::High, round)?,
-    })
+    Received {
+        lower: numbers_of(core, Side::Low, round),
+        higher: numbers_of(core, Side::High, round),
+    }
 }
 
 /// Copies of the numbers from both peers in all passed rounds.
@@ -64,8 +59,7 @@ fn rounds_of<S: Script>(alloc: Global, core: &ServerCore<S>) -> Result<Vec<Recei
 {
     let mut rounds = Vec::with_capacity(alloc, core.round() as usize)?;
     for round in 0..core.round() {
-        let received = received_in(core, round)?;
-        rounds.push_reserved(received);
+        rounds.push_reserved(received_in(core, round));
     }
     Ok(rounds)
 }

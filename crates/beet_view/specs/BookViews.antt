@@ -1,0 +1,39 @@
+-- The view of a server of the auction of a book.
+use Rattle.std.specs.Prelude.{ℕ, ◌*◌, List, map, Bool, false, if◌then◌else◌, Option, Some, None}
+use Rattle.beet_field.specs.Trio.{member}
+use Rattle.beet_field.specs.declared.point.Point.{Point}
+use Rattle.beet_field.specs.declared.trio.Trio.{Trio}
+use Rattle.beet_gates.specs.Each.{each}
+use Rattle.beet_bids.specs.Grids.{Grid}
+use Rattle.beet_plan.specs.Auction.{most_rounds}
+use Rattle.beet_server.specs.Events.{same}
+use Rattle.beet_server.specs.Runs.{rounds_among}
+use Rattle.beet_auction.specs.Openings.{Farmer, auction_over, book_opening, point_for}
+use Rattle.beet_view.specs.declared.view.Seen.{Seen}
+use Rattle.beet_view.specs.RunViews.{view_of_run}
+use Rattle.beet_view.specs.Transcripts.{view_bytes}
+use Rattle.beet_view.specs.Views.{Viewed}
+
+-- whether a mark names a server
+abbrev pub names : Option Point → Point → Bool
+names None s = false
+names (Some at) s = same at s
+
+-- a bidder as a server sees it: its mark, its points at the server, and its curve and words where the server knows it
+abbrev pub seen_at : Grid → Point → Farmer → Seen
+seen_at grid s farmer = record {
+  known = farmer.bidder.known;
+  points = each (point_for farmer s) (2 * grid.prices);
+  own = if names farmer.bidder.known s then Some (farmer.bidder.curve, farmer.words) else None;
+}
+
+-- what a server sees of the auction of a book, with these mask words and coefficient words
+abbrev pub view_of_book : Grid → List Farmer → Trio (List ℕ) → Trio (List ℕ) → Point → Viewed
+view_of_book grid farmers masks coefficients s =
+    let o = book_opening grid farmers masks coefficients in
+    view_of_run o s (rounds_among o (most_rounds (auction_over grid))) grid (map (seen_at grid s) farmers) (member masks s)
+    (member coefficients s)
+
+-- the transcript of that server
+abbrev pub transcript_of_book : Grid → List Farmer → Trio (List ℕ) → Trio (List ℕ) → Point → List ℕ
+transcript_of_book grid farmers masks coefficients s = view_bytes (view_of_book grid farmers masks coefficients s)
