@@ -21,7 +21,8 @@ use Rattle.beet_book.specs.Totals.{supply_first}
 use Rattle.beet_server.proofs.Lined.{member-trio}
 use Rattle.beet_auction.specs.Openings.{Farmer, book_of, book_inputs, point_for, slope_for, summed_point}
 use Rattle.beet_worlds.specs.Agreement.{SameKnown}
-use Rattle.beet_worlds.specs.MappedBidders.{BiddersMapped, FarmerMapped, moved_of}
+use Rattle.beet_map.specs.Mapped.{moved_of}
+use Rattle.beet_worlds.specs.MappedBidders.{BiddersMapped, FarmerMapped}
 use Rattle.beet_worlds.proofs.MasksBack.{get-map, some-same}
 use Rattle.beet_worlds.proofs.Moved.{moved-same, moved-back}
 use Rattle.beet_worlds.proofs.WordPlaces.{words-same, accepted-length, accepted-small}
@@ -97,10 +98,10 @@ module _ (s : Point) (wanted : ℕ) (one u v : Farmer) where
 
 -- all bidders
 module _ (s : Point) (prices : ℕ) where
-  first-mapped : (f g : Farmer) (fs gs : List Farmer) → BiddersMapped s prices (f ∷ fs) (g ∷ gs) → FarmerMapped s (2 * prices) f g
+  pub first-mapped : (f g : Farmer) (fs gs : List Farmer) → BiddersMapped s prices (f ∷ fs) (g ∷ gs) → FarmerMapped s (2 * prices) f g
   first-mapped f g fs gs m = m.each_one 0 f g refl refl
 
-  rest-mapped : (f g : Farmer) (fs gs : List Farmer) → BiddersMapped s prices (f ∷ fs) (g ∷ gs) → BiddersMapped s prices fs gs
+  pub rest-mapped : (f g : Farmer) (fs gs : List Farmer) → BiddersMapped s prices (f ∷ fs) (g ∷ gs) → BiddersMapped s prices fs gs
   rest-mapped f g fs gs m = record { count = (let e : length gs ≡ length fs = omega (arith, m.count) in e); each_one = λ k one other e h. m.each_one (suc k) one other e h }
 
   pub bidders-only : (farmers u v : List Farmer) → map (λ farmer. farmer.bidder) u ≡ map (λ farmer. farmer.bidder) v →
@@ -143,7 +144,7 @@ module _ (s : Point) (prices : ℕ) where
       let rest = points-summed fs gs n h (All-tail (λ farmer. IsCurve farmer.bidder.curve) g gs c) (λ k x y e d. own (suc k) x y e d) (rest-mapped f g fs gs m) in
       sum_by-cons (λ farmer. point_for farmer s n) g gs ∙ (λ j. one j + rest j) ∙ sym (sum_by-cons (λ farmer. point_for farmer s n) f fs)
 
-curves-of : (farmers : List Farmer) → All (λ (b : Bidder). IsCurve b.curve) (map (λ farmer. farmer.bidder) farmers) → All (λ farmer. IsCurve farmer.bidder.curve) farmers
+pub curves-of : (farmers : List Farmer) → All (λ (b : Bidder). IsCurve b.curve) (map (λ farmer. farmer.bidder) farmers) → All (λ farmer. IsCurve farmer.bidder.curve) farmers
 curves-of [] all = λ k d lt. absurd (omega arith)
 curves-of (f ∷ fs) all =
     let head = All-head (λ (b : Bidder). IsCurve b.curve) f.bidder (map (λ farmer. farmer.bidder) fs) all in

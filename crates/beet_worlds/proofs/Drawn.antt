@@ -1,13 +1,12 @@
 -- Bidders with their words, and the numbers that are there to draw.
-use Rattle.std.proofs.Common.{◌≡◌, ◌≤◌, ◌<◌, ◌+◌, ◌*◌, ℕ, suc, List, [], ◌∷◌, ◌++◌, map, take, drop, length, refl, sym, ap, ◌∙◌, arith, length-append, take-append-drop}
-use Rattle.std.specs.Prelude.{All, ◌==◌, not, filter}
+use Rattle.std.proofs.Common.{◌≡◌, ◌≤◌, ◌+◌, ℕ, List, [], ◌∷◌, ◌++◌, map, take, drop, length, refl, sym, ap, ◌∙◌, arith, length-append, take-append-drop}
+use Rattle.std.specs.Prelude.{All, ◌==◌, not}
 use Rattle.std.proofs.lemmas.List.Elements.{All-cons, All-head, All-tail, filter-append}
 use Rattle.beet_words.specs.Words.{IsWord, accepted, ones}
 use Rattle.beet_bids.specs.Books.{Book}
 use Rattle.beet_bids.specs.declared.book.Bidder.{Bidder}
-use Rattle.beet_auction.specs.Openings.{Farmer, book_of}
+use Rattle.beet_auction.specs.Openings.{Farmer, book_of, farmers_of}
 use Rattle.beet_worlds.specs.Enough.{HasAccepted}
-use Rattle.beet_worlds.specs.MappedBidders.{farmers_of}
 use Rattle.beet_worlds.proofs.InputFacts.{bidders-of}
 
 -- a book is that of its bidders with any words

@@ -6,8 +6,8 @@ use Rattle.std.proofs.lemmas.Option.{slice_get_within}
 use Rattle.beet_field.specs.declared.point.Point.{Point}
 use Rattle.beet_bids.specs.declared.book.Bidder.{Bidder}
 use Rattle.beet_gates.proofs.EachFacts.{get-append, get-append_right}
-use Rattle.beet_auction.specs.Openings.{Farmer}
-use Rattle.beet_worlds.specs.MappedBidders.{BiddersMapped, FarmerMapped, farmers_of}
+use Rattle.beet_auction.specs.Openings.{Farmer, farmers_of}
+use Rattle.beet_worlds.specs.MappedBidders.{BiddersMapped, FarmerMapped}
 use Rattle.beet_worlds.proofs.MasksBack.{get-map, some-same}
 
 abbrev pub farmer : Bidder → List ℕ → Farmer

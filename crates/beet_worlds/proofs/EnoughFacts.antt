@@ -14,10 +14,11 @@ use Rattle.beet_bids.specs.Books.{Book}
 use Rattle.beet_bids.specs.Grids.{Grid}
 use Rattle.beet_bids.specs.declared.book.Bidder.{Bidder}
 use Rattle.beet_plan.specs.Auction.{most_masks, most_coefficients}
-use Rattle.beet_auction.specs.Openings.{Farmer, auction_over}
+use Rattle.beet_auction.specs.Openings.{Farmer, auction_over, farmers_of}
 use Rattle.beet_worlds.specs.Agreement.{Agree}
 use Rattle.beet_worlds.specs.Enough.{AreEnough, HasAccepted}
-use Rattle.beet_worlds.specs.MappedBidders.{BiddersMapped, FarmerMapped, farmers_of, ones_in}
+use Rattle.beet_map.specs.Mapped.{ones_in}
+use Rattle.beet_worlds.specs.MappedBidders.{BiddersMapped, FarmerMapped}
 use Rattle.beet_worlds.specs.MappedMasks.{MasksMapped}
 use Rattle.beet_worlds.proofs.BidderFacts.{known-or}
 use Rattle.beet_worlds.proofs.EachMapped.{as-many, farmer}

@@ -18,10 +18,9 @@ use Rattle.beet_plan.specs.Runs.{sums_of}
 use Rattle.beet_plan.proofs.BookFacts.{length-sums}
 use Rattle.beet_book.specs.Totals.{supply_first}
 use Rattle.beet_server.specs.Lines.{OnLines}
-use Rattle.beet_auction.specs.Openings.{book_inputs, book_of, slope_for}
+use Rattle.beet_auction.specs.Openings.{book_inputs, book_of, slope_for, farmers_of}
 use Rattle.beet_auction.proofs.BookLines.{book-lines, slopes_of}
 use Rattle.beet_worlds.specs.InputLines.{AreInputLines, summed_slope}
-use Rattle.beet_worlds.specs.MappedBidders.{farmers_of}
 
 -- sums item by item
 pub sums-all : (items : List ℕ) (words : List (List ℕ)) (count i : ℕ) → length items ≡ count → length words ≤ i →

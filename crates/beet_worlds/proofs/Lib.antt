@@ -19,3 +19,7 @@ pub mod Disagreeing
 pub mod InputFacts
 pub mod EnoughFacts
 pub mod Drawn
+pub mod SameRuns
+pub mod CutRuns
+pub mod SeenBidders
+pub mod WorldFacts

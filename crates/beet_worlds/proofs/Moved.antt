@@ -4,7 +4,7 @@ use Rattle.beet_field.specs.Field.{p, IsElement}
 use Rattle.beet_field.specs.declared.point.Point.{Point}
 use Rattle.beet_field.specs.declared.point.Point.TheVariants.{One, Two, Three}
 use Rattle.beet_shamir.specs.Line.{point_of}
-use Rattle.beet_worlds.specs.MappedBidders.{moved_of}
+use Rattle.beet_map.specs.Mapped.{moved_of}
 
 -- the point at the server stays
 pub moved-same : (s : Point) (a x y : ℕ) → IsElement y → point_of y (moved_of s a x y) s ≡ point_of x a s

@@ -8,7 +8,8 @@ use Rattle.std.proofs.lemmas.List.Elements.{filter-append}
 use Rattle.beet_field.specs.declared.point.Point.{Point}
 use Rattle.beet_words.specs.Words.{accepted, ones}
 use Rattle.beet_bids.specs.Curves.{Curve, quantity}
-use Rattle.beet_worlds.specs.MappedBidders.{SlopesMoved, moved_of, ones_in, slope_mapped}
+use Rattle.beet_map.specs.Mapped.{moved_of, ones_in}
+use Rattle.beet_worlds.specs.MappedBidders.{SlopesMoved, slope_mapped}
 use Rattle.beet_worlds.proofs.WordPlaces.{accepted-length, accepted-some}
 
 accepted-append : (xs ys : List ℕ) → accepted (xs ++ ys) ≡ accepted xs ++ accepted ys

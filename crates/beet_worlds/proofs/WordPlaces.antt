@@ -5,7 +5,7 @@ use Rattle.std.proofs.lemmas.Bool.{cases_Bool, cases_eq}
 use Rattle.std.proofs.lemmas.List.Elements.{All-head, All-tail}
 use Rattle.beet_field.specs.Field.{p}
 use Rattle.beet_words.specs.Words.{IsWord, ones, accepted}
-use Rattle.beet_worlds.specs.MappedBidders.{ones_in}
+use Rattle.beet_map.specs.Mapped.{ones_in}
 
 head-same : (b c : Bool) (bs cs : List Bool) → b ∷ bs ≡ c ∷ cs → b ≡ c
 head-same b c bs cs e = cc e

@@ -10,8 +10,7 @@ use Rattle.beet_gates.specs.Each.{each}
 use Rattle.beet_bids.specs.Books.{Book}
 use Rattle.beet_plan.specs.Runs.{sums_of}
 use Rattle.beet_book.specs.Totals.{supply_first}
-use Rattle.beet_auction.specs.Openings.{book_inputs}
-use Rattle.beet_worlds.specs.MappedBidders.{farmers_of}
+use Rattle.beet_auction.specs.Openings.{book_inputs, farmers_of}
 
 -- the sum of the slopes for the n-th quantity of all bidders with these words
 abbrev pub summed_slope : List (List ℕ) → ℕ → ℕ

@@ -6,3 +6,8 @@ pub mod Opened
 pub mod Enough
 pub mod Disagreement
 pub mod InputLines
+pub mod MappedWords
+pub mod ViewsWith
+pub mod Moments
+pub mod MapRefusals
+pub mod Worlds

@@ -1,31 +1,16 @@
 -- The bidders' words of two worlds in which one server holds the same points.
-use Rattle.std.specs.Prelude.{◌≡◌, ◌≢◌, ◌<◌, ◌≤◌, ◌*◌, ◌==◌, ℕ, List, [], ◌∷◌, map, length, slice_index, slice_get, Some, Bool, nat_lt, if◌then◌else◌}
-use Rattle.beet_field.specs.Field.{add_of, mul_of, sub_of}
+use Rattle.std.specs.Prelude.{◌≡◌, ◌≢◌, ◌<◌, ◌≤◌, ◌*◌, ◌==◌, ℕ, List, [], ◌∷◌, length, slice_index, slice_get, Some, nat_lt, if◌then◌else◌}
 use Rattle.beet_field.specs.declared.point.Point.{Point}
-use Rattle.beet_field.specs.declared.point.Point.TheVariants.{One, Two, Three}
 use Rattle.beet_words.specs.Words.{accepted, ones}
 use Rattle.beet_bids.specs.Curves.{Curve, quantity}
 use Rattle.beet_bids.specs.declared.book.Bidder.{Bidder}
 use Rattle.beet_auction.specs.Openings.{Farmer}
-
--- the number whose product with the server's number is 1
-abbrev pub inverse_of : Point → ℕ
-inverse_of One = 1
-inverse_of Two = 1152921504606846976
-inverse_of Three = 1537228672809129301
-
--- a number that hid x, moved by what x is more than y, divided by the server's number
-abbrev pub moved_of : Point → ℕ → ℕ → ℕ → ℕ
-moved_of s number x y = add_of number (mul_of (sub_of x y) (inverse_of s))
+use Rattle.beet_map.specs.Mapped.{moved_of, ones_in}
 
 -- the n-th accepted word of a bidder in the second world: moved, for so many quantities; a word that is all ones stays
 abbrev pub slope_mapped : Point → ℕ → Curve → Curve → ℕ → ℕ → ℕ
 slope_mapped s wanted one other n word =
     if word == ones then word else (if nat_lt n wanted then moved_of s word (quantity one n) (quantity other n) else word)
-
--- the places of the words that are all ones
-abbrev pub ones_in : List ℕ → List Bool
-ones_in words = map (λ w. w == ones) words
 
 -- the words that deal two curves: with those that are all ones at the same places, the accepted word for each of so many quantities is
 -- moved by what the quantity is more than in the second curve, and all other words are the same
@@ -46,9 +31,3 @@ pub record BiddersMapped (s : Point) (prices : ℕ) (farmers farmers' : List Far
   pub count : length farmers' ≡ length farmers
   pub each_one : (k : ℕ) (one other : Farmer) → slice_get farmers k ≡ Some one → slice_get farmers' k ≡ Some other →
       FarmerMapped s (2 * prices) one other
-
--- bidders with their words, in order
-abbrev pub farmers_of : List Bidder → List (List ℕ) → List Farmer
-farmers_of [] words = []
-farmers_of (bidder ∷ bidders) [] = []
-farmers_of (bidder ∷ bidders) (list ∷ words) = record { bidder = bidder; words = list } ∷ farmers_of bidders words

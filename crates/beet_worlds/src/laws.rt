@@ -14,13 +14,17 @@ ghost use Rattle.beet_bids.specs.declared.book.Bidder.{Bidder};
 ghost use Rattle.beet_plan.specs.Auction.{auction_batch, most_rounds, most_masks, most_coefficients};
 ghost use Rattle.beet_plan.specs.Runs.{AreMasks, run_rounds, sums_of};
 ghost use Rattle.beet_plan.specs.Search.{mask_at, rejected_among, accepted_among, is_spent, dealt_until_spent, dealt_for};
-ghost use Rattle.beet_auction.specs.Openings.{Farmer, auction_over, book_inputs, book_of};
+ghost use Rattle.beet_server.specs.Runs.{HasRounds, message, shared_at};
+ghost use Rattle.beet_auction.specs.Openings.{Farmer, auction_over, book_inputs, book_of, farmers_of};
 ghost use Rattle.beet_worlds.specs.Agreement.{Agree, SameKnown};
 ghost use Rattle.beet_worlds.specs.Enough.{AreEnough};
-ghost use Rattle.beet_worlds.specs.MappedBidders.{BiddersMapped, farmers_of, ones_in};
+ghost use Rattle.beet_map.specs.Mapped.{ones_in};
+ghost use Rattle.beet_worlds.specs.MappedBidders.{BiddersMapped};
 ghost use Rattle.beet_worlds.specs.MappedMasks.{MasksMapped, lower_other, compared_in, mask_mapped};
+ghost use Rattle.beet_worlds.specs.MappedWords.{opening_with, rounds_with};
 ghost use Rattle.beet_worlds.specs.Opened.{OpensAlike};
 ghost use Rattle.beet_worlds.specs.Turn.{turned};
+ghost use Rattle.beet_worlds.specs.ViewsWith.{cut_words};
 
 /// A turned mask is turned back by what takes the number off again, a mask is all ones exactly where the turned one is, and under an
 /// accepted mask the number that has lost as much shows the same sum.
@@ -130,4 +134,17 @@ pub fn enough_words_can_be_drawn()
         most_coefficients (auction_over book.grid) ≤ length (accepted (member words.coefficients j)) }
     ensures bidders { (book : Book) (words : Words) → AreEnough book words →
         All (λ list. 2 * book.grid.prices ≤ length (accepted list)) words.bidders }
+{}
+
+/// Where words are enough, those that are not read change nothing: the run has the same rounds, points, opened numbers and messages.
+pub fn unread_words_change_nothing()
+    ensures rounds { (book : Book) (words : Words) (rounds : ℕ) → AreEnough book words →
+        HasRounds (opening_with book words) rounds →
+        rounds_with book (cut_words book.grid words) ≡ rounds }
+    ensures runs { (book : Book) (words : Words) (rounds t : ℕ) → AreEnough book words →
+        HasRounds (opening_with book words) rounds → t ≤ rounds →
+        shared_at (opening_with book (cut_words book.grid words)) t ≡ shared_at (opening_with book words) t }
+    ensures messages { (book : Book) (words : Words) (rounds t : ℕ) (from to : Point) → AreEnough book words →
+        HasRounds (opening_with book words) rounds → t < rounds →
+        message (opening_with book (cut_words book.grid words)) from to t ≡ message (opening_with book words) from to t }
 {}

@@ -1,5 +1,5 @@
-//! Two worlds of an auction that one server cannot tell apart: their books, and how the mask words and the bidders' words of one
-//! are mapped to those of the other.
+//! Two worlds of an auction that one server cannot tell apart: their books, and how the words of one are mapped to those of the
+//! other.
 #![tactic(auto)]
 
 mod agreeing;
@@ -7,6 +7,7 @@ mod bidders;
 mod differences;
 mod inputs;
 mod laws;
+mod mapping;
 mod masks;
 #[cfg(test)]
 mod tests;
@@ -20,7 +21,9 @@ pub use laws::{
     agreeing_books_open_alike, enough_words_can_be_drawn, farmers_are_bidders_and_words,
     mapped_bidders_give_the_same_points, mapped_masks_count_alike, mapped_words_are_enough,
     mapped_words_are_the_only_ones, mapped_worlds_map_back, turned_masks,
+    unread_words_change_nothing,
 };
+pub use mapping::{MapFault, world_map};
 pub use masks::map_masks;
 pub use turning::turn;
 pub use wanted::enough;

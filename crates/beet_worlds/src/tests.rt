@@ -1,4 +1,6 @@
-use crate::{Disagreement, agreement, enough, input_lines, map_bidders, map_masks, turn};
+use crate::{
+    Disagreement, MapFault, agreement, enough, input_lines, map_bidders, map_masks, turn, world_map,
+};
 use beet_bids::{Bidder, Book, Curve, Grid, Outcome};
 use beet_field::{Fe, Point, Trio};
 use beet_gates::Gates;
@@ -299,5 +301,99 @@ fn words_that_are_enough(rt: HostRuntime) -> Result<(), Fail> {
     assert!(rt; !are_enough(alloc, 3, 0, 1_535, 2)?);
     assert!(rt; !are_enough(alloc, 2, 0, 1_536, 2)?);
     assert!(rt; !are_enough(alloc, 3, 0, 1_536, 1)?);
+    Ok(())
+}
+
+/// Words for a book of one price and one bidder: masks 7, 9, 11 of each server, and the bidder's words 3 and 4.
+fn words_of_one(alloc: Global) -> Result<Words, Fail> {
+    let mut bidders = Vec::new(alloc);
+    bidders.push(words(alloc, &[3, 4])?)?;
+    Ok(Words {
+        masks: Trio {
+            one: words(alloc, &[7, 9, 11])?,
+            two: words(alloc, &[0, 0, 0])?,
+            three: words(alloc, &[0, 0, 0])?,
+        },
+        coefficients: Trio {
+            one: many(alloc, 2, 1_536)?,
+            two: many(alloc, 0, 1_536)?,
+            three: many(alloc, 1, 1_540)?,
+        },
+        bidders,
+    })
+}
+
+/// The words for server 2 in the second world.
+fn mapped(
+    alloc: Global,
+    first: (Option<Point>, u64, u64),
+    second: (Option<Point>, u64, u64),
+) -> Result<Result<Words, MapFault>, Fail> {
+    let first = book(alloc, first.0, first.1, first.2)?;
+    let second = book(alloc, second.0, second.1, second.2)?;
+    if first.grid() != second.grid() || first.grid().gates() != Gates::Chain {
+        return Err(Fail::new("two grids"));
+    }
+    let words = words_of_one(alloc)?;
+    if !enough(&first, &words) {
+        return Err(Fail::new("too few words"));
+    }
+    Ok(world_map(alloc, Point::Two, &first, &second, &words))
+}
+
+#[test]
+fn words_of_the_second_world(rt: HostRuntime) -> Result<(), Fail> {
+    let alloc = rt.alloc();
+    let Ok(mapped) = mapped(alloc, (None, 40, 35), (None, 41, 35))? else {
+        return Err(Fail::new("no map"));
+    };
+    assert!(rt; holds(&mapped.masks.one, &[5, 9, 11]));
+    assert!(rt; holds(&mapped.masks.two, &[0, 0, 0]));
+    assert!(rt; mapped.bidders.len() == 1);
+    assert!(rt; holds(&mapped.bidders[0], &[3, 1_152_921_504_606_846_979]));
+    assert_eq!(rt; mapped.coefficients.one.as_slice().len(), 1_538);
+    assert!(rt;
+        mapped
+            .coefficients
+            .two
+            .as_slice()
+            .iter()
+            .all(|word| word.value() == 1)
+    );
+    assert!(rt;
+        !mapped
+            .coefficients
+            .three
+            .as_slice()
+            .iter()
+            .all(|word| word.value() == 1 || word.is_ones())
+    );
+    Ok(())
+}
+
+#[test]
+fn refused_books(rt: HostRuntime) -> Result<(), Fail> {
+    let alloc = rt.alloc();
+    let me = Some(Point::Two);
+    assert_eq!(rt;
+        mapped(alloc, (me, 40, 35), (None, 40, 35))?.err(),
+        Some(MapFault::ShapeDiffers(1))
+    );
+    assert_eq!(rt;
+        mapped(alloc, (me, 40, 35), (me, 41, 35))?.err(),
+        Some(MapFault::OwnBidsDiffer(1))
+    );
+    let (one, other) = (
+        Outcome::Price {
+            place: 0,
+            price: 100,
+            volume: 35,
+        },
+        Outcome::No,
+    );
+    assert_eq!(rt;
+        mapped(alloc, (None, 40, 35), (None, 34, 35))?.err(),
+        Some(MapFault::OutcomesDiffer(one, other))
+    );
     Ok(())
 }

@@ -1,0 +1,66 @@
+-- A server sees the same bidders in both worlds.
+use Rattle.std.proofs.Common.{◌≡◌, ◌≢◌, ◌+◌, ◌*◌, ℕ, suc, inl, inr, Bool, false, List, [], ◌∷◌, map, take, slice_get, Option, Some, None, refl, sym, ap, ◌∙◌, arith}
+use Rattle.std.specs.Prelude.{All, if◌then◌else◌}
+use Rattle.std.proofs.lemmas.List.Elements.{All-head, All-tail}
+use Rattle.beet_field.specs.declared.point.Point.{Point}
+use Rattle.beet_field.specs.declared.point.Point.TheVariants.{One, Two, Three}
+use Rattle.beet_gates.specs.Each.{each}
+use Rattle.beet_gates.proofs.EachFacts.{each-same}
+use Rattle.beet_bids.specs.Curves.{Curve, IsCurve}
+use Rattle.beet_bids.specs.Grids.{Grid}
+use Rattle.beet_auction.specs.Openings.{Farmer, point_for}
+use Rattle.beet_view.specs.BookViews.{names, seen_at}
+use Rattle.beet_worlds.specs.Enough.{HasAccepted}
+use Rattle.beet_worlds.specs.MappedBidders.{BiddersMapped, FarmerMapped}
+use Rattle.beet_worlds.proofs.BidderFacts.{first-mapped, known-or, point-same, rest-mapped}
+use Rattle.beet_worlds.proofs.CutRuns.{cut, point-cut}
+
+names-not : (known : Option Point) (s : Point) → known ≢ Some s → names known s ≡ false
+names-not None s ne = refl
+names-not (Some One) One ne = absurd (ne refl)
+names-not (Some One) Two ne = refl
+names-not (Some One) Three ne = refl
+names-not (Some Two) One ne = refl
+names-not (Some Two) Two ne = absurd (ne refl)
+names-not (Some Two) Three ne = refl
+names-not (Some Three) One ne = refl
+names-not (Some Three) Two ne = refl
+names-not (Some Three) Three ne = absurd (ne refl)
+
+shown : Bool → Curve → List ℕ → Option (Curve × List ℕ)
+shown b curve words = if b then Some (curve, words) else None
+
+module _ (s : Point) (grid : Grid) where
+  seen-same : (one other : Farmer) → IsCurve other.bidder.curve → (one.bidder.known ≡ Some s → other.bidder.curve ≡ one.bidder.curve) →
+      FarmerMapped s (2 * grid.prices) one other → HasAccepted (2 * grid.prices) one.words → HasAccepted (2 * grid.prices) other.words →
+      seen_at grid s (cut (2 * grid.prices) other) ≡ seen_at grid s (cut (2 * grid.prices) one)
+  unfolding shown
+  seen-same one other c own m h h' =
+      let wanted = 2 * grid.prices in
+      let points : each (point_for (cut wanted other) s) wanted ≡ each (point_for (cut wanted one) s) wanted =
+      each-same (point_for (cut wanted other) s) (point_for (cut wanted one) s) wanted
+      (λ n lt. point-cut wanted other h' s n lt ∙ point-same s wanted one other c own m n lt ∙ sym (point-cut wanted one h s n lt)) in
+      let secret : shown (names other.bidder.known s) other.bidder.curve (take (wanted + 8) other.words)
+      ≡ shown (names one.bidder.known s) one.bidder.curve (take (wanted + 8) one.words) =
+      elim (known-or one.bidder.known s) [
+        | inl known ↦ λ x. shown (names (m.known x) s) (own known x) (take (wanted + 8) (m.own known x))
+        | inr unknown ↦
+            let no : names one.bidder.known s ≡ false = names-not one.bidder.known s unknown in
+            (λ x. shown ((ap (λ k. names k s) m.known ∙ no) x) other.bidder.curve (take (wanted + 8) other.words))
+            ∙ sym (λ x. shown (no x) one.bidder.curve (take (wanted + 8) one.words))
+      ] in
+      λ x. record { known = m.known x; points = points x; own = secret x }
+
+  pub seen-all : (farmers farmers' : List Farmer) → BiddersMapped s grid.prices farmers farmers' → All (λ farmer. IsCurve farmer.bidder.curve) farmers' →
+      ((k : ℕ) (one other : Farmer) → slice_get farmers k ≡ Some one → slice_get farmers' k ≡ Some other → one.bidder.known ≡ Some s → other.bidder.curve ≡ one.bidder.curve) →
+      All (λ (f : Farmer). HasAccepted (2 * grid.prices) f.words) farmers → All (λ (f : Farmer). HasAccepted (2 * grid.prices) f.words) farmers' →
+      map (seen_at grid s) (map (cut (2 * grid.prices)) farmers') ≡ map (seen_at grid s) (map (cut (2 * grid.prices)) farmers)
+  seen-all [] [] m c own h h' = refl
+  seen-all [] (g ∷ gs) m c own h h' = absurd (omega (arith, m.count))
+  seen-all (f ∷ fs) [] m c own h h' = absurd (omega (arith, m.count))
+  seen-all (f ∷ fs) (g ∷ gs) m c own h h' =
+      let here = seen-same f g (All-head (λ farmer. IsCurve farmer.bidder.curve) g gs c) (own 0 f g refl refl) (first-mapped s grid.prices f g fs gs m)
+      (All-head (λ (f : Farmer). HasAccepted (2 * grid.prices) f.words) f fs h) (All-head (λ (f : Farmer). HasAccepted (2 * grid.prices) f.words) g gs h') in
+      let rest = seen-all fs gs (rest-mapped s grid.prices f g fs gs m) (All-tail (λ farmer. IsCurve farmer.bidder.curve) g gs c) (λ k one other a b. own (suc k) one other a b)
+      (All-tail (λ (f : Farmer). HasAccepted (2 * grid.prices) f.words) f fs h) (All-tail (λ (f : Farmer). HasAccepted (2 * grid.prices) f.words) g gs h') in
+      λ x. here x ∷ rest x

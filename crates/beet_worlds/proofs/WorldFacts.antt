@@ -1,0 +1,384 @@
+-- The words of the second world: what is said of them.
+use Rattle.std.proofs.Common.{◌≡◌, ◌≤◌, ◌+◌, ◌*◌, ℕ, List, map, take, length, sym, ap, subst, ◌∙◌, arith}
+use Rattle.std.proofs.lemmas.List.{length-map}
+use Rattle.beet_field.specs.Trio.{member}
+use Rattle.beet_field.specs.declared.point.Point.{Point}
+use Rattle.beet_field.specs.declared.point.Point.TheVariants.{One, Two, Three}
+use Rattle.beet_field.specs.declared.trio.Trio.{Trio}
+use Rattle.beet_shamir.specs.declared.Line.{Line}
+use Rattle.beet_words.specs.Bundles.{Words, AreWords}
+use Rattle.beet_gates.specs.Clear.{clear_values}
+use Rattle.beet_gates.specs.Scripts.{HasWords}
+use Rattle.beet_bids.specs.Books.{Book, IsBook}
+use Rattle.beet_bids.specs.Grids.{Grid}
+use Rattle.beet_bids.specs.declared.book.Bidder.{Bidder}
+use Rattle.beet_plan.specs.Auction.{auction_batch, most_coefficients, most_masks, most_rounds}
+use Rattle.beet_plan.specs.Runs.{AreMasks}
+use Rattle.beet_plan.proofs.BookFacts.{length-sums}
+use Rattle.beet_round.specs.Sides.{peer}
+use Rattle.beet_round.specs.declared.sides.Side.TheVariants.{Low, High}
+use Rattle.beet_server.specs.Events.{Triple, after, passed}
+use Rattle.beet_server.specs.Runs.{HasRounds, Opening, numbers_of, of_each, rounds_among}
+use Rattle.beet_server.proofs.EventFacts.{passed_most, sent_parts, was_sent_parts}
+use Rattle.beet_server.proofs.Lined.{member-each}
+use Rattle.beet_auction.specs.Openings.{Farmer, auction_over, book_of, book_opening, farmers_of}
+use Rattle.beet_view.specs.BookViews.{seen_at}
+use Rattle.beet_view.specs.RunViews.{round_seen, rounds_seen}
+use Rattle.beet_map.specs.Mapped.{GateMapped, LooksAlike, run_with}
+use Rattle.beet_map.specs.Mapped.{AreWords as AreAllWords}
+use Rattle.beet_map.specs.Refused.{HasSecrets}
+use Rattle.beet_map.specs.Worlds.{World}
+use Rattle.beet_map.proofs.Rounds.{rounds_are}
+use Rattle.beet_worlds.specs.Agreement.{Agree, SameKnown}
+use Rattle.beet_worlds.specs.Enough.{AreEnough, HasAccepted}
+use Rattle.beet_worlds.specs.InputLines.{AreInputLines}
+use Rattle.beet_worlds.specs.MappedBidders.{BiddersMapped}
+use Rattle.beet_worlds.specs.MappedMasks.{MasksMapped}
+use Rattle.beet_worlds.specs.MappedWords.{Mapped, opening_with, rounds_with}
+use Rattle.beet_worlds.specs.Moments.{SameAfter}
+use Rattle.beet_worlds.specs.ViewsWith.{cut_words, view_with}
+use Rattle.beet_worlds.specs.Worlds.{CoefficientsMapped, LookSameIn, WorldsMapped}
+use Rattle.beet_worlds.proofs.BidderFacts.{bidders-only, curves-of, inputs-same, mapped-back}
+use Rattle.beet_worlds.proofs.BookWorlds.{opens-alike}
+use Rattle.beet_worlds.proofs.CutRuns.{farmers-cut, farmers-have, rounds-few, seen-cut}
+use Rattle.beet_worlds.proofs.Drawn.{book-whole, drawn-of, farmers-words, words-told}
+use Rattle.beet_worlds.proofs.EachMapped.{as-many}
+use Rattle.beet_worlds.proofs.EnoughFacts.{mapped-enough}
+use Rattle.beet_worlds.proofs.InputFacts.{bidders-of}
+use Rattle.beet_worlds.proofs.MaskFacts.{own-same}
+use Rattle.beet_worlds.proofs.MasksBack.{get-map, masks-back, masks-only}
+use Rattle.beet_worlds.proofs.SameRuns.{each-alike, sends-same}
+use Rattle.beet_worlds.proofs.SeenBidders.{seen-all}
+use Rattle.beet_worlds.proofs.Small.{word-small}
+
+-- what holds once both books agree, and the masks and the bidders' words are mapped
+pub record Stands (me : Point) (first second : Book) (words : Words) (masks : Trio (List ℕ)) (bidders : List (List ℕ)) (lines lines' : List Line) : Type 0 where
+  pub agree : Agree me first second
+  pub enough : AreEnough first words
+  pub is_book : IsBook first
+  pub is_book' : IsBook second
+  pub are_words : AreWords words
+  pub lists : length bidders ≡ length words.bidders
+  pub masks_mapped : MasksMapped me first second words.masks masks
+  pub bidders_mapped : BiddersMapped me first.grid.prices (farmers_of first.bidders words.bidders) (farmers_of second.bidders bidders)
+  pub here : AreInputLines first words.bidders lines
+  pub there : AreInputLines second bidders lines'
+
+are-masks : (words : Words) → AreWords words → AreMasks words.masks
+are-masks words w = record { one = w.masks.0; two = w.masks.1; three = w.masks.2 }
+
+all-words : (words : Words) → AreWords words → AreAllWords words.coefficients
+all-words words w One n = word-small words.coefficients.one w.coefficients.0 n
+all-words words w Two n = word-small words.coefficients.two w.coefficients.1 n
+all-words words w Three n = word-small words.coefficients.three w.coefficients.2 n
+
+has-secrets : (book : Book) (words : List (List ℕ)) (masks : Trio (List ℕ)) (lines : List Line) → AreInputLines book words lines →
+    HasWords (most_masks (auction_over book.grid)) masks → HasSecrets (2 * book.grid.prices) (most_masks (auction_over book.grid)) (record { inputs = lines; masks = masks })
+has-secrets book words masks lines a h = record {
+  inputs = sym (length-map lines (λ (l : Line). l.value)) ∙ ap length a.values ∙ length-sums book;
+  masks = h;
+}
+
+enough-masks : (me : Point) (first second : Book) (masks masks' : Trio (List ℕ)) (n : ℕ) → MasksMapped me first second masks masks' → HasWords n masks → HasWords n masks'
+enough-masks me first second masks masks' n m h =
+    let one = m.lengths One in
+    let two = m.lengths Two in
+    let three = m.lengths Three in
+    (omega (arith, one, h.0), omega (arith, two, h.1), omega (arith, three, h.2))
+
+pub enough-numbers : (book : Book) (words : Words) → AreEnough book words → HasWords (most_coefficients (auction_over book.grid)) (numbers_of words.coefficients)
+enough-numbers book words e =
+    let n : ℕ = most_coefficients (auction_over book.grid) in
+    (drawn-of n words.coefficients.one e.one, drawn-of n words.coefficients.two e.two, drawn-of n words.coefficients.three e.three)
+
+-- the opening of a world of lines is that of the book
+begun : (book : Book) (words : List (List ℕ)) (masks coefficients : Trio (List ℕ)) (lines : List Line) → AreInputLines book words lines →
+    run_with (auction_batch (auction_over book.grid)) (record { inputs = lines; masks = masks }) coefficients
+    ≡ book_opening book.grid (farmers_of book.bidders words) masks coefficients
+begun book words masks coefficients lines a = λ x. record {
+  next = auction_batch (auction_over book.grid);
+  inputs = record { one = a.points One x; two = a.points Two x; three = a.points Three x };
+  masks = masks;
+  numbers = numbers_of coefficients;
+}
+
+gate-along : (me : Point) (most : ℕ) (o p o' p' : Opening) → o ≡ p → o' ≡ p' → GateMapped me (rounds_among o most) o o' → GateMapped me (rounds_among p most) p p'
+gate-along me most o p o' p' e e' g =
+    subst (λ x. GateMapped me (rounds_among p most) p x) e' (subst (λ x. GateMapped me (rounds_among x most) x o') e g)
+
+look-along : (me : Point) (most : ℕ) (o p o' p' : Opening) → o ≡ p → o' ≡ p' → LooksAlike me (rounds_among o most) o o' → LooksAlike me (rounds_among p most) p p'
+look-along me most o p o' p' e e' g =
+    subst (λ x. LooksAlike me (rounds_among p most) p x) e' (subst (λ x. LooksAlike me (rounds_among x most) x o') e g)
+
+-- two books over one grid
+module _ (me : Point) (grid : Grid) (bidders others : List Bidder) (words : Words) (masks : Trio (List ℕ)) (lists : List (List ℕ)) (lines lines' : List Line)
+    (s : Stands me (record { grid = grid; bidders = bidders }) (record { grid = grid; bidders = others }) words masks lists lines lines') where
+  abbrev first : Book
+  first = record { grid = grid; bidders = bidders }
+
+  abbrev second : Book
+  second = record { grid = grid; bidders = others }
+
+  abbrev world : World
+  world = record { inputs = lines; masks = words.masks }
+
+  abbrev world' : World
+  world' = record { inputs = lines'; masks = masks }
+
+  abbrev farmers : List Farmer
+  farmers = farmers_of bidders words.bidders
+
+  abbrev farmers' : List Farmer
+  farmers' = farmers_of others lists
+
+  count : length lists ≡ length others
+  count = s.lists ∙ s.enough.count ∙ sym (as-many bidders others s.agree.marks)
+
+  whole : book_of grid farmers ≡ first
+  whole = book-whole first words.bidders s.enough.count
+
+  whole' : book_of grid farmers' ≡ second
+  whole' = book-whole second lists count
+
+  farmers-book : IsBook (book_of grid farmers)
+  farmers-book = subst IsBook (sym whole) s.is_book
+
+  farmers-book' : IsBook (book_of grid farmers')
+  farmers-book' = subst IsBook (sym whole') s.is_book'
+
+  own-known : SameKnown me (book_of grid farmers) (book_of grid farmers')
+  own-known = subst (λ b. SameKnown me b (book_of grid farmers')) (sym whole) (subst (λ b. SameKnown me first b) (sym whole') s.agree.own)
+
+  pub secrets-here : HasSecrets (2 * grid.prices) (most_masks (auction_over grid)) world
+  secrets-here = has-secrets first words.bidders words.masks lines s.here s.enough.masks
+
+  pub secrets-there : HasSecrets (2 * grid.prices) (most_masks (auction_over grid)) world'
+  secrets-there =
+      has-secrets second lists masks lines' s.there
+      (enough-masks me first second words.masks masks (most_masks (auction_over grid)) s.masks_mapped s.enough.masks)
+
+  -- the server cannot tell the worlds
+  pub look-same : LookSameIn grid me world world'
+  look-same =
+      let opens = opens-alike me first second words.masks masks s.is_book s.is_book' s.agree (are-masks words s.are_words) s.enough.masks s.masks_mapped in
+      let run : List ℕ → Trio (List ℕ) → List ℕ = λ values words. (clear_values (auction_batch (auction_over grid)) (most_rounds (auction_over grid)) values words).opened in
+      record {
+        shares = s.here.points me ∙ sym (inputs-same me grid farmers farmers' farmers-book' own-known s.bidders_mapped) ∙ sym (s.there.points me);
+        words = ap (take (most_masks (auction_over grid))) (sym (own-same first second words.masks masks me s.masks_mapped));
+        opened = ap (λ v. run v words.masks) s.here.values ∙ sym opens.in_the_end ∙ sym (ap (λ v. run v masks) s.there.values);
+      }
+
+  module _ (coefficients : Trio (List ℕ)) (c : CoefficientsMapped grid me world world' words.coefficients coefficients)
+      (are_words' : AreWords (record { masks = masks; coefficients = coefficients; bidders = lists })) where
+    abbrev words' : Words
+    words' = record { masks = masks; coefficients = coefficients; bidders = lists }
+
+    abbrev most : ℕ
+    most = most_rounds (auction_over grid)
+
+    abbrev here : Opening
+    here = opening_with first words
+
+    abbrev there : Opening
+    there = opening_with second words'
+
+    begun-here : run_with (auction_batch (auction_over grid)) world words.coefficients ≡ here
+    begun-here = begun first words.bidders words.masks words.coefficients lines s.here
+
+    begun-there : run_with (auction_batch (auction_over grid)) world' coefficients ≡ there
+    begun-there = begun second lists masks coefficients lines' s.there
+
+    look : LooksAlike me (rounds_with first words) here there
+    look =
+        look-along me most (run_with (auction_batch (auction_over grid)) world words.coefficients) here
+        (run_with (auction_batch (auction_over grid)) world' coefficients) there begun-here begun-there c.looks
+
+    mapped : Mapped me first words second words'
+    mapped = record {
+      lists = s.lists;
+      are_words = s.are_words;
+      are_words' = are_words';
+      masks = s.masks_mapped;
+      bidders = s.bidders_mapped;
+      places = c.mapped.places;
+      own = c.mapped.own;
+      numbers = gate-along me most (run_with (auction_batch (auction_over grid)) world words.coefficients) here
+          (run_with (auction_batch (auction_over grid)) world' coefficients) there begun-here begun-there c.mapped.numbers;
+    }
+
+    enough : AreEnough second words'
+    enough = mapped-enough me first second words words' s.agree s.masks_mapped c.mapped.places count s.bidders_mapped s.enough
+
+    masks-me : member masks me ≡ member words.masks me
+    masks-me = own-same first second words.masks masks me s.masks_mapped
+
+    cut-me : (n : ℕ) (t t' : Trio (List ℕ)) → member t' me ≡ member t me → member (of_each (take n) t') me ≡ member (of_each (take n) t) me
+    cut-me n t t' e = member-each (take n) t' me ∙ ap (take n) e ∙ sym (member-each (take n) t me)
+
+    -- what the server sees
+    seen-bidders : map (seen_at grid me) (farmers_of others (map (take (2 * grid.prices + 8)) lists))
+        ≡ map (seen_at grid me) (farmers_of bidders (map (take (2 * grid.prices + 8)) words.bidders))
+    seen-bidders =
+        let wanted = 2 * grid.prices in
+        ap (map (seen_at grid me)) (farmers-cut wanted others lists)
+        ∙ seen-all me grid farmers farmers' s.bidders_mapped (curves-of farmers' farmers-book'.curves)
+        (λ i one other e f known. own-known i one.bidder other.bidder (get-map (λ (farmer : Farmer). farmer.bidder) farmers i one e)
+        (get-map (λ (farmer : Farmer). farmer.bidder) farmers' i other f) known)
+        (farmers-have (HasAccepted wanted) bidders words.bidders s.enough.bidders) (farmers-have (HasAccepted wanted) others lists enough.bidders)
+        ∙ sym (ap (map (seen_at grid me)) (farmers-cut wanted bidders words.bidders))
+
+    seen-rounds : rounds_seen (opening_with second (cut_words grid words')) me (rounds_among (opening_with second (cut_words grid words')) most)
+        ≡ rounds_seen (opening_with first (cut_words grid words)) me (rounds_among (opening_with first (cut_words grid words)) most)
+    seen-rounds =
+        let rounds = rounds_with first words in
+        seen-cut second words' enough rounds look.second_ends me
+        ∙ each-alike (round_seen there me) (round_seen here me) rounds (λ t lt. λ x. (look.messages t lt (peer me Low) x, look.messages t lt (peer me High) x))
+        ∙ sym (seen-cut first words s.enough rounds look.first_ends me)
+
+    looks : view_with second words' me ≡ view_with first words me
+    looks = λ x. record {
+      server = me;
+      grid = grid;
+      bidders = seen-bidders x;
+      masks = cut-me (most_masks (auction_over grid)) words.masks masks masks-me x;
+      coefficients = cut-me (most_coefficients (auction_over grid) + 8) words.coefficients coefficients c.mapped.own x;
+      rounds = seen-rounds x;
+    }
+
+    -- at every moment
+    rounds-same : rounds_with second words' ≡ rounds_with first words
+    rounds-same = rounds_are there most (rounds_with first words) look.second_ends (rounds-few first words s.enough (rounds_with first words) look.first_ends)
+
+    moments : (es : List Triple) → SameAfter me here (rounds_with first words) there (rounds_with second words') es
+    moments es =
+        let rounds = rounds_with first words in
+        let t = passed rounds (after rounds es) me in
+        let le : t ≤ rounds = passed_most rounds (after rounds es) me in
+        record {
+          delivered = ap (λ n. after n es) rounds-same;
+          passed_rounds = ap (λ n. passed n (after n es) me) rounds-same;
+          received = λ from r is. look.messages r (was_sent_parts rounds es from me r is).1.0 from;
+          points = look.points t le;
+          standing = look.standing t le;
+          opened = look.opened t le;
+          sent = λ to r is.
+              sends-same here.next here.inputs here.masks here.numbers there.inputs there.masks there.numbers me rounds look.opened look.standing masks-me
+              mapped.numbers.own r (let lt = (sent_parts rounds (after rounds es) (record { from = me; to = to; round = r }) is).1.0 in omega (arith, lt)) to;
+        }
+
+    -- one to one
+    only : (other : Words) → Mapped me first words second other → other ≡ words'
+    only other m =
+        let masks_same : other.masks ≡ masks = masks-only first second words.masks me other.masks masks m.masks s.masks_mapped in
+        let long : length other.bidders ≡ length others = m.lists ∙ sym s.lists ∙ count in
+        let bidders_same : other.bidders ≡ lists =
+        words-told others other.bidders lists long count
+        (bidders-only me grid.prices farmers (farmers_of others other.bidders) farmers' (bidders-of others other.bidders long ∙ sym (bidders-of others lists count))
+        m.bidders s.bidders_mapped) in
+        let there_same : opening_with second other ≡ run_with (auction_batch (auction_over grid)) world' other.coefficients =
+        (λ x. book_opening grid (farmers_of others (bidders_same x)) (masks_same x) other.coefficients)
+        ∙ sym (begun second lists masks other.coefficients lines' s.there) in
+        let same : other.coefficients ≡ coefficients = c.only other.coefficients (record {
+          places = m.places;
+          own = m.own;
+          numbers = gate-along me most here (run_with (auction_batch (auction_over grid)) world words.coefficients)
+              (opening_with second other) (run_with (auction_batch (auction_over grid)) world' other.coefficients) (sym begun-here) there_same m.numbers;
+        }) in
+        λ x. record { masks = masks_same x; coefficients = same x; bidders = bidders_same x }
+
+    back : (other : Words) → Mapped me first other second words' → other ≡ words
+    back other m =
+        let masks_same : other.masks ≡ words.masks =
+        masks-only second first masks me other.masks words.masks (masks-back me first second s.agree other.masks masks (are-masks other m.are_words) m.masks)
+        (masks-back me first second s.agree words.masks masks (are-masks words s.are_words) s.masks_mapped) in
+        let long : length other.bidders ≡ length bidders = sym m.lists ∙ s.lists ∙ s.enough.count in
+        let others_book : IsBook (book_of grid (farmers_of bidders other.bidders)) = subst IsBook (sym (book-whole first other.bidders long)) s.is_book in
+        let bidders_same : other.bidders ≡ words.bidders =
+        words-told bidders other.bidders words.bidders long s.enough.count
+        (bidders-only me grid.prices farmers' (farmers_of bidders other.bidders) farmers (bidders-of bidders other.bidders long ∙ sym (bidders-of bidders words.bidders s.enough.count))
+        (mapped-back me grid (farmers_of bidders other.bidders) farmers' farmers-book' others_book (farmers-words bidders other.bidders m.are_words.bidders) m.bidders)
+        (mapped-back me grid farmers farmers' farmers-book' farmers-book (farmers-words bidders words.bidders s.are_words.bidders) s.bidders_mapped)) in
+        let here_same : opening_with first other ≡ run_with (auction_batch (auction_over grid)) world other.coefficients =
+        (λ x. book_opening grid (farmers_of bidders (bidders_same x)) (masks_same x) other.coefficients)
+        ∙ sym (begun first words.bidders words.masks other.coefficients lines s.here) in
+        let same : other.coefficients ≡ words.coefficients = c.back other.coefficients (all-words other m.are_words) (record {
+          places = m.places;
+          own = m.own;
+          numbers = gate-along me most (opening_with first other) (run_with (auction_batch (auction_over grid)) world other.coefficients)
+              there (run_with (auction_batch (auction_over grid)) world' coefficients) here_same (sym begun-there) m.numbers;
+        }) in
+        λ x. record { masks = masks_same x; coefficients = same x; bidders = bidders_same x }
+
+    all-mapped : WorldsMapped me first words second words'
+    all-mapped = record {
+      mapped = mapped;
+      enough = enough;
+      ends = look.first_ends;
+      ends' = subst (λ n. HasRounds there n) (sym rounds-same) look.second_ends;
+      looks = looks;
+      moments = moments;
+      only = only;
+      back = back;
+    }
+
+-- two books with equal grids
+abbrev over : Grid → List Bidder → Book
+over grid bidders = record { grid = grid; bidders = bidders }
+
+-- the same of two worlds, the first with the masks of the words
+module _ (me : Point) (first second : Book) (words : Words) (lists : List (List ℕ)) (w w' : World) (grids : second.grid ≡ first.grid) (grid : Grid) (is_grid : grid ≡ first.grid)
+    (masks_here : w.masks ≡ words.masks) (stands : Stands me first second words w'.masks lists w.inputs w'.inputs) where
+  moved : Stands me first (over first.grid second.bidders) words w'.masks lists w.inputs w'.inputs
+  moved = subst (λ g. Stands me first (over g second.bidders) words w'.masks lists w.inputs w'.inputs) grids stands
+
+  is_world : record { inputs = w.inputs; masks = words.masks } ≡ w
+  is_world = λ x. record { inputs = w.inputs; masks = sym masks_here x }
+
+  pub secrets-first : HasSecrets (2 * grid.prices) (most_masks (auction_over grid)) w
+  secrets-first =
+      subst (λ g. HasSecrets (2 * g.prices) (most_masks (auction_over g)) w) (sym is_grid)
+      (subst (λ v. HasSecrets (2 * first.grid.prices) (most_masks (auction_over first.grid)) v) is_world
+      (secrets-here me first.grid first.bidders second.bidders words w'.masks lists w.inputs w'.inputs moved))
+
+  pub secrets-second : HasSecrets (2 * grid.prices) (most_masks (auction_over grid)) w'
+  secrets-second =
+      subst (λ g. HasSecrets (2 * g.prices) (most_masks (auction_over g)) w') (sym is_grid)
+      (secrets-there me first.grid first.bidders second.bidders words w'.masks lists w.inputs w'.inputs moved)
+
+  pub numbers-first : HasWords (most_coefficients (auction_over grid)) (numbers_of words.coefficients)
+  numbers-first =
+      subst (λ g. HasWords (most_coefficients (auction_over g)) (numbers_of words.coefficients)) (sym is_grid) (enough-numbers first words stands.enough)
+
+  pub look-same-in : LookSameIn grid me w w'
+  look-same-in =
+      subst (λ g. LookSameIn g me w w') (sym is_grid)
+      (subst (λ v. LookSameIn first.grid me v w') is_world
+      (look-same me first.grid first.bidders second.bidders words w'.masks lists w.inputs w'.inputs moved))
+
+  pub worlds-mapped : (coefficients : Trio (List ℕ)) → CoefficientsMapped grid me w w' words.coefficients coefficients →
+      AreWords (record { masks = w'.masks; coefficients = coefficients; bidders = lists }) →
+      WorldsMapped me first words second (record { masks = w'.masks; coefficients = coefficients; bidders = lists })
+  worlds-mapped coefficients c are_words' =
+      let here : CoefficientsMapped first.grid me (record { inputs = w.inputs; masks = words.masks }) w' words.coefficients coefficients =
+      subst (λ v. CoefficientsMapped first.grid me v w' words.coefficients coefficients) (sym is_world)
+      (subst (λ g. CoefficientsMapped g me w w' words.coefficients coefficients) is_grid c) in
+      subst (λ g. WorldsMapped me first words (over g second.bidders) (record { masks = w'.masks; coefficients = coefficients; bidders = lists })) (sym grids)
+      (all-mapped me first.grid first.bidders second.bidders words w'.masks lists w.inputs w'.inputs moved coefficients here are_words')
+
+-- what the parts answer
+pub stands-of : (me : Point) (first second : Book) (words : Words) (slice lists : List (List ℕ)) (masks masks' : Trio (List ℕ)) (lines lines' : List Line) →
+    Agree me first second → AreEnough first words → IsBook first → IsBook second → AreWords words → slice ≡ words.bidders → length lists ≡ length slice →
+    MasksMapped me first second words.masks masks → masks' ≡ masks → BiddersMapped me first.grid.prices (farmers_of first.bidders slice) (farmers_of second.bidders lists) →
+    AreInputLines first slice lines → AreInputLines second lists lines' → Stands me first second words masks' lists lines lines'
+stands-of me first second words slice lists masks masks' lines lines' agree enough b b' w same long m copy mapped here there = record {
+  agree = agree;
+  enough = enough;
+  is_book = b;
+  is_book' = b';
+  are_words = w;
+  lists = long ∙ ap length same;
+  masks_mapped = subst (λ t. MasksMapped me first second words.masks t) (sym copy) m;
+  bidders_mapped = subst (λ l. BiddersMapped me first.grid.prices (farmers_of first.bidders l) (farmers_of second.bidders lists)) same mapped;
+  here = subst (λ l. AreInputLines first l lines) same here;
+  there = there;
+}
