@@ -1,0 +1,149 @@
+-- Steps of an errand.
+use Rattle.std.proofs.Common.{◌≡◌, ◌<◌, ℕ, List, [], ◌∷◌, ◌++◌, Option, Some, None, Result, Ok, Err, true, false, refl, sym, ap, ◌∙◌, arith, append-nil, append_assoc, nat_lt, length}
+use Rattle.std.specs.Prelude.{IsSomeAnd}
+use Rattle.std.proofs.lemmas.Grind.{common_steps}
+use Rattle.beet_store.specs.Files.{File, Fetch, Told, TellsFetch, bytes_of}
+use Rattle.beet_store.specs.declared.shelf.FetchFault.TheVariants.{Failed, TooLong, OutOfMemory as NoMemory}
+use Rattle.beet_errand.specs.Errands.{Errand, Ends, Wants, unread, bad_file, too_long, after_fetch, judged, reads}
+use Rattle.beet_errand.specs.Fetches.{Leads, Went, Stops, Gives, Judges, Refuses}
+use Rattle.beet_forms.specs.Faults.{Reading, Answers}
+use Rattle.beet_forms.specs.declared.faults.ReadFault.{ReadFault}
+use Rattle.beet_forms.specs.declared.faults.ReadFault.TheVariants.{Bad, OutOfMemory as MemoryOut}
+use Rattle.beet_errand.specs.Texts.{read_fault_text}
+use Rattle.beet_forms.specs.FaultLines.{fault_line_of}
+use Rattle.beet_forms.specs.declared.faults.Place.TheVariants.{Row}
+use Rattle.beet_errand.specs.declared.answer.Status.TheVariants.{ReadFault as Unread, BadFile}
+use Rattle.beet_errand.specs.declared.answer.Stop.{Stop}
+use Rattle.beet_errand.specs.declared.answer.Stop.TheVariants.{Refused, OutOfMemory}
+
+-- nothing is fetched, and nothing is left out
+pub went_none : (told : Option Told) (errand : Errand) → Went told told errand errand
+went_none None errand = refl
+went_none (Some told) errand = ([], ap Some (ap (λ fetches. record told { fetches = fetches }) (sym (append-nil told.fetches))), refl)
+
+-- a fetch that fails refuses the errand
+pub failed_stops : (told now : Option Told) (name : List ℕ) (limit : ℕ) (stop : Stop) →
+    TellsFetch told now name (Err Failed) → Refuses Unread (read_fault_text name) stop →
+    Stops told now (Wants name limit) stop
+failed_stops None now name limit (Refused s line) t r = λ next. t
+failed_stops None now name limit OutOfMemory t r = λ next. (unread name, t)
+failed_stops (Some told) now name limit (Refused s line) t r = λ next. ((name, true) ∷ [], t.1, (refl, cc))
+failed_stops (Some told) now name limit OutOfMemory t r = λ next. (unread name, ((name, true) ∷ [], t.1, (refl, refl)))
+
+lt_true : {m n : ℕ} → m < n → nat_lt m n ≡ true
+lt_true h = grind (arith, common_steps)
+
+long_after : (files : List File) (name : List ℕ) (limit n : ℕ) (next : List ℕ → Errand) (held : Option (List ℕ)) →
+    bytes_of files name ≡ held → IsSomeAnd held (λ bytes. length bytes ≡ n) → limit < n →
+    after_fetch files name limit next false ≡ bad_file name too_long
+long_after files name limit n next None e s above = absurd s
+long_after files name limit n next (Some bytes) e s above =
+    let lt : nat_lt limit (length bytes) ≡ true = lt_true (omega arith) in
+    rw (e, lt) refl
+
+-- a file that is longer than its limit refuses the errand
+pub long_stops : (told now : Option Told) (name : List ℕ) (limit n : ℕ) (stop : Stop) →
+    TellsFetch told now name (Err (TooLong n)) → limit < n → Refuses BadFile (fault_line_of name (Row 0) 20) stop →
+    Stops told now (Wants name limit) stop
+long_stops None now name limit n (Refused s line) t above r = λ next. t
+long_stops None now name limit n OutOfMemory t above r = λ next. (unread name, t)
+long_stops (Some told) now name limit n (Refused s line) t above r = λ next. (
+  (name, false) ∷ [],
+  t.1,
+  (refl, long_after told.files name limit n next (bytes_of told.files name) refl t.0 above ∙ cc),
+)
+long_stops (Some told) now name limit n OutOfMemory t above r = λ next. (
+  bad_file name too_long,
+  ((name, false) ∷ [], t.1, (refl, long_after told.files name limit n next (bytes_of told.files name) refl t.0 above)),
+)
+
+-- memory ran out at a fetch
+pub memory_stops : (told now : Option Told) (name : List ℕ) (limit : ℕ) →
+    TellsFetch told now name (Err NoMemory) →
+    Stops told now (Wants name limit) OutOfMemory
+memory_stops None now name limit t = λ next. (unread name, t)
+memory_stops (Some told) now name limit t = λ next. (
+  Wants name limit next,
+  ([], t.1 ∙ ap Some (ap (λ fetches. record told { fetches = fetches }) (sym (append-nil told.fetches))), refl),
+)
+
+-- two ways of an errand, one after the other
+leads_on : (files : List File) (first second : List Fetch) (errand middle rest : Errand) →
+    Leads files first errand middle → Leads files second middle rest → Leads files (first ++ second) errand rest
+leads_on files [] second errand middle rest e l = rw e l
+leads_on files (fetch ∷ first) second (Ends answer) middle rest l m = absurd l
+leads_on files (fetch ∷ first) second (Wants name limit next) middle rest l m =
+    (l.0, leads_on files first second (after_fetch files name limit next fetch.1) middle rest l.1 m)
+
+after_silence : (middle now : Option Told) (half rest : Errand) → middle ≡ None → Went middle now half rest → now ≡ None
+after_silence None now half rest e w = w
+after_silence (Some told) now half rest e w = absurd cc
+
+after_telling : (told : Told) (middle now : Option Told) (errand half rest : Errand) (first : List Fetch) →
+    middle ≡ Some (record told { fetches = told.fetches ++ first }) → Leads told.files first errand half →
+    Went middle now half rest → Went (Some told) now errand rest
+after_telling told None now errand half rest first e l w = absurd cc
+after_telling told (Some next) now errand half rest first e l (second, f, m) =
+    let files : next.files ≡ told.files = cc in
+    let fetches : next.fetches ≡ told.fetches ++ first = cc in (
+      first ++ second,
+      f ∙ ap Some (rw (files, fetches) (ap (λ list. record told { fetches = list }) (append_assoc told.fetches first second))),
+      leads_on told.files first second errand half rest l (rw files at m),
+    )
+
+pub went_on : (old middle now : Option Told) (errand half rest : Errand) →
+    Went old middle errand half → Went middle now half rest → Went old now errand rest
+went_on None middle now errand half rest e w = after_silence middle now half rest e w
+went_on (Some told) middle now errand half rest (first, e, l) w =
+    after_telling told middle now errand half rest first e l w
+
+-- a step that reads a file by its grammar: it is fetched, read and judged
+pub reads_gives : {A T : Type 0} (view : T → A) (grammar : List ℕ → Reading A) (old now : Option Told) (name : List ℕ) (limit : ℕ)
+    (bytes : List ℕ) (read : Result T ReadFault) (result : Result T Stop) →
+    ((next : List ℕ → Errand) → Went old now (Wants name limit next) (next bytes)) →
+    Answers view (grammar bytes) read → Judges name read result →
+    Gives {A = A} view old now (reads name limit grammar) result
+reads_gives view grammar old now name limit bytes (Ok value) (Ok v) w a j = λ next.
+    let way = w (λ b. judged name (grammar b) next) in
+    let same : value ≡ v = cc in
+    rw (a, same) at way
+reads_gives view grammar old now name limit bytes (Ok value) (Err stop) w a j = absurd j
+reads_gives view grammar old now name limit bytes (Err (Bad place reason)) (Ok v) w a j = absurd cc
+reads_gives view grammar old now name limit bytes (Err MemoryOut) (Ok v) w a j = absurd cc
+reads_gives view grammar old now name limit bytes (Err (Bad place reason)) (Err (Refused status line)) w a j = λ next.
+    let way = w (λ b. judged name (grammar b) next) in
+    rw (j.0, j.1) (rw a at way)
+reads_gives view grammar old now name limit bytes (Err (Bad place reason)) (Err OutOfMemory) w a j = λ next. (judged name (grammar bytes) next, w (λ b. judged name (grammar b) next))
+reads_gives view grammar old now name limit bytes (Err MemoryOut) (Err (Refused status line)) w a j = absurd cc
+reads_gives view grammar old now name limit bytes (Err MemoryOut) (Err OutOfMemory) w a j = λ next. (judged name (grammar bytes) next, w (λ b. judged name (grammar b) next))
+
+-- a step whose file cannot be fetched stops
+pub reads_stops : {A : Type 0} (grammar : List ℕ → Reading A) (old now : Option Told) (name : List ℕ) (limit : ℕ) (stop : Stop) →
+    Stops old now (Wants name limit) stop → Stops {A = A} old now (reads name limit grammar) stop
+reads_stops grammar old now name limit (Refused status line) s = λ next. s (λ bytes. judged name (grammar bytes) next)
+reads_stops grammar old now name limit OutOfMemory s = λ next. s (λ bytes. judged name (grammar bytes) next)
+
+-- a step that stops before it does anything
+pub nothing_stops : {A : Type 0} (told : Option Told) (step : (A → Errand) → Errand) → Stops {A = A} told told step OutOfMemory
+nothing_stops told step = λ next. (step next, went_none told (step next))
+
+-- a step that stops, before another that would take its value
+pub stops_before : {A B : Type 0} (old now : Option Told) (step : (A → Errand) → Errand) (inner : A → (B → Errand) → Errand) (stop : Stop) →
+    Stops old now step stop → Stops {A = B} old now (λ next. step (λ a. inner a next)) stop
+stops_before old now step inner (Refused status line) s = λ next. s (λ a. inner a next)
+stops_before old now step inner OutOfMemory s = λ next. s (λ a. inner a next)
+
+-- a step that stops, after another that gave its value
+pub stops_after : {A B : Type 0} (old middle now : Option Told) (step : (A → Errand) → Errand) (inner : A → (B → Errand) → Errand) (value : A) (stop : Stop) →
+    ((next : A → Errand) → Went old middle (step next) (next value)) → Stops middle now (inner value) stop →
+    Stops {A = B} old now (λ next. step (λ a. inner a next)) stop
+stops_after old middle now step inner value (Refused status line) w s = λ next.
+    went_on old middle now _ _ _ (w (λ a. inner a next)) (s next)
+stops_after old middle now step inner value OutOfMemory w s = λ next.
+    let (rest, went) = s next in (rest, went_on old middle now _ _ _ (w (λ a. inner a next)) went)
+
+-- two steps that give their values
+pub gives_after : {A B : Type 0} (old middle now : Option Told) (step : (A → Errand) → Errand) (inner : A → (B → Errand) → Errand) (value : A) (last : B) →
+    ((next : A → Errand) → Went old middle (step next) (next value)) → ((next : B → Errand) → Went middle now (inner value next) (next last)) →
+    (next : B → Errand) → Went old now (step (λ a. inner a next)) (next last)
+gives_after old middle now step inner value last w v = λ next. went_on old middle now _ _ _ (w (λ a. inner a next)) (v next)

@@ -1,0 +1,57 @@
+-- What a job does outside before it answers: it fetches files, one after another, and judges each before the next.
+use Rattle.std.specs.Prelude.{ℕ, List, [], length, Option, Some, None, Ok, Err, Bool, nat_lt, if◌then◌else◌}
+use Rattle.beet_store.specs.Files.{File, bytes_of}
+use Rattle.beet_forms.specs.Faults.{Fault, Reading, at_row}
+use Rattle.beet_errand.specs.declared.answer.Status.{Status}
+use Rattle.beet_errand.specs.declared.answer.Status.TheVariants.{ReadFault, BadFile}
+use Rattle.beet_errand.specs.Texts.{read_fault_text}
+use Rattle.beet_forms.specs.FaultLines.{fault_line_of}
+
+-- what a job answers: its status, the files that it puts, in order, and the text that it says after them
+pub record Answer : Type 0 where
+  pub status : Status
+  pub files : List File
+  pub text : List ℕ
+
+-- an errand ends with its answer, or wants the file of a name, of at most so many bytes, which say how it goes on
+pub data Errand : Type 0 where
+  Ends : Answer → Errand
+  Wants : List ℕ → ℕ → (List ℕ → Errand) → Errand
+
+-- an answer that puts no file
+abbrev pub text_answer : Status → List ℕ → Answer
+text_answer status text = record { status = status; files = []; text = text }
+
+-- the errand ends with this status and this text, and puts no file
+abbrev pub answers : Status → List ℕ → Errand
+answers status text = Ends (text_answer status text)
+
+-- the file cannot be fetched
+abbrev pub unread : List ℕ → Errand
+unread name = answers ReadFault (read_fault_text name)
+
+-- the file breaks its format at a place, for a reason
+abbrev pub bad_file : List ℕ → Fault → Errand
+bad_file name fault = answers BadFile (fault_line_of name fault.place fault.reason)
+
+-- what stands for a file that is longer than its limit
+abbrev pub too_long : Fault
+too_long = at_row 0 20
+
+-- the errand goes on with the value that a file reads as
+abbrev pub judged : {A : Type 0} → List ℕ → Reading A → (A → Errand) → Errand
+judged name (Ok value) next = next value
+judged name (Err fault) next = bad_file name fault
+
+-- the errand reads the file of a name, of at most so many bytes, by its grammar
+abbrev pub reads : {A : Type 0} → List ℕ → ℕ → (List ℕ → Reading A) → (A → Errand) → Errand
+reads name limit grammar next = Wants name limit (λ bytes. judged name (grammar bytes) next)
+
+-- how an errand goes on that wanted a file, with the bytes that are held under its name
+abbrev pub with_bytes : List ℕ → ℕ → (List ℕ → Errand) → Option (List ℕ) → Errand
+with_bytes name limit next None = unread name
+with_bytes name limit next (Some bytes) = if nat_lt limit (length bytes) then bad_file name too_long else next bytes
+
+-- how an errand goes on after a fetch that failed or did not
+abbrev pub after_fetch : List File → List ℕ → ℕ → (List ℕ → Errand) → Bool → Errand
+after_fetch files name limit next failed = if failed then unread name else with_bytes name limit next (bytes_of files name)

@@ -1,0 +1,79 @@
+-- How far a list of fetches brings an errand.
+use Rattle.std.specs.Prelude.{◌≡◌, ◌⊎◌, ℕ, List, [], ◌∷◌, ◌++◌, Option, Some, None, Result, Ok, Err}
+use Rattle.beet_store.specs.Causes.{Rose}
+use Rattle.beet_store.specs.Files.{File, Fetch, Told}
+use Rattle.beet_errand.specs.Errands.{Answer, Errand, Ends, Wants, after_fetch, answers}
+use Rattle.beet_errand.specs.declared.answer.Status.{Status}
+use Rattle.beet_errand.specs.declared.answer.Status.TheVariants.{Done, OutOfMemory as NoMemory, Usage, ReadFault as Unread, WriteFault, BadFile, MasksSpent, WorldsRefused, TooFewWords}
+use Rattle.beet_forms.specs.FaultLines.{fault_line_of}
+use Rattle.beet_forms.specs.declared.faults.ReadFault.{ReadFault}
+use Rattle.beet_forms.specs.declared.faults.ReadFault.TheVariants.{Bad, OutOfMemory as MemoryOut}
+use Rattle.beet_errand.specs.declared.answer.Stop.{Stop}
+use Rattle.beet_errand.specs.declared.answer.Stop.TheVariants.{Refused, OutOfMemory}
+
+-- over these files, exactly these fetches in order lead from the errand to what is left of it
+abbrev pub Leads : List File → List Fetch → Errand → Errand → Type 0
+Leads files [] errand rest = errand ≡ rest
+Leads files (fetch ∷ fetches) (Ends answer) rest = ⊥
+Leads files (fetch ∷ fetches) (Wants name limit next) rest =
+    (fetch.0 ≡ name) × Leads files fetches (after_fetch files name limit next fetch.1) rest
+
+-- a shelf that tells its files has recorded the fetches that lead from the errand to what is left of it
+abbrev pub Went : Option Told → Option Told → Errand → Errand → Type 0
+Went None now errand rest = now ≡ None
+Went (Some told) now errand rest =
+    (fetches : List Fetch) × (now ≡ Some (record told { fetches = told.fetches ++ fetches }))
+    × Leads told.files fetches errand rest
+
+-- a step of an errand ends it with the line that was made for it, or memory ran out on the way
+abbrev pub Stops : {A : Type 0} → Option Told → Option Told → ((A → Errand) → Errand) → Stop → Type 0
+Stops {A = A} old now step (Refused status text) =
+    (next : A → Errand) → Went old now (step next) (answers status text.items)
+Stops {A = A} old now step OutOfMemory = (next : A → Errand) → (rest : Errand) × Went old now (step next) rest
+
+-- what a step of an errand gives: the value, as `view` shows it, that the next step takes; or it stops
+abbrev pub Gives : {A T : Type 0} → (T → A) → Option Told → Option Told → ((A → Errand) → Errand) →
+    Result T Stop → Type 0
+Gives {A = A} view old now step (Ok value) = (next : A → Errand) → Went old now (step next) (next (view value))
+Gives view old now step (Err stop) = Stops old now step stop
+
+-- a test that fetches nothing: the errand goes on, or the test ends it with the line that was made for it, unless memory ran out
+abbrev pub Passes : (Errand → Errand) → Result (Unit {0}) Stop → Type 0
+Passes test (Ok done) = (next : Errand) → test next ≡ next
+Passes test (Err (Refused status text)) = (next : Errand) → test next ≡ answers status text.items
+Passes test (Err OutOfMemory) = Unit {0}
+
+-- the job is refused with this status and this line, unless memory ran out
+abbrev pub Refuses : Status → List ℕ → Stop → Type 0
+Refuses status text (Refused s line) = (s ≡ status) × (line.items ≡ text)
+Refuses status text OutOfMemory = Unit {0}
+
+-- the value of a file that was read, or the line that names its first fault
+abbrev pub Judges : {T : Type 0} → List ℕ → Result T ReadFault → Result T Stop → Type 0
+Judges name read (Ok value) = read ≡ Ok value
+Judges name (Ok v) (Err stop) = ⊥
+Judges name (Err (Bad place reason)) (Err stop) = Refuses BadFile (fault_line_of name place reason) stop
+Judges name (Err MemoryOut) (Err stop) = stop ≡ OutOfMemory
+
+-- why a job is refused: by a file that cannot be fetched only where the count of faults rose
+abbrev pub Causes : ℕ → ℕ → Stop → Type 0
+Causes before now (Refused Done text) = ⊥
+Causes before now (Refused NoMemory text) = ⊥
+Causes before now (Refused Usage text) = ⊥
+Causes before now (Refused Unread text) = Rose before now
+Causes before now (Refused WriteFault text) = ⊥
+Causes before now (Refused BadFile text) = Unit {0}
+Causes before now (Refused MasksSpent text) = ⊥
+Causes before now (Refused WorldsRefused text) = ⊥
+Causes before now (Refused TooFewWords text) = Unit {0}
+Causes before now OutOfMemory = Unit {0}
+
+-- how a job ends that is not refused
+abbrev pub IsDone : Status → Type 0
+IsDone status = (status ≡ Done) ⊎ (status ≡ MasksSpent)
+
+-- a job has gone from its errand to its end, unless memory ran out on the way
+abbrev pub Finishes : Option Told → Option Told → Errand → Result Answer Stop → Type 0
+Finishes old now errand (Ok answer) = Went old now errand (Ends answer)
+Finishes old now errand (Err (Refused status text)) = Went old now errand (answers status text.items)
+Finishes old now errand (Err OutOfMemory) = (rest : Errand) × Went old now errand rest

@@ -1,0 +1,74 @@
+//! Fetching a file, and judging it before the next one.
+
+ghost use Rattle.std.specs.Prelude.{◌≡◌, ◌≤◌, Result, Ok, Err, IfOk, IfErr, List, ℕ, vec_len};
+ghost use Rattle.beet_forms.specs.Faults.{Reading};
+ghost use Rattle.beet_forms.specs.FaultLines.{fault_line_of};
+ghost use Rattle.beet_errand.specs.Texts.{read_fault_text};
+ghost use Rattle.beet_errand.specs.Errands.{Wants};
+ghost use Rattle.beet_errand.specs.Fetches.{Gives, Causes, Judges, Refuses};
+
+use crate::answer::{Status, Stop};
+use beet_forms::{Place, ReadFault, fault_line};
+use beet_store::{FetchFault, Shelf};
+use std::alloc::{AllocError, Global};
+
+/// The line for a file that cannot be fetched.
+fn read_fault_line(alloc: Global, name: &str) -> Result<Vec<u8>, AllocError>
+    ensures { IfOk result (λ line. line.items ≡ read_fault_text name.now) }
+{
+    Ok(format!(in alloc; "read fault: {name}\n")?.into_bytes())
+}
+
+/// The reason of a file that is longer than its limit, at row 0.
+const TOO_LONG: u32 = 20;
+
+/// Refuses a job whose file cannot be fetched.
+fn unread(alloc: Global, name: &str) -> Stop
+    ensures { Refuses Status.ReadFault (read_fault_text name.now) result }
+{
+    match read_fault_line(alloc, name) {
+        Ok(line) => Stop::Refused(Status::ReadFault, line),
+        Err(_) => Stop::OutOfMemory,
+    }
+}
+
+/// Refuses a file at the first place that breaks its format.
+pub fn refuse(alloc: Global, name: &str, place: Place, reason: u32) -> Stop
+    ensures { Refuses Status.BadFile (fault_line_of name.now place reason) result }
+{
+    match fault_line(alloc, name, place, reason) {
+        Ok(line) => Stop::Refused(Status::BadFile, line),
+        Err(_) => Stop::OutOfMemory,
+    }
+}
+
+/// The whole file of the name, of at most `limit` bytes.
+pub fn fetch_file<S: Shelf>(
+    alloc: Global,
+    shelf: &mut S,
+    name: &str,
+    limit: u64,
+) -> Result<Vec<u8>, Stop>
+    ensures later { S.faults shelf.old ≤ S.faults shelf.new }
+    ensures cause { IfErr result (λ stop. Causes (S.faults shelf.old) (S.faults shelf.new) stop) }
+    ensures limited { IfOk result (λ bytes. vec_len bytes ≤ limit) }
+    ensures gives { Gives (λ bytes. bytes.items) (S.told shelf.old) (S.told shelf.new) (Wants name.now limit) result }
+{
+    match shelf.fetch(alloc, name, limit) {
+        Ok(bytes) => Ok(bytes),
+        Err(FetchFault::Failed) => Err(unread(alloc, name)),
+        Err(FetchFault::TooLong(_)) => Err(refuse(alloc, name, Place::Row(0), TOO_LONG)),
+        Err(FetchFault::OutOfMemory) => Err(Stop::OutOfMemory),
+    }
+}
+
+/// The value of a file that was read, or the line that names its first fault.
+pub fn judge<T: Drop>(alloc: Global, name: &str, read: Result<T, ReadFault>) -> Result<T, Stop>
+    ensures { Judges name.now read result }
+{
+    match read {
+        Ok(value) => Ok(value),
+        Err(ReadFault::Bad { place, reason }) => Err(refuse(alloc, name, place, reason)),
+        Err(ReadFault::OutOfMemory) => Err(Stop::OutOfMemory),
+    }
+}

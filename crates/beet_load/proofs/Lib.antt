@@ -1,0 +1,11 @@
+pub mod Farming
+pub mod Summing
+pub mod FewBidders
+pub mod ServerSteps
+pub mod Inputs
+pub mod LoadSteps
+pub mod ChainGates
+pub mod FarmerLists
+pub mod Cuts
+pub mod WholeSteps
+pub mod KeptFarmers

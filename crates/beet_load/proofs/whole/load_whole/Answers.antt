@@ -1,0 +1,16 @@
+use Rattle.std.proofs.lemmas.Result.{err_from_is_err_and}
+use Rattle.beet_errand.specs.Errands.{reads}
+use Rattle.beet_bids.specs.AuctionFiles.{auction_of}
+use Rattle.beet_load.specs.Wholes.{limited_grid}
+use Rattle.beet_errand.proofs.Steps.{stops_before}
+use Rattle.beet_load.proofs.WholeSteps.{gives_on}
+use Rattle.beet_load.proofs.whole.load_whole.Goals as goal
+
+pub returns-in_err-grid-clause-gives : goal.returns-in_err-grid-clause-gives
+returns-in_err-grid-clause-gives g c =
+    let p = err_from_is_err_and c.from_residual.result c.from_residual.ensures.1 in
+    rw (p.1, p.2) (stops_before _ _ (reads c.args.auction.now 4096 auction_of) (limited_grid c.args.servers.now c.args.book.now) _ c.in_err-grid.ensures.gives)
+
+pub returns-clause-gives : goal.returns-clause-gives
+returns-clause-gives g c =
+    gives_on _ _ _ _ (reads c.args.auction.now 4096 auction_of) (limited_grid c.args.servers.now c.args.book.now) c.in_ok-grid.grid _ c.in_ok-grid.ensures.gives (c.whole_servers.ensures.gives)

@@ -1,0 +1,9 @@
+pub mod WordTexts
+pub mod Servers
+pub mod Farmers
+pub mod FarmerViews
+pub mod Collecting
+pub mod Loading
+pub mod Limits
+pub mod Wholes
+pub mod WholeViews

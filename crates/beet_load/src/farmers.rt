@@ -1,0 +1,188 @@
+//! Reading the bidders of a book.
+
+ghost use Rattle.std.specs.Prelude.{◌≡◌, ◌≤◌, ◌<◌, ◌^◌, ◌+◌, ◌*◌, ℕ, IfErr, IfOk, length, take, decimal, option_map, None};
+ghost use Rattle.beet_forms.specs.Faults.{Answers};
+ghost use Rattle.beet_words.specs.Words.{accepted};
+ghost use Rattle.beet_words.specs.TapeFiles.{tape_of};
+ghost use Rattle.beet_words.specs.Seeds.{seed_words};
+ghost use Rattle.beet_bids.specs.Curves.{IsOfGrid, IsCurve, Curve};
+ghost use Rattle.beet_bids.specs.BidFiles.{bid_of};
+ghost use Rattle.beet_load.specs.WordTexts.{too_few_text};
+ghost use Rattle.beet_errand.specs.Errands.{reads};
+ghost use Rattle.beet_load.specs.Farmers.{words_errand, words_wanted, words_kept, farmer_errand, enough_words};
+ghost use Rattle.beet_load.specs.FarmerViews.{farmer_of};
+ghost use Rattle.beet_errand.specs.Fetches.{Gives, Causes, Refuses};
+
+use beet_bids::{Curve, Grid, read_bid};
+use beet_book::{BidderSource, Entry};
+use beet_errand::{Status, Stop, fetch_file, judge};
+use beet_forms::ReadFault;
+use beet_store::Shelf;
+use beet_words::{Tape, WordList, read_tape};
+use std::alloc::{AllocError, Global};
+
+/// The limits of a bid file and a tape file in bytes.
+const BID_LIMIT: u64 = 1_048_576;
+
+const TAPE_LIMIT: u64 = 1_048_576;
+
+/// Words that are kept of a source beyond those that are wanted, for words that are passed over.
+const SPARE_WORDS: u32 = 8;
+
+/// The curve of a bid file.
+pub(crate) fn read_curve<S: Shelf>(
+    alloc: Global,
+    shelf: &mut S,
+    grid: &Grid,
+    name: &str,
+) -> Result<Curve, Stop>
+    ensures later { S.faults shelf.old ≤ S.faults shelf.new }
+    ensures cause { IfErr result (λ stop. Causes (S.faults shelf.old) (S.faults shelf.new) stop) }
+    ensures of_grid { IfOk result (λ curve. IsOfGrid grid.now curve) }
+    ensures gives { Gives (λ curve. curve) (S.told shelf.old) (S.told shelf.new)
+        (reads name.now 1048576 (bid_of grid.now)) result }
+{
+    let bytes = fetch_file(alloc, shelf, name, BID_LIMIT)?;
+    judge(alloc, name, read_bid(alloc, grid, bytes.as_slice()))
+}
+
+/// The tape that a file reads as, cut to the words that are kept.
+fn tape_in(alloc: Global, bytes: &[u8], kept: u32) -> Result<Tape, ReadFault>
+    requires { length bytes.now ≤ 67108864 }
+    ensures fresh { IfOk result (λ tape. tape.passed ≡ 0) }
+    ensures cut { IfOk result (λ tape. length tape.words ≤ kept) }
+    ensures answers { Answers (λ tape. tape.words) (tape_of bytes.now kept) result }
+{
+    match read_tape(alloc, bytes, kept) {
+        Ok(words) => Ok(Tape::of_words(words)),
+        Err(fault) => Err(fault),
+    }
+}
+
+/// The tape of a file, cut to the words that are kept.
+pub fn read_tape_file<S: Shelf>(
+    alloc: Global,
+    shelf: &mut S,
+    name: &str,
+    kept: u32,
+) -> Result<Tape, Stop>
+    ensures later { S.faults shelf.old ≤ S.faults shelf.new }
+    ensures cause { IfErr result (λ stop. Causes (S.faults shelf.old) (S.faults shelf.new) stop) }
+    ensures fresh { IfOk result (λ tape. tape.passed ≡ 0) }
+    ensures cut { IfOk result (λ tape. length tape.words ≤ kept) }
+    ensures gives { Gives (λ tape. tape.words) (S.told shelf.old) (S.told shelf.new)
+        (reads name.now 1048576 (λ bytes. tape_of bytes kept)) result }
+{
+    let bytes = fetch_file(alloc, shelf, name, TAPE_LIMIT)?;
+    judge(alloc, name, tape_in(alloc, bytes.as_slice(), kept))
+}
+
+/// The tape of the first words of a list, in memory of its own.
+pub fn front(alloc: Global, words: &WordList, kept: u32) -> Result<Tape, AllocError>
+    ensures { IfOk result (λ tape. tape ≡ record { words = take kept words.now; passed = 0 }) }
+{
+    let words = words.as_slice();
+    let count = words.len().min(kept as usize);
+    let words = Vec::from_slice(alloc, &words[..count])?;
+    Ok(Tape::of_words(WordList::of(words)))
+}
+
+/// The tape of a source, at its first word.
+fn source_tape<S: Shelf>(
+    alloc: Global,
+    shelf: &mut S,
+    source: &BidderSource,
+    kept: u32,
+) -> Result<Tape, Stop>
+    ensures later { S.faults shelf.old ≤ S.faults shelf.new }
+    ensures cause { IfErr result (λ stop. Causes (S.faults shelf.old) (S.faults shelf.new) stop) }
+    ensures fresh { IfOk result (λ tape. tape.passed ≡ 0) }
+    ensures cut { IfOk result (λ tape. length tape.words ≤ kept) }
+    ensures gives { Gives (λ tape. tape.words) (S.told shelf.old) (S.told shelf.new)
+        (words_errand None source.now kept) result }
+{
+    match source {
+        BidderSource::Seed(seed) => match Tape::of_seed(alloc, seed, 0, kept) {
+            Ok(tape) => Ok(tape),
+            Err(_) => Err(Stop::OutOfMemory),
+        },
+        BidderSource::Tape(name) => read_tape_file(alloc, shelf, name.as_str(), kept),
+    }
+}
+
+/// The tape of the words that are given, or else of the source, at its first word.
+fn bidder_tape<S: Shelf>(
+    alloc: Global,
+    shelf: &mut S,
+    given: Option<&WordList>,
+    source: &BidderSource,
+    kept: u32,
+) -> Result<Tape, Stop>
+    ensures later { S.faults shelf.old ≤ S.faults shelf.new }
+    ensures cause { IfErr result (λ stop. Causes (S.faults shelf.old) (S.faults shelf.new) stop) }
+    ensures fresh { IfOk result (λ tape. tape.passed ≡ 0) }
+    ensures cut { IfOk result (λ tape. length tape.words ≤ kept) }
+    ensures gives { Gives (λ tape. tape.words) (S.told shelf.old) (S.told shelf.new)
+        (words_errand (option_map (λ words. words.now) given.entry) source.now kept) result }
+{
+    match given {
+        Some(words) => match front(alloc, words, kept) {
+            Ok(tape) => Ok(tape),
+            Err(_) => Err(Stop::OutOfMemory),
+        },
+        None => source_tape(alloc, shelf, source, kept),
+    }
+}
+
+/// The line for a bidder whose words are too few.
+fn too_few_line(alloc: Global, number: u32, held: u32, wanted: u32) -> Result<Vec<u8>, AllocError>
+    ensures { IfOk result (λ line. line.items ≡ too_few_text number held wanted) }
+{
+    Ok(format!(in alloc; "too few words: bidder {number} {held} of {wanted}\n")?.into_bytes())
+}
+
+/// Refuses a bidder whose words are too few.
+pub fn too_few_words(alloc: Global, number: u32, held: u32, wanted: u32) -> Stop
+    ensures { Refuses Status.TooFewWords (too_few_text number held wanted) result }
+{
+    match too_few_line(alloc, number, held, wanted) {
+        Ok(line) => Stop::Refused(Status::TooFewWords, line),
+        Err(_) => Stop::OutOfMemory,
+    }
+}
+
+/// A bidder's curve, and the tape that it deals its quantities with.
+#[derive(Drop)]
+pub struct Farmer {
+    pub curve: Curve,
+    pub tape: Tape,
+}
+
+/// The bidder of an entry of the book, which has this number, with the words that are given or those of its source.
+pub fn read_farmer<S: Shelf>(
+    alloc: Global,
+    shelf: &mut S,
+    grid: &Grid,
+    given: Option<&WordList>,
+    number: u32,
+    entry: &Entry,
+) -> Result<Farmer, Stop>
+    ensures later { S.faults shelf.old ≤ S.faults shelf.new }
+    ensures cause { IfErr result (λ stop. Causes (S.faults shelf.old) (S.faults shelf.new) stop) }
+    ensures of_grid { IfOk result (λ farmer. IsOfGrid grid.now farmer.curve) }
+    ensures curve { IfOk result (λ farmer. IsCurve farmer.curve) }
+    ensures fresh { IfOk result (λ farmer. farmer.tape.passed ≡ 0) }
+    ensures enough { IfOk result (λ farmer. words_wanted grid.now ≤ length (accepted farmer.tape.words)) }
+    ensures cut { IfOk result (λ farmer. length farmer.tape.words ≤ words_kept grid.now) }
+    ensures gives { Gives (farmer_of entry.now) (S.told shelf.old) (S.told shelf.new)
+        (farmer_errand grid.now (option_map (λ words. words.now) given.entry) number entry.now) result }
+{
+    let curve = read_curve(alloc, shelf, grid, entry.bid.as_str())?;
+    let wanted = 2 * grid.prices();
+    let tape = bidder_tape(alloc, shelf, given, &entry.source, wanted + SPARE_WORDS)?;
+    let held = tape.accepted_left();
+    if held < wanted {
+        return Err(too_few_words(alloc, number, held, wanted));
+    }
+    Ok(Farmer { curve, tape })
+}

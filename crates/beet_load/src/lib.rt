@@ -1,0 +1,23 @@
+//! Reading what a job begins with: an auction, the words of its servers, its book, and the bids and words of its bidders.
+#![tactic(auto)]
+
+mod books;
+mod collecting;
+mod curves;
+mod farmers;
+mod keeping;
+mod limits;
+mod loading;
+mod servers;
+mod whole;
+
+pub use books::{read_entries, read_grid};
+pub use collecting::add_farmers;
+pub use curves::load_curves;
+pub use farmers::{Farmer, front, read_farmer, read_tape_file, too_few_words};
+pub use limits::check_product;
+pub use loading::{Loaded, load};
+pub use servers::{
+    AllWords, ServerWords, check_three, cut_three, read_sources, read_words, seed_words,
+};
+pub use whole::{Whole, load_whole};

@@ -1,0 +1,368 @@
+//! Reading the words of the servers.
+
+ghost use Rattle.std.specs.Prelude.{◌≡◌, ◌≤◌, ◌+◌, ℕ, IfErr, IfOk, length, take, Option, Some, None, option_map, codes};
+ghost use Rattle.beet_forms.specs.Faults.{Answers};
+ghost use Rattle.beet_words.specs.Bundles.{bundle_of};
+ghost use Rattle.beet_bids.specs.Grids.{IsGrid};
+ghost use Rattle.beet_book.specs.ServerFiles.{servers_of};
+ghost use Rattle.beet_errand.specs.Errands.{reads};
+ghost use Rattle.beet_errand.specs.Fetches.{Gives, Causes, Passes, Refuses};
+ghost use Rattle.beet_load.specs.Servers.{masks_wanted, coefficients_kept, seeded, source_errand, enough_of, enough_of_all, HasEnough, HaveEnough, IsCut, AreCut, server_errand, three_errand, counted, cut_server, cut_servers, all_words_errand, with_bundle};
+ghost use Rattle.beet_load.specs.WordTexts.{server_short_text};
+
+use crate::farmers::{front, read_tape_file};
+use beet_bids::Grid;
+use beet_book::{ServerSource, Servers, read_servers};
+use beet_errand::{Status, Stop, fetch_file, judge};
+use beet_field::Trio;
+use beet_forms::{Name, ReadFault};
+use beet_store::Shelf;
+use beet_words::{Tape, WordList, Words, read_bundle};
+use std::alloc::{AllocError, Global};
+use std::marker::Model;
+
+/// The limits of a servers file and a bundle in bytes.
+const SERVERS_LIMIT: u64 = 4096;
+
+const BUNDLE_LIMIT: u64 = 67_108_864;
+
+/// Masks that may be rejected beside those that are used.
+const SPARE_MASKS: u32 = 2;
+
+/// Numbers that a server draws at most for a mask and a comparison with it.
+const NUMBERS: u32 = 512;
+
+/// Words that are kept of a list for numbers beyond those that are wanted, for words that are passed over.
+const SPARE_WORDS: u32 = 8;
+
+/// The two tapes of a server, at their first words.
+#[derive(Drop)]
+pub struct ServerWords {
+    pub masks: Tape,
+    pub coefficients: Tape,
+}
+
+impl Model for ServerWords {
+    ghost use Rattle.std.specs.Prelude.{◌≡◌};
+    ghost use Rattle.beet_load.specs.Servers.{ServerWords as Shown};
+
+    ghost Value = { Shown };
+
+    ghost view = { λ a. record { masks = a.masks.words; coefficients = a.coefficients.words } };
+
+    ghost invariant = { λ a. (a.masks.passed ≡ 0) × (a.coefficients.passed ≡ 0) };
+}
+
+/// The words of the servers, and those of the bidders where a bundle has them.
+#[derive(Drop)]
+pub struct AllWords {
+    pub servers: Trio<ServerWords>,
+    pub bidders: Option<Vec<WordList>>,
+}
+
+impl Model for AllWords {
+    ghost use Rattle.std.specs.Prelude.{option_map};
+    ghost use Rattle.beet_load.specs.Servers.{AllWords as Shown};
+
+    ghost Value = { Shown };
+
+    ghost view = { λ a. record { servers = a.servers; bidders = option_map (λ lists. lists.items) a.bidders } };
+}
+
+/// How many mask words a server wants.
+fn wanted_masks(grid: &Grid) -> u32
+    requires { IsGrid grid.now }
+    ensures value { result ≡ masks_wanted grid.now }
+    ensures few { result ≤ 15 }
+{
+    grid.comparisons() + SPARE_MASKS
+}
+
+/// How many numbers a server has to be able to draw.
+fn wanted_coefficients(grid: &Grid) -> u32
+    requires { IsGrid grid.now }
+    ensures value { result + 8 ≡ coefficients_kept grid.now }
+    ensures few { result ≤ 7680 }
+{
+    NUMBERS * wanted_masks(grid)
+}
+
+/// The words of a seed.
+pub fn seed_words(alloc: Global, grid: &Grid, seed: &[u8; 32]) -> Result<ServerWords, AllocError>
+    requires { IsGrid grid.now }
+    ensures { IfOk result (λ words. words ≡ seeded grid.now seed.now) }
+{
+    let kept = wanted_coefficients(grid) + SPARE_WORDS;
+    Ok(ServerWords {
+        masks: Tape::of_seed(alloc, seed, 1, wanted_masks(grid))?,
+        coefficients: Tape::of_seed(alloc, seed, 0, kept)?,
+    })
+}
+
+/// The words of two tape files.
+fn read_tapes<S: Shelf>(
+    alloc: Global,
+    shelf: &mut S,
+    grid: &Grid,
+    coefficients: &str,
+    masks: &str,
+) -> Result<ServerWords, Stop>
+    requires { IsGrid grid.now }
+    ensures later { S.faults shelf.old ≤ S.faults shelf.new }
+    ensures cause { IfErr result (λ stop. Causes (S.faults shelf.old) (S.faults shelf.new) stop) }
+    ensures cut { IfOk result (IsCut grid.now) }
+    ensures gives { Gives (λ words. words) (S.told shelf.old) (S.told shelf.new)
+        (source_errand grid.now (ServerSource.Tapes coefficients.now masks.now)) result }
+{
+    let kept = wanted_coefficients(grid) + SPARE_WORDS;
+    let coefficients = read_tape_file(alloc, shelf, coefficients, kept)?;
+    let masks = read_tape_file(alloc, shelf, masks, wanted_masks(grid))?;
+    Ok(ServerWords {
+        masks,
+        coefficients,
+    })
+}
+
+/// The words of a source.
+fn read_source<S: Shelf>(
+    alloc: Global,
+    shelf: &mut S,
+    grid: &Grid,
+    source: &ServerSource,
+) -> Result<ServerWords, Stop>
+    requires { IsGrid grid.now }
+    ensures later { S.faults shelf.old ≤ S.faults shelf.new }
+    ensures cause { IfErr result (λ stop. Causes (S.faults shelf.old) (S.faults shelf.new) stop) }
+    ensures cut { IfOk result (IsCut grid.now) }
+    ensures gives { Gives (λ words. words) (S.told shelf.old) (S.told shelf.new)
+        (source_errand grid.now source.now) result }
+{
+    match source {
+        ServerSource::Seed(seed) => match seed_words(alloc, grid, seed) {
+            Ok(words) => Ok(words),
+            Err(_) => Err(Stop::OutOfMemory),
+        },
+        ServerSource::Tapes {
+            coefficients,
+            masks,
+        } => read_tapes(alloc, shelf, grid, coefficients.as_str(), masks.as_str()),
+    }
+}
+
+/// The line for a server that has too few words of a kind.
+fn too_few_line(
+    alloc: Global,
+    server: u32,
+    kind: &str,
+    held: u32,
+    wanted: u32,
+) -> Result<Vec<u8>, AllocError>
+    ensures { IfOk result (λ line. line.items ≡ server_short_text server kind.now held wanted) }
+{
+    let line = format!(in alloc; "too few words: server {server} {kind} {held} of {wanted}\n")?;
+    Ok(line.into_bytes())
+}
+
+/// Refuses a server that has too few words of a kind.
+fn too_few_words(alloc: Global, server: u32, kind: &str, held: u32, wanted: u32) -> Stop
+    ensures { Refuses Status.TooFewWords (server_short_text server kind.now held wanted) result }
+{
+    match too_few_line(alloc, server, kind, held, wanted) {
+        Ok(line) => Stop::Refused(Status::TooFewWords, line),
+        Err(_) => Stop::OutOfMemory,
+    }
+}
+
+/// Refuses the server of this number where it has too few words, of which those for numbers are counted first.
+fn check_counts(alloc: Global, grid: &Grid, server: u32, words: &ServerWords) -> Result<(), Stop>
+    requires { IsGrid grid.now }
+    ensures cause { (before now : ℕ) → IfErr result (λ stop. Causes before now stop) }
+    ensures passes { Passes (enough_of grid.now server words.now) result }
+    ensures enough { IfOk result (λ done. HasEnough grid.now words.now) }
+{
+    let wanted = wanted_coefficients(grid);
+    let held = words.coefficients.accepted_left();
+    if held < wanted {
+        return Err(too_few_words(alloc, server, "coefficients", held, wanted));
+    }
+    let wanted = wanted_masks(grid);
+    let held = words.masks.masks_left();
+    if held < wanted {
+        return Err(too_few_words(alloc, server, "masks", held, wanted));
+    }
+    Ok(())
+}
+
+/// The words of the server of this number, which are enough.
+fn read_server<S: Shelf>(
+    alloc: Global,
+    shelf: &mut S,
+    grid: &Grid,
+    server: u32,
+    source: &ServerSource,
+) -> Result<ServerWords, Stop>
+    requires { IsGrid grid.now }
+    ensures later { S.faults shelf.old ≤ S.faults shelf.new }
+    ensures cause { IfErr result (λ stop. Causes (S.faults shelf.old) (S.faults shelf.new) stop) }
+    ensures enough { IfOk result (HasEnough grid.now) }
+    ensures cut { IfOk result (IsCut grid.now) }
+    ensures gives { Gives (λ words. words) (S.told shelf.old) (S.told shelf.new)
+        (server_errand grid.now server source.now) result }
+{
+    let words = read_source(alloc, shelf, grid, source)?;
+    check_counts(alloc, grid, server, &words)?;
+    Ok(words)
+}
+
+/// The words of the three servers, each from its own source.
+fn read_three<S: Shelf>(
+    alloc: Global,
+    shelf: &mut S,
+    grid: &Grid,
+    sources: &Trio<ServerSource>,
+) -> Result<Trio<ServerWords>, Stop>
+    requires { IsGrid grid.now }
+    ensures later { S.faults shelf.old ≤ S.faults shelf.new }
+    ensures cause { IfErr result (λ stop. Causes (S.faults shelf.old) (S.faults shelf.new) stop) }
+    ensures enough { IfOk result (HaveEnough grid.now) }
+    ensures cut { IfOk result (AreCut grid.now) }
+    ensures gives { Gives (λ servers. servers) (S.told shelf.old) (S.told shelf.new)
+        (three_errand grid.now sources.now) result }
+{
+    let one = read_server(alloc, shelf, grid, 1, &sources.one)?;
+    let two = read_server(alloc, shelf, grid, 2, &sources.two)?;
+    let three = read_server(alloc, shelf, grid, 3, &sources.three)?;
+    Ok(Trio { one, two, three })
+}
+
+/// The words of a bundle, which has so many bidders where a number is given.
+fn counted_bundle(alloc: Global, bytes: &[u8], count: Option<usize>) -> Result<Words, ReadFault>
+    requires { length bytes.now ≤ 67108864 }
+    ensures { Answers (λ words. words) (counted count (bundle_of bytes.now)) result }
+{
+    let words = read_bundle(alloc, bytes)?;
+    match count {
+        Some(count) if words.bidders.len() != count => Err(ReadFault::at_offset(8, 5)),
+        _ => Ok(words),
+    }
+}
+
+/// The words of a bundle file.
+fn fetch_bundle<S: Shelf>(
+    alloc: Global,
+    shelf: &mut S,
+    name: &str,
+    count: Option<usize>,
+) -> Result<Words, Stop>
+    ensures later { S.faults shelf.old ≤ S.faults shelf.new }
+    ensures cause { IfErr result (λ stop. Causes (S.faults shelf.old) (S.faults shelf.new) stop) }
+    ensures gives { Gives (λ words. words) (S.told shelf.old) (S.told shelf.new)
+        (reads name.now 67108864 (λ bytes. counted count (bundle_of bytes))) result }
+{
+    let bytes = fetch_file(alloc, shelf, name, BUNDLE_LIMIT)?;
+    judge(alloc, name, counted_bundle(alloc, bytes.as_slice(), count))
+}
+
+/// The words of one server in a bundle, cut as those of tape files are.
+fn cut(
+    alloc: Global,
+    grid: &Grid,
+    masks: &WordList,
+    coefficients: &WordList,
+) -> Result<ServerWords, AllocError>
+    requires { IsGrid grid.now }
+    ensures { IfOk result (λ words. words ≡ cut_server grid.now masks.now coefficients.now) }
+{
+    Ok(ServerWords {
+        masks: front(alloc, masks, wanted_masks(grid))?,
+        coefficients: front(alloc, coefficients, wanted_coefficients(grid) + SPARE_WORDS)?,
+    })
+}
+
+/// The words of the servers in a bundle, cut as those of tape files are, at their first words.
+pub fn cut_three(alloc: Global, grid: &Grid, words: &Words) -> Result<Trio<ServerWords>, AllocError>
+    requires { IsGrid grid.now }
+    ensures { IfOk result (λ servers. servers ≡ cut_servers grid.now words.now) }
+{
+    Ok(Trio {
+        one: cut(alloc, grid, &words.masks.one, &words.coefficients.one)?,
+        two: cut(alloc, grid, &words.masks.two, &words.coefficients.two)?,
+        three: cut(alloc, grid, &words.masks.three, &words.coefficients.three)?,
+    })
+}
+
+/// Refuses the first server that has too few words.
+pub fn check_three(alloc: Global, grid: &Grid, servers: &Trio<ServerWords>) -> Result<(), Stop>
+    requires { IsGrid grid.now }
+    ensures cause { (before now : ℕ) → IfErr result (λ stop. Causes before now stop) }
+    ensures passes { Passes (enough_of_all grid.now servers.now) result }
+    ensures enough { IfOk result (λ done. HaveEnough grid.now servers.now) }
+{
+    check_counts(alloc, grid, 1, &servers.one)?;
+    check_counts(alloc, grid, 2, &servers.two)?;
+    check_counts(alloc, grid, 3, &servers.three)
+}
+
+/// All words, from a bundle.
+fn read_bundled<S: Shelf>(
+    alloc: Global,
+    shelf: &mut S,
+    grid: &Grid,
+    name: &Name,
+    count: Option<usize>,
+) -> Result<AllWords, Stop>
+    requires { IsGrid grid.now }
+    ensures later { S.faults shelf.old ≤ S.faults shelf.new }
+    ensures cause { IfErr result (λ stop. Causes (S.faults shelf.old) (S.faults shelf.new) stop) }
+    ensures enough { IfOk result (λ words. HaveEnough grid.now words.servers) }
+    ensures cut { IfOk result (λ words. AreCut grid.now words.servers) }
+    ensures gives { Gives (λ words. words) (S.told shelf.old) (S.told shelf.new)
+        (all_words_errand grid.now count (Servers.Bundle name.now)) result }
+{
+    let words = fetch_bundle(alloc, shelf, name.as_str(), count)?;
+    let servers = cut_three(alloc, grid, &words)?;
+    check_three(alloc, grid, &servers)?;
+    Ok(AllWords {
+        servers,
+        bidders: Some(words.bidders),
+    })
+}
+
+/// All words, of the servers and of so many bidders where a bundle has them.
+pub fn read_words<S: Shelf>(
+    alloc: Global,
+    shelf: &mut S,
+    grid: &Grid,
+    servers: &Servers,
+    count: Option<usize>,
+) -> Result<AllWords, Stop>
+    requires { IsGrid grid.now }
+    ensures later { S.faults shelf.old ≤ S.faults shelf.new }
+    ensures cause { IfErr result (λ stop. Causes (S.faults shelf.old) (S.faults shelf.new) stop) }
+    ensures enough { IfOk result (λ words. HaveEnough grid.now words.servers) }
+    ensures cut { IfOk result (λ words. AreCut grid.now words.servers) }
+    ensures gives { Gives (λ words. words) (S.told shelf.old) (S.told shelf.new)
+        (all_words_errand grid.now count servers.now) result }
+{
+    match servers {
+        Servers::Three(sources) => {
+            let servers = read_three(alloc, shelf, grid, sources)?;
+            Ok(AllWords {
+                servers,
+                bidders: None,
+            })
+        }
+        Servers::Bundle(name) => read_bundled(alloc, shelf, grid, name, count),
+    }
+}
+
+/// Where the words of the servers come from, of a servers file.
+pub fn read_sources<S: Shelf>(alloc: Global, shelf: &mut S, name: &str) -> Result<Servers, Stop>
+    ensures later { S.faults shelf.old ≤ S.faults shelf.new }
+    ensures cause { IfErr result (λ stop. Causes (S.faults shelf.old) (S.faults shelf.new) stop) }
+    ensures gives { Gives (λ servers. servers) (S.told shelf.old) (S.told shelf.new)
+        (reads name.now 4096 servers_of) result }
+{
+    let bytes = fetch_file(alloc, shelf, name, SERVERS_LIMIT)?;
+    judge(alloc, name, read_servers(alloc, bytes.as_slice()))
+}

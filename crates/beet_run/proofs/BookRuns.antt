@@ -1,0 +1,41 @@
+-- The auction of a book that is read ends with the book's outcome.
+use Rattle.std.proofs.Common.{◌≡◌, ℕ, ◌*◌, List, length, Some, sym, ◌∙◌, ap, refl}
+use Rattle.beet_field.specs.Trio.{member}
+use Rattle.beet_field.specs.declared.point.Point.{Point}
+use Rattle.beet_field.specs.declared.trio.Trio.{Trio}
+use Rattle.beet_gates.specs.Plans.{plan_finish}
+use Rattle.beet_bids.specs.Books.{Book, IsBook}
+use Rattle.beet_bids.specs.Grids.{Grid}
+use Rattle.beet_book.specs.Dealing.{AreShares}
+use Rattle.beet_plan.specs.Auction.{Auction, auction_plan}
+use Rattle.beet_plan.specs.Runs.{sums_of}
+use Rattle.beet_plan.specs.declared.Finish.{Finish}
+use Rattle.beet_plan.proofs.BookFacts.{length-sums}
+use Rattle.beet_server.specs.Runs.{Opening, shared_at}
+use Rattle.beet_auction.specs.Endings.{AuctionEnds, book_finish, book_rounds}
+use Rattle.beet_auction.specs.Openings.{auction_over}
+use Rattle.beet_auction.proofs.Ends.{book-ends}
+use Rattle.beet_load.specs.Servers.{ServerWords, masks_of}
+use Rattle.beet_run.specs.Runs.{EndsAuction, opening_with}
+use Rattle.beet_run.proofs.ShareLines.{shares-lines}
+
+-- the points of the inputs are as many as the script wants
+pub inputs-many : (book : Book) (inputs : Trio (List ℕ)) → IsBook book → AreShares (sums_of book) inputs → (i : Point) →
+    length (member inputs i) ≡ 2 * book.grid.prices
+inputs-many book inputs b x i = (shares-lines book inputs b x).lengths i ∙ length-sums book
+
+-- a run of an auction ends in one way
+pub one-end : (a : Auction) (o : Opening) (r r' : ℕ) (f f' : Finish) → AuctionEnds a o r f → AuctionEnds a o r' f' → (f ≡ f') × (r ≡ r')
+one-end a o r r' f f' h h' =
+    let e : r ≡ r' = sym h.counted ∙ h'.counted in
+    (same-finish (sym h.finish_named ∙ ap (λ n. plan_finish (auction_plan a) (shared_at o n).opened) e ∙ h'.finish_named), e) where
+      same-finish : {x y : Finish} → Some x ≡ Some y → x ≡ y
+      same-finish e = cc
+
+-- with shares of a book's sums it ends with the book's outcome
+pub book-run : (book : Book) (inputs : Trio (List ℕ)) (words : Trio ServerWords) (finish : Finish) (rounds : ℕ) → IsBook book →
+    AreShares (sums_of book) inputs → EndsAuction book.grid inputs words finish rounds →
+    (finish ≡ book_finish book (masks_of words)) × (rounds ≡ book_rounds book (masks_of words))
+book-run book inputs words finish rounds b x h =
+    one-end (auction_over book.grid) (opening_with book.grid inputs words) rounds (book_rounds book (masks_of words)) finish (book_finish book (masks_of words))
+    h.ends (book-ends book (opening_with book.grid inputs words) x.slopes b h.masks refl (shares-lines book inputs b x))

@@ -1,0 +1,4 @@
+pub mod ShareLines
+pub mod Starting
+pub mod Ending
+pub mod BookRuns

@@ -1,0 +1,3 @@
+pub mod OutcomeTexts
+pub mod Outcomes
+pub mod Runs

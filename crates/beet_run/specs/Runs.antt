@@ -1,0 +1,45 @@
+-- Three servers that run the auction over a grid.
+use Rattle.std.specs.Prelude.{◌≡◌, ℕ, ◌*◌, List, true}
+use Rattle.beet_field.specs.Trio.{member}
+use Rattle.beet_field.specs.declared.point.Point.{Point}
+use Rattle.beet_field.specs.declared.trio.Trio.{Trio}
+use Rattle.beet_bids.specs.Grids.{Grid}
+use Rattle.beet_plan.specs.Auction.{Auction, auction_batch}
+use Rattle.beet_plan.specs.Runs.{AreMasks}
+use Rattle.beet_plan.specs.declared.Finish.{Finish}
+use Rattle.beet_server.specs.Cores.{Core, AreFresh, has_ended, opening_of}
+use Rattle.beet_server.specs.Events.{Delivered}
+use Rattle.beet_server.specs.Fits.{Fits}
+use Rattle.beet_server.specs.Runs.{Opening}
+use Rattle.beet_auction.specs.Endings.{AuctionEnds}
+use Rattle.beet_auction.specs.Openings.{auction_opening, auction_over}
+use Rattle.beet_load.specs.Servers.{ServerWords, masks_of, coefficients_of}
+
+-- a script has two inputs for each price
+abbrev pub inputs_of : Auction → ℕ
+inputs_of a = 2 * a.prices
+
+-- the opening of an auction over a grid, with these points of the inputs and these words of the servers
+abbrev pub opening_with : Grid → Trio (List ℕ) → Trio ServerWords → Opening
+opening_with grid inputs words = auction_opening grid inputs (masks_of words) (coefficients_of words)
+
+-- three fresh servers that begin an auction over a grid, with these points of the inputs and these words
+pub record Starts (grid : Grid) (inputs : Trio (List ℕ)) (words : Trio ServerWords) (cores : Trio (Core Auction)) : Type 0 where
+  pub fresh : AreFresh auction_batch inputs_of cores
+  pub script : (s : Point) → (member cores s).script ≡ auction_over grid
+  pub opening : opening_of auction_batch inputs_of cores ≡ opening_with grid inputs words
+  pub masks : (s : Point) → (member cores s).masks.words ≡ (member words s).masks
+  pub coefficients : (s : Point) → (member cores s).coefficients.words ≡ (member words s).coefficients
+  pub are_masks : AreMasks (masks_of words)
+
+-- a server of some run that has ended
+pub record HasEndedRun (core : Core Auction) : Type 0 where
+  pub opening : Opening
+  pub delivered : Delivered
+  pub fits : Fits auction_batch opening delivered core
+  pub ended : has_ended auction_batch core ≡ true
+
+-- the auction over a grid with these points and words ends with this finish after so many rounds
+pub record EndsAuction (grid : Grid) (inputs : Trio (List ℕ)) (words : Trio ServerWords) (finish : Finish) (rounds : ℕ) : Type 0 where
+  pub ends : AuctionEnds (auction_over grid) (opening_with grid inputs words) rounds finish
+  pub masks : AreMasks (masks_of words)

@@ -1,0 +1,8 @@
+//! The run of an auction among three servers, from the points of its inputs and the words of the servers to its end.
+#![tactic(auto)]
+
+mod outcome;
+mod running;
+
+pub use outcome::outcome_reply;
+pub use running::{finish_at, run_auction, start_servers};

@@ -1,0 +1,121 @@
+//! Three servers begin an auction, and run it to its end.
+
+ghost use Rattle.std.specs.Prelude.{◌≡◌, ◌≤◌, ◌*◌, IfErr, IfOk, All, Some, length};
+ghost use Rattle.beet_field.specs.Trio.{member};
+ghost use Rattle.beet_field.specs.declared.point.Point.{Point as Server};
+ghost use Rattle.beet_words.specs.Words.{IsWord, accepted};
+ghost use Rattle.beet_gates.specs.Plans.{plan_finish};
+ghost use Rattle.beet_gates.specs.declared.Gates.TheVariants.{Chain};
+ghost use Rattle.beet_plan.specs.Auction.{auction_batch, auction_plan, most_coefficients, most_masks};
+ghost use Rattle.beet_server.specs.Cores.{IsFresh, fresh};
+ghost use Rattle.beet_load.specs.Servers.{HaveEnough};
+ghost use Rattle.beet_run.specs.Runs.{EndsAuction, HasEndedRun, Starts};
+
+use beet_bids::Grid;
+use beet_errand::Stop;
+use beet_field::{Point, Trio};
+use beet_load::ServerWords;
+use beet_plan::Finish;
+use beet_search::AuctionScript;
+use beet_server::{ServerCore, StartFault};
+use beet_words::{FeList, Word};
+use beet_world::lockstep;
+use std::alloc::Global;
+
+/// The script of an auction over the grid.
+fn script_over(grid: &Grid) -> AuctionScript
+    requires { grid.now.gates ≡ Chain }
+    ensures { result ≡ record { prices = grid.now.prices } }
+{
+    match AuctionScript::new(grid.prices(), grid.gates()) {
+        Some(script) => script,
+        None => unreachable!(),
+    }
+}
+
+/// Looks at each word.
+fn look_at(words: &[Word])
+    ensures { All IsWord words.now }
+{
+    for word in words {
+        let _below = word.value();
+    }
+}
+
+/// A server that begins with these points and words.
+fn start(
+    alloc: Global,
+    me: Point,
+    script: AuctionScript,
+    inputs: FeList,
+    words: ServerWords,
+) -> Result<ServerCore<AuctionScript>, Stop>
+    requires inputs { length inputs ≡ 2 * script.prices }
+    requires coefficients { most_coefficients script ≤ length (accepted words.coefficients) }
+    requires masks { most_masks script ≤ length words.masks }
+    ensures memory { IfErr result (λ stop. stop ≡ Stop.OutOfMemory) }
+    ensures core { IfOk result (λ core. core ≡ fresh auction_batch me script inputs
+        (record { words = words.masks; passed = 0 })
+        (record { words = words.coefficients; passed = 0 })) }
+    ensures fresh { IfOk result (IsFresh auction_batch (λ s. 2 * s.prices)) }
+    ensures words { IfOk result (λ core. All IsWord words.masks) }
+{
+    look_at(words.masks.words());
+    match ServerCore::start(alloc, me, script, inputs, words.masks, words.coefficients) {
+        Ok(core) => Ok(core),
+        Err(StartFault::OutOfMemory) => Err(Stop::OutOfMemory),
+        Err(StartFault::TooFewWords(_)) => unreachable!(),
+        Err(StartFault::TooFewMasks(_)) => unreachable!(),
+    }
+}
+
+/// The three servers of an auction over the grid, at its start, with these points of the inputs (supply at each price, and
+/// then demand) and these words. Want of memory is the only error.
+pub fn start_servers(
+    alloc: Global,
+    grid: &Grid,
+    inputs: Trio<FeList>,
+    words: Trio<ServerWords>,
+) -> Result<Trio<ServerCore<AuctionScript>>, Stop>
+    requires gates { grid.now.gates ≡ Chain }
+    requires enough { HaveEnough grid.now words }
+    requires inputs { (i : Server) → length (member inputs i) ≡ 2 * grid.now.prices }
+    ensures memory { IfErr result (λ stop. stop ≡ Stop.OutOfMemory) }
+    ensures starts { IfOk result (Starts grid.now inputs words) }
+{
+    let script = script_over(grid);
+    let one = start(alloc, Point::One, script, inputs.one, words.one)?;
+    let two = start(alloc, Point::Two, script, inputs.two, words.two)?;
+    let three = start(alloc, Point::Three, script, inputs.three, words.three)?;
+    Ok(Trio { one, two, three })
+}
+
+/// How the run of a server that has ended ended.
+pub fn finish_at(core: &ServerCore<AuctionScript>) -> Finish
+    requires { HasEndedRun core.now }
+    ensures { plan_finish (auction_plan core.now.script) core.now.opened ≡ Some result }
+{
+    match core.script().finish(core.opened()) {
+        Some(finish) => finish,
+        None => unreachable!(),
+    }
+}
+
+/// Runs the auction that three servers begin with these points and words to its end: how it ends, and after how many
+/// rounds. Want of memory is the only error, and comes before the first round.
+pub fn run_auction(
+    alloc: Global,
+    grid: &Grid,
+    inputs: Trio<FeList>,
+    words: Trio<ServerWords>,
+) -> Result<(Finish, u32), Stop>
+    requires gates { grid.now.gates ≡ Chain }
+    requires enough { HaveEnough grid.now words }
+    requires inputs { (i : Server) → length (member inputs i) ≡ 2 * grid.now.prices }
+    ensures memory { IfErr result (λ stop. stop ≡ Stop.OutOfMemory) }
+    ensures ends { IfOk result (λ run. EndsAuction grid.now inputs words run.0 run.1) }
+{
+    let cores = start_servers(alloc, grid, inputs, words)?;
+    let ended = lockstep(cores);
+    Ok((finish_at(&ended.one), ended.one.round()))
+}
