@@ -1,0 +1,4 @@
+pub mod ServerStands
+pub mod WorldPlays
+pub mod JobEnds
+pub mod LineParts

@@ -1,0 +1,4 @@
+pub mod Standings
+pub mod StandingTexts
+pub mod Rehearsing
+pub mod Rehearse

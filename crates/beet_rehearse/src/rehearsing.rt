@@ -1,0 +1,101 @@
+//! The job `rehearse`.
+
+ghost use Rattle.std.specs.Prelude.{◌≡◌, ◌≤◌, ◌*◌, IfErr, IfOk, length};
+ghost use Rattle.beet_errand.specs.Errands.{reads};
+ghost use Rattle.beet_errand.specs.Fetches.{Causes, Finishes, Gives, IsDone};
+ghost use Rattle.beet_field.specs.Trio.{member};
+ghost use Rattle.beet_field.specs.declared.point.Point.{Point as Server};
+ghost use Rattle.beet_gates.specs.declared.Gates.TheVariants.{Chain};
+ghost use Rattle.beet_load.specs.Servers.{HaveEnough};
+ghost use Rattle.beet_world.specs.Schedules.{schedule_of};
+ghost use Rattle.beet_world.specs.Worlds.{named_in};
+ghost use Rattle.beet_rehearse.specs.Rehearse.{rehearse_errand};
+ghost use Rattle.beet_rehearse.specs.Rehearsing.{Rehearses};
+
+use crate::standing::{Rehearsal, standing_in};
+use crate::telling::rehearsal_reply;
+use beet_bids::Grid;
+use beet_errand::{Reply, Stop, fetch_file, judge};
+use beet_field::{Point, Trio};
+use beet_load::{ServerWords, load};
+use beet_run::start_servers;
+use beet_store::Shelf;
+use beet_words::FeList;
+use beet_world::{Delivery, World, read_schedule};
+use std::alloc::Global;
+
+/// The limit of a schedule file in bytes.
+const SCHEDULE_LIMIT: u64 = 16_777_216;
+
+/// The deliveries of a schedule file.
+fn read_deliveries<S: Shelf>(
+    alloc: Global,
+    shelf: &mut S,
+    name: &str,
+) -> Result<Vec<Delivery>, Stop>
+    ensures later { S.faults shelf.old ≤ S.faults shelf.new }
+    ensures cause { IfErr result (λ stop. Causes (S.faults shelf.old) (S.faults shelf.new) stop) }
+    ensures gives { Gives (λ deliveries. deliveries.items) (S.told shelf.old) (S.told shelf.new)
+        (reads name.now 16777216 schedule_of) result }
+{
+    let bytes = fetch_file(alloc, shelf, name, SCHEDULE_LIMIT)?;
+    judge(alloc, name, read_schedule(alloc, bytes.as_slice()))
+}
+
+/// Three servers begin with these points and words, the messages are delivered in order, and then they are looked at.
+/// Want of memory is the only error, and comes before the first delivery.
+fn play(
+    alloc: Global,
+    grid: &Grid,
+    inputs: Trio<FeList>,
+    words: Trio<ServerWords>,
+    schedule: &[Delivery],
+) -> Result<Rehearsal, Stop>
+    requires gates { grid.now.gates ≡ Chain }
+    requires enough { HaveEnough grid.now words }
+    requires inputs { (i : Server) → length (member inputs i) ≡ 2 * grid.now.prices }
+    ensures memory { IfErr result (λ stop. stop ≡ Stop.OutOfMemory) }
+    ensures rehearses { IfOk result (Rehearses grid.now inputs words (named_in schedule.now)) }
+{
+    let cores = start_servers(alloc, grid, inputs, words)?;
+    let mut world = World::of(alloc, cores)?;
+    world.play(schedule);
+    let servers = Trio {
+        one: standing_in(&world, Point::One),
+        two: standing_in(&world, Point::Two),
+        three: standing_in(&world, Point::Three),
+    };
+    Ok(Rehearsal {
+        servers,
+        undelivered: world.undelivered(),
+    })
+}
+
+/// How three servers stand in the auction of a book after the deliveries of a schedule, in order: `rehearse AUCTION SERVERS
+/// BOOK SCHEDULE`, with names of files. A message that is not sent when its turn comes is passed over.
+pub fn rehearse<S: Shelf>(
+    alloc: Global,
+    shelf: &mut S,
+    auction: &str,
+    servers: &str,
+    book: &str,
+    schedule: &str,
+) -> Result<Reply, Stop>
+    ensures later { S.faults shelf.old ≤ S.faults shelf.new }
+    ensures cause { IfErr result (λ stop. Causes (S.faults shelf.old) (S.faults shelf.new) stop) }
+    ensures done { IfOk result (λ reply. IsDone reply.status) }
+    ensures finishes { Finishes (S.told shelf.old) (S.told shelf.new)
+        (rehearse_errand auction.now servers.now book.now schedule.now) result }
+{
+    let loaded = load(alloc, shelf, auction, servers, book)?;
+    let deliveries = read_deliveries(alloc, shelf, schedule)?;
+    let grid = loaded.grid;
+    let rehearsal = play(
+        alloc,
+        &grid,
+        loaded.inputs,
+        loaded.servers,
+        deliveries.as_slice(),
+    )?;
+    Ok(rehearsal_reply(alloc, &grid, &rehearsal)?)
+}
