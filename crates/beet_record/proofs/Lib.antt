@@ -1,0 +1,4 @@
+pub mod Shown
+pub mod DealtPoints
+pub mod HasRuns
+pub mod Recorded

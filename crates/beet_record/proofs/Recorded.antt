@@ -1,0 +1,83 @@
+-- How the job `record` ends.
+use Rattle.std.proofs.Common.{◌≡◌, ℕ, List, Option, Result, Ok, Err, IfOk, IfErr, inl, inr, refl, [], ◌∷◌, length, sym, ap, ◌∙◌}
+use Rattle.beet_field.specs.Trio.{member}
+use Rattle.beet_field.specs.declared.point.Point.{Point}
+use Rattle.beet_field.specs.declared.point.Point.TheVariants.{One, Two, Three}
+use Rattle.beet_field.specs.declared.trio.Trio.{Trio}
+use Rattle.beet_bids.specs.Books.{Book}
+use Rattle.beet_bids.specs.Grids.{Grid}
+use Rattle.beet_store.specs.Files.{File, Told}
+use Rattle.beet_errand.specs.Errands.{Answer, Errand, Ends}
+use Rattle.beet_errand.specs.Fetches.{Went, Stops, Finishes, IsDone}
+use Rattle.beet_errand.specs.declared.answer.Stop.{Stop}
+use Rattle.beet_errand.specs.declared.answer.Stop.TheVariants.{Refused, OutOfMemory}
+use Rattle.beet_auction.specs.Endings.{book_finish, book_rounds}
+use Rattle.beet_auction.specs.Openings.{book_of as book_with, farmers_of}
+use Rattle.beet_plan.specs.declared.Finish.{Finish}
+use Rattle.beet_plan.specs.declared.Finish.TheVariants.{Price, NoPrice, MasksSpent}
+use Rattle.beet_load.specs.Loading.{Loaded}
+use Rattle.beet_load.specs.Servers.{masks_of}
+use Rattle.beet_load.specs.Wholes.{limited_errand}
+use Rattle.beet_load.specs.WholeViews.{loaded_of}
+use Rattle.beet_load.specs.declared.whole.Whole.{Whole}
+use Rattle.beet_run.specs.Outcomes.{outcome_answer, status_of}
+use Rattle.beet_view.specs.Transcripts.{view_bytes}
+use Rattle.beet_view.specs.Views.{Viewed}
+use Rattle.beet_record.specs.BookRuns.{HasRun, Ran, view_for}
+use Rattle.beet_record.proofs.HasRuns.{same-book}
+use Rattle.beet_record.specs.Records.{file_for, record_errand, recorded_answer, transcript_file}
+
+-- memory ran out after the auction was read
+pub record_runs_out : (old now : Option Told) (auction servers book out : List ℕ) (loaded : Loaded) →
+    ((next : Loaded → Errand) → Went old now (limited_errand auction servers book next) (next loaded)) →
+    Finishes old now (record_errand auction servers book out) (Err OutOfMemory)
+record_runs_out old now auction servers book out loaded w = (Ends (recorded_answer out loaded), w (λ l. Ends (recorded_answer out l)))
+
+-- the auction could not be read
+pub record_stops : (old now : Option Told) (auction servers book out : List ℕ) (stop : Stop) →
+    Stops old now (limited_errand auction servers book) stop → Finishes old now (record_errand auction servers book out) (Err stop)
+record_stops old now auction servers book out (Refused status line) s = s (λ l. Ends (recorded_answer out l))
+record_stops old now auction servers book out OutOfMemory s = s (λ l. Ends (recorded_answer out l))
+
+-- the reply of an auction that is read ends the job
+pub record_ends : (old now : Option Told) (auction servers book out : List ℕ) (loaded : Loaded) (result : Result Answer Stop) →
+    ((next : Loaded → Errand) → Went old now (limited_errand auction servers book next) (next loaded)) →
+    IfOk result (λ answer. answer ≡ recorded_answer out loaded) → IfErr result (λ stop. stop ≡ OutOfMemory) →
+    Finishes old now (record_errand auction servers book out) result
+record_ends old now auction servers book out loaded (Ok answer) w made memory = rw made (w (λ l. Ends (recorded_answer out l)))
+record_ends old now auction servers book out loaded (Err stop) w made memory = rw memory (record_runs_out old now auction servers book out loaded w)
+
+status-done : (finish : Finish) → IsDone (status_of finish)
+status-done (Price place volume) = inl refl
+status-done NoPrice = inl refl
+status-done MasksSpent = inr refl
+
+-- and its status is that of a job that is done
+pub record_done : (out : List ℕ) (loaded : Loaded) (result : Result Answer Stop) → IfOk result (λ answer. answer ≡ recorded_answer out loaded) →
+    IfOk result (λ answer. IsDone answer.status)
+record_done out loaded (Ok answer) made =
+    rw made (status-done (book_finish (book_with loaded.grid loaded.farmers) (masks_of loaded.servers)))
+record_done out loaded (Err stop) made = tt
+
+-- the reply tells how the run ended, with what each server has seen
+pub reply-is : (out : List ℕ) (whole : Whole) (ran : Ran) (grid : Grid) (made : Answer) (files : List File) (views : Trio Viewed) →
+    length whole.words.bidders ≡ length whole.book.bidders → HasRun whole.book whole.words ran → grid ≡ whole.book.grid →
+    made ≡ outcome_answer grid ran.finish ran.rounds → ((s : Point) → member views s ≡ view_for whole.book whole.words s) →
+    files ≡ (file_for out One, view_bytes views.one) ∷ (file_for out Two, view_bytes views.two) ∷ (file_for out Three, view_bytes views.three) ∷ [] →
+    record made { files = files } ≡ recorded_answer out (loaded_of whole)
+reply-is out whole ran grid made files views many h g m v f =
+    let book = whole.book in
+    let masks = whole.words.masks in
+    let book' = book_with book.grid (farmers_of book.bidders whole.words.bidders) in
+    let same : book ≡ book' = sym (same-book book whole.words.bidders many) in
+    let finish : ran.finish ≡ book_finish book' masks = h.finish ∙ ap (λ (x : Book). book_finish x masks) same in
+    let rounds : ran.rounds ≡ book_rounds book' masks = h.rounds ∙ ap (λ (x : Book). book_rounds x masks) same in
+    let answer : Grid → Finish → ℕ → List File → Answer = λ gr fi ro fs. record (outcome_answer gr fi ro) { files = fs } in
+    let one : Viewed → List File = λ x. (file_for out One, view_bytes x) ∷ (file_for out Two, view_bytes views.two) ∷ (file_for out Three, view_bytes views.three) ∷ [] in
+    let two : Viewed → List File = λ x. transcript_file out (loaded_of whole) One ∷ (file_for out Two, view_bytes x) ∷ (file_for out Three, view_bytes views.three) ∷ [] in
+    let three : Viewed → List File = λ x. transcript_file out (loaded_of whole) One ∷ transcript_file out (loaded_of whole) Two ∷ (file_for out Three, view_bytes x) ∷ [] in
+    ap (λ (a : Answer). record a { files = files }) m
+    ∙ ap (λ x. answer x ran.finish ran.rounds files) g
+    ∙ ap (λ x. answer book.grid x ran.rounds files) finish
+    ∙ ap (λ x. answer book.grid (book_finish book' masks) x files) rounds
+    ∙ ap (answer book.grid (book_finish book' masks) (book_rounds book' masks)) (f ∙ ap one (v One) ∙ ap two (v Two) ∙ ap three (v Three))

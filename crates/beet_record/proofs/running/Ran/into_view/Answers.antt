@@ -1,0 +1,8 @@
+use Rattle.std.proofs.Common.{sym, subst}
+use Rattle.beet_record.specs.BookRuns.{HasRun}
+use Rattle.beet_record.proofs.HasRuns.{view-shown-if}
+use Rattle.beet_record.proofs.running.Ran.into_view.Goals as goal
+
+pub returns : goal.returns
+returns c = λ book words h.
+    view-shown-if book words _ c.args.at _ _ _ (subst (HasRun book words) (sym c.self.view_is) h) c.get.ensures c.into_one-seen.ensures c.view_of.ensures.run

@@ -1,0 +1,25 @@
+-- What the bidders of a book deal: the summed points, and the bidders as each server sees them.
+use Rattle.std.specs.Prelude.{◌≡◌, List, map, Option, Some, None, if◌then◌else◌, ℕ}
+use Rattle.beet_field.specs.Trio.{member}
+use Rattle.beet_field.specs.declared.point.Point.{Point}
+use Rattle.beet_field.specs.declared.trio.Trio.{Trio}
+use Rattle.beet_bids.specs.Curves.{Curve}
+use Rattle.beet_bids.specs.Grids.{Grid}
+use Rattle.beet_book.specs.Totals.{Totals}
+use Rattle.beet_auction.specs.Openings.{Farmer, summed_points}
+use Rattle.beet_view.specs.BookViews.{names, seen_at}
+use Rattle.beet_view.specs.declared.view.Seen.{Seen}
+
+-- the curve and the words of a bidder, where this server knows it
+abbrev pub own_at : Point → Farmer → Option (Curve × List ℕ)
+own_at s farmer = if names farmer.bidder.known s then Some (farmer.bidder.curve, farmer.words) else None
+
+-- a bidder with these points, as this server sees it
+abbrev pub seen_with : Point → Farmer → List ℕ → Seen
+seen_with s farmer points = record { known = farmer.bidder.known; points = points; own = own_at s farmer }
+
+-- the points of these bidders are added up, and each server sees the bidders
+pub record HasDealt (grid : Grid) (farmers : List Farmer) (totals : Totals) (seen : Trio (List Seen)) : Type 0 where
+  pub prices : totals.prices ≡ grid.prices
+  pub points : totals.points ≡ summed_points grid.prices farmers
+  pub bidders : (s : Point) → member seen s ≡ map (seen_at grid s) farmers

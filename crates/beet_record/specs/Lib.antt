@@ -1,0 +1,3 @@
+pub mod DealtBooks
+pub mod BookRuns
+pub mod Records

@@ -1,0 +1,36 @@
+-- The job `record`: what each server has seen of the auction of a book.
+use Rattle.std.specs.Prelude.{List, [], ◌∷◌, ◌++◌, ℕ, codes, decimal}
+use Rattle.beet_field.specs.Point.{number_of}
+use Rattle.beet_field.specs.declared.point.Point.{Point}
+use Rattle.beet_field.specs.declared.point.Point.TheVariants.{One, Two, Three}
+use Rattle.beet_store.specs.Files.{File}
+use Rattle.beet_auction.specs.Endings.{book_finish, book_rounds}
+use Rattle.beet_auction.specs.Openings.{book_of as book_with}
+use Rattle.beet_errand.specs.Errands.{Answer, Errand, Ends}
+use Rattle.beet_load.specs.Loading.{Loaded}
+use Rattle.beet_load.specs.Servers.{masks_of, coefficients_of}
+use Rattle.beet_load.specs.Wholes.{limited_errand}
+use Rattle.beet_run.specs.Outcomes.{outcome_answer}
+use Rattle.beet_view.specs.BookViews.{transcript_of_book}
+
+-- the file for a server: the name, a dot and the server's number
+abbrev pub file_for : List ℕ → Point → List ℕ
+file_for out s = out ++ codes "." ++ decimal (number_of s)
+
+-- the transcript of a server in its file
+abbrev pub transcript_file : List ℕ → Loaded → Point → File
+transcript_file out loaded s =
+    (file_for out s, transcript_of_book loaded.grid loaded.farmers (masks_of loaded.servers) (coefficients_of loaded.servers) s)
+
+-- the answer for an auction that is read: the transcripts of servers 1, 2 and 3, and how the run ended
+abbrev pub recorded_answer : List ℕ → Loaded → Answer
+recorded_answer out loaded =
+    let book = book_with loaded.grid loaded.farmers in
+    let masks = masks_of loaded.servers in
+    record (outcome_answer loaded.grid (book_finish book masks) (book_rounds book masks)) {
+      files = transcript_file out loaded One ∷ transcript_file out loaded Two ∷ transcript_file out loaded Three ∷ [];
+    }
+
+-- the whole job
+abbrev pub record_errand : List ℕ → List ℕ → List ℕ → List ℕ → Errand
+record_errand auction servers book out = limited_errand auction servers book (λ loaded. Ends (recorded_answer out loaded))

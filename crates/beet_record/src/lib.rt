@@ -1,0 +1,12 @@
+//! The job `record`: three servers run the auction of a book, and what each of them has seen is put into a file.
+#![tactic(auto)]
+
+mod dealing;
+mod recording;
+mod running;
+
+pub use recording::record;
+pub use running::{Ran, run_whole};
+
+#[cfg(test)]
+mod tests;

@@ -1,0 +1,120 @@
+//! Three servers run the auction of a book, and what each of them has seen is shown.
+
+ghost use Rattle.std.specs.Prelude.{◌≡◌, IfErr, IfOk};
+ghost use Rattle.beet_field.specs.Trio.{member};
+ghost use Rattle.beet_field.specs.declared.point.Point.{Point as Server};
+ghost use Rattle.beet_words.specs.Bundles.{Words as Lists};
+ghost use Rattle.beet_bids.specs.Books.{Book as Bids, IsBook};
+ghost use Rattle.beet_bids.specs.Grids.{IsGrid};
+ghost use Rattle.beet_load.specs.Wholes.{CanRun};
+ghost use Rattle.beet_record.specs.BookRuns.{HasRun, view_for};
+
+use crate::dealing::{SeenByAll, deal_book};
+use beet_bids::{Book, Grid};
+use beet_errand::Stop;
+use beet_field::{Point, Trio};
+use beet_load::cut_three;
+use beet_plan::Finish;
+use beet_run::{finish_at, start_servers};
+use beet_search::AuctionScript;
+use beet_server::ServerCore;
+use beet_view::{View, view_of};
+use beet_words::Words;
+use beet_world::lockstep;
+use std::alloc::{AllocError, Global};
+use std::marker::Model;
+
+/// Three servers that have run an auction to its end, and the bidders as each of them sees them.
+#[derive(Drop)]
+pub struct Ran {
+    grid: Grid,
+    seen: SeenByAll,
+    cores: Trio<ServerCore<AuctionScript>>,
+    finish: Finish,
+    rounds: u32,
+}
+
+impl Model for Ran {
+    ghost use Rattle.beet_record.specs.BookRuns.{Ran as Shown, CanShow};
+
+    ghost Value = { Shown };
+
+    ghost view = { λ a.
+        record { grid = a.grid; seen = a.seen; cores = a.cores; finish = a.finish; rounds = a.rounds } };
+
+    ghost invariant = { λ a.
+        CanShow (record { grid = a.grid; seen = a.seen; cores = a.cores; finish = a.finish; rounds = a.rounds }) };
+}
+
+impl Ran {
+    ghost use Rattle.beet_record.specs.BookRuns.{HasRun, view_for};
+
+    /// How the run ended.
+    pub fn finish(&self) -> Finish
+        ensures { result ≡ self.now.finish }
+    {
+        self.finish
+    }
+
+    /// After how many rounds the run ended.
+    pub fn rounds(&self) -> u32
+        ensures { result ≡ self.now.rounds }
+    {
+        self.rounds
+    }
+
+    /// What one server has seen. Want of memory is the only error.
+    pub fn into_view(self, alloc: Global, at: Point) -> Result<View, AllocError>
+        ensures { (book : Bids) (words : Lists) → HasRun book words self
+            → IfOk result (λ view. view ≡ view_for book words at) }
+    {
+        let seen = self.seen.into_one(at);
+        view_of(alloc, self.cores.get(at), &self.grid, seen)
+    }
+
+    /// What each server has seen. Want of memory is the only error.
+    pub fn into_views(self, alloc: Global) -> Result<Trio<View>, AllocError>
+        ensures { (book : Bids) (words : Lists) → HasRun book words self
+            → IfOk result (λ views. (s : Server) → member views s ≡ view_for book words s) }
+    {
+        let seen = self.seen.into_parts();
+        let one = view_of(alloc, &self.cores.one, &self.grid, seen.one)?;
+        let two = view_of(alloc, &self.cores.two, &self.grid, seen.two)?;
+        let three = view_of(alloc, &self.cores.three, &self.grid, seen.three)?;
+        Ok(Trio { one, two, three })
+    }
+}
+
+/// The grid of a book, which is within its limits.
+fn grid_of(book: &Book) -> Grid
+    ensures value { result ≡ book.now.grid }
+    ensures limits { IsGrid result }
+    ensures book { IsBook book.now }
+{
+    let grid = *book.grid();
+    let _prices = grid.prices();
+    grid
+}
+
+/// Runs the auction of a book among three servers, which begin with these words, to its end. Want of memory is the only
+/// error, and comes before the first round.
+pub fn run_whole(alloc: Global, book: &Book, words: &Words) -> Result<Ran, Stop>
+    requires { CanRun book.now words.now }
+    ensures memory { IfErr result (λ stop. stop ≡ Stop.OutOfMemory) }
+    ensures run { IfOk result (HasRun book.now words.now) }
+{
+    let grid = grid_of(book);
+    let dealt = deal_book(alloc, book, words.bidders.as_slice())?;
+    let tapes = cut_three(alloc, &grid, words)?;
+    let start = start_servers(alloc, &grid, dealt.inputs, tapes)?;
+    let cores = lockstep(start);
+    let finish = finish_at(&cores.one);
+    let rounds = cores.one.round();
+    Ok(Ran {
+        grid,
+        seen: dealt.seen,
+        cores,
+        finish,
+        rounds,
+    })
+}
