@@ -1,0 +1,4 @@
+mod DifferenceFacts
+mod SecondWords
+mod JobSteps
+mod BookAnswers

@@ -1,0 +1,171 @@
+-- The words of the second world are as many as those of the first.
+use Rattle.std.proofs.Common.{◌≡◌, ◌≢◌, ◌⊎◌, inl, inr, ◌<◌, ◌≤◌, ◌+◌, ◌*◌, ℕ, zero, suc, List, [], ◌∷◌, map, take, length, slice_get, get_or, Option, Some, None, refl, sym, ap, subst, ◌∙◌, arith}
+use Rattle.std.specs.Prelude.{All, ◌==◌}
+use Rattle.std.proofs.lemmas.List.{length-map, take_all}
+use Rattle.std.proofs.lemmas.List.Elements.{All-from_get_or, All-get_or, All-head, All-tail}
+use Rattle.beet_field.specs.declared.point.Point.{Point}
+use Rattle.beet_field.specs.declared.point.Point.TheVariants.{One, Two, Three}
+use Rattle.beet_words.specs.Bundles.{Words, FitsBundle}
+use Rattle.beet_words.specs.Words.{accepted, ones}
+use Rattle.beet_bids.specs.Books.{Book}
+use Rattle.beet_bids.specs.Grids.{Grid, IsGrid}
+use Rattle.beet_bids.proofs.GridFacts.{comparisons-le}
+use Rattle.beet_bids.specs.declared.book.Bidder.{Bidder}
+use Rattle.beet_auction.specs.Openings.{Farmer, farmers_of}
+use Rattle.beet_load.specs.Farmers.{words_wanted, words_kept}
+use Rattle.beet_load.specs.Servers.{coefficients_kept, coefficients_wanted, masks_wanted}
+use Rattle.beet_load.specs.Wholes.{CanDeal, CanRun}
+use Rattle.beet_map.specs.Mapped.{ones_in}
+use Rattle.beet_worlds.specs.Enough.{AreEnough, HasAccepted}
+use Rattle.beet_worlds.specs.MappedBidders.{BiddersMapped, FarmerMapped}
+use Rattle.beet_worlds.specs.MappedWords.{Mapped}
+use Rattle.beet_worlds.specs.ViewsWith.{cut_words, transcript_with}
+use Rattle.beet_two_worlds.specs.Answering.{transcript_in}
+
+-- lists that are short enough are not cut
+lists-uncut : (n : ℕ) (lists : List (List ℕ)) → All (λ (list : List ℕ). length list ≤ n) lists → map (take n) lists ≡ lists
+lists-uncut n [] all = refl
+lists-uncut n (l ∷ ls) all =
+    let here = take_all n l (All-head (λ (list : List ℕ). length list ≤ n) l ls all) in
+    let rest = lists-uncut n ls (All-tail (λ (list : List ℕ). length list ≤ n) l ls all) in
+    λ i. here i ∷ rest i
+
+bidders-kept : (grid : Grid) (lists : List (List ℕ)) → All (CanDeal grid) lists → All (λ (list : List ℕ). length list ≤ words_kept grid) lists
+bidders-kept grid lists all = λ k d lt. (all k d lt).kept
+
+-- the words with which an auction can run are no more than those that are read for it
+pub words-uncut : (book : Book) (words : Words) → CanRun book words → cut_words book.grid words ≡ words
+words-uncut book words r =
+    let grid = book.grid in
+    let m1 = take_all (masks_wanted grid) words.masks.one r.cut.one.masks in
+    let m2 = take_all (masks_wanted grid) words.masks.two r.cut.two.masks in
+    let m3 = take_all (masks_wanted grid) words.masks.three r.cut.three.masks in
+    let c1 = take_all (coefficients_kept grid) words.coefficients.one r.cut.one.coefficients in
+    let c2 = take_all (coefficients_kept grid) words.coefficients.two r.cut.two.coefficients in
+    let c3 = take_all (coefficients_kept grid) words.coefficients.three r.cut.three.coefficients in
+    let lists = lists-uncut (words_kept grid) words.bidders (bidders-kept grid words.bidders r.bidders) in
+    λ i. record {
+      masks = record { one = m1 i; two = m2 i; three = m3 i };
+      coefficients = record { one = c1 i; two = c2 i; three = c3 i };
+      bidders = lists i;
+    }
+
+-- so their transcripts are those of the words that are read
+pub same-transcripts : (s : Point) (first second : Book) (words mapped : Words) → CanRun first words → CanRun second mapped →
+    transcript_with second mapped s ≡ transcript_with first words s → transcript_in second mapped s ≡ transcript_in first words s
+same-transcripts s first second words mapped r r' e =
+    sym (ap (λ (w : Words). transcript_in second w s) (words-uncut second mapped r')) ∙ e ∙ ap (λ (w : Words). transcript_in first w s) (words-uncut first words r)
+
+-- enough words among those that are kept
+has-kept : (wanted : ℕ) (words : List ℕ) → length words ≤ wanted + 8 → wanted ≤ length (accepted words) → HasAccepted wanted words
+has-kept wanted words short h = subst (λ (w : List ℕ). wanted ≤ length (accepted w)) (sym (take_all (wanted + 8) words short)) h
+
+kept-has : (wanted : ℕ) (words : List ℕ) → length words ≤ wanted + 8 → HasAccepted wanted words → wanted ≤ length (accepted words)
+kept-has wanted words short h = subst (λ (w : List ℕ). wanted ≤ length (accepted w)) (take_all (wanted + 8) words short) h
+
+pub can-map : (book : Book) (words : Words) → CanRun book words → AreEnough book words
+can-map book words r =
+    let wanted : ℕ = coefficients_wanted book.grid in
+    record {
+      masks = (r.servers.one.masks, r.servers.two.masks, r.servers.three.masks);
+      one = has-kept wanted words.coefficients.one r.cut.one.coefficients r.servers.one.coefficients;
+      two = has-kept wanted words.coefficients.two r.cut.two.coefficients r.servers.two.coefficients;
+      three = has-kept wanted words.coefficients.three r.cut.three.coefficients r.servers.three.coefficients;
+      count = r.lists;
+      bidders = λ k d lt. has-kept (words_wanted book.grid) _ (r.bidders k d lt).kept (r.bidders k d lt).enough;
+    }
+
+as-long : (xs ys : List ℕ) → ones_in ys ≡ ones_in xs → length ys ≡ length xs
+as-long xs ys e = sym (length-map ys (λ (w : ℕ). w == ones)) ∙ ap length e ∙ length-map xs (λ (w : ℕ). w == ones)
+
+known-or : (known : Option Point) (s : Point) → (known ≡ Some s) ⊎ (known ≢ Some s)
+known-or None s = inr (λ e. cc)
+known-or (Some One) One = inl refl
+known-or (Some One) Two = inr (λ e. cc)
+known-or (Some One) Three = inr (λ e. cc)
+known-or (Some Two) One = inr (λ e. cc)
+known-or (Some Two) Two = inl refl
+known-or (Some Two) Three = inr (λ e. cc)
+known-or (Some Three) One = inr (λ e. cc)
+known-or (Some Three) Two = inr (λ e. cc)
+known-or (Some Three) Three = inl refl
+
+-- the words of a bidder are as many in both worlds
+farmer-long : (s : Point) (wanted : ℕ) (one other : Farmer) → FarmerMapped s wanted one other → length other.words ≡ length one.words
+farmer-long s wanted one other m = elim (known-or one.bidder.known s) [
+  | inl known ↦ ap length (m.own known)
+  | inr unknown ↦ as-long one.words other.words (m.moved unknown).places
+]
+
+farmer-there : (bidders : List Bidder) (words : List (List ℕ)) (k : ℕ) → k < length bidders → k < length words →
+    (b : Bidder) × (slice_get (farmers_of bidders words) k ≡ Some (record { bidder = b; words = get_or words k [] }))
+farmer-there [] words k lt lt' = absurd (omega arith)
+farmer-there (b ∷ bs) [] k lt lt' = absurd (omega arith)
+farmer-there (b ∷ bs) (w ∷ ws) zero lt lt' = (b, refl)
+farmer-there (b ∷ bs) (w ∷ ws) (suc k) lt lt' = farmer-there bs ws k (omega arith) (omega arith)
+
+-- those of each bidder
+lists-long : (s : Point) (prices : ℕ) (bidders others : List Bidder) (words words' : List (List ℕ)) → length words ≡ length bidders →
+    length words' ≡ length others → length words' ≡ length words → BiddersMapped s prices (farmers_of bidders words) (farmers_of others words') →
+    (k : ℕ) → k < length words' → length (get_or words' k []) ≡ length (get_or words k [])
+lists-long s prices bidders others words words' a b c m k lt =
+    let one = farmer-there bidders words k (omega arith) (omega arith) in
+    let other = farmer-there others words' k (omega arith) (omega arith) in
+    farmer-long s (2 * prices) (record { bidder = one.0; words = get_or words k [] }) (record { bidder = other.0; words = get_or words' k [] })
+    (m.each_one k (record { bidder = one.0; words = get_or words k [] }) (record { bidder = other.0; words = get_or words' k [] }) one.1 other.1)
+
+-- three servers can run the second auction with the mapped words
+pub can-run : (s : Point) (first second : Book) (words mapped : Words) → CanRun first words → second.grid ≡ first.grid →
+    Mapped s first words second mapped → AreEnough second mapped → CanRun second mapped
+can-run s first second words mapped r grids m e = by second.grid grids e where
+  by : (grid : Grid) → grid ≡ first.grid → AreEnough (record { grid = grid; bidders = second.bidders }) mapped →
+      CanRun (record { grid = grid; bidders = second.bidders }) mapped
+  by grid g e = subst (λ (grid : Grid). AreEnough (record { grid = grid; bidders = second.bidders }) mapped → CanRun (record { grid = grid; bidders = second.bidders }) mapped)
+      (sym g) there e where
+        there : AreEnough (record { grid = first.grid; bidders = second.bidders }) mapped → CanRun (record { grid = first.grid; bidders = second.bidders }) mapped
+        there e =
+            let masks1 = m.masks.lengths One in
+            let masks2 = m.masks.lengths Two in
+            let masks3 = m.masks.lengths Three in
+            let long1 = as-long words.coefficients.one mapped.coefficients.one (m.places One) in
+            let long2 = as-long words.coefficients.two mapped.coefficients.two (m.places Two) in
+            let long3 = as-long words.coefficients.three mapped.coefficients.three (m.places Three) in
+            let wanted : ℕ = coefficients_wanted first.grid in
+            let short1 : length mapped.coefficients.one ≤ wanted + 8 = omega (arith, long1, r.cut.one.coefficients) in
+            let short2 : length mapped.coefficients.two ≤ wanted + 8 = omega (arith, long2, r.cut.two.coefficients) in
+            let short3 : length mapped.coefficients.three ≤ wanted + 8 = omega (arith, long3, r.cut.three.coefficients) in
+            let lists = lists-long s first.grid.prices first.bidders second.bidders words.bidders mapped.bidders r.lists e.count m.lists m.bidders in
+            let short : (k : ℕ) → k < length mapped.bidders → length (get_or mapped.bidders k []) ≤ words_kept first.grid =
+            λ k lt. (let a = lists k lt in let b = All-get_or (CanDeal first.grid) words.bidders k [] (omega (arith, m.lists)) r.bidders in omega (arith, a, b.kept)) in
+            record {
+              gates = r.gates;
+              servers = record {
+                one = record { coefficients = kept-has wanted mapped.coefficients.one short1 e.one; masks = e.masks.0 };
+                two = record { coefficients = kept-has wanted mapped.coefficients.two short2 e.two; masks = e.masks.1 };
+                three = record { coefficients = kept-has wanted mapped.coefficients.three short3 e.three; masks = e.masks.2 };
+              };
+              cut = record {
+                one = record { masks = omega (arith, masks1, r.cut.one.masks); coefficients = short1 };
+                two = record { masks = omega (arith, masks2, r.cut.two.masks); coefficients = short2 };
+                three = record { masks = omega (arith, masks3, r.cut.three.masks); coefficients = short3 };
+              };
+              lists = e.count;
+              bidders = All-from_get_or (CanDeal first.grid) mapped.bidders []
+                  (λ k lt. record {
+                    enough = kept-has (words_wanted first.grid) (get_or mapped.bidders k []) (short k lt)
+                        (All-get_or (HasAccepted (2 * first.grid.prices)) mapped.bidders k [] lt e.bidders);
+                    kept = short k lt;
+                  });
+            }
+
+-- and they can stand in a bundle
+pub bundle-fits : (book : Book) (words : Words) → CanRun book words → IsGrid book.grid → length book.bidders ≤ 2000 → FitsBundle words
+bundle-fits book words r grid few =
+    let prices = grid.prices_limit in
+    let comparisons = comparisons-le book.grid.prices 13 (omega (arith, prices)) in
+    record {
+      count = omega (arith, r.lists);
+      masks = (omega (arith, r.cut.one.masks), omega (arith, r.cut.two.masks), omega (arith, r.cut.three.masks));
+      coefficients = (omega (arith, r.cut.one.coefficients), omega (arith, r.cut.two.coefficients), omega (arith, r.cut.three.coefficients));
+      bidders = λ k d lt. (let kept = (r.bidders k d lt).kept in omega (arith, kept, prices));
+    }

@@ -1,0 +1,5 @@
+use Rattle.std.proofs.Common.{append_assoc, ◌∙◌}
+use Rattle.beet_two_worlds.proofs.refusing.price_word.Goals as goal
+
+pub returns : goal.returns
+returns c = c.in_ok-word.ensures.ok ∙ simp append_assoc

@@ -1,0 +1,89 @@
+-- The first thing by which one server can tell two books apart, and the line that tells it.
+use Rattle.std.specs.Prelude.{ℕ, ◌+◌, ◌==◌, ◌&&◌, max, not, List, ◌++◌, length, slice_get, nat_eq, Bool, true, false, find, if◌then◌else◌, Option, Some, None, option_map, codes, decimal}
+use Rattle.std.specs.Cmp.Lexicographic.{pointwise}
+use Rattle.std.specs.List.{range_with_len}
+use Rattle.beet_field.specs.declared.point.Point.{Point}
+use Rattle.beet_bids.specs.Books.{Book}
+use Rattle.beet_bids.specs.Curves.{Curve}
+use Rattle.beet_bids.specs.Outcomes.{outcome_of}
+use Rattle.beet_bids.specs.declared.book.Bidder.{Bidder}
+use Rattle.beet_bids.specs.declared.outcomes.Outcome.{Outcome}
+use Rattle.beet_bids.specs.declared.outcomes.Outcome.TheVariants.{Price, No}
+use Rattle.beet_server.specs.Events.{same}
+use Rattle.beet_errand.specs.Texts.{line_of}
+use Rattle.beet_view.specs.BookViews.{names}
+use Rattle.beet_worlds.specs.declared.agreeing.Disagreement.{Disagreement}
+use Rattle.beet_worlds.specs.declared.agreeing.Disagreement.TheVariants.{Shape, OwnBids, Outcomes}
+
+-- whether two marks are the same
+abbrev pub same_mark : Option Point → Option Point → Bool
+same_mark None None = true
+same_mark (Some one) (Some other) = same one other
+same_mark _ _ = false
+
+-- whether there are two bidders with one mark, or none
+abbrev pub same_shape : Option Bidder → Option Bidder → Bool
+same_shape None None = true
+same_shape (Some one) (Some other) = same_mark one.known other.known
+same_shape _ _ = false
+
+-- whether two curves have the same quantities
+abbrev pub same_curve : Curve → Curve → Bool
+same_curve one other = pointwise nat_eq one.buy other.buy && pointwise nat_eq one.sell other.sell
+
+-- whether there are two bidders, of which the first is known to the server, with two curves
+abbrev pub other_own : Point → Option Bidder → Option Bidder → Bool
+other_own s (Some one) (Some other) = names one.known s && not (same_curve one.curve other.curve)
+other_own s _ _ = false
+
+-- whether two outcomes are the same
+abbrev pub same_outcome : Outcome → Outcome → Bool
+same_outcome No No = true
+same_outcome (Price place price volume) (Price place' price' volume') =
+    (place == place') && (price == price') && (volume == volume')
+same_outcome _ _ = false
+
+-- the first of so many places that passes a test
+abbrev pub first_place : (ℕ → Bool) → ℕ → Option ℕ
+first_place test count = find test (range_with_len 0 count)
+
+-- of two, the first that there is
+abbrev pub or_then : {A : Type 0} → Option A → Option A → Option A
+or_then (Some x) y = Some x
+or_then None y = y
+
+-- the first bidder that one book lacks, or that has another mark in the second book; bidders are counted from 1
+abbrev pub shape_between : Book → Book → Option Disagreement
+shape_between first second =
+    option_map (λ n. Shape (n + 1))
+    (first_place (λ n. not (same_shape (slice_get first.bidders n) (slice_get second.bidders n)))
+    (max (length first.bidders) (length second.bidders)))
+
+-- the first bidder that the server knows and that has another curve in the second book
+abbrev pub own_between : Point → Book → Book → Option Disagreement
+own_between s first second =
+    option_map (λ n. OwnBids (n + 1))
+    (first_place (λ n. other_own s (slice_get first.bidders n) (slice_get second.bidders n)) (length first.bidders))
+
+-- both outcomes, where they are two
+abbrev pub outcomes_between : Book → Book → Option Disagreement
+outcomes_between first second =
+    if same_outcome (outcome_of first) (outcome_of second) then None
+    else Some (Outcomes (outcome_of first) (outcome_of second))
+
+-- the first of these that there is, in this order
+abbrev pub difference_between : Point → Book → Book → Option Disagreement
+difference_between s first second =
+    or_then (shape_between first second) (or_then (own_between s first second) (outcomes_between first second))
+
+-- an outcome in a line
+abbrev pub outcome_word : Outcome → List ℕ
+outcome_word (Price place price volume) = decimal price ++ codes "/" ++ decimal volume
+outcome_word No = codes "none"
+
+-- the line of a refusal
+abbrev pub refused_text : Disagreement → List ℕ
+refused_text (Shape bidder) = line_of (codes "worlds refused shape " ++ decimal bidder)
+refused_text (OwnBids bidder) = line_of (codes "worlds refused own bids " ++ decimal bidder)
+refused_text (Outcomes one other) =
+    line_of (codes "worlds refused outcomes " ++ outcome_word one ++ codes " " ++ outcome_word other)

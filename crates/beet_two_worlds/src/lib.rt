@@ -1,0 +1,11 @@
+//! The job `worlds`: two worlds of an auction with equal transcripts of one server, and the words of the second.
+#![tactic(auto)]
+
+mod answering;
+mod refusing;
+mod seeing;
+#[cfg(test)]
+mod tests;
+mod two_worlds;
+
+pub use two_worlds::worlds;

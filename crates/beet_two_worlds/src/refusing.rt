@@ -1,0 +1,84 @@
+//! The lines that refuse two books.
+
+ghost use Rattle.std.specs.Prelude.{◌≡◌, ◌++◌, IfOk, codes, decimal, string_bytes};
+ghost use Rattle.beet_errand.specs.Fetches.{Refuses};
+ghost use Rattle.beet_errand.specs.Texts.{line_of};
+ghost use Rattle.beet_two_worlds.specs.Differences.{outcome_word as word_of, refused_text};
+ghost use Rattle.beet_two_worlds.specs.Ending.{TellsRefusal};
+
+use beet_bids::Outcome;
+use beet_errand::{Status, Stop};
+use beet_worlds::{Disagreement, MapFault};
+use std::alloc::{AllocError, Global};
+
+/// A price and a volume as a refusal tells them.
+fn price_word(alloc: Global, price: u64, volume: u64) -> Result<String, AllocError>
+    ensures { IfOk result (λ word. string_bytes word ≡ decimal price ++ codes "/" ++ decimal volume) }
+{
+    let word = format!(in alloc; "{price}/{volume}")?;
+    Ok(word)
+}
+
+/// An outcome as a refusal tells it.
+fn outcome_word(alloc: Global, outcome: Outcome) -> Result<String, AllocError>
+    ensures { IfOk result (λ word. string_bytes word ≡ word_of outcome) }
+{
+    match outcome {
+        Outcome::Price { price, volume, .. } => price_word(alloc, price, volume),
+        Outcome::No => String::from_str(alloc, "none"),
+    }
+}
+
+/// The line for two outcomes.
+fn outcomes_line(alloc: Global, one: Outcome, other: Outcome) -> Result<Vec<u8>, AllocError>
+    ensures { IfOk result (λ line. line.items ≡ refused_text (Disagreement.Outcomes one other)) }
+{
+    let one = outcome_word(alloc, one)?;
+    let other = outcome_word(alloc, other)?;
+    let line = format!(in alloc; "worlds refused outcomes {one} {other}\n")?;
+    Ok(line.into_bytes())
+}
+
+/// The line for two books of which one bidder differs, for this reason.
+fn bidder_line(alloc: Global, reason: &str, bidder: u32) -> Result<Vec<u8>, AllocError>
+    ensures { IfOk result (λ line.
+        line.items ≡ line_of (codes "worlds refused " ++ reason.now ++ codes " " ++ decimal bidder)) }
+{
+    let line = format!(in alloc; "worlds refused {reason} {bidder}\n")?;
+    Ok(line.into_bytes())
+}
+
+/// The line for two books that do not agree.
+fn refused_line(alloc: Global, difference: Disagreement) -> Result<Vec<u8>, AllocError>
+    ensures { IfOk result (λ line. line.items ≡ refused_text difference) }
+{
+    match difference {
+        Disagreement::Shape(bidder) => bidder_line(alloc, "shape", bidder),
+        Disagreement::OwnBids(bidder) => bidder_line(alloc, "own bids", bidder),
+        Disagreement::Outcomes(one, other) => outcomes_line(alloc, one, other),
+    }
+}
+
+/// Refuses two books that do not agree.
+fn refuse(alloc: Global, difference: Disagreement) -> Stop
+    ensures { Refuses Status.WorldsRefused (refused_text difference) result }
+{
+    match refused_line(alloc, difference) {
+        Ok(line) => Stop::Refused(Status::WorldsRefused, line),
+        Err(_) => Stop::OutOfMemory,
+    }
+}
+
+/// Refuses two books whose words are not mapped.
+pub(crate) fn refusal(alloc: Global, fault: MapFault) -> Stop
+    ensures { TellsRefusal fault result }
+{
+    match fault {
+        MapFault::ShapeDiffers(bidder) => refuse(alloc, Disagreement::Shape(bidder)),
+        MapFault::OwnBidsDiffer(bidder) => refuse(alloc, Disagreement::OwnBids(bidder)),
+        MapFault::OutcomesDiffer(one, other) => {
+            refuse(alloc, Disagreement::Outcomes(one, other))
+        }
+        MapFault::OutOfMemory => Stop::OutOfMemory,
+    }
+}

@@ -1,0 +1,38 @@
+//! The job `worlds`.
+
+ghost use Rattle.std.specs.Prelude.{◌≡◌, ◌≤◌, IfErr, IfOk};
+ghost use Rattle.beet_errand.specs.Fetches.{Finishes, IsDone};
+ghost use Rattle.beet_two_worlds.specs.Answering.{WithMapped, worlds_errand};
+ghost use Rattle.beet_two_worlds.specs.Ending.{BeginsWithEqualFiles, CausesOfWorlds};
+
+use crate::answering::answer_both;
+use beet_errand::{Reply, Stop};
+use beet_field::Point;
+use beet_load::{load_curves, load_whole};
+use beet_store::Shelf;
+use std::alloc::Global;
+
+/// Runs the auction of the first book with the words that are read, and that of the second with words with which it looks
+/// the same to the server. It answers the transcripts of the server, which are equal, and the words of the second auction.
+pub fn worlds<S: Shelf>(
+    alloc: Global,
+    shelf: &mut S,
+    auction: &str,
+    servers: &str,
+    book1: &str,
+    book2: &str,
+    server: Point,
+    out: &str,
+) -> Result<Reply, Stop>
+    ensures later { S.faults shelf.old ≤ S.faults shelf.new }
+    ensures cause { IfErr result (λ stop. CausesOfWorlds (S.faults shelf.old) (S.faults shelf.new) stop) }
+    ensures done { IfOk result (λ reply. IsDone reply.status) }
+    ensures finishes { WithMapped (S.told shelf.old) (S.told shelf.new) auction.now servers.now book1.now book2.now server
+        (λ words. Finishes (S.told shelf.old) (S.told shelf.new)
+        (worlds_errand auction.now servers.now book1.now book2.now server out.now words) result) }
+    ensures equal { IfOk result (λ reply. BeginsWithEqualFiles reply.files) }
+{
+    let whole = load_whole(alloc, shelf, auction, servers, book1)?;
+    let second = load_curves(alloc, shelf, whole.book.grid(), book2)?;
+    answer_both(alloc, server, out, &whole, &second)
+}
