@@ -1,0 +1,107 @@
+-- Sealing the bid of a farmer, step by step.
+use Rattle.std.proofs.Common.{◌≡◌, ◌≤◌, ◌<◌, ℕ, List, [], ◌∷◌, length, drop, Option, None, ◌∙◌, ap}
+use Rattle.beet_field.specs.declared.point.Point.{Point}
+use Rattle.beet_field.specs.declared.point.Point.TheVariants.{One, Two, Three}
+use Rattle.beet_field.specs.declared.trio.Trio.{Trio}
+use Rattle.beet_store.specs.Files.{File, Told}
+use Rattle.beet_words.specs.Words.{accepted}
+use Rattle.beet_words.specs.Tapes.{Tape}
+use Rattle.beet_bids.specs.AuctionFiles.{auction_of}
+use Rattle.beet_bids.specs.BidFiles.{bid_of}
+use Rattle.beet_bids.specs.Curves.{Curve}
+use Rattle.beet_bids.specs.Grids.{Grid}
+use Rattle.beet_book.specs.Dealing.{DealsBidder, dealt_points}
+use Rattle.beet_book.specs.declared.entries.BidderSource.{BidderSource}
+use Rattle.beet_farmer.specs.declared.envelope.Envelope.{Envelope}
+use Rattle.beet_farmer.specs.Envelopes.{envelope_bytes}
+use Rattle.beet_farmer.specs.Sealing.{AreAddressed, points_in}
+use Rattle.beet_errand.specs.Errands.{Errand, Ends, reads}
+use Rattle.beet_errand.specs.Fetches.{Went, Stops, Refuses}
+use Rattle.beet_errand.specs.declared.answer.Status.TheVariants.{Done, TooFewWords}
+use Rattle.beet_errand.specs.declared.answer.Stop.{Stop}
+use Rattle.beet_errand.specs.declared.answer.Stop.TheVariants.{Refused, OutOfMemory}
+use Rattle.beet_errand.proofs.Steps.{went_none, went_on, stops_after}
+use Rattle.beet_load.specs.Farmers.{words_wanted, words_kept, words_errand, enough_words}
+use Rattle.beet_load.specs.WordTexts.{too_few_text}
+use Rattle.beet_load.proofs.Farming.{lt_false, lt_true}
+use Rattle.beet_envelopes.specs.Seal.{name_for, sealed_text, sealed_files, sealed_answer, own_words_errand, with_curve, with_grid, seal_errand}
+
+enough : (told : Option Told) (wanted : ℕ) (words : List ℕ) (next : Errand) → wanted ≤ length (accepted words) →
+    Went told told (enough_words 1 wanted words next) next
+enough told wanted words next h = rw (lt_false (length (accepted words)) wanted h) (went_none told next)
+
+-- enough words are read
+pub words_give : (old now : Option Told) (grid : Grid) (source : BidderSource) (words : List ℕ) →
+    ((next : List ℕ → Errand) → Went old now (words_errand None source (words_kept grid) next) (next words)) →
+    words_wanted grid ≤ length (accepted words) →
+    (next : List ℕ → Errand) → Went old now (own_words_errand grid source next) (next words)
+words_give old now grid source words w h = λ next.
+    went_on old now now _ _ _ (w (λ read. enough_words 1 (words_wanted grid) read (next read)))
+    (enough now (words_wanted grid) words (next words) h)
+
+short_stops : (told : Option Told) (wanted : ℕ) (words : List ℕ) (stop : Stop) → length (accepted words) < wanted →
+    Refuses TooFewWords (too_few_text 1 (length (accepted words)) wanted) stop →
+    Stops {A = List ℕ} told told (λ next. enough_words 1 wanted words (next words)) stop
+short_stops told wanted words (Refused status line) h r = λ next.
+    rw (lt_true (length (accepted words)) wanted h, r.0, r.1) (went_none told _)
+short_stops told wanted words OutOfMemory h r = λ next. (enough_words 1 wanted words (next words), went_none told _)
+
+-- too few words are read
+pub words_stop : (old now : Option Told) (grid : Grid) (source : BidderSource) (words : List ℕ) (stop : Stop) →
+    ((next : List ℕ → Errand) → Went old now (words_errand None source (words_kept grid) next) (next words)) →
+    length (accepted words) < words_wanted grid →
+    Refuses TooFewWords (too_few_text 1 (length (accepted words)) (words_wanted grid)) stop →
+    Stops old now (own_words_errand grid source) stop
+words_stop old now grid source words stop w h r =
+    stops_after old now now (words_errand None source (words_kept grid))
+    (λ read next. enough_words 1 (words_wanted grid) read (next read)) words stop w (short_stops now (words_wanted grid) words stop h r)
+
+-- the bid is read
+pub comes_to_words : (old middle now : Option Told) (auction bid out : List ℕ) (source : BidderSource) (grid : Grid) (curve : Curve) →
+    ((next : Grid → Errand) → Went old middle (reads auction 4096 auction_of next) (next grid)) →
+    ((next : Curve → Errand) → Went middle now (reads bid 1048576 (bid_of grid) next) (next curve)) →
+    Went old now (seal_errand auction bid source out) (with_curve grid source out curve)
+comes_to_words old middle now auction bid out source grid curve g c =
+    went_on old middle now _ _ _ (g (with_grid bid source out)) (c (with_curve grid source out))
+
+-- the words are read
+pub comes_to_envelopes : (old middle last now : Option Told) (auction bid out : List ℕ) (source : BidderSource) (grid : Grid) (curve : Curve) (words : List ℕ) →
+    ((next : Grid → Errand) → Went old middle (reads auction 4096 auction_of next) (next grid)) →
+    ((next : Curve → Errand) → Went middle last (reads bid 1048576 (bid_of grid) next) (next curve)) →
+    ((next : List ℕ → Errand) → Went last now (own_words_errand grid source next) (next words)) →
+    Went old now (seal_errand auction bid source out) (Ends (sealed_answer grid out curve words))
+comes_to_envelopes old middle last now auction bid out source grid curve words g c w =
+    went_on old last now _ _ _ (comes_to_words old middle last auction bid out source grid curve g c)
+    (w (λ words. Ends (sealed_answer grid out curve words)))
+
+abbrev file_of : Grid → List ℕ → Envelope → File
+file_of grid out envelope = (name_for out envelope.server, envelope_bytes grid envelope)
+
+same-envelope : (envelope : Envelope) (s : Point) (points : List ℕ) → envelope.server ≡ s → envelope.points ≡ points →
+    envelope ≡ record { server = s; points = points }
+same-envelope envelope s points h i = λ j. record { server = h j; points = i j }
+
+same-points : (curve : Curve) (tape after : Tape) (dealt : Trio (List ℕ)) → tape.passed ≡ 0 → DealsBidder curve tape after dealt →
+    dealt ≡ dealt_points curve (accepted tape.words)
+same-points curve tape after dealt fresh deals =
+    deals.points ∙ ap (λ n. dealt_points curve (accepted (drop n tape.words))) fresh
+
+-- the envelopes of a curve that was dealt, as files
+pub files-sealed : (grid : Grid) (out : List ℕ) (curve : Curve) (tape after : Tape) (envelopes : Trio Envelope) →
+    tape.passed ≡ 0 → AreAddressed envelopes → DealsBidder curve tape after (points_in envelopes) →
+    file_of grid out envelopes.one ∷ file_of grid out envelopes.two ∷ file_of grid out envelopes.three ∷ []
+    ≡ sealed_files grid out curve tape.words
+files-sealed grid out curve tape after envelopes fresh to deals =
+    let same = same-points curve tape after (points_in envelopes) fresh deals in
+    let one = same-envelope envelopes.one One _ to.one (ap (λ (t : Trio (List ℕ)). t.one) same) in
+    let two = same-envelope envelopes.two Two _ to.two (ap (λ (t : Trio (List ℕ)). t.two) same) in
+    let three = same-envelope envelopes.three Three _ to.three (ap (λ (t : Trio (List ℕ)). t.three) same) in
+    λ j. file_of grid out (one j) ∷ file_of grid out (two j) ∷ file_of grid out (three j) ∷ []
+
+-- the answer has these files and this text
+pub answer-sealed : (grid : Grid) (out : List ℕ) (curve : Curve) (words : List ℕ) (files : List File) (text : List ℕ) (prices : ℕ) →
+    files ≡ sealed_files grid out curve words → text ≡ sealed_text prices → prices ≡ grid.prices →
+    record { status = Done; files = files; text = text } ≡ sealed_answer grid out curve words
+answer-sealed grid out curve words files text prices e h i =
+    let told : text ≡ sealed_text grid.prices = h ∙ ap sealed_text i in
+    λ j. record { status = Done; files = e j; text = told j }

@@ -1,0 +1,11 @@
+use Rattle.beet_envelopes.proofs.SealedBooks.{sealed-again, inputs-sealed, outcome-sealed}
+use Rattle.beet_envelopes.proofs.laws.sealed_books_open_their_outcome.Goals as goal
+
+pub returns-clause-envelopes : goal.returns-clause-envelopes
+returns-clause-envelopes c = sealed-again
+
+pub returns-clause-inputs : goal.returns-clause-inputs
+returns-clause-inputs c = inputs-sealed
+
+pub returns-clause-outcome : goal.returns-clause-outcome
+returns-clause-outcome c = outcome-sealed

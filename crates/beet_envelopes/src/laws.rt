@@ -1,0 +1,41 @@
+//! What is opened of envelopes that were sealed.
+//!
+//! There is no code here: the laws are contracts of functions that do nothing.
+
+ghost use Rattle.std.specs.Prelude.{◌≡◌, ◌≤◌, ℕ, List, length, map, Ok};
+ghost use Rattle.beet_field.specs.declared.point.Point.{Point};
+ghost use Rattle.beet_field.specs.declared.trio.Trio.{Trio};
+ghost use Rattle.beet_words.specs.Words.{accepted};
+ghost use Rattle.beet_bids.specs.Books.{IsBook};
+ghost use Rattle.beet_bids.specs.Curves.{Curve, IsOfGrid};
+ghost use Rattle.beet_bids.specs.Grids.{Grid, IsGrid};
+ghost use Rattle.beet_farmer.specs.Envelopes.{envelope_bytes, envelope_of};
+ghost use Rattle.beet_auction.specs.Endings.{book_finish, book_rounds};
+ghost use Rattle.beet_auction.specs.Openings.{Farmer, book_inputs, book_of};
+ghost use Rattle.beet_load.specs.Farmers.{words_wanted};
+ghost use Rattle.beet_load.specs.Servers.{ServerWords, masks_of};
+ghost use Rattle.beet_run.specs.Outcomes.{outcome_answer};
+ghost use Rattle.beet_envelopes.specs.Gather.{inputs_at};
+ghost use Rattle.beet_envelopes.specs.Open.{opened_answer};
+ghost use Rattle.beet_envelopes.specs.Seal.{sealed_envelope};
+ghost use Rattle.beet_envelopes.specs.SealedBooks.{HaveWords, sealed_points};
+
+/// Where each bidder's envelopes are those that `seal` makes of its curve and its words, the servers begin with the inputs
+/// of the book of these curves, and the answer of `open` is the outcome of that book.
+pub fn sealed_books_open_their_outcome()
+    // What is sealed is read again.
+    ensures envelopes { (grid : Grid) (curve : Curve) (words : List ℕ) (s : Point) →
+        IsGrid grid → IsOfGrid grid curve → words_wanted grid ≤ length (accepted words) →
+        envelope_of grid s (envelope_bytes grid (sealed_envelope curve words s))
+        ≡ Ok (sealed_envelope curve words s) }
+
+    ensures inputs { (grid : Grid) (farmers : List Farmer) →
+        IsBook (book_of grid farmers) → HaveWords grid farmers →
+        inputs_at grid.prices (map sealed_points farmers) ≡ book_inputs grid.prices farmers }
+
+    ensures outcome { (grid : Grid) (farmers : List Farmer) (servers : Trio ServerWords) →
+        IsBook (book_of grid farmers) → HaveWords grid farmers →
+        opened_answer grid servers (map sealed_points farmers)
+        ≡ outcome_answer grid (book_finish (book_of grid farmers) (masks_of servers))
+        (book_rounds (book_of grid farmers) (masks_of servers)) }
+{}

@@ -1,0 +1,168 @@
+//! The job `seal`.
+
+ghost use Rattle.std.specs.Prelude.{◌≡◌, ◌≤◌, ◌*◌, [], ◌∷◌, IfErr, IfOk, length, None};
+ghost use Rattle.beet_words.specs.Words.{accepted};
+ghost use Rattle.beet_bids.specs.BidFiles.{bid_of};
+ghost use Rattle.beet_bids.specs.Curves.{IsOfGrid};
+ghost use Rattle.beet_book.specs.Dealing.{HasLengths};
+ghost use Rattle.beet_farmer.specs.Envelopes.{envelope_bytes};
+ghost use Rattle.beet_farmer.specs.Sealing.{points_in};
+ghost use Rattle.beet_load.specs.Farmers.{words_wanted, words_errand};
+ghost use Rattle.beet_errand.specs.Errands.{reads};
+ghost use Rattle.beet_errand.specs.Fetches.{Causes, Finishes, Gives, IsDone};
+ghost use Rattle.beet_envelopes.specs.Seal.{name_for, own_words_errand, seal_errand, sealed_text};
+ghost use Rattle.beet_envelopes.specs.SourceWords.{named_source};
+
+use crate::source_word::SourceWord;
+use beet_bids::{Curve, Grid, read_bid};
+use beet_errand::{NewFile, Reply, Status, Stop, fetch_file, judge};
+use beet_farmer::{Envelope, seal, write_envelope};
+use beet_field::Trio;
+use beet_load::{read_grid, read_tape_file, too_few_words};
+use beet_store::Shelf;
+use beet_words::Tape;
+use std::alloc::{AllocError, Global};
+
+/// The limit of a bid file in bytes.
+const BID_LIMIT: u64 = 1_048_576;
+
+/// Words that are kept of a source beyond those that are wanted, for words that are passed over.
+const SPARE_WORDS: u32 = 8;
+
+/// The number that a farmer has in a line on too few words.
+const FARMER: u32 = 1;
+
+/// The curve of a bid file.
+fn read_curve<S: Shelf>(
+    alloc: Global,
+    shelf: &mut S,
+    grid: &Grid,
+    name: &str,
+) -> Result<Curve, Stop>
+    ensures later { S.faults shelf.old ≤ S.faults shelf.new }
+    ensures cause { IfErr result (λ stop. Causes (S.faults shelf.old) (S.faults shelf.new) stop) }
+    ensures of_grid { IfOk result (λ curve. IsOfGrid grid.now curve) }
+    ensures gives { Gives (λ curve. curve) (S.told shelf.old) (S.told shelf.new)
+        (reads name.now 1048576 (bid_of grid.now)) result }
+{
+    let bytes = fetch_file(alloc, shelf, name, BID_LIMIT)?;
+    judge(alloc, name, read_bid(alloc, grid, bytes.as_slice()))
+}
+
+/// The tape of a source, at its first word.
+fn read_source<S: Shelf>(
+    alloc: Global,
+    shelf: &mut S,
+    source: SourceWord<'_>,
+    kept: u32,
+) -> Result<Tape, Stop>
+    ensures later { S.faults shelf.old ≤ S.faults shelf.new }
+    ensures cause { IfErr result (λ stop. Causes (S.faults shelf.old) (S.faults shelf.new) stop) }
+    ensures fresh { IfOk result (λ tape. tape.passed ≡ 0) }
+    ensures gives { Gives (λ tape. tape.words) (S.told shelf.old) (S.told shelf.new)
+        (words_errand None (named_source source.entry) kept) result }
+{
+    match source {
+        SourceWord::Seed(seed) => match Tape::of_seed(alloc, &seed, 0, kept) {
+            Ok(tape) => Ok(tape),
+            Err(_) => Err(Stop::OutOfMemory),
+        },
+        SourceWord::Tape(name) => read_tape_file(alloc, shelf, name, kept),
+    }
+}
+
+/// The tape of a source, at its first word, with enough words for the grid.
+fn read_words<S: Shelf>(
+    alloc: Global,
+    shelf: &mut S,
+    grid: &Grid,
+    source: SourceWord<'_>,
+) -> Result<Tape, Stop>
+    ensures later { S.faults shelf.old ≤ S.faults shelf.new }
+    ensures cause { IfErr result (λ stop. Causes (S.faults shelf.old) (S.faults shelf.new) stop) }
+    ensures fresh { IfOk result (λ tape. tape.passed ≡ 0) }
+    ensures enough { IfOk result (λ tape. words_wanted grid.now ≤ length (accepted tape.words)) }
+    ensures gives { Gives (λ tape. tape.words) (S.told shelf.old) (S.told shelf.new)
+        (own_words_errand grid.now (named_source source.entry)) result }
+{
+    let wanted = 2 * grid.prices();
+    let tape = read_source(alloc, shelf, source, wanted + SPARE_WORDS)?;
+    let held = tape.accepted_left();
+    if held < wanted {
+        return Err(too_few_words(alloc, FARMER, held, wanted));
+    }
+    Ok(tape)
+}
+
+/// The file of an envelope.
+fn envelope_file(
+    alloc: Global,
+    grid: &Grid,
+    out: &str,
+    envelope: &Envelope,
+) -> Result<NewFile, AllocError>
+    requires { length envelope.now.points ≡ 2 * grid.now.prices }
+    ensures { IfOk result (λ file. file ≡
+        (name_for out.now envelope.now.server, envelope_bytes grid.now envelope.now)) }
+{
+    let number = envelope.server.number();
+    Ok(NewFile {
+        name: format!(in alloc; "{out}.{number}")?,
+        bytes: write_envelope(alloc, grid, envelope)?,
+    })
+}
+
+/// The files of the envelopes, in the order of the servers.
+fn envelope_files(
+    alloc: Global,
+    grid: &Grid,
+    out: &str,
+    envelopes: &Trio<Envelope>,
+) -> Result<Vec<NewFile>, AllocError>
+    requires { HasLengths (points_in envelopes.now) (2 * grid.now.prices) }
+    ensures { IfOk result (λ files. files.items ≡
+        (name_for out.now envelopes.now.one.server, envelope_bytes grid.now envelopes.now.one)
+        ∷ (name_for out.now envelopes.now.two.server, envelope_bytes grid.now envelopes.now.two)
+        ∷ (name_for out.now envelopes.now.three.server, envelope_bytes grid.now envelopes.now.three)
+        ∷ []) }
+{
+    let mut files = Vec::with_capacity(alloc, 3)?;
+    files.push(envelope_file(alloc, grid, out, &envelopes.one)?)?;
+    files.push(envelope_file(alloc, grid, out, &envelopes.two)?)?;
+    files.push(envelope_file(alloc, grid, out, &envelopes.three)?)?;
+    Ok(files)
+}
+
+/// The line that tells the number of prices.
+fn sealed_line(alloc: Global, prices: u32) -> Result<Vec<u8>, AllocError>
+    ensures { IfOk result (λ text. text.items ≡ sealed_text prices) }
+{
+    Ok(format!(in alloc; "sealed {prices}\n")?.into_bytes())
+}
+
+/// Seals the bid of a file in three envelopes, one for each server, with the words of a source. They are the files `out`
+/// with `.1`, `.2` and `.3`.
+pub fn seal_bid<S: Shelf>(
+    alloc: Global,
+    shelf: &mut S,
+    auction: &str,
+    bid: &str,
+    source: SourceWord<'_>,
+    out: &str,
+) -> Result<Reply, Stop>
+    ensures later { S.faults shelf.old ≤ S.faults shelf.new }
+    ensures cause { IfErr result (λ stop. Causes (S.faults shelf.old) (S.faults shelf.new) stop) }
+    ensures done { IfOk result (λ reply. IsDone reply.status) }
+    ensures finishes { Finishes (S.told shelf.old) (S.told shelf.new)
+        (seal_errand auction.now bid.now (named_source source.entry) out.now) result }
+{
+    let grid = read_grid(alloc, shelf, auction)?;
+    let curve = read_curve(alloc, shelf, &grid, bid)?;
+    let mut tape = read_words(alloc, shelf, &grid, source)?;
+    let envelopes = seal(alloc, &grid, &curve, &mut tape)?;
+    Ok(Reply {
+        status: Status::Done,
+        files: envelope_files(alloc, &grid, out, &envelopes)?,
+        text: sealed_line(alloc, grid.prices())?,
+    })
+}

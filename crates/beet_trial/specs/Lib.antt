@@ -1,0 +1,4 @@
+pub mod Sizes
+pub mod Rules
+pub mod Adding
+pub mod Trial

@@ -1,0 +1,64 @@
+//! The job `trial`.
+
+ghost use Rattle.std.specs.Prelude.{◌≡◌, ◌++◌, ℕ, IfErr, IfOk, Option};
+ghost use Rattle.beet_store.specs.Files.{Told};
+ghost use Rattle.beet_errand.specs.Fetches.{Causes, Finishes, IsDone};
+ghost use Rattle.beet_gates.specs.declared.Gates.TheVariants.{Chain};
+ghost use Rattle.beet_trial.specs.Sizes.{AreSizes};
+ghost use Rattle.beet_trial.specs.Trial.{sized_answer, sizes_text, trial_errand};
+
+use crate::adding::add_bidders;
+use crate::rules::{grid_of, servers_of};
+use beet_bids::Grid;
+use beet_book::Totals;
+use beet_errand::{Reply, Stop};
+use beet_load::check_three;
+use beet_plan::Finish;
+use beet_run::{outcome_reply, run_auction};
+use std::alloc::{AllocError, Global};
+
+/// The line with the sizes, and then the lines of the outcome.
+fn sized_lines(
+    alloc: Global,
+    bidders: u32,
+    prices: u32,
+    outcome: &[u8],
+) -> Result<Vec<u8>, AllocError>
+    ensures { IfOk result (λ text. text.items ≡ sizes_text bidders prices ++ outcome.now) }
+{
+    let mut text = format!(in alloc; "bidders {bidders} prices {prices}\n")?.into_bytes();
+    text.extend_from_slice(outcome)?;
+    Ok(text)
+}
+
+/// The reply that tells the sizes, how a run ended, and after how many rounds.
+fn sized_reply(
+    alloc: Global,
+    grid: &Grid,
+    bidders: u32,
+    finish: Finish,
+    rounds: u32,
+) -> Result<Reply, AllocError>
+    ensures { IfOk result (λ reply. reply ≡ sized_answer grid.now bidders finish rounds) }
+{
+    let outcome = outcome_reply(alloc, grid, finish, rounds)?;
+    let text = sized_lines(alloc, bidders, grid.prices(), outcome.text.as_slice())?;
+    Ok(Reply::of_text(alloc, outcome.status, text))
+}
+
+/// Makes a book of so many bidders over so many prices by rule, deals it bidder by bidder, and clears it among three
+/// servers. The same numbers give the same text. It fetches nothing.
+pub fn trial(alloc: Global, bidders: u32, prices: u32) -> Result<Reply, Stop>
+    requires { AreSizes bidders prices }
+    ensures cause { (before now : ℕ) → IfErr result (λ stop. Causes before now stop) }
+    ensures done { IfOk result (λ reply. IsDone reply.status) }
+    ensures finishes { (told : Option Told) → Finishes told told (trial_errand bidders prices) result }
+{
+    let grid = grid_of(prices);
+    let servers = servers_of(alloc, &grid)?;
+    check_three(alloc, &grid, &servers)?;
+    let mut totals = Totals::new(alloc, &grid)?;
+    add_bidders(alloc, &grid, bidders, &mut totals)?;
+    let (finish, rounds) = run_auction(alloc, &grid, totals.inputs(), servers)?;
+    Ok(sized_reply(alloc, &grid, bidders, finish, rounds)?)
+}

@@ -1,0 +1,126 @@
+//! The book of a trial, by rule.
+
+ghost use Rattle.std.specs.Prelude.{◌≡◌, ◌≤◌, IfOk};
+ghost use Rattle.beet_bids.specs.Grids.{IsGrid};
+ghost use Rattle.beet_words.specs.Seeds.{seed_words as words_of_seed};
+ghost use Rattle.beet_load.specs.Farmers.{words_kept};
+ghost use Rattle.beet_load.specs.Servers.{seeded};
+ghost use Rattle.beet_trial.specs.Rules.{bidder_seed, bought, buying, selling, server_seed, sold, trial_curve, trial_grid, trial_servers, weight};
+
+use beet_bids::{Curve, Grid};
+use beet_field::Trio;
+use beet_gates::Gates;
+use beet_load::{ServerWords, seed_words};
+use beet_words::Tape;
+use std::alloc::{AllocError, Global};
+
+/// The lowest price, and the step from one price to the next.
+const BASE: u64 = 1_000;
+
+const TICK: u64 = 10;
+
+/// The number that the seed of the first bidder ends with.
+const FIRST_SEED: u64 = 256;
+
+/// Words that are made of a seed beyond those that are wanted, for words that are passed over.
+const SPARE_WORDS: u32 = 8;
+
+/// The grid with so many prices.
+pub(crate) fn grid_of(prices: u32) -> Grid
+    requires some { 1 ≤ prices }
+    requires limit { prices ≤ 4096 }
+    ensures { result ≡ trial_grid prices }
+{
+    match Grid::new(BASE, TICK, prices, Gates::Chain) {
+        Some(grid) => grid,
+        None => unreachable!(),
+    }
+}
+
+/// The words of the server with this number.
+fn server_words(alloc: Global, grid: &Grid, server: u8) -> Result<ServerWords, AllocError>
+    requires { IsGrid grid.now }
+    ensures { IfOk result (λ words. words ≡ seeded grid.now (server_seed server)) }
+{
+    seed_words(alloc, grid, &[server; 32])
+}
+
+/// The words of the three servers.
+pub(crate) fn servers_of(alloc: Global, grid: &Grid) -> Result<Trio<ServerWords>, AllocError>
+    requires { IsGrid grid.now }
+    ensures { IfOk result (λ servers. servers ≡ trial_servers grid.now) }
+{
+    Ok(Trio {
+        one: server_words(alloc, grid, 1)?,
+        two: server_words(alloc, grid, 2)?,
+        three: server_words(alloc, grid, 3)?,
+    })
+}
+
+/// The seed of bidder `i`, from 0.
+fn seed_of(i: u32) -> [u8; 32]
+    ensures { result ≡ bidder_seed i }
+{
+    let mut seed = [0; 32];
+    let number = FIRST_SEED + i as u64;
+    seed[24..].copy_from_slice(&number.to_be_bytes());
+    seed
+}
+
+/// The words of bidder `i`, at the first.
+pub(crate) fn tape_of(alloc: Global, grid: &Grid, i: u32) -> Result<Tape, AllocError>
+    ensures { IfOk result (λ tape. tape
+        ≡ record { words = words_of_seed (bidder_seed i) 0 (words_kept grid.now); passed = 0 }) }
+{
+    let kept = 2 * grid.prices() + SPARE_WORDS;
+    Tape::of_seed(alloc, &seed_of(i), 0, kept)
+}
+
+/// The weights with which bidder `i` buys and sells.
+fn weights_of(i: u32) -> (u64, u64)
+    ensures buying { result.0 ≡ buying i }
+    ensures selling { result.1 ≡ selling i }
+    ensures buying_limit { result.0 ≤ 7 }
+    ensures selling_limit { result.1 ≤ 7 }
+{
+    let weight = 1 + (i % 7) as u64;
+    if i % 2 == 0 { (weight, 0) } else { (0, weight) }
+}
+
+/// What is bought at each place with this weight.
+fn bought(alloc: Global, prices: u32, weight: u64) -> Result<Vec<u64>, AllocError>
+    requires { weight ≤ 7 }
+    ensures { IfOk result (λ quantities. quantities.items ≡ bought prices weight) }
+{
+    let mut quantities = Vec::with_capacity(alloc, prices as usize)?;
+    for place in 0..prices {
+        quantities.push(weight * (prices - place) as u64)?;
+    }
+    Ok(quantities)
+}
+
+/// What is sold at each place with this weight.
+fn sold(alloc: Global, prices: u32, weight: u64) -> Result<Vec<u64>, AllocError>
+    requires { weight ≤ 7 }
+    ensures { IfOk result (λ quantities. quantities.items ≡ sold prices weight) }
+{
+    let mut quantities = Vec::with_capacity(alloc, prices as usize)?;
+    for place in 0..prices {
+        quantities.push(weight * place as u64)?;
+    }
+    Ok(quantities)
+}
+
+/// The curve of bidder `i`.
+pub(crate) fn curve_of(alloc: Global, grid: &Grid, i: u32) -> Result<Curve, AllocError>
+    ensures { IfOk result (λ curve. curve ≡ trial_curve grid.now i) }
+{
+    let prices = grid.prices();
+    let (buying, selling) = weights_of(i);
+    let buy = bought(alloc, prices, buying)?;
+    let sell = sold(alloc, prices, selling)?;
+    match Curve::of(grid, buy, sell) {
+        Some(curve) => Ok(curve),
+        None => unreachable!(),
+    }
+}

@@ -1,0 +1,34 @@
+//! How many bidders and prices a trial has.
+
+ghost use Rattle.std.specs.Prelude.{◌≡◌, ◌≤◌, IfSome};
+ghost use Rattle.beet_trial.specs.Sizes.{AreSizes, number_within, sizes_of};
+
+use beet_forms::number;
+
+/// The largest number of bidders.
+const MOST_BIDDERS: u64 = 2_000;
+
+/// The largest number of prices.
+const MOST_PRICES: u64 = 4_096;
+
+/// The number that a word writes, if it is from `low` to `high`.
+fn number_within(word: &str, low: u64, high: u64) -> Option<u64>
+    ensures number { result ≡ number_within low high word.now }
+    ensures low { IfSome result (λ n. low ≤ n) }
+    ensures high { IfSome result (λ n. n ≤ high) }
+{
+    match number(word.as_bytes(), high) {
+        Ok(n) if n >= low => Some(n),
+        _ => None,
+    }
+}
+
+/// The numbers of bidders and of prices that two words write: 0 to 2,000 and 1 to 4,096, without a leading zero.
+pub fn numbers_of_words(bidders: &str, prices: &str) -> Option<(u32, u32)>
+    ensures numbers { result ≡ sizes_of bidders.now prices.now }
+    ensures sizes { IfSome result (λ sizes. AreSizes sizes.0 sizes.1) }
+{
+    let bidders = number_within(bidders, 0, MOST_BIDDERS)?;
+    let prices = number_within(prices, 1, MOST_PRICES)?;
+    Some((bidders as u32, prices as u32))
+}
