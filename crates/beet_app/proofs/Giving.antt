@@ -7,8 +7,8 @@ use Rattle.beet_store.specs.Desks.{Given, Done, HasPutCause, GivesPut, GivesSay}
 use Rattle.beet_store.specs.declared.desk.PutFault.{PutFault}
 use Rattle.beet_store.specs.declared.desk.PutFault.TheVariants.{Failed, OutOfMemory}
 use Rattle.beet_app.specs.Runs.{GivesAll, status_after, Said}
-use Rattle.beet_app.specs.declared.answer.Status.{Status}
-use Rattle.beet_app.specs.declared.answer.Status.TheVariants.{WriteFault, OutOfMemory as NoMemory}
+use Rattle.beet_errand.specs.declared.answer.Status.{Status}
+use Rattle.beet_errand.specs.declared.answer.Status.TheVariants.{WriteFault, OutOfMemory as NoMemory}
 
 next_file : (files : List File) (i : ℕ) (file : File) → i < length files → file ≡ get_or files i file →
     drop i files ≡ file ∷ drop (i + 1) files

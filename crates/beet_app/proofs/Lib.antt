@@ -1,14 +1,5 @@
-pub mod Steps
 pub mod Giving
 pub mod Running
-pub mod Farming
-pub mod Summing
-pub mod FewBidders
-pub mod ServerSteps
 pub mod Tallying
-pub mod Inputs
-pub mod LoadSteps
 pub mod Clearing
-pub mod ChainGates
-pub mod ShareLines
-pub mod AuctionRuns
+pub mod Words

@@ -1,20 +1,22 @@
 -- How a run ends.
-use Rattle.std.proofs.Common.{◌≡◌, ◌⊎◌, inl, inr, ℕ, List, [], Option, Some, None, Result, Ok, Err, Vec, Global, ap, refl, sym, ◌∙◌, arith}
+use Rattle.std.proofs.Common.{◌≡◌, ◌⊎◌, inl, inr, ℕ, List, [], Option, Some, None, Result, Ok, Err, IfOk, IfErr, Vec, Global, ap, refl, sym, ◌∙◌, arith}
 use Rattle.beet_store.specs.Causes.{Rose}
 use Rattle.beet_store.specs.Files.{Told}
 use Rattle.beet_store.specs.Desks.{Given, Done}
 use Rattle.beet_store.specs.declared.desk.PutFault.TheVariants.{Failed, OutOfMemory as NoMemoryToPut}
-use Rattle.beet_app.specs.Errands.{Answer, Errand, Ends, Wants, answers, text_answer}
-use Rattle.beet_app.specs.Fetches.{Went, Finishes, Refuses, Causes}
+use Rattle.beet_errand.specs.Errands.{Answer, Errand, Ends, Wants, answers, text_answer}
+use Rattle.beet_errand.specs.Fetches.{Went, Finishes, Refuses, Causes, IsDone}
 use Rattle.beet_app.specs.Runs.{Runs, Said, GivesAll, EndsBy, AnswersBy, EndGoesOut, IsStatus, status_after}
-use Rattle.beet_app.specs.Statuses.{code_of}
-use Rattle.beet_app.specs.declared.answer.Status.{Status}
-use Rattle.beet_app.specs.declared.answer.Status.TheVariants.{Done as JobDone, OutOfMemory as NoMemory, Usage, ReadFault, WriteFault, BadFile, MasksSpent, TooFewWords}
-use Rattle.beet_app.specs.declared.answer.Stop.{Stop}
-use Rattle.beet_app.specs.declared.answer.Stop.TheVariants.{Refused, OutOfMemory}
+use Rattle.beet_errand.specs.Statuses.{code_of}
+use Rattle.beet_errand.specs.declared.answer.Status.{Status}
+use Rattle.beet_errand.specs.declared.answer.Status.TheVariants.{Done as JobDone, OutOfMemory as NoMemory, Usage, ReadFault, WriteFault, BadFile, MasksSpent, WorldsRefused, TooFewWords}
+use Rattle.beet_errand.specs.declared.answer.Stop.{Stop}
+use Rattle.beet_errand.specs.declared.answer.Stop.TheVariants.{Refused, OutOfMemory}
 use Rattle.beet_app.specs.Texts.{usage_text}
-use Rattle.beet_app.specs.Jobs.{Job, errand_of, EndsFor, IsDone}
-use Rattle.beet_app.proofs.Steps.{went_none}
+use Rattle.beet_app.specs.Jobs.{Job, Tally, Clear, Rehearse, Record, Worlds, Seal, Open, Trial}
+use Rattle.beet_app.specs.Doing.{ComparesWorlds, Does, EndsFor, CausesFor}
+use Rattle.beet_two_worlds.specs.Ending.{CausesOfWorlds}
+use Rattle.beet_errand.proofs.Steps.{went_none}
 use Rattle.beet_app.proofs.Giving.{status_cases, given_none, said_whole}
 
 -- a run whose answer goes out
@@ -44,12 +46,43 @@ runs_of errand told told_now given now before after (Err OutOfMemory) end (rest,
   ends = rw (e, same) (silent rest given);
 }
 
+-- what holds of an errand and makes something else hold of it does so of a job
+pub does_more : {P Q : Errand → Type 0} (job : Option Job) (old now : Option Told) → ((errand : Errand) → P errand → Q errand) →
+    Does job old now P → Does job old now Q
+does_more None old now f h = f _ h
+does_more (Some (Tally auction book)) old now f h = f _ h
+does_more (Some (Clear auction servers book)) old now f h = f _ h
+does_more (Some (Rehearse auction servers book schedule)) old now f h = f _ h
+does_more (Some (Record auction servers book out)) old now f h = f _ h
+does_more (Some (Worlds auction servers first second s out)) old now f (inl h) =
+    inl (record { both = h.both; went = h.went; words = h.words; agree = h.agree; mapped = h.mapped; equal = h.equal; holds = f _ h.holds })
+does_more (Some (Worlds auction servers first second s out)) old now f (inr h) = inr (λ words. f _ (h words))
+does_more (Some (Seal auction bid source out)) old now f h = f _ h
+does_more (Some (Open auction servers list)) old now f h = f _ h
+does_more (Some (Trial bidders prices)) old now f h = f _ h
+
+-- a run ends as its job does
+pub run_does : (job : Option Job) (told told_now : Option Told) (given now : Option Given) (before after : ℕ) (result : Result Answer Stop) (end : Status) →
+    Does job told told_now (λ errand. Finishes told told_now errand result) → EndGoesOut given now before after result end →
+    Does job told told_now (λ errand. Runs errand told told_now given now (code_of end))
+run_does job told told_now given now before after result end h out =
+    does_more job told told_now (λ errand f. runs_of errand told told_now given now before after result end f out) h
+
 -- words that name no job fetch nothing
-pub usage_finishes : (told : Option Told) (job : Option Job) (stop : Stop) → job ≡ None →
-    Refuses Usage usage_text stop → Finishes told told (errand_of job) (Err stop)
-usage_finishes told None (Refused status line) e r = rw (r.0, r.1) (went_none told (answers Usage usage_text))
-usage_finishes told None OutOfMemory e r = (answers Usage usage_text, went_none told (answers Usage usage_text))
-usage_finishes told (Some job) stop e r = absurd cc
+pub usage_finishes : (told : Option Told) (stop : Stop) → Refuses Usage usage_text stop → Finishes told told (answers Usage usage_text) (Err stop)
+usage_finishes told (Refused status line) r = rw (r.0, r.1) (went_none told (answers Usage usage_text))
+usage_finishes told OutOfMemory r = (answers Usage usage_text, went_none told (answers Usage usage_text))
+
+pub usage_does : (told : Option Told) (job : Option Job) (stop : Stop) → job ≡ None → Refuses Usage usage_text stop →
+    Does job told told (λ errand. Finishes told told errand (Err stop))
+usage_does told None stop e r = usage_finishes told stop r
+usage_does told (Some job) stop e r = absurd cc
+
+-- a trial ends as a job does
+pub trial_ends : (bidders prices before now : ℕ) (result : Result Answer Stop) → IfOk result (λ answer. IsDone answer.status) →
+    IfErr result (λ stop. Causes before now stop) → EndsFor (Some (Trial bidders prices)) before now result
+trial_ends bidders prices before now (Ok answer) done cause = done
+trial_ends bidders prices before now (Err stop) done cause = cause
 
 -- the status that is due to a job
 abbrev due_of : Result Answer Stop → Status
@@ -65,17 +98,53 @@ end_cases given now before after (Ok answer) end out = status_cases answer.statu
 end_cases given now before after (Err (Refused status line)) end out = status_cases status end before after out.done out.cause out.status
 end_cases given now before after (Err OutOfMemory) end (e, same) = inl e
 
--- the codes that are due
-no_code : (before now : ℕ) (status : Status) (text : Vec ℕ Global) → Causes before now (Refused status text) →
-    (code_of status ≡ 2 → ⊥) × (code_of status ≡ 4 → ⊥) × (code_of status ≡ 3 → Rose before now)
-no_code before now JobDone text c = absurd c
-no_code before now NoMemory text c = absurd c
-no_code before now Usage text c = absurd c
-no_code before now ReadFault text c = (λ e. omega arith, λ e. omega arith, λ e. c)
-no_code before now WriteFault text c = absurd c
-no_code before now BadFile text c = (λ e. omega arith, λ e. omega arith, λ e. absurd (omega arith))
-no_code before now MasksSpent text c = absurd c
-no_code before now TooFewWords text c = (λ e. omega arith, λ e. omega arith, λ e. absurd (omega arith))
+-- what the code of a status may be where the books are refused, a file could not be fetched, or the desk failed
+abbrev CodesFor : Option Job → Type 0 → Type 0 → ℕ → Type 0
+CodesFor job unread unwritten code =
+    (code ≡ 2 → job ≡ None) × (code ≡ 4 → unwritten) × (code ≡ 3 → unread) × (code ≡ 7 → ComparesWorlds job)
+
+-- the codes of a refusal
+codes_here : (job : Job) (before now : ℕ) (status : Status) (text : Vec ℕ Global) → Causes before now (Refused status text) →
+    CodesFor (Some job) (Rose before now) ⊥ (code_of status)
+codes_here job before now JobDone text c = absurd c
+codes_here job before now NoMemory text c = absurd c
+codes_here job before now Usage text c = absurd c
+codes_here job before now ReadFault text c = (λ e. absurd (omega (arith, e)), λ e. omega (arith, e), λ e. c, λ e. absurd (omega (arith, e)))
+codes_here job before now WriteFault text c = absurd c
+codes_here job before now BadFile text c =
+    (λ e. absurd (omega (arith, e)), λ e. omega (arith, e), λ e. absurd (omega (arith, e)), λ e. absurd (omega (arith, e)))
+codes_here job before now MasksSpent text c = absurd c
+codes_here job before now WorldsRefused text c = absurd c
+codes_here job before now TooFewWords text c =
+    (λ e. absurd (omega (arith, e)), λ e. omega (arith, e), λ e. absurd (omega (arith, e)), λ e. absurd (omega (arith, e)))
+
+codes_of_worlds : (job : Job) → ComparesWorlds (Some job) → (before now : ℕ) (status : Status) (text : Vec ℕ Global) →
+    CausesOfWorlds before now (Refused status text) → CodesFor (Some job) (Rose before now) ⊥ (code_of status)
+codes_of_worlds job w before now JobDone text c = absurd c
+codes_of_worlds job w before now NoMemory text c = absurd c
+codes_of_worlds job w before now Usage text c = absurd c
+codes_of_worlds job w before now ReadFault text c = (λ e. absurd (omega (arith, e)), λ e. omega (arith, e), λ e. c, λ e. w)
+codes_of_worlds job w before now WriteFault text c = absurd c
+codes_of_worlds job w before now BadFile text c =
+    (λ e. absurd (omega (arith, e)), λ e. omega (arith, e), λ e. absurd (omega (arith, e)), λ e. w)
+codes_of_worlds job w before now MasksSpent text c = absurd c
+codes_of_worlds job w before now WorldsRefused text c =
+    (λ e. absurd (omega (arith, e)), λ e. omega (arith, e), λ e. absurd (omega (arith, e)), λ e. w)
+codes_of_worlds job w before now TooFewWords text c =
+    (λ e. absurd (omega (arith, e)), λ e. omega (arith, e), λ e. absurd (omega (arith, e)), λ e. w)
+
+codes_for : (job : Job) (before now : ℕ) (status : Status) (text : Vec ℕ Global) → CausesFor job before now (Refused status text) →
+    CodesFor (Some job) (Rose before now) ⊥ (code_of status)
+codes_for (Tally auction book) before now status text c = codes_here (Tally auction book) before now status text c
+codes_for (Clear auction servers book) before now status text c = codes_here (Clear auction servers book) before now status text c
+codes_for (Rehearse auction servers book schedule) before now status text c =
+    codes_here (Rehearse auction servers book schedule) before now status text c
+codes_for (Record auction servers book out) before now status text c = codes_here (Record auction servers book out) before now status text c
+codes_for (Worlds auction servers first second s out) before now status text c =
+    codes_of_worlds (Worlds auction servers first second s out) tt before now status text c
+codes_for (Seal auction bid source out) before now status text c = codes_here (Seal auction bid source out) before now status text c
+codes_for (Open auction servers list) before now status text c = codes_here (Open auction servers list) before now status text c
+codes_for (Trial bidders prices) before now status text c = codes_here (Trial bidders prices) before now status text c
 
 done_code : (status : Status) → IsDone status → (code_of status ≡ 0) ⊎ (code_of status ≡ 6)
 done_code status (inl e) = inl (ap code_of e)
@@ -83,32 +152,33 @@ done_code status (inr e) = inr (ap code_of e)
 
 -- what may be due, by the job and the counts of the shelf
 due_codes : (job : Option Job) (before now : ℕ) (result : Result Answer Stop) → EndsFor job before now result →
-    (code_of (due_of result) ≡ 2 → job ≡ None) × (code_of (due_of result) ≡ 4 → ⊥) × (code_of (due_of result) ≡ 3 → Rose before now)
+    CodesFor job (Rose before now) ⊥ (code_of (due_of result))
 due_codes None before now (Ok answer) f = absurd f
 due_codes None before now (Err (Refused status text)) f = go (code_of status) (ap code_of f.0) where
-  go : (n : ℕ) → n ≡ 2 → (n ≡ 2 → ◌≡◌ {A = Option Job} None None) × (n ≡ 4 → ⊥) × (n ≡ 3 → Rose before now)
-  go n two = (λ t. refl, λ t. omega arith, λ t. absurd (omega arith))
-due_codes None before now (Err OutOfMemory) f = (λ t. refl, λ t. omega arith, λ t. absurd (omega arith))
+  go : (n : ℕ) → n ≡ 2 → CodesFor None (Rose before now) ⊥ n
+  go n two = (λ t. refl, λ t. omega (arith, two, t), λ t. absurd (omega (arith, two, t)), λ t. absurd (omega (arith, two, t)))
+due_codes None before now (Err OutOfMemory) f = (λ t. refl, λ t. omega (arith, t), λ t. absurd (omega (arith, t)), λ t. absurd (omega (arith, t)))
 due_codes (Some job) before now (Ok answer) f = go (code_of answer.status) (done_code answer.status f) where
-  go : (n : ℕ) → (n ≡ 0) ⊎ (n ≡ 6) → (n ≡ 2 → Some job ≡ None) × (n ≡ 4 → ⊥) × (n ≡ 3 → Rose before now)
-  go n (inl z) = (λ t. absurd (omega arith), λ t. omega arith, λ t. absurd (omega arith))
-  go n (inr z) = (λ t. absurd (omega arith), λ t. omega arith, λ t. absurd (omega arith))
-due_codes (Some job) before now (Err (Refused status text)) f =
-    let n = no_code before now status text f in (λ t. absurd (n.0 t), n.1, n.2)
-due_codes (Some job) before now (Err OutOfMemory) f = (λ t. absurd (omega arith), λ t. omega arith, λ t. absurd (omega arith))
+  go : (n : ℕ) → (n ≡ 0) ⊎ (n ≡ 6) → CodesFor (Some job) (Rose before now) ⊥ n
+  go n (inl z) = (λ t. absurd (omega (arith, z, t)), λ t. omega (arith, z, t), λ t. absurd (omega (arith, z, t)), λ t. absurd (omega (arith, z, t)))
+  go n (inr z) = (λ t. absurd (omega (arith, z, t)), λ t. omega (arith, z, t), λ t. absurd (omega (arith, z, t)), λ t. absurd (omega (arith, z, t)))
+due_codes (Some job) before now (Err (Refused status text)) f = codes_for job before now status text f
+due_codes (Some job) before now (Err OutOfMemory) f =
+    (λ t. absurd (omega (arith, t)), λ t. omega (arith, t), λ t. absurd (omega (arith, t)), λ t. absurd (omega (arith, t)))
 
--- the status 2 comes only where the words name no job, 3 only after a fault of the shelf, and 4 only after one of the desk
+-- the status 2 comes only where the words name no job, 3 only after a fault of the shelf, 4 only after one of the desk, and 7 only where
+-- two worlds are compared
 pub run_codes : (job : Option Job) (faults faults_now : ℕ) (result : Result Answer Stop) (given now : Option Given) (before after : ℕ) (end : Status) →
     EndsFor job faults faults_now result → EndGoesOut given now before after result end →
-    (code_of end ≡ 2 → job ≡ None) × (code_of end ≡ 4 → Rose before after) × (code_of end ≡ 3 → Rose faults faults_now)
+    CodesFor job (Rose faults faults_now) (Rose before after) (code_of end)
 run_codes job faults faults_now result given now before after end f out =
     go (due_of result) (end_cases given now before after result end out) (due_codes job faults faults_now result f) where
       go : (due : Status) → (end ≡ due) ⊎ ((end ≡ WriteFault) × Rose before after) ⊎ (end ≡ NoMemory) →
-          (code_of due ≡ 2 → job ≡ None) × (code_of due ≡ 4 → ⊥) × (code_of due ≡ 3 → Rose faults faults_now) →
-          (code_of end ≡ 2 → job ≡ None) × (code_of end ≡ 4 → Rose before after) × (code_of end ≡ 3 → Rose faults faults_now)
-      go due (inl e) d = rw e (d.0, λ t. absurd (d.1 t), d.2)
-      go due (inr (inl (e, rose))) d = rw e (λ t. absurd (omega arith), λ t. rose, λ t. absurd (omega arith))
-      go due (inr (inr e)) d = rw e (λ t. absurd (omega arith), λ t. absurd (omega arith), λ t. absurd (omega arith))
+          CodesFor job (Rose faults faults_now) ⊥ (code_of due) → CodesFor job (Rose faults faults_now) (Rose before after) (code_of end)
+      go due (inl e) d = rw e (d.0, λ t. absurd (d.1 t), d.2, d.3)
+      go due (inr (inl (e, rose))) d = rw e (λ t. absurd (omega (arith, t)), λ t. rose, λ t. absurd (omega (arith, t)), λ t. absurd (omega (arith, t)))
+      go due (inr (inr e)) d =
+          rw e (λ t. absurd (omega (arith, t)), λ t. absurd (omega (arith, t)), λ t. absurd (omega (arith, t)), λ t. absurd (omega (arith, t)))
 
 -- words that name no job are answered by the usage line, unless the desk fails or memory runs out
 pub run_no_job : (job : Option Job) (faults faults_now : ℕ) (result : Result Answer Stop) (given now : Option Given) (before after : ℕ) (end : Status) →
@@ -149,4 +219,5 @@ is_status ReadFault = inl (omega arith)
 is_status WriteFault = inl (omega arith)
 is_status BadFile = inl (omega arith)
 is_status MasksSpent = inl (omega arith)
+is_status WorldsRefused = inl (omega arith)
 is_status TooFewWords = inr refl

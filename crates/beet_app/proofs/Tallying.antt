@@ -11,17 +11,17 @@ use Rattle.beet_bids.specs.AuctionFiles.{auction_of}
 use Rattle.beet_book.specs.BookFiles.{book_of}
 use Rattle.beet_book.specs.declared.entries.Entry.{Entry}
 use Rattle.beet_book.specs.Totals.{Totals, points_on, CarriesValues}
-use Rattle.beet_app.specs.Collecting.{Collected}
-use Rattle.beet_app.specs.Errands.{Errand, answers, reads}
-use Rattle.beet_app.specs.Farmers.{farmers_errand}
-use Rattle.beet_app.specs.Fetches.{Went, Stops, Finishes, Refuses}
+use Rattle.beet_load.specs.Collecting.{Collected}
+use Rattle.beet_errand.specs.Errands.{Errand, answers, reads}
+use Rattle.beet_load.specs.Farmers.{farmers_errand}
+use Rattle.beet_errand.specs.Fetches.{Went, Stops, Finishes, Refuses}
 use Rattle.beet_app.specs.Tally.{tallied, tally_book, tally_errand}
 use Rattle.beet_app.specs.Texts.{sums_text}
-use Rattle.beet_app.specs.declared.answer.Status.TheVariants.{Done, BadFile}
-use Rattle.beet_app.specs.declared.answer.Stop.{Stop}
-use Rattle.beet_app.specs.declared.answer.Stop.TheVariants.{Refused, OutOfMemory}
-use Rattle.beet_app.proofs.Steps.{went_on}
-use Rattle.beet_app.proofs.Summing.{opens_supply, opens_demand}
+use Rattle.beet_errand.specs.declared.answer.Status.TheVariants.{Done, BadFile}
+use Rattle.beet_errand.specs.declared.answer.Stop.{Stop}
+use Rattle.beet_errand.specs.declared.answer.Stop.TheVariants.{Refused, OutOfMemory}
+use Rattle.beet_errand.proofs.Steps.{went_on}
+use Rattle.beet_load.proofs.Summing.{opens_supply, opens_demand}
 
 is_not : (n : ℕ) → n ≢ 1 → (n == 1) ≡ false
 is_not n h = grind (arith, common_steps)

@@ -1,62 +1,99 @@
 -- The words of the command line, and the job that they name.
-use Rattle.std.specs.Prelude.{◌≡◌, ℕ, List, [], ◌∷◌, Option, Some, None, Result, Ok, Err, ◌⊎◌, ◌&&◌, if◌then◌else◌, codes, nat_eq}
+use Rattle.std.specs.Prelude.{◌≡◌, ℕ, List, [], ◌∷◌, Option, Some, None, option_map, Result, Ok, Err, Bool, ◌&&◌, if◌then◌else◌, codes, nat_eq, true}
 use Rattle.std.specs.Cmp.Lexicographic.{pointwise}
+use Rattle.beet_field.specs.declared.point.Point.{Point}
 use Rattle.beet_forms.specs.Names.{is_name_of}
-use Rattle.beet_app.specs.Errands.{Answer, Errand, answers}
-use Rattle.beet_app.specs.Clear.{clear_errand}
-use Rattle.beet_app.specs.Fetches.{Causes}
-use Rattle.beet_app.specs.Tally.{tally_errand}
-use Rattle.beet_app.specs.declared.answer.Stop.{Stop}
-use Rattle.beet_app.specs.declared.answer.Stop.TheVariants.{Refused, OutOfMemory}
-use Rattle.beet_app.specs.Texts.{usage_text}
-use Rattle.beet_app.specs.declared.answer.Status.{Status}
-use Rattle.beet_app.specs.declared.answer.Status.TheVariants.{Done, Usage, MasksSpent}
+use Rattle.beet_book.specs.declared.entries.BidderSource.{BidderSource}
+use Rattle.beet_world.specs.Schedules.{server_of}
+use Rattle.beet_envelopes.specs.SourceWords.{source_word, named_source}
+use Rattle.beet_trial.specs.Sizes.{AreSizes, sizes_of}
 use Rattle.beet_app.specs.declared.jobs.Command.{Command}
-use Rattle.beet_app.specs.declared.jobs.Command.TheVariants.{Tally as TallyOf, Clear as ClearOf}
+use Rattle.beet_app.specs.declared.jobs.Command.TheVariants.{Tally as TallyOf, Clear as ClearOf, Rehearse as RehearseOf, Record as RecordOf, Worlds as WorldsOf, Seal as SealOf, Open as OpenOf, Trial as TrialOf}
 
--- a command with its files
+-- a command with its words
 pub data Job : Type 0 where
   Tally : List ℕ → List ℕ → Job
   Clear : List ℕ → List ℕ → List ℕ → Job
+  Rehearse : List ℕ → List ℕ → List ℕ → List ℕ → Job
+  Record : List ℕ → List ℕ → List ℕ → List ℕ → Job
+  Worlds : List ℕ → List ℕ → List ℕ → List ℕ → Point → List ℕ → Job
+  Seal : List ℕ → List ℕ → BidderSource → List ℕ → Job
+  Open : List ℕ → List ℕ → List ℕ → Job
+  Trial : ℕ → ℕ → Job
 
--- the job of a command with two files
+-- whether a word is this text
+abbrev pub is_word : List ℕ → List ℕ → Bool
+is_word word text = pointwise nat_eq word text
+
+-- whether these words are names of files
+abbrev pub are_names : List (List ℕ) → Bool
+are_names [] = true
+are_names (word ∷ words) = is_name_of word && are_names words
+
+-- the job of a command with two words
 abbrev pub job_of_two : List ℕ → List ℕ → List ℕ → Option Job
 job_of_two command first second =
-    if pointwise nat_eq command (codes "tally") && (is_name_of first && is_name_of second)
-    then Some (Tally first second) else None
+    if is_word command (codes "tally") && are_names (first ∷ second ∷ []) then Some (Tally first second)
+    else if is_word command (codes "trial") then option_map (λ sizes. Trial sizes.0 sizes.1) (sizes_of first second)
+    else None
 
 -- the job of a command with three files
 abbrev pub job_of_three : List ℕ → List ℕ → List ℕ → List ℕ → Option Job
 job_of_three command first second third =
-    if pointwise nat_eq command (codes "clear") && (is_name_of first && (is_name_of second && is_name_of third))
-    then Some (Clear first second third) else None
+    if are_names (first ∷ second ∷ third ∷ []) then
+    if is_word command (codes "clear") then Some (Clear first second third)
+    else if is_word command (codes "open") then Some (Open first second third)
+    else None
+    else None
 
--- the job that the words name: a command, and exactly its files
+-- the job `seal` with its words, of which the third names where the farmer's words come from
+abbrev pub seal_job : List ℕ → List ℕ → List ℕ → List ℕ → Option Job
+seal_job auction bid source out = option_map (λ from. Seal auction bid from out) (source_word source)
+
+-- the job of a command with four words
+abbrev pub job_of_four : List ℕ → List ℕ → List ℕ → List ℕ → List ℕ → Option Job
+job_of_four command first second third fourth =
+    if are_names (first ∷ second ∷ fourth ∷ []) then
+    if is_word command (codes "seal") then seal_job first second third fourth
+    else if is_name_of third then
+    if is_word command (codes "rehearse") then Some (Rehearse first second third fourth)
+    else if is_word command (codes "record") then Some (Record first second third fourth)
+    else None
+    else None
+    else None
+
+-- the job of a command with six words, of which the fifth is a server's number
+abbrev pub job_of_six : List ℕ → List ℕ → List ℕ → List ℕ → List ℕ → List ℕ → List ℕ → Option Job
+job_of_six command auction servers first second server out =
+    if is_word command (codes "worlds") && are_names (auction ∷ servers ∷ first ∷ second ∷ out ∷ [])
+    then option_map (λ s. Worlds auction servers first second s out) (server_of server)
+    else None
+
+-- the job that the words name: a command, and exactly its words
 abbrev pub job_of : List (List ℕ) → Option Job
-job_of (command ∷ first ∷ second ∷ []) = job_of_two command first second
-job_of (command ∷ first ∷ second ∷ third ∷ []) = job_of_three command first second third
+job_of (command ∷ a ∷ b ∷ []) = job_of_two command a b
+job_of (command ∷ a ∷ b ∷ c ∷ []) = job_of_three command a b c
+job_of (command ∷ a ∷ b ∷ c ∷ d ∷ []) = job_of_four command a b c d
+job_of (command ∷ a ∷ b ∷ c ∷ d ∷ e ∷ f ∷ []) = job_of_six command a b c d e f
 job_of words = None
 
--- what the job does; words that name none are answered by the usage line
-abbrev pub errand_of : Option Job → Errand
-errand_of None = answers Usage usage_text
-errand_of (Some (Tally auction book)) = tally_errand auction book
-errand_of (Some (Clear auction servers book)) = clear_errand auction servers book
+-- the job of a command that is read
+abbrev pub job_in : Command → Job
+job_in (TallyOf auction book) = Tally auction.now book.now
+job_in (ClearOf auction servers book) = Clear auction.now servers.now book.now
+job_in (RehearseOf auction servers book schedule) = Rehearse auction.now servers.now book.now schedule.now
+job_in (RecordOf auction servers book out) = Record auction.now servers.now book.now out.now
+job_in (WorldsOf auction servers first second server out) = Worlds auction.now servers.now first.now second.now server out.now
+job_in (SealOf auction bid source out) = Seal auction.now bid.now (named_source source) out.now
+job_in (OpenOf auction servers list) = Open auction.now servers.now list.now
+job_in (TrialOf bidders prices) = Trial bidders prices
 
--- the program knows the job that the words name
+-- the sizes of a trial are within their limits
+abbrev pub IsSized : Command → Type 0
+IsSized (TrialOf bidders prices) = AreSizes bidders prices
+IsSized command = Unit {0}
+
+-- what the program knows of a command: the job that the words name, and that the sizes of a trial are within their limits
 abbrev pub Knows : Option Job → Option Command → Type 0
 Knows job None = job ≡ None
-Knows job (Some (TallyOf auction book)) = job ≡ Some (Tally auction.now book.now)
-Knows job (Some (ClearOf auction servers book)) = job ≡ Some (Clear auction.now servers.now book.now)
-
--- how a job ends that is not refused
-abbrev pub IsDone : Status → Type 0
-IsDone status = (status ≡ Done) ⊎ (status ≡ MasksSpent)
-
--- the usage line comes exactly where the words name no job; of a job each refusal has its cause
-abbrev pub EndsFor : Option Job → ℕ → ℕ → Result Answer Stop → Type 0
-EndsFor None before now (Ok answer) = ⊥
-EndsFor None before now (Err (Refused status text)) = (status ≡ Usage) × (text.items ≡ usage_text)
-EndsFor None before now (Err OutOfMemory) = Unit {0}
-EndsFor (Some job) before now (Ok answer) = IsDone answer.status
-EndsFor (Some job) before now (Err stop) = Causes before now stop
+Knows job (Some command) = (job ≡ Some (job_in command)) × IsSized command

@@ -1,13 +1,6 @@
-pub mod Statuses
 pub mod Texts
-pub mod Errands
-pub mod Fetches
-pub mod Servers
-pub mod Farmers
-pub mod FarmerViews
-pub mod Collecting
 pub mod Tally
-pub mod Loading
 pub mod Clear
 pub mod Jobs
+pub mod Doing
 pub mod Runs

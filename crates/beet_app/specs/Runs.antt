@@ -4,13 +4,13 @@ use Rattle.beet_store.specs.Files.{File, Told}
 use Rattle.beet_store.specs.Desks.{Given, Done, HasPutCause, GivesPut, GivesSay}
 use Rattle.beet_store.specs.declared.desk.PutFault.{PutFault}
 use Rattle.beet_store.specs.declared.desk.PutFault.TheVariants.{Failed, OutOfMemory as NoMemoryToPut}
-use Rattle.beet_app.specs.Errands.{Answer, Errand, Ends, Wants, text_answer}
-use Rattle.beet_app.specs.Fetches.{Went}
-use Rattle.beet_app.specs.Statuses.{code_of}
-use Rattle.beet_app.specs.declared.answer.Status.{Status}
-use Rattle.beet_app.specs.declared.answer.Status.TheVariants.{WriteFault, OutOfMemory}
-use Rattle.beet_app.specs.declared.answer.Stop.{Stop}
-use Rattle.beet_app.specs.declared.answer.Stop.TheVariants.{Refused, OutOfMemory as NoMemory}
+use Rattle.beet_errand.specs.Errands.{Answer, Errand, Ends, Wants, text_answer}
+use Rattle.beet_errand.specs.Fetches.{Went}
+use Rattle.beet_errand.specs.Statuses.{code_of}
+use Rattle.beet_errand.specs.declared.answer.Status.{Status}
+use Rattle.beet_errand.specs.declared.answer.Status.TheVariants.{WriteFault, OutOfMemory}
+use Rattle.beet_errand.specs.declared.answer.Stop.{Stop}
+use Rattle.beet_errand.specs.declared.answer.Stop.TheVariants.{Refused, OutOfMemory as NoMemory}
 
 -- a desk that tells what it was given has the text appended to what was said, and its files as they were
 abbrev pub Said : Option Given → Option Given → List ℕ → Type 0
@@ -63,4 +63,4 @@ EndGoesOut given now before after (Err NoMemory) end = (end ≡ OutOfMemory) × 
 
 -- the exit statuses
 abbrev pub IsStatus : ℕ → Type 0
-IsStatus status = (status ≤ 6) ⊎ (status ≡ 9)
+IsStatus status = (status ≤ 7) ⊎ (status ≡ 9)

@@ -5,10 +5,11 @@ use Rattle.beet_bids.specs.Grids.{Grid}
 use Rattle.beet_bids.specs.AuctionFiles.{auction_of}
 use Rattle.beet_bids.specs.Sums.{supply_at, demand_at}
 use Rattle.beet_book.specs.BookFiles.{book_of}
-use Rattle.beet_app.specs.Errands.{Errand, answers, reads, bad_file}
-use Rattle.beet_app.specs.Farmers.{Farmer, farmers_errand, bidders_of}
+use Rattle.beet_errand.specs.Errands.{Errand, answers, reads, bad_file}
+use Rattle.beet_load.specs.Farmers.{farmers_errand, bidders_of}
+use Rattle.beet_auction.specs.Openings.{Farmer}
 use Rattle.beet_app.specs.Texts.{sums_text}
-use Rattle.beet_app.specs.declared.answer.Status.TheVariants.{Done}
+use Rattle.beet_errand.specs.declared.answer.Status.TheVariants.{Done}
 
 -- the sums of supply and demand at the first price
 abbrev pub tallied : List Farmer → Errand

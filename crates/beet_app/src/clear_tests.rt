@@ -38,7 +38,7 @@ const FILES: [(&str, &str); 7] = [
 ];
 
 /// A shelf with these files, of which those that are given come first.
-fn shelf(
+pub(crate) fn shelf(
     alloc: Global,
     first: &[(&str, &str)],
     failing: Vec<u64>,

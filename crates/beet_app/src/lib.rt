@@ -4,24 +4,17 @@
 ghost use Rattle.std.specs.Prelude.{◌≡◌, ◌≤◌, ◌⊎◌, ℕ, map, string_bytes, None};
 ghost use Rattle.beet_store.specs.Causes.{Rose};
 ghost use Rattle.beet_store.specs.Desks.{HasPutCause};
-ghost use Rattle.beet_app.specs.Jobs.{job_of, errand_of};
+ghost use Rattle.beet_app.specs.Doing.{ComparesWorlds, Does};
+ghost use Rattle.beet_app.specs.Jobs.{job_of};
 ghost use Rattle.beet_app.specs.Texts.{usage_text};
 ghost use Rattle.beet_app.specs.Runs.{Runs, IsStatus, Said, GivesAll, AnswersBy, EndGoesOut};
 
-mod answer;
-mod books;
 mod clear;
-mod collecting;
-mod farmers;
-mod fetching;
 mod jobs;
-mod loading;
-mod outcome;
-mod servers;
 mod tally;
 
-pub use answer::Status;
-use answer::{NewFile, Reply, Stop};
+pub use beet_errand::Status;
+use beet_errand::{NewFile, Reply, Stop};
 use beet_store::{Desk, PutFault, Shelf};
 use std::alloc::Global;
 
@@ -67,14 +60,24 @@ fn give_answer<K: Desk>(alloc: Global, desk: &mut K, job: Result<Reply, Stop>) -
     }
 }
 
-/// Does the job that the words after the program's name ask for: `tally AUCTION BOOK` or `clear AUCTION SERVERS BOOK`,
-/// with names of files.
+/// Does the job that the words after the program's name ask for. Words that stand for files are names of 1 to 200 bytes.
+///
+/// - `tally AUCTION BOOK` opens the sums of supply and demand at an auction of one price.
+/// - `clear AUCTION SERVERS BOOK` runs the auction of a book among three servers.
+/// - `rehearse AUCTION SERVERS BOOK SCHEDULE` delivers the messages of a schedule, and tells how each server stands.
+/// - `record AUCTION SERVERS BOOK OUT` writes what each server has seen of a run to `OUT.1`, `OUT.2` and `OUT.3`.
+/// - `worlds AUCTION SERVERS BOOK1 BOOK2 SERVER OUT` writes what a server sees in the runs of two books, with the words of
+///   the second run with which it sees the same, to `OUT.first`, `OUT.second` and `OUT.words`.
+/// - `seal AUCTION BID SOURCE OUT` writes a bid in three envelopes, `OUT.1`, `OUT.2` and `OUT.3`; the source of its words is
+///   `seed:` and 64 hexadecimal digits, or `tape:` and a name.
+/// - `open AUCTION SERVERS LIST` runs the auction of the envelopes that a list names.
+/// - `trial BIDDERS PRICES` runs the auction of a book that is made by a rule, of 0 to 2,000 bidders and 1 to 4,096 prices.
 ///
 /// Answers the exit status: 0 where the job is done; 1 for want of memory, and then nothing is said; 2 where the words
-/// name no job; 3 where a file cannot be fetched; 4 where the text is not taken; 5 for a file that is too long or breaks
-/// its format, and for an auction of several prices where `tally` is asked for; 6 where a run met the third rejected
-/// mask, which is said with its rounds; 9 for a bidder or a server whose tape holds too few words. At 2, 3, 5 and 9 the
-/// line that tells the cause is said.
+/// name no job; 3 where a file cannot be fetched; 4 where a file or the text is not taken; 5 for a file that is too long,
+/// breaks its format or breaks a limit of the job; 6 where a run, or in `rehearse` a server, has ended with the third rejected
+/// mask, which is said with the job's text; 7 where two books do not agree for a server; 9 for a bidder or a server whose tape holds too few words. At 2, 3, 5,
+/// 7 and 9 the line that tells the cause is said, and no file is put. The text is said after all files were put.
 pub fn run<S: Shelf, K: Desk>(alloc: Global, words: &[String], shelf: &mut S, desk: &mut K) -> u8
     ensures known { IsStatus result }
 
@@ -89,9 +92,12 @@ pub fn run<S: Shelf, K: Desk>(alloc: Global, words: &[String], shelf: &mut S, de
     ensures shelf_faults { S.faults shelf.old ≤ S.faults shelf.new }
     ensures desk_faults { K.faults desk.old ≤ K.faults desk.new }
 
-    // The files fetched, the text said and the status are those of the job.
-    ensures runs { Runs (errand_of (job_of (map string_bytes words.now))) (S.told shelf.old) (S.told shelf.new)
-        (K.given desk.old) (K.given desk.new) result }
+    // Two books are refused only by the job that compares them.
+    ensures worlds { result ≡ 7 → ComparesWorlds (job_of (map string_bytes words.now)) }
+
+    // The files fetched, the files put, the text said and the status are those of the job.
+    ensures runs { Does (job_of (map string_bytes words.now)) (S.told shelf.old) (S.told shelf.new)
+        (λ errand. Runs errand (S.told shelf.old) (S.told shelf.new) (K.given desk.old) (K.given desk.new) result) }
 {
     let job = jobs::do_job(alloc, words, shelf);
     give_answer(alloc, desk, job).code()
@@ -99,5 +105,7 @@ pub fn run<S: Shelf, K: Desk>(alloc: Global, words: &[String], shelf: &mut S, de
 
 #[cfg(test)]
 mod clear_tests;
+#[cfg(test)]
+mod job_tests;
 #[cfg(test)]
 mod tests;

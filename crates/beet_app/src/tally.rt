@@ -3,16 +3,14 @@
 ghost use Rattle.std.specs.Prelude.{◌≡◌, ◌≤◌, ◌<◌, IfErr, IfOk, length};
 ghost use Rattle.beet_book.specs.Totals.{points_on};
 ghost use Rattle.beet_shamir.specs.Line.{recombined};
-ghost use Rattle.beet_app.specs.Fetches.{Causes, Finishes};
+ghost use Rattle.beet_errand.specs.Fetches.{Causes, Finishes};
 ghost use Rattle.beet_app.specs.Tally.{tally_errand};
 ghost use Rattle.beet_app.specs.Texts.{sums_text};
 
-use crate::answer::{Reply, Status, Stop};
-use crate::books::{read_entries, read_grid};
-use crate::collecting::add_farmers;
-use crate::fetching::refuse;
+use beet_errand::{Reply, Status, Stop, refuse};
 use beet_field::{Fe, Trio};
 use beet_forms::Place;
+use beet_load::{add_farmers, read_entries, read_grid};
 use beet_shamir::recombine;
 use beet_store::Shelf;
 use beet_words::FeList;

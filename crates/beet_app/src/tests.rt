@@ -1,5 +1,5 @@
 use super::*;
-use crate::loading::load;
+use beet_load::load;
 use beet_store::{Held, MemoryDesk, MemoryShelf};
 use std::alloc::AllocError;
 use std::process::Abort;

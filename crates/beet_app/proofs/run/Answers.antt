@@ -1,5 +1,5 @@
 use Rattle.std.proofs.Common.{sym, ◌∙◌}
-use Rattle.beet_app.proofs.Running.{runs_of, run_codes, run_no_job, usage_said, is_status}
+use Rattle.beet_app.proofs.Running.{run_does, run_codes, run_no_job, usage_said, is_status}
 use Rattle.beet_app.proofs.run.Goals as goal
 
 pub returns-clause-known : goal.returns-clause-known
@@ -14,12 +14,15 @@ returns-clause-write g c = λ four. (run_codes _ _ _ _ _ _ _ _ _ c.do_job-job.en
 pub returns-clause-read : goal.returns-clause-read
 returns-clause-read g c = λ three. (run_codes _ _ _ _ _ _ _ _ _ c.do_job-job.ensures.cause c.give_answer.ensures.ends).2 (sym c.code.ensures ∙ three)
 
+pub returns-clause-worlds : goal.returns-clause-worlds
+returns-clause-worlds g c = λ seven. (run_codes _ _ _ _ _ _ _ _ _ c.do_job-job.ensures.cause c.give_answer.ensures.ends).3 (sym c.code.ensures ∙ seven)
+
 pub returns-clause-no_job : goal.returns-clause-no_job
 returns-clause-no_job g c = λ none. rw c.code.ensures (run_no_job _ _ _ _ _ _ _ _ _ c.do_job-job.ensures.cause c.give_answer.ensures.ends none)
 
 pub returns-clause-runs : goal.returns-clause-runs
 returns-clause-runs g c =
-    rw c.code.ensures (runs_of _ _ _ _ _ _ _ _ _ c.do_job-job.ensures.finishes c.give_answer.ensures.ends)
+    rw c.code.ensures (run_does _ _ _ _ _ _ _ _ _ c.do_job-job.ensures.finishes c.give_answer.ensures.ends)
 
 pub returns-clause-usage_line : goal.returns-clause-usage_line
 returns-clause-usage_line g c = λ two.

@@ -1,8 +1,8 @@
 use Rattle.std.proofs.Common.{[], ◌∙◌, sym, None}
 use Rattle.std.proofs.lemmas.Result.{err_from_is_err_and}
-use Rattle.beet_app.specs.Farmers.{farmers_errand}
+use Rattle.beet_load.specs.Farmers.{farmers_errand}
 use Rattle.beet_app.specs.Tally.{tallied}
-use Rattle.beet_app.proofs.Steps.{went_on}
+use Rattle.beet_errand.proofs.Steps.{went_on}
 use Rattle.beet_app.proofs.Tallying.{not_one_price, comes_to_book, comes_to_sums, finish_stops}
 use Rattle.beet_app.proofs.tally.tally.Goals as goal
 

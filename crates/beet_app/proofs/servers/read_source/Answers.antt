@@ -1,8 +1,0 @@
-use Rattle.beet_app.proofs.Steps.{nothing_stops}
-use Rattle.beet_app.proofs.servers.read_source.Goals as goal
-
-pub returns-in-Err-clause-gives : goal.returns-in-Err-clause-gives
-returns-in-Err-clause-gives g c = nothing_stops _ _
-
-pub returns-in-Tapes-clause-gives : goal.returns-in-Tapes-clause-gives
-returns-in-Tapes-clause-gives g c = rw c.in-Tapes.is (rw (c.as_str.ensures, c.as_str-in-Tapes.ensures) at c.read_tapes.ensures.gives)

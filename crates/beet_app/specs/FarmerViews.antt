@@ -1,8 +1,0 @@
--- What the program keeps of a bidder.
-use Rattle.beet_book.specs.declared.entries.Entry.{Entry}
-use Rattle.beet_app.specs.Farmers.{Farmer}
-use Rattle.beet_app.specs.declared.farmers.Farmer.{Farmer as Kept}
-
--- the bidder of an entry, by what the program keeps of it
-abbrev pub farmer_of : Entry → Kept → Farmer
-farmer_of entry kept = record { bidder = record { known = entry.known; curve = kept.curve }; words = kept.tape.words }
