@@ -11,7 +11,7 @@ ghost use Rattle.beet_farmer.specs.Envelopes.{only as only_number, below_p, poin
 use beet_bids::Grid;
 use beet_field::{Fe, P, Point};
 use beet_forms::ReadFault;
-use beet_words::{Allowed, FeList, read_end, read_magic, read_number, room};
+use beet_words::{Allowed, FeList, push_number, read_end, read_magic, read_number, room};
 use std::alloc::{AllocError, Global};
 
 /// The points of a bidder for one server.
@@ -131,13 +131,6 @@ pub fn read_envelope(
     let (points, at) = read_points(alloc, bytes, 2 * grid.prices(), at)?;
     read_end(bytes, 5, at)?;
     Ok(Envelope { server, points })
-}
-
-/// Appends a number.
-fn push_number(file: &mut Vec<u8>, number: u64) -> Result<(), AllocError>
-    ensures { OnOk result (file.new.items ≡ file.old.items ++ number_bytes number) }
-{
-    file.extend_from_slice(&number.to_be_bytes())
 }
 
 /// Appends points.

@@ -14,22 +14,27 @@ use beet_gates::{ClearRun, Script, clear_run};
 use beet_shamir::Line;
 use beet_words::Word;
 use std::alloc::{AllocError, Global};
+use thiserror::Error;
 
 /// Why a server can tell one world from another.
-#[derive(Clone, Copy, PartialEq, Eq, Debug)]
+#[derive(Clone, Copy, PartialEq, Eq, Debug, Error)]
 pub enum GateFault {
     /// The first input at which the server's points differ.
+    #[error("the server's points of input {0} differ")]
     InputsDiffer(u32),
     /// The first of the server's mask words that differs, counted from 0.
+    #[error("mask word {0} of the server differs")]
     OwnMaskDiffers(u32),
     /// The first opened number that differs, counted from 0, with the number of each world; none where
     /// a run opens fewer.
+    #[error("opened number {place} differs")]
     RevealDiffers {
         place: u64,
         first: Option<Fe>,
         second: Option<Fe>,
     },
     /// Memory ran out.
+    #[error("out of memory")]
     OutOfMemory,
 }
 

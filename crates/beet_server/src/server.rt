@@ -21,15 +21,19 @@ use beet_round::{RoundBox, RoundMessage, Side, Verdict};
 use beet_words::{FeList, Tape};
 use std::alloc::{AllocError, Global};
 use std::marker::Model;
+use thiserror::Error;
 
 /// Why a server did not start.
-#[derive(Clone, Copy, PartialEq, Eq, Debug)]
+#[derive(Clone, Copy, PartialEq, Eq, Debug, Error)]
 pub enum StartFault {
     /// So many numbers can be drawn from the coefficient words, and the script may draw more.
+    #[error("only {0} numbers can be drawn from the coefficient words")]
     TooFewWords(u32),
     /// There are so many mask words, and the script may deal more.
+    #[error("there are only {0} mask words")]
     TooFewMasks(u32),
     /// Memory ran out.
+    #[error("out of memory")]
     OutOfMemory,
 }
 

@@ -15,15 +15,8 @@ use crate::view::{Received, Seen, View};
 use beet_bids::{Curve, Grid};
 use beet_field::{Fe, Point};
 use beet_gates::Gates;
-use beet_words::Word;
+use beet_words::{Word, push_number};
 use std::alloc::{AllocError, Global};
-
-/// Appends a number.
-fn push_number(file: &mut Vec<u8>, number: u64) -> Result<(), AllocError>
-    ensures { OnOk result (file.new.items ≡ file.old.items ++ number_bytes number) }
-{
-    file.extend_from_slice(&number.to_be_bytes())
-}
 
 /// Appends numbers.
 fn push_numbers(file: &mut Vec<u8>, numbers: &[u64]) -> Result<(), AllocError>

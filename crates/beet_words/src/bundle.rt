@@ -7,7 +7,7 @@ ghost use Rattle.beet_words.specs.Words.{IsWord};
 ghost use Rattle.beet_words.specs.Fields.{times, number_bytes};
 ghost use Rattle.beet_words.specs.Bundles.{up_to as allowed_up_to, word_at, list_at, server_at, bundle_of, list_bytes, server_bytes, bundle_bytes, AreWords, FitsBundle};
 
-use crate::fields::{Allowed, read_end, read_magic, read_number, room};
+use crate::fields::{Allowed, push_number, read_end, read_magic, read_number, room};
 use crate::word::{Word, WordList};
 use beet_field::{P, Trio};
 use beet_forms::ReadFault;
@@ -173,13 +173,6 @@ pub fn read_bundle(alloc: Global, bytes: &[u8]) -> Result<Words, ReadFault>
         },
         bidders,
     })
-}
-
-/// Appends a number.
-fn push_number(file: &mut Vec<u8>, number: u64) -> Result<(), AllocError>
-    ensures { OnOk result (file.new.items ≡ file.old.items ++ number_bytes number) }
-{
-    file.extend_from_slice(&number.to_be_bytes())
 }
 
 /// Appends words.

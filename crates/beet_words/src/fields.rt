@@ -1,10 +1,11 @@
 //! Fields of binary files: numbers of 8 bytes, the highest byte first.
 
-ghost use Rattle.std.specs.Prelude.{◌≡◌, ◌≤◌, ◌-◌, ◌/◌, min, length, IfOk};
+ghost use Rattle.std.specs.Prelude.{◌≡◌, ◌≤◌, ◌-◌, ◌/◌, ◌++◌, min, length, IfOk, OnOk};
 ghost use Rattle.beet_forms.specs.Faults.{Answers};
-ghost use Rattle.beet_words.specs.Fields.{number_at, after_magic, ended};
+ghost use Rattle.beet_words.specs.Fields.{number_at, number_bytes, after_magic, ended};
 
 use beet_forms::{Place, ReadFault};
+use std::alloc::AllocError;
 
 /// The numbers that a field may hold, and the format's reasons against a field that is cut off
 /// and against one that holds another number.
@@ -48,6 +49,13 @@ pub fn read_number(bytes: &[u8], allowed: Allowed, at: usize) -> Result<(u64, us
         return Err(fault(at, allowed.outside));
     }
     Ok((number, at + WIDTH))
+}
+
+/// Appends the field of a number.
+pub fn push_number(file: &mut Vec<u8>, number: u64) -> Result<(), AllocError>
+    ensures { OnOk result (file.new.items ≡ file.old.items ++ number_bytes number) }
+{
+    file.extend_from_slice(&number.to_be_bytes())
 }
 
 /// For how many of `count` items to take room where each has at least one field: for no more than

@@ -11,7 +11,7 @@ mod word;
 
 pub use bundle::{Words, read_bundle, write_bundle};
 pub use digits::read_seed;
-pub use fields::{Allowed, read_end, read_magic, read_number, room};
+pub use fields::{Allowed, push_number, read_end, read_magic, read_number, room};
 pub use tape::{Tape, count_accepted};
 pub use tape_file::{read_tape, write_tape};
 pub use word::{FeList, Word, WordList};

@@ -69,6 +69,13 @@ impl Tape {
         self.words.as_slice()
     }
 
+    /// All words of the tape, given away.
+    pub fn into_words(self) -> WordList
+        ensures { result ≡ self.words }
+    {
+        self.words
+    }
+
     /// How many words are not passed.
     pub fn masks_left(&self) -> u32
         ensures { result ≡ length self.now.words - self.now.passed }
