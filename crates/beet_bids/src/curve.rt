@@ -95,6 +95,22 @@ impl Curve {
         self.sell[place as usize]
     }
 
+    /// The quantities that are bought, at each place.
+    pub fn bought(&self) -> &[u64]
+        ensures quantities { result.now ≡ self.now.buy }
+        ensures curve { IsCurve self.now }
+    {
+        &self.buy
+    }
+
+    /// The quantities that are sold, at each place.
+    pub fn sold(&self) -> &[u64]
+        ensures quantities { result.now ≡ self.now.sell }
+        ensures curve { IsCurve self.now }
+    {
+        &self.sell
+    }
+
     /// An equal curve.
     pub fn copy(&self, alloc: Global) -> Result<Curve, AllocError>
         ensures { IfOk result (λ copy. copy ≡ self.now) }

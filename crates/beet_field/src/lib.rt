@@ -52,13 +52,14 @@ fn fold(n: u128) -> u128
     (n >> 61) + (n & P as u128)
 }
 
-/// Subtracts `P` where the number has it. It suffices below `2 * P`.
+/// Subtracts `P` where the number has it. It suffices below `2 * P`, where `(n + 1) >> 61` is 1 for the
+/// numbers that have it, and 0 for all others: with no branch, loops over lists of numbers go two at a time.
 fn take_modulus(n: u64) -> Fe
     requires { n < 2 * p }
     ensures { result ≡ n % p }
 {
     Fe {
-        number: if n >= P { n - P } else { n },
+        number: (n + ((n + 1) >> 61)) & P,
     }
 }
 
@@ -76,6 +77,13 @@ impl Fe {
         ensures { result ≡ n % p }
     {
         take_modulus(fold(fold(n)) as u64)
+    }
+
+    /// `n` modulo `P`, for 64 bits: one fold brings it below `2 * P`.
+    pub fn reduce_u64(n: u64) -> Fe
+        ensures { result ≡ n % p }
+    {
+        take_modulus((n >> 61) + (n & P))
     }
 
     /// The number itself, from 0 to `P - 1`.
@@ -148,6 +156,7 @@ mod tests {
         assert_eq!(rt; last.add(one), Fe::default());
         assert_eq!(rt; one.sub(Fe::reduce(2)), last);
         assert_eq!(rt; Fe::reduce(18_446_744_073_709_551_615).value(), 7);
+        assert_eq!(rt; Fe::reduce_u64(18_446_744_073_709_551_615).value(), 7);
         assert_eq!(rt;
             Fe::reduce(340_282_366_920_938_463_463_374_607_431_768_211_455).value(),
             63

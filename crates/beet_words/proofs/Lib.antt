@@ -3,3 +3,4 @@ pub mod TapeAgain
 pub mod Times
 pub mod FieldsAgain
 pub mod BundleAgain
+mod Drawing

@@ -1,9 +1,9 @@
 //! Tapes: words that are taken from the front.
 
-ghost use Rattle.std.specs.Prelude.{◌≡◌, ◌<◌, ◌≤◌, ◌^◌, ◌-◌, ◌+◌, length, slice_index, IfOk};
-ghost use Rattle.beet_words.specs.Words.{accepted};
+ghost use Rattle.std.specs.Prelude.{◌≡◌, ◌≢◌, ◌<◌, ◌≤◌, ◌^◌, ◌-◌, ◌+◌, ◌∷◌, drop, length, slice_index, take, IfOk};
+ghost use Rattle.beet_words.specs.Words.{accepted, ones};
 ghost use Rattle.beet_words.specs.Seeds.{seed_words};
-ghost use Rattle.beet_words.specs.Tapes.{left_of, Draws};
+ghost use Rattle.beet_words.specs.Tapes.{left_of, Draws, DrawsMany};
 
 use crate::seed::words_of_seed;
 use crate::word::{Word, WordList};
@@ -38,6 +38,24 @@ pub fn count_accepted(words: &[Word]) -> usize
     ensures no_more { result ≤ length words.now }
 {
     words.iter().filter(|word| !word.is_ones()).count()
+}
+
+/// The first number that stands at the place or after it, and the place that follows it.
+fn next_number(words: &[Word], from: u32) -> (Fe, u32)
+    requires few { length words.now < 2 ^ 32 }
+    requires some { 0 < length (accepted (drop from words.now)) }
+    ensures next { accepted (drop from words.now) ≡ result.0 ∷ accepted (drop result.1 words.now) }
+    ensures forward { from < result.1 }
+    ensures within { result.1 ≤ length words.now }
+    ensures at_word { slice_index words.now (result.1 - 1) ≡ result.0 }
+    ensures accepted_word { result.0 ≢ ones }
+{
+    for place in from..words.len() as u32 {
+        if let Some(number) = words[place as usize].field() {
+            return (number, place + 1);
+        }
+    }
+    unreachable!()
 }
 
 impl Tape {
@@ -95,14 +113,27 @@ impl Tape {
         requires { 0 < length (left_of self.old) }
         ensures { Draws self.old self.new result }
     {
-        for place in self.place..self.words.as_slice().len() as u32 {
-            if let Some(number) = self.words.as_slice()[place as usize].field() {
-                self.place = place + 1;
-                self.accepted_words -= 1;
-                return number;
-            }
+        let (number, place) = next_number(self.words.as_slice(), self.place);
+        self.place = place;
+        self.accepted_words -= 1;
+        number
+    }
+
+    /// The next numbers, one for each place of the list, in the order in which `draw` gives them.
+    pub fn draw_each(&mut self, numbers: &mut [Fe])
+        requires { length numbers.old ≤ length (left_of self.old) }
+        ensures numbers { numbers.new ≡ take (length numbers.old) (left_of self.old) }
+        ensures drawn { DrawsMany self.old self.new (length numbers.old) }
+    {
+        let words = self.words.as_slice();
+        let mut place = self.place;
+        for number in numbers.iter_mut() {
+            let (found, after) = next_number(words, place);
+            *number = found;
+            place = after;
         }
-        unreachable!()
+        self.place = place;
+        self.accepted_words -= numbers.len() as u32;
     }
 
     /// The next word, whatever its bits are. It is passed.
