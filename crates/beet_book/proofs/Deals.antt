@@ -5,9 +5,9 @@ use Rattle.beet_field.specs.declared.point.Point.{Point}
 use Rattle.beet_field.specs.declared.point.Point.TheVariants.{One, Two, Three}
 use Rattle.beet_field.specs.declared.trio.Trio.{Trio}
 use Rattle.beet_shamir.specs.Line.{point_of, points_of}
-use Rattle.beet_words.specs.Tapes.{Tape, left_of}
+use Rattle.beet_words.specs.Tapes.{Tape, left_of, DrawsMany}
 use Rattle.beet_book.specs.Columns.{Columns, front, pushed}
-use Rattle.beet_book.specs.Dealing.{points_at, shares_of, AreShares, DrawsMany, HasLengths}
+use Rattle.beet_book.specs.Dealing.{points_at, shares_of, AreShares, HasLengths}
 use Rattle.beet_book.proofs.Pairs.{length-pairwise, item-pairwise, pairwise-front}
 
 -- one number more is drawn

@@ -9,3 +9,4 @@ pub mod BookRows
 pub mod Summed
 pub mod Few
 pub mod Fronts
+pub mod Direct

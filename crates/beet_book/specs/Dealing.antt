@@ -1,19 +1,23 @@
 -- Dealing: each quantity of a bidder becomes the value of a line, whose slope is the next number of the bidder's tape.
-use Rattle.std.specs.Prelude.{◌≡◌, ◌≢◌, ℕ, ◌+◌, ◌-◌, ◌<◌, ◌≤◌, List, ◌++◌, length, map, drop, zip, slice_index, Some}
+use Rattle.std.specs.Prelude.{◌≡◌, ℕ, List, ◌++◌, length, map, zip, Some}
 use Rattle.std.specs.List.{slice_get}
+use Rattle.beet_field.specs.Field.{add_of, mul_of}
 use Rattle.beet_field.specs.declared.point.Point.{Point}
 use Rattle.beet_field.specs.declared.point.Point.TheVariants.{One, Two, Three}
 use Rattle.beet_field.specs.declared.trio.Trio.{Trio}
 use Rattle.beet_shamir.specs.Line.{point_of}
-use Rattle.beet_words.specs.Words.{ones}
-use Rattle.beet_words.specs.Tapes.{Tape, left_of}
+use Rattle.beet_words.specs.Tapes.{Tape, left_of, DrawsMany}
 use Rattle.beet_bids.specs.Curves.{Curve}
 
 -- a function of two lists, item by item
 unfoldable pub pairwise : (ℕ → ℕ → ℕ) → List ℕ → List ℕ → List ℕ
 pairwise f xs ys = map (λ pair. f pair.0 pair.1) (zip xs ys)
 
--- the points at one server of the lines with these values and slopes
+-- the points at i of the lines with these values and slopes
+abbrev pub points_by : ℕ → List ℕ → List ℕ → List ℕ
+points_by i values slopes = pairwise (λ value slope. add_of value (mul_of slope i)) values slopes
+
+-- the points at one server
 abbrev pub points_at : List ℕ → List ℕ → Point → List ℕ
 points_at values slopes at = pairwise (λ value slope. point_of value slope at) values slopes
 
@@ -32,13 +36,6 @@ quantities curve = curve.buy ++ curve.sell
 -- a bidder's points: the n-th number is the slope for the n-th quantity
 abbrev pub dealt_points : Curve → List ℕ → Trio (List ℕ)
 dealt_points curve numbers = shares_of (quantities curve) numbers
-
--- so many numbers were drawn: their words are passed, with every word before the last of them and none after it
-pub record DrawsMany (old new : Tape) (count : ℕ) : Type 0 where
-  pub words : new.words ≡ old.words
-  pub left : left_of new ≡ drop count (left_of old)
-  pub forward : old.passed + count ≤ new.passed
-  pub last : 0 < count → slice_index old.words (new.passed - 1) ≢ ones
 
 -- the curve was dealt by numbers drawn from the tape
 pub record DealsBidder (curve : Curve) (old new : Tape) (dealt : Trio (List ℕ)) : Type 0 where

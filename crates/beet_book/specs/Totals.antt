@@ -5,7 +5,7 @@ use Rattle.beet_field.specs.declared.trio.Trio.{Trio}
 use Rattle.beet_field.specs.Field.{p, add_of}
 use Rattle.beet_shamir.specs.Line.{recombined}
 use Rattle.beet_bids.specs.Curves.{Curve, quantity}
-use Rattle.beet_book.specs.Dealing.{pairwise, AreShares}
+use Rattle.beet_book.specs.Dealing.{pairwise, quantities, AreShares}
 
 -- summed points of bidders, buy first, over a grid with so many prices
 pub record Totals : Type 0 where
@@ -58,6 +58,10 @@ plain_sums xs ys = pairwise (λ x y. x + y) xs ys
 -- points of lines are added to points of lines with the sums of their values
 abbrev pub AddsValues : Trio (List ℕ) → Trio (List ℕ) → Trio (List ℕ) → Type 0
 AddsValues a b sum = (v w : List ℕ) → AreShares v a → AreShares w b → AreShares (plain_sums v w) sum
+
+-- points of lines become points of lines with the quantities of the curve added to their values
+abbrev pub AddsQuantities : Curve → Trio (List ℕ) → Trio (List ℕ) → Type 0
+AddsQuantities curve before after = (v : List ℕ) → AreShares v before → AreShares (plain_sums v (quantities curve)) after
 
 -- where the totals are points of lines, each wire recombines to the value of its line, modulo p
 abbrev pub CarriesValues : Totals → Trio (List ℕ) → Type 0

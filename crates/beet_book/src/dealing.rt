@@ -2,11 +2,11 @@
 
 ghost use Rattle.std.specs.Prelude.{◌≡◌, ◌≤◌, ◌<◌, ◌*◌, slice_index, length, All, IfOk, OnErr};
 ghost use Rattle.beet_field.specs.Trio.{member};
-ghost use Rattle.beet_words.specs.Tapes.{left_of};
+ghost use Rattle.beet_words.specs.Tapes.{left_of, DrawsMany};
 ghost use Rattle.beet_bids.specs.Curves.{IsOfGrid};
 ghost use Rattle.beet_shamir.specs.Line.{points_of};
 ghost use Rattle.beet_book.specs.Columns.{HasRoom, pushed};
-ghost use Rattle.beet_book.specs.Dealing.{AreShares, DealsBidder, DealsEach, DrawsMany, HasLengths, quantities};
+ghost use Rattle.beet_book.specs.Dealing.{AreShares, DealsBidder, DealsEach, HasLengths, quantities};
 
 use crate::columns::Columns;
 use beet_bids::{Curve, Grid};

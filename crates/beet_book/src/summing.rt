@@ -1,13 +1,16 @@
 //! The summed points of bidders.
 
-ghost use Rattle.std.specs.Prelude.{◌≡◌, ◌*◌, IfOk, length};
-ghost use Rattle.beet_book.specs.Dealing.{HasLengths};
-ghost use Rattle.beet_book.specs.Totals.{added, sums_of, none_of, wires_of, AddsValues, CarriesValues};
+ghost use Rattle.std.specs.Prelude.{◌≡◌, ◌≤◌, ◌*◌, All, IfOk, length};
+ghost use Rattle.beet_field.specs.Field.{add_of, mul_of};
+ghost use Rattle.beet_words.specs.Tapes.{left_of, DrawsMany};
+ghost use Rattle.beet_bids.specs.Curves.{largest_quantity};
+ghost use Rattle.beet_book.specs.Dealing.{dealt_points, points_by, quantities, HasLengths};
+ghost use Rattle.beet_book.specs.Totals.{added, sums_of, none_of, wires_of, AddsQuantities, AddsValues, CarriesValues};
 
 use crate::dealing::Dealt;
-use beet_bids::Grid;
+use beet_bids::{Curve, Grid};
 use beet_field::{Fe, Point, Trio};
-use beet_words::FeList;
+use beet_words::{FeList, Tape};
 use std::alloc::{AllocError, Global};
 use std::marker::Model;
 
@@ -16,10 +19,12 @@ use std::marker::Model;
 pub struct Totals {
     prices: u32,
     points: Trio<Vec<Fe>>,
+    /// Room for the slopes of a bidder that is dealt.
+    slopes: Vec<Fe>,
 }
 
 impl Model for Totals {
-    ghost use Rattle.std.specs.Prelude.{◌*◌};
+    ghost use Rattle.std.specs.Prelude.{◌≡◌, ◌*◌, length};
     ghost use Rattle.beet_book.specs.Dealing.{HasLengths};
     ghost use Rattle.beet_book.specs.Totals.{Totals as Seen};
 
@@ -32,7 +37,8 @@ impl Model for Totals {
 
     ghost invariant = { λ a. HasLengths
         (record { one = a.points.one.items; two = a.points.two.items; three = a.points.three.items })
-        (2 * a.prices) };
+        (2 * a.prices)
+        × (length a.slopes.items ≡ 2 * a.prices) };
 }
 
 /// Adds the points to the sums, place by place.
@@ -43,6 +49,42 @@ fn add_each(sums: &mut [Fe], points: &[Fe])
     for (i, sum) in sums.iter_mut().enumerate() {
         *sum = sum.add(points[i]);
     }
+}
+
+/// The sum with one more point: that at `AT` of the line with this value and slope.
+fn with_point<const AT: u64>(sum: Fe, value: u64, slope: Fe) -> Fe
+    requires at { AT ≤ 3 }
+    requires value { value ≤ largest_quantity }
+    ensures { result ≡ add_of sum (add_of value (mul_of slope AT)) }
+{
+    Fe::reduce_u64(sum.value() + value + AT * slope.value())
+}
+
+/// Adds to the sums, place by place, the points at `AT` of the lines with these values and slopes.
+fn add_lines<const AT: u64>(sums: &mut [Fe], values: &[u64], slopes: &[Fe])
+    requires at { AT ≤ 3 }
+    requires values { length values.now ≡ length sums.old }
+    requires slopes { length slopes.now ≡ length sums.old }
+    requires limit { All (λ value. value ≤ largest_quantity) values.now }
+    ensures { sums.new ≡ sums_of sums.old (points_by AT values.now slopes.now) }
+{
+    for (i, sum) in sums.iter_mut().enumerate() {
+        *sum = with_point::<AT>(*sum, values[i], slopes[i]);
+    }
+}
+
+/// Adds to the sums the points at `AT` of a curve that is dealt with these slopes.
+fn add_curve<const AT: u64>(sums: &mut [Fe], curve: &Curve, slopes: &[Fe])
+    requires at { AT ≤ 3 }
+    requires sums { length (quantities curve.now) ≡ length sums.old }
+    requires slopes { length slopes.now ≡ length sums.old }
+    ensures { sums.new ≡ sums_of sums.old (points_by AT (quantities curve.now) slopes.now) }
+{
+    let prices = curve.bought().len();
+    let (buying, selling) = slopes.split_at(prices);
+    let (bought, sold) = sums.split_at_mut(prices);
+    add_lines::<AT>(bought, curve.bought(), buying);
+    add_lines::<AT>(sold, curve.sold(), selling);
 }
 
 impl Totals {
@@ -59,6 +101,7 @@ impl Totals {
                 two: vec![in alloc; Fe::default(); count]?,
                 three: vec![in alloc; Fe::default(); count]?,
             },
+            slopes: vec![in alloc; Fe::default(); count]?,
         })
     }
 
@@ -71,6 +114,25 @@ impl Totals {
         add_each(&mut self.points.one, dealt.points(Point::One));
         add_each(&mut self.points.two, dealt.points(Point::Two));
         add_each(&mut self.points.three, dealt.points(Point::Three));
+    }
+
+    /// Deals the quantities of a bidder straight into the sums: what `deal_bidder` and then `add` do, with no list of the
+    /// bidder's points between.
+    pub fn deal(&mut self, curve: &Curve, tape: &mut Tape)
+        requires buy { length curve.now.buy ≡ self.old.prices }
+        requires sell { length curve.now.sell ≡ self.old.prices }
+        requires words { 2 * self.old.prices ≤ length (left_of tape.old) }
+
+        ensures sums { self.new ≡ record self.old {
+          points = added self.old.points (dealt_points curve.now (left_of tape.old));
+        } }
+        ensures values { AddsQuantities curve.now self.old.points self.new.points }
+        ensures drawn { DrawsMany tape.old tape.new (2 * self.old.prices) }
+    {
+        tape.draw_each(&mut self.slopes);
+        add_curve::<1>(&mut self.points.one, curve, &self.slopes);
+        add_curve::<2>(&mut self.points.two, curve, &self.slopes);
+        add_curve::<3>(&mut self.points.three, curve, &self.slopes);
     }
 
     /// The inputs of the servers: for each the summed supply points at each place, and then the summed demand points.

@@ -1,7 +1,7 @@
 use Rattle.std.proofs.Common.{◌≡◌, ◌+◌, ◌*◌}
 use Rattle.beet_book.specs.Columns.{front}
-use Rattle.beet_book.specs.Dealing.{DrawsMany, dealt_points}
-use Rattle.beet_words.specs.Tapes.{left_of}
+use Rattle.beet_book.specs.Dealing.{dealt_points}
+use Rattle.beet_words.specs.Tapes.{left_of, DrawsMany}
 use Rattle.beet_book.proofs.dealing.deal_bidder.Given as goal
 
 abbrev pub invariant-loop-place : goal.invariant-loop-place
