@@ -1,47 +1,60 @@
 -- The bidders one after another.
-use Rattle.std.proofs.Common.{◌≡◌, ◌<◌, ℕ, ◌+◌, List, [], ◌∷◌, ◌++◌, length, drop, Ok, Err, arith, refl, ap, ◌∙◌, length-append}
+use Rattle.std.proofs.Common.{◌≡◌, ◌<◌, ◌≤◌, ℕ, ◌+◌, ◌*◌, [], ◌∷◌, ◌++◌, length, drop, Ok, Err, arith, refl, ap, sym, ◌∙◌, length-append}
 use Rattle.std.proofs.lemmas.List.{drop_more, drop_all, map-append}
 use Rattle.std.proofs.lemmas.List.FromFn.{get_or-map-range_with_len, length-map-range_with_len, map-range_with_len_more}
-use Rattle.beet_field.specs.declared.trio.Trio.{Trio}
+use Rattle.beet_words.specs.Words.{accepted}
+use Rattle.beet_words.specs.Tapes.{Tape, left_of}
 use Rattle.beet_bids.specs.Curves.{Curve, IsOfGrid}
 use Rattle.beet_bids.specs.Grids.{Grid}
-use Rattle.beet_book.specs.Dealing.{AreShares, quantities}
-use Rattle.beet_book.specs.Totals.{Totals, AddsValues, none_of}
-use Rattle.beet_book.proofs.Summed.{shares-none, shares-more}
+use Rattle.beet_auction.specs.Openings.{Farmer, summed_points}
+use Rattle.beet_auction.proofs.Adding.{summed-none as no-points, summed-more as points-more}
+use Rattle.beet_book.specs.Dealing.{dealt_points, quantities}
+use Rattle.beet_book.specs.Totals.{Totals, AddsQuantities, added, none_of, plain_sums, summed_quantities}
+use Rattle.beet_book.proofs.Summed.{shares-none, summed-more}
 use Rattle.beet_errand.specs.Errands.{Errand}
 use Rattle.beet_errand.specs.Fetches.{Passes}
 use Rattle.beet_errand.specs.declared.answer.Stop.{Stop}
 use Rattle.beet_errand.specs.declared.answer.Stop.TheVariants.{Refused, OutOfMemory}
 use Rattle.beet_load.specs.Collecting.{curves_of}
 use Rattle.beet_load.specs.Farmers.{enough_words, words_wanted}
-use Rattle.beet_trial.specs.Adding.{AddsCurve, CarrySums, enough_of_each}
-use Rattle.beet_trial.specs.Rules.{trial_curve, trial_farmer, trial_farmers}
+use Rattle.beet_trial.specs.Adding.{AddsFarmer, CarrySums, enough_of_each}
+use Rattle.beet_trial.specs.Rules.{trial_farmer, trial_farmers}
 
 -- totals of no bidder
 pub carry-none : (grid : Grid) (totals : Totals) → totals ≡ none_of grid.prices → CarrySums grid [] totals
-carry-none grid totals e = rw e (record { prices = refl; shares = shares-none grid.prices })
+carry-none grid totals e = rw e (record { prices = refl; points = sym (no-points grid.prices); shares = shares-none grid.prices })
 
--- one curve more
-pub adds-curve : (grid : Grid) (curve : Curve) (before after : Totals) (dealt : Trio (List ℕ)) → IsOfGrid grid curve →
-    AreShares (quantities curve) dealt → AddsValues before.points dealt after.points → after.prices ≡ before.prices →
-    AddsCurve grid curve before after
-adds-curve grid curve before after dealt of_grid shares adds same = λ curves c.
-    let long : length (quantities curve) ≡ length curve.buy + length curve.sell = length-append curve.buy curve.sell in
+-- one bidder more
+pub adds-farmer : (grid : Grid) (farmer : Farmer) (curve : Curve) (tape : Tape) (before after : Totals) → curve ≡ farmer.bidder.curve →
+    tape ≡ record { words = farmer.words; passed = 0 } → IsOfGrid grid farmer.bidder.curve → 2 * grid.prices ≤ length (left_of tape) →
+    after ≡ record before { points = added before.points (dealt_points curve (left_of tape)) } → AddsQuantities curve before.points after.points →
+    AddsFarmer grid farmer before after
+adds-farmer grid farmer curve tape before after e f of_grid enough sums adds = λ farmers c.
+    let own = farmer.bidder.curve in
+    let count : length (quantities own) ≡ length own.buy + length own.sell = length-append own.buy own.sell in
+    let long : length (quantities own) ≡ 2 * grid.prices = omega (arith, count, of_grid.buy_length, of_grid.sell_length) in
+    let numbers : left_of tape ≡ accepted farmer.words = ap left_of f in
+    let dealt : dealt_points curve (left_of tape) ≡ dealt_points own (accepted farmer.words) = rw (e, numbers) refl in
+    let curves : curves_of (farmers ++ farmer ∷ []) ≡ curves_of farmers ++ own ∷ [] = map-append (λ f. f.bidder.curve) farmers (farmer ∷ []) in
+    let values : summed_quantities grid.prices (curves_of (farmers ++ farmer ∷ [])) ≡ plain_sums (summed_quantities grid.prices (curves_of farmers)) (quantities curve) =
+    ap (summed_quantities grid.prices) curves ∙ summed-more grid.prices (curves_of farmers) own long
+    ∙ ap (λ q. plain_sums (summed_quantities grid.prices (curves_of farmers)) q) (sym (ap quantities e)) in
     record {
-      prices = same ∙ c.prices;
-      shares = shares-more grid.prices curves curve before.points dealt after.points
-          (omega (arith, long, of_grid.buy_length, of_grid.sell_length)) c.shares shares adds;
+      prices = ap (λ t. t.prices) sums ∙ c.prices;
+      points = ap (λ t. t.points) sums
+          ∙ ap (λ points. added points (dealt_points curve (left_of tape))) c.points
+          ∙ ap (λ points. added (summed_points grid.prices farmers) points) dealt
+          ∙ sym (points-more grid.prices farmers farmer long (rw numbers at enough));
+      shares = rw values (adds (summed_quantities grid.prices (curves_of farmers)) c.shares);
     }
 
-curves-more : (grid : Grid) (i : ℕ) → curves_of (trial_farmers grid (i + 1)) ≡ curves_of (trial_farmers grid i) ++ trial_curve grid i ∷ []
-curves-more grid i =
-    ap curves_of (map-range_with_len_more (trial_farmer grid) 0 i i (omega arith))
-    ∙ map-append (λ farmer. farmer.bidder.curve) (trial_farmers grid i) (trial_farmer grid i ∷ [])
+farmers-more : (grid : Grid) (i : ℕ) → trial_farmers grid (i + 1) ≡ trial_farmers grid i ++ trial_farmer grid i ∷ []
+farmers-more grid i = map-range_with_len_more (trial_farmer grid) 0 i i (omega arith)
 
 -- the totals after one bidder more
-pub carry-more : (grid : Grid) (i : ℕ) (before after : Totals) → CarrySums grid (curves_of (trial_farmers grid i)) before →
-    AddsCurve grid (trial_curve grid i) before after → CarrySums grid (curves_of (trial_farmers grid (i + 1))) after
-carry-more grid i before after c adds = rw (curves-more grid i) (adds (curves_of (trial_farmers grid i)) c)
+pub carry-more : (grid : Grid) (i : ℕ) (before after : Totals) → CarrySums grid (trial_farmers grid i) before →
+    AddsFarmer grid (trial_farmer grid i) before after → CarrySums grid (trial_farmers grid (i + 1)) after
+carry-more grid i before after c adds = rw (farmers-more grid i) (adds (trial_farmers grid i) c)
 
 -- the bidders up to one have enough words, and the others are left
 abbrev pub Comes : Grid → ℕ → ℕ → Type 0

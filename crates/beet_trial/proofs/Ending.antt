@@ -37,7 +37,7 @@ each-curve P grid bidders each =
     (All-map (λ (farmer : Farmer). P farmer.bidder.curve) (trial_farmer grid) (range_with_len 0 bidders) (λ k d h. each (get_or (range_with_len 0 bidders) k d)))
 
 -- the bidders' points are added up: a shelf that tells nothing stands for the files, of which there are none
-collects : (grid : Grid) (bidders : ℕ) (totals : Totals) → grid.prices ≤ 4096 → CarrySums grid (curves_of (trial_farmers grid bidders)) totals →
+collects : (grid : Grid) (bidders : ℕ) (totals : Totals) → grid.prices ≤ 4096 → CarrySums grid (trial_farmers grid bidders) totals →
     Collects grid None [] [] None None totals (trial_farmers grid bidders)
 collects grid bidders totals limit c = record {
   went = λ next. refl;
@@ -49,12 +49,12 @@ collects grid bidders totals limit c = record {
 
 -- the inputs are shares of the sums of the book
 pub trial-shares : (grid : Grid) (bidders : ℕ) (totals : Totals) (inputs : Trio (List ℕ)) → grid.prices ≤ 4096 →
-    CarrySums grid (curves_of (trial_farmers grid bidders)) totals → inputs ≡ wires_of totals → AreShares (sums_of (trial_book grid bidders)) inputs
+    CarrySums grid (trial_farmers grid bidders) totals → inputs ≡ wires_of totals → AreShares (sums_of (trial_book grid bidders)) inputs
 trial-shares grid bidders totals inputs limit c e =
     inputs-shares grid None [] None None totals (trial_farmers grid bidders) inputs (collects grid bidders totals limit c) e
 
 pub trial-is-book : (grid : Grid) (bidders : ℕ) (totals : Totals) → grid.prices ≤ 4096 → bidders ≤ 2000 →
-    CarrySums grid (curves_of (trial_farmers grid bidders)) totals → IsBook (trial_book grid bidders)
+    CarrySums grid (trial_farmers grid bidders) totals → IsBook (trial_book grid bidders)
 trial-is-book grid bidders totals limit few c =
     is-book grid None [] None None totals (trial_farmers grid bidders) (collects grid bidders totals limit c)
     (omega (arith, few, length-map-range_with_len (trial_farmer grid) 0 bidders))
@@ -97,7 +97,7 @@ comes-to-answer told grid bidders servers each =
 pub trial-ends : (told : Option Told) (grid : Grid) (servers : Trio ServerWords) (bidders prices : ℕ) (totals : Totals) (inputs : Trio (List ℕ))
     (finish : Finish) (rounds : ℕ) → grid ≡ trial_grid prices → servers ≡ trial_servers grid → AreSizes bidders prices →
     Passes (enough_of_all grid servers) (Ok tt) → Passes (enough_of_each grid 1 (trial_farmers grid bidders)) (Ok tt) →
-    CarrySums grid (curves_of (trial_farmers grid bidders)) totals → inputs ≡ wires_of totals → EndsAuction grid inputs servers finish rounds →
+    CarrySums grid (trial_farmers grid bidders) totals → inputs ≡ wires_of totals → EndsAuction grid inputs servers finish rounds →
     Went told told (trial_errand bidders prices) (Ends (sized_answer grid bidders finish rounds))
 trial-ends told grid servers bidders prices totals inputs finish rounds e s sizes pass each c w run =
     let limit : grid.prices ≤ 4096 = subst (λ (g : Grid). g.prices ≤ 4096) (sym e) sizes.prices_limit in

@@ -1,15 +1,14 @@
-//! Dealing the bidders of a trial one after another.
+//! Dealing the bidders of a trial one after another, with no list kept beyond one of them.
 
 ghost use Rattle.std.specs.Prelude.{◌≡◌, ◌≤◌, ◌<◌, ◌+◌, ℕ, [], IfErr, IfOk};
 ghost use Rattle.beet_errand.specs.Fetches.{Causes, Passes};
-ghost use Rattle.beet_load.specs.Collecting.{curves_of};
 ghost use Rattle.beet_load.specs.Farmers.{enough_words, words_wanted};
-ghost use Rattle.beet_trial.specs.Adding.{AddsCurve, CarrySums, enough_of_each};
-ghost use Rattle.beet_trial.specs.Rules.{trial_curve, trial_farmer, trial_farmers};
+ghost use Rattle.beet_trial.specs.Adding.{AddsFarmer, CarrySums, enough_of_each};
+ghost use Rattle.beet_trial.specs.Rules.{trial_farmer, trial_farmers};
 
 use crate::rules::{curve_of, tape_of};
 use beet_bids::Grid;
-use beet_book::{Totals, deal_bidder};
+use beet_book::Totals;
 use beet_errand::Stop;
 use beet_load::too_few_words;
 use std::alloc::Global;
@@ -20,7 +19,7 @@ fn add_bidder(alloc: Global, grid: &Grid, i: u32, totals: &mut Totals) -> Result
     requires prices { totals.old.prices ≡ grid.now.prices }
     ensures cause { (before now : ℕ) → IfErr result (λ stop. Causes before now stop) }
     ensures passes { Passes (enough_words (i + 1) (words_wanted grid.now) (trial_farmer grid.now i).words) result }
-    ensures adds { IfOk result (λ done. AddsCurve grid.now (trial_curve grid.now i) totals.old totals.new) }
+    ensures adds { IfOk result (λ done. AddsFarmer grid.now (trial_farmer grid.now i) totals.old totals.new) }
 {
     let curve = curve_of(alloc, grid, i)?;
     let mut tape = tape_of(alloc, grid, i)?;
@@ -29,8 +28,7 @@ fn add_bidder(alloc: Global, grid: &Grid, i: u32, totals: &mut Totals) -> Result
     if held < wanted {
         return Err(too_few_words(alloc, i + 1, held, wanted));
     }
-    let dealt = deal_bidder(alloc, grid, &curve, &mut tape)?;
-    totals.add(&dealt);
+    totals.deal(&curve, &mut tape);
     Ok(())
 }
 
@@ -45,8 +43,7 @@ pub(crate) fn add_bidders(
     requires none { CarrySums grid.now [] totals.old }
     ensures cause { (before now : ℕ) → IfErr result (λ stop. Causes before now stop) }
     ensures passes { Passes (enough_of_each grid.now 1 (trial_farmers grid.now bidders)) result }
-    ensures carry { IfOk result
-        (λ done. CarrySums grid.now (curves_of (trial_farmers grid.now bidders)) totals.new) }
+    ensures carry { IfOk result (λ done. CarrySums grid.now (trial_farmers grid.now bidders) totals.new) }
 {
     for i in 0..bidders {
         add_bidder(alloc, grid, i, totals)?;
