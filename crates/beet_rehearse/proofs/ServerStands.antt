@@ -18,7 +18,7 @@ use Rattle.beet_rehearse.specs.declared.standing.Standing.TheVariants.{Waiting, 
 is_not : (n m : ℕ) → n ≢ m → (n == m) ≡ false
 is_not n m h = grind (arith, common_steps)
 
-is_same : (n m : ℕ) → n ≡ m → (n == m) ≡ true
+pub is_same : (n m : ℕ) → n ≡ m → (n == m) ≡ true
 is_same n m h = grind (arith, common_steps)
 
 same_some : {A : Type 0} {x y : A} → Some x ≡ Some y → x ≡ y

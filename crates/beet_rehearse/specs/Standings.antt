@@ -18,3 +18,7 @@ rehearsal_of finish rounds x = record {
   servers = trio_of (standing_of finish rounds x);
   undelivered = undelivered rounds x;
 }
+
+-- all three have ended with this finish, and nothing is undelivered
+abbrev pub ended_alike : Finish → Rehearsal
+ended_alike finish = record { servers = trio_of (λ s. Ended finish); undelivered = 0 }

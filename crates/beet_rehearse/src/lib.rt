@@ -2,10 +2,12 @@
 //! stand.
 #![tactic(auto)]
 
+mod laws;
 mod rehearsing;
 mod standing;
 mod telling;
 
+pub use laws::nothing_undelivered_tells_the_end;
 pub use rehearsing::rehearse;
 
 #[cfg(test)]
