@@ -16,7 +16,8 @@ use beet_round::{RoundMessage, Verdict};
 use beet_server::ServerCore;
 
 /// Takes all messages that a server has to hand out, so that nothing is left. There is room for
-/// those of all rounds.
+/// those of all rounds. In a run it has at most two turns; the loop ends by the number of rounds,
+/// which holds for every server.
 pub(crate) fn hand_out<S: Script>(core: &mut ServerCore<S>, sent: &mut Vec<[RoundMessage; 2]>)
     requires room { S.rounds_of core.old.script ≤ vec_capacity sent.old }
     requires counted { length sent.old.items ≡ taken core.old.round core.old.handed }

@@ -28,7 +28,7 @@ use std::snapshot::Snapshot;
 /// What became of a message that was to be delivered.
 #[derive(Clone, Copy, PartialEq, Eq, Debug)]
 pub enum Event {
-    /// The receiver got a copy, and said so.
+    /// The receiver got a copy, and this is its verdict.
     Delivered(Verdict),
     /// It was never sent.
     NotSent,
@@ -150,8 +150,9 @@ impl<S: Script> World<S> {
         self.cores.get(at)
     }
 
-    /// Delivers the message of one server to another in a round, from 0, if it was sent. It may be
-    /// delivered again. What the receiver then sends is sent.
+    /// Delivers the message of one server to another in a round, counted from 0. It may be delivered
+    /// again. What the receiver then sends is sent. Where the message was not sent yet, or no such
+    /// message ever is, the answer is `NotSent`, and nothing changes.
     pub fn event(&mut self, from: Point, to: Point, round: u32) -> Event
         ensures delivered { delivered_in self.new
             ≡ deliver (rounds_in S.batch_of S.inputs_of S.rounds_of self.old) (delivered_in self.old)
