@@ -3,3 +3,4 @@ pub mod ReadFacts
 pub mod RunFacts
 pub mod SeenFacts
 pub mod ViewAgain
+pub mod ViewBytes
