@@ -4,3 +4,4 @@ pub mod RunFacts
 pub mod SeenFacts
 pub mod ViewAgain
 pub mod ViewBytes
+pub mod ViewLength

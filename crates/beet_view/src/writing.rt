@@ -237,11 +237,12 @@ fn bytes_of(alloc: Global, view: &View) -> Result<Vec<u8>, AllocError>
 
 /// The transcript of a view, which [`read_view`](crate::read_view) describes. Want of memory is the only error.
 ///
-/// The transcript of a view within the limits of the format is read back as the view. One beyond them is written too,
-/// and refused by the reader.
+/// The transcript of a view within the limits of the format is read back as the view, and is no longer than the reader
+/// takes. One beyond them is written too, and refused by the reader.
 pub fn write_view(alloc: Global, view: &View) -> Result<Vec<u8>, AllocError>
     ensures bytes { IfOk result (λ file. file.items ≡ view_bytes view.now) }
     ensures again { FitsFile view.now → IfOk result (λ file. view_in file.items ≡ Ok view.now) }
+    ensures short { FitsFile view.now → IfOk result (λ file. length file.items ≤ 67108864) }
 {
     let file = bytes_of(alloc, view)?;
     Ok(file)
