@@ -69,7 +69,7 @@ module _ (book : Book) (words : Words) (b : IsBook book) (can : CanRun book word
   abbrev farmers : List Farmer
   farmers = farmers_of book.bidders words.bidders
 
-  is-book : IsBook (book_of book.grid farmers)
+  pub is-book : IsBook (book_of book.grid farmers)
   is-book = subst IsBook (sym (same-book book words.bidders can.lists)) b
 
   -- the inputs are as many as the script wants
@@ -126,7 +126,7 @@ module _ (book : Book) (words : Words) (b : IsBook book) (can : CanRun book word
       coefficients-at Two = ap (λ (x : Trio ServerWords). x.two.coefficients) t
       coefficients-at Three = ap (λ (x : Trio ServerWords). x.three.coefficients) t
 
-  seen-all : (s : Point) → All (IsSeenAt s book.grid) (map (seen_at book.grid s) farmers)
+  pub seen-all : (s : Point) → All (IsSeenAt s book.grid) (map (seen_at book.grid s) farmers)
   seen-all s =
       All-map (IsSeenAt s book.grid) (seen_at book.grid s) farmers
       (λ i d lt. seen-farmer book.grid s (get_or farmers i d) (each-of i d lt)) where
