@@ -1,5 +1,5 @@
 -- The transcript of a view within the limits is not longer than a reader takes.
-use Rattle.std.proofs.Common.{◌≡◌, ℕ, suc, ◌+◌, ◌*◌, ◌≤◌, List, [], ◌∷◌, ◌++◌, length, All, Option, None, Some, IfSome, arith}
+use Rattle.std.proofs.Common.{◌≡◌, ℕ, ◌+◌, ◌*◌, ◌≤◌, List, [], ◌∷◌, ◌++◌, length, All, Option, None, Some, IfSome, arith}
 use Rattle.std.specs.List.{flat_map}
 use Rattle.std.proofs.lemmas.List.{length-append}
 use Rattle.std.proofs.lemmas.List.Elements.{All-head, All-tail}
@@ -8,9 +8,8 @@ use Rattle.beet_words.specs.Fields.{number_bytes}
 use Rattle.beet_bids.specs.Grids.{Grid, IsGrid}
 use Rattle.beet_bids.proofs.GridFacts.{comparisons-le}
 use Rattle.beet_bids.specs.Curves.{Curve}
-use Rattle.beet_view.specs.declared.view.Seen.{Seen}
 use Rattle.beet_view.specs.Views.{Viewed, IsSeenAt, IsView}
-use Rattle.beet_view.specs.Transcripts.{mark_of, most_words, numbers_bytes, counted_bytes, grid_bytes, own_bytes, seen_bytes, round_bytes, view_bytes, IsMessage, FitsFile}
+use Rattle.beet_view.specs.Transcripts.{mark_of, most_words, numbers_bytes, counted_bytes, own_bytes, seen_bytes, round_bytes, view_bytes, IsMessage, FitsFile}
 
 -- texts that are at most so long, one after another
 texts-short : {A : Type 0} (text : A → List ℕ) (most : ℕ) (xs : List A) → All (λ x. length (text x) ≤ most) xs → length (flat_map text xs) ≤ length xs * most
