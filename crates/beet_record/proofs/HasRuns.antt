@@ -1,5 +1,5 @@
 -- What three servers that have run the auction of a book have seen.
-use Rattle.std.proofs.Common.{◌≡◌, ◌<◌, ℕ, ◌*◌, List, map, length, All, arith, refl, sym, ap, ◌∙◌, subst, true, Some, Option, inl, inr, None, get_or, ◌≢◌, Result, Ok, Err, IfOk}
+use Rattle.std.proofs.Common.{◌≡◌, ◌<◌, ℕ, ◌*◌, List, map, length, All, arith, refl, sym, ap, ◌∙◌, subst, true, Some, Option, inl, inr, None, get_or, ◌≢◌, Result, Ok, Err, IfOk, Vec, Global}
 use Rattle.std.specs.Prelude.{MatchOption, if◌then◌else◌}
 use Rattle.std.proofs.lemmas.Bool.{cases_Bool}
 use Rattle.std.proofs.lemmas.List.{length-map, get_or-map, take_all}
@@ -37,6 +37,7 @@ use Rattle.beet_run.proofs.BookRuns.{one-end}
 use Rattle.beet_run.proofs.Ending.{ends-auction}
 use Rattle.beet_view.specs.BookViews.{names, seen_at}
 use Rattle.beet_view.specs.RunViews.{view_of_run}
+use Rattle.beet_view.specs.Transcripts.{view_bytes}
 use Rattle.beet_view.specs.Views.{IsSeenAt, Viewed}
 use Rattle.beet_view.specs.declared.view.Seen.{Seen}
 use Rattle.beet_record.specs.BookRuns.{CanShow, HasRun, Ran, opening_for, rounds_for, view_for}
@@ -69,7 +70,7 @@ module _ (book : Book) (words : Words) (b : IsBook book) (can : CanRun book word
   abbrev farmers : List Farmer
   farmers = farmers_of book.bidders words.bidders
 
-  is-book : IsBook (book_of book.grid farmers)
+  pub is-book : IsBook (book_of book.grid farmers)
   is-book = subst IsBook (sym (same-book book words.bidders can.lists)) b
 
   -- the inputs are as many as the script wants
@@ -126,7 +127,7 @@ module _ (book : Book) (words : Words) (b : IsBook book) (can : CanRun book word
       coefficients-at Two = ap (λ (x : Trio ServerWords). x.two.coefficients) t
       coefficients-at Three = ap (λ (x : Trio ServerWords). x.three.coefficients) t
 
-  seen-all : (s : Point) → All (IsSeenAt s book.grid) (map (seen_at book.grid s) farmers)
+  pub seen-all : (s : Point) → All (IsSeenAt s book.grid) (map (seen_at book.grid s) farmers)
   seen-all s =
       All-map (IsSeenAt s book.grid) (seen_at book.grid s) farmers
       (λ i d lt. seen-farmer book.grid s (get_or farmers i d) (each-of i d lt)) where
@@ -212,8 +213,21 @@ view-shown-if book words ran s core items (Ok view) h c i tells =
     (subst (λ (y : Core Auction). (o : Opening) (x : Delivered) → Fits auction_batch o x y → IsViewAt y ran.grid items o view) c tells)
 view-shown-if book words ran s core items (Err fault) h c i tells = tt
 
--- three views, server by server
-pub all-views : (views : Trio Viewed) (f : Point → Viewed) → views.one ≡ f One → views.two ≡ f Two → views.three ≡ f Three → (s : Point) → member views s ≡ f s
-all-views views f one two three One = one
-all-views views f one two three Two = two
-all-views views f one two three Three = three
+-- and the transcript of such a core is that of its server
+pub transcript-shown : (book : Book) (words : Words) (ran : Ran) (s : Point) (items : List Seen) (file : List ℕ) → HasRun book words ran → items ≡ member ran.seen s →
+    ((o : Opening) (x : Delivered) → Fits auction_batch o x (member ran.cores s) →
+    file ≡ view_bytes (view_of_run o (member ran.cores s).me (member ran.cores s).round ran.grid items (member ran.cores s).masks.words (member ran.cores s).coefficients.words)) →
+    file ≡ view_bytes (view_for book words s)
+transcript-shown book words ran s items file h i tells =
+    let o = opening_for book words in
+    let c = member ran.cores s in
+    tells o _ (h.stands s).fits
+    ∙ ap (λ (l : List Seen). view_bytes (view_of_run o c.me c.round ran.grid l c.masks.words c.coefficients.words)) i
+    ∙ ap view_bytes (shows book words ran s h)
+
+-- three transcripts, server by server
+pub all-files : (files : Trio (Vec ℕ Global)) (f : Point → List ℕ) → files.one.items ≡ f One → files.two.items ≡ f Two → files.three.items ≡ f Three →
+    (s : Point) → (member files s).items ≡ f s
+all-files files f one two three One = one
+all-files files f one two three Two = two
+all-files files f one two three Three = three

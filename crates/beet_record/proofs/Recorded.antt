@@ -1,5 +1,5 @@
 -- How the job `record` ends.
-use Rattle.std.proofs.Common.{◌≡◌, ℕ, List, Option, Result, Ok, Err, IfOk, IfErr, inl, inr, refl, [], ◌∷◌, length, sym, ap, ◌∙◌}
+use Rattle.std.proofs.Common.{◌≡◌, ℕ, List, Option, Result, Ok, Err, IfOk, IfErr, inl, inr, refl, [], ◌∷◌, length, sym, ap, ◌∙◌, Vec, Global}
 use Rattle.beet_field.specs.Trio.{member}
 use Rattle.beet_field.specs.declared.point.Point.{Point}
 use Rattle.beet_field.specs.declared.point.Point.TheVariants.{One, Two, Three}
@@ -22,7 +22,6 @@ use Rattle.beet_load.specs.WholeViews.{loaded_of}
 use Rattle.beet_load.specs.declared.whole.Whole.{Whole}
 use Rattle.beet_run.specs.Outcomes.{outcome_answer, status_of}
 use Rattle.beet_view.specs.Transcripts.{view_bytes}
-use Rattle.beet_view.specs.Views.{Viewed}
 use Rattle.beet_record.specs.BookRuns.{HasRun, Ran, view_for}
 use Rattle.beet_record.proofs.HasRuns.{same-book}
 use Rattle.beet_record.specs.Records.{file_for, record_errand, recorded_answer, transcript_file}
@@ -59,13 +58,13 @@ record_done out loaded (Ok answer) made =
     rw made (status-done (book_finish (book_with loaded.grid loaded.farmers) (masks_of loaded.servers)))
 record_done out loaded (Err stop) made = tt
 
--- the reply tells how the run ended, with what each server has seen
-pub reply-is : (out : List ℕ) (whole : Whole) (ran : Ran) (grid : Grid) (made : Answer) (files : List File) (views : Trio Viewed) →
-    length whole.words.bidders ≡ length whole.book.bidders → HasRun whole.book whole.words ran → grid ≡ whole.book.grid →
-    made ≡ outcome_answer grid ran.finish ran.rounds → ((s : Point) → member views s ≡ view_for whole.book whole.words s) →
-    files ≡ (file_for out One, view_bytes views.one) ∷ (file_for out Two, view_bytes views.two) ∷ (file_for out Three, view_bytes views.three) ∷ [] →
+-- the reply tells how the run ended, with the transcript of each server
+pub reply-is : (out : List ℕ) (whole : Whole) (ran : Ran) (grid : Grid) (made : Answer) (files : List File) (texts : Trio (Vec ℕ Global)) →
+    length whole.words.bidders ≡ length whole.book.bidders → HasRun whole.book whole.words ran → grid ≡ ran.grid →
+    made ≡ outcome_answer grid ran.finish ran.rounds → ((s : Point) → (member texts s).items ≡ view_bytes (view_for whole.book whole.words s)) →
+    files ≡ (file_for out One, texts.one.items) ∷ (file_for out Two, texts.two.items) ∷ (file_for out Three, texts.three.items) ∷ [] →
     record made { files = files } ≡ recorded_answer out (loaded_of whole)
-reply-is out whole ran grid made files views many h g m v f =
+reply-is out whole ran grid made files texts many h g m v f =
     let book = whole.book in
     let masks = whole.words.masks in
     let book' = book_with book.grid (farmers_of book.bidders whole.words.bidders) in
@@ -73,11 +72,11 @@ reply-is out whole ran grid made files views many h g m v f =
     let finish : ran.finish ≡ book_finish book' masks = h.finish ∙ ap (λ (x : Book). book_finish x masks) same in
     let rounds : ran.rounds ≡ book_rounds book' masks = h.rounds ∙ ap (λ (x : Book). book_rounds x masks) same in
     let answer : Grid → Finish → ℕ → List File → Answer = λ gr fi ro fs. record (outcome_answer gr fi ro) { files = fs } in
-    let one : Viewed → List File = λ x. (file_for out One, view_bytes x) ∷ (file_for out Two, view_bytes views.two) ∷ (file_for out Three, view_bytes views.three) ∷ [] in
-    let two : Viewed → List File = λ x. transcript_file out (loaded_of whole) One ∷ (file_for out Two, view_bytes x) ∷ (file_for out Three, view_bytes views.three) ∷ [] in
-    let three : Viewed → List File = λ x. transcript_file out (loaded_of whole) One ∷ transcript_file out (loaded_of whole) Two ∷ (file_for out Three, view_bytes x) ∷ [] in
+    let one : List ℕ → List File = λ x. (file_for out One, x) ∷ (file_for out Two, texts.two.items) ∷ (file_for out Three, texts.three.items) ∷ [] in
+    let two : List ℕ → List File = λ x. transcript_file out (loaded_of whole) One ∷ (file_for out Two, x) ∷ (file_for out Three, texts.three.items) ∷ [] in
+    let three : List ℕ → List File = λ x. transcript_file out (loaded_of whole) One ∷ transcript_file out (loaded_of whole) Two ∷ (file_for out Three, x) ∷ [] in
     ap (λ (a : Answer). record a { files = files }) m
-    ∙ ap (λ x. answer x ran.finish ran.rounds files) g
+    ∙ ap (λ x. answer x ran.finish ran.rounds files) (g ∙ h.grid)
     ∙ ap (λ x. answer book.grid x ran.rounds files) finish
     ∙ ap (λ x. answer book.grid (book_finish book' masks) x files) rounds
     ∙ ap (answer book.grid (book_finish book' masks) (book_rounds book' masks)) (f ∙ ap one (v One) ∙ ap two (v Two) ∙ ap three (v Three))

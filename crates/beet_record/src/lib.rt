@@ -2,9 +2,11 @@
 #![tactic(auto)]
 
 mod dealing;
+mod laws;
 mod recording;
 mod running;
 
+pub use laws::recorded_views_are_read_again;
 pub use recording::record;
 pub use running::{Ran, run_whole};
 

@@ -5,7 +5,6 @@ ghost use Rattle.beet_field.specs.declared.point.Point.TheVariants.{One, Two, Th
 ghost use Rattle.beet_errand.specs.Fetches.{Causes, Finishes, IsDone};
 ghost use Rattle.beet_load.specs.Wholes.{CanRun};
 ghost use Rattle.beet_load.specs.WholeViews.{loaded_of};
-ghost use Rattle.beet_view.specs.Transcripts.{view_bytes};
 ghost use Rattle.beet_record.specs.Records.{file_for, record_errand, recorded_answer};
 
 use crate::running::run_whole;
@@ -14,7 +13,6 @@ use beet_field::{Point, Trio};
 use beet_load::{Whole, load_whole};
 use beet_run::outcome_reply;
 use beet_store::Shelf;
-use beet_view::{View, write_view};
 use std::alloc::{AllocError, Global};
 
 /// The name of the file for a server.
@@ -26,39 +24,49 @@ fn file_name(alloc: Global, out: &str, at: Point) -> Result<String, AllocError>
     Ok(name)
 }
 
-/// The file of what a server has seen.
-fn transcript(alloc: Global, out: &str, at: Point, view: &View) -> Result<NewFile, AllocError>
-    ensures { IfOk result (λ file. file ≡ (file_for out.now at, view_bytes view.now)) }
+/// The file of the transcript of a server.
+fn transcript_file(
+    alloc: Global,
+    out: &str,
+    at: Point,
+    bytes: Vec<u8>,
+) -> Result<NewFile, AllocError>
+    ensures { IfOk result (λ file. file ≡ (file_for out.now at, bytes.items)) }
 {
     Ok(NewFile {
         name: file_name(alloc, out, at)?,
-        bytes: write_view(alloc, view)?,
+        bytes,
     })
 }
 
-/// The files of what the servers have seen.
-fn transcripts(alloc: Global, out: &str, views: &Trio<View>) -> Result<Vec<NewFile>, AllocError>
+/// The files of the transcripts of the servers.
+fn transcript_files(
+    alloc: Global,
+    out: &str,
+    transcripts: Trio<Vec<u8>>,
+) -> Result<Vec<NewFile>, AllocError>
     ensures { IfOk result (λ files. files.items ≡
-        (file_for out.now One, view_bytes views.now.one)
-        ∷ (file_for out.now Two, view_bytes views.now.two)
-        ∷ (file_for out.now Three, view_bytes views.now.three) ∷ []) }
+        (file_for out.now One, transcripts.one.items)
+        ∷ (file_for out.now Two, transcripts.two.items)
+        ∷ (file_for out.now Three, transcripts.three.items) ∷ []) }
 {
-    let one = transcript(alloc, out, Point::One, &views.one)?;
-    let two = transcript(alloc, out, Point::Two, &views.two)?;
-    let three = transcript(alloc, out, Point::Three, &views.three)?;
+    let one = transcript_file(alloc, out, Point::One, transcripts.one)?;
+    let two = transcript_file(alloc, out, Point::Two, transcripts.two)?;
+    let three = transcript_file(alloc, out, Point::Three, transcripts.three)?;
     Ok(vec![in alloc; one, two, three]?)
 }
 
-/// The reply for an auction that is read.
-fn reply_for(alloc: Global, whole: &Whole, out: &str) -> Result<Reply, Stop>
-    requires { CanRun whole.now.book whole.now.words }
+/// The reply for an auction that is read. What was read is dropped after the run.
+fn reply_for(alloc: Global, whole: Whole, out: &str) -> Result<Reply, Stop>
+    requires { CanRun whole.book whole.words }
     ensures memory { IfErr result (λ stop. stop ≡ Stop.OutOfMemory) }
-    ensures reply { IfOk result (λ reply. reply ≡ recorded_answer out.now (loaded_of whole.now)) }
+    ensures reply { IfOk result (λ reply. reply ≡ recorded_answer out.now (loaded_of whole)) }
 {
     let ran = run_whole(alloc, &whole.book, &whole.words)?;
-    let reply = outcome_reply(alloc, whole.book.grid(), ran.finish(), ran.rounds())?;
-    let views = ran.into_views(alloc)?;
-    let files = transcripts(alloc, out, &views)?;
+    drop(whole);
+    let reply = outcome_reply(alloc, ran.grid(), ran.finish(), ran.rounds())?;
+    let transcripts = ran.into_transcripts(alloc)?;
+    let files = transcript_files(alloc, out, transcripts)?;
     Ok(Reply {
         status: reply.status,
         files,
@@ -83,5 +91,5 @@ pub fn record<S: Shelf>(
         (record_errand auction.now servers.now book.now out.now) result }
 {
     let whole = load_whole(alloc, shelf, auction, servers, book)?;
-    reply_for(alloc, &whole, out)
+    reply_for(alloc, whole, out)
 }

@@ -1,12 +1,20 @@
 //! Three servers run the auction of a book, and what each of them has seen is shown.
 
-ghost use Rattle.std.specs.Prelude.{◌≡◌, IfErr, IfOk};
+ghost use Rattle.std.specs.Prelude.{◌≡◌, ◌≤◌, IfErr, IfOk, All, length, true};
 ghost use Rattle.beet_field.specs.Trio.{member};
 ghost use Rattle.beet_field.specs.declared.point.Point.{Point as Server};
 ghost use Rattle.beet_words.specs.Bundles.{Words as Lists};
 ghost use Rattle.beet_bids.specs.Books.{Book as Bids, IsBook};
 ghost use Rattle.beet_bids.specs.Grids.{IsGrid};
+ghost use Rattle.beet_plan.specs.Auction.{auction_batch};
+ghost use Rattle.beet_server.specs.Cores.{has_ended};
+ghost use Rattle.beet_server.specs.Events.{Delivered};
+ghost use Rattle.beet_server.specs.Fits.{Fits};
+ghost use Rattle.beet_server.specs.Runs.{Opening};
 ghost use Rattle.beet_load.specs.Wholes.{CanRun};
+ghost use Rattle.beet_view.specs.RunViews.{view_of_run};
+ghost use Rattle.beet_view.specs.Transcripts.{view_bytes};
+ghost use Rattle.beet_view.specs.Views.{IsSeenAt};
 ghost use Rattle.beet_record.specs.BookRuns.{HasRun, view_for};
 
 use crate::dealing::{SeenByAll, deal_book};
@@ -18,7 +26,7 @@ use beet_plan::Finish;
 use beet_run::{finish_at, start_servers};
 use beet_search::AuctionScript;
 use beet_server::ServerCore;
-use beet_view::{View, view_of};
+use beet_view::{Seen, View, view_of, write_view};
 use beet_words::Words;
 use beet_world::lockstep;
 use std::alloc::{AllocError, Global};
@@ -49,6 +57,13 @@ impl Model for Ran {
 impl Ran {
     ghost use Rattle.beet_record.specs.BookRuns.{HasRun, view_for};
 
+    /// The grid of the auction.
+    pub fn grid(&self) -> &Grid
+        ensures { result.now ≡ self.now.grid }
+    {
+        &self.grid
+    }
+
     /// How the run ended.
     pub fn finish(&self) -> Finish
         ensures { result ≡ self.now.finish }
@@ -72,17 +87,37 @@ impl Ran {
         view_of(alloc, self.cores.get(at), &self.grid, seen)
     }
 
-    /// What each server has seen. Want of memory is the only error.
-    pub fn into_views(self, alloc: Global) -> Result<Trio<View>, AllocError>
+    /// The transcript of each server. Beside the transcripts at most one view is held at a time. Want of memory is the only
+    /// error.
+    pub fn into_transcripts(self, alloc: Global) -> Result<Trio<Vec<u8>>, AllocError>
         ensures { (book : Bids) (words : Lists) → HasRun book words self
-            → IfOk result (λ views. (s : Server) → member views s ≡ view_for book words s) }
+            → IfOk result (λ files. (s : Server) → (member files s).items ≡ view_bytes (view_for book words s)) }
     {
         let seen = self.seen.into_parts();
-        let one = view_of(alloc, &self.cores.one, &self.grid, seen.one)?;
-        let two = view_of(alloc, &self.cores.two, &self.grid, seen.two)?;
-        let three = view_of(alloc, &self.cores.three, &self.grid, seen.three)?;
+        let one = transcript_of(alloc, &self.cores.one, &self.grid, seen.one)?;
+        let two = transcript_of(alloc, &self.cores.two, &self.grid, seen.two)?;
+        let three = transcript_of(alloc, &self.cores.three, &self.grid, seen.three)?;
         Ok(Trio { one, two, three })
     }
+}
+
+/// The transcript of a server that has ended, with the bidders as it sees them.
+fn transcript_of(
+    alloc: Global,
+    core: &ServerCore<AuctionScript>,
+    grid: &Grid,
+    bidders: Vec<Seen>,
+) -> Result<Vec<u8>, AllocError>
+    requires ended { has_ended auction_batch core.now ≡ true }
+    requires few { length bidders.items ≤ 2000 }
+    requires seen { All (IsSeenAt core.now.me grid.now) bidders.items }
+    ensures { (o : Opening) (x : Delivered) → Fits auction_batch o x core.now
+        → IfOk result (λ file. file.items ≡ view_bytes (view_of_run o core.now.me core.now.round grid.now
+        bidders.items core.now.masks.words core.now.coefficients.words)) }
+{
+    let view = view_of(alloc, core, grid, bidders)?;
+    let file = write_view(alloc, &view)?;
+    Ok(file)
 }
 
 /// The grid of a book, which is within its limits.

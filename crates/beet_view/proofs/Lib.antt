@@ -3,3 +3,5 @@ pub mod ReadFacts
 pub mod RunFacts
 pub mod SeenFacts
 pub mod ViewAgain
+pub mod ViewBytes
+pub mod ViewLength

@@ -124,6 +124,7 @@ fn written_as_read(rt: HostRuntime) -> Result<(), Fail> {
     let written = write_view(alloc, &small(&rt, alloc)?)?;
     let file = file_of(alloc, &SMALL)?;
     assert_eq!(rt; written.len(), 272);
+    assert_eq!(rt; written.capacity(), 272);
     assert!(rt; written.as_slice() == file.as_slice());
     Ok(())
 }

@@ -176,13 +176,53 @@ fn push_rounds(file: &mut Vec<u8>, rounds: &[Received]) -> Result<(), AllocError
     Ok(())
 }
 
+/// The 8 bytes at the start, the server, the four numbers of the grid and the four counts, each as long as a number.
+const NUMBERS_BESIDE: usize = 10;
+
+/// How many numbers stand for a bidder.
+fn numbers_for_seen(grid: &Grid, seen: &Seen) -> usize {
+    let own = match &seen.own {
+        None => 0,
+        Some((_, words)) => 2 * grid.prices() as usize + 1 + words.as_slice().len(),
+    };
+    1 + seen.points.as_slice().len() + own
+}
+
+/// How many numbers stand for bidders.
+fn numbers_for_bidders(grid: &Grid, bidders: &[Seen]) -> usize {
+    let mut numbers: usize = 0;
+    for seen in bidders {
+        numbers = numbers.saturating_add(numbers_for_seen(grid, seen));
+    }
+    numbers
+}
+
+/// How many numbers stand for rounds.
+fn numbers_for_rounds(rounds: &[Received]) -> usize {
+    let mut numbers: usize = 0;
+    for round in rounds {
+        let messages = 2 + round.lower().len() + round.higher().len();
+        numbers = numbers.saturating_add(messages);
+    }
+    numbers
+}
+
+/// How many bytes a view has, so that memory is taken once; no clause rests on it.
+fn room_for(view: &View) -> usize {
+    let tapes = view.masks().len() + view.coefficients().len();
+    let bidders = numbers_for_bidders(view.grid(), view.bidders());
+    let rounds = numbers_for_rounds(view.received());
+    let numbers = bidders.saturating_add(rounds).saturating_add(tapes);
+    numbers.saturating_add(NUMBERS_BESIDE).saturating_mul(8)
+}
+
 /// The bytes of a view.
 fn bytes_of(alloc: Global, view: &View) -> Result<Vec<u8>, AllocError>
     ensures bytes { IfOk result (λ file. file.items ≡ view_bytes view.now) }
     ensures view { OnOk result (IsView view.now) }
     ensures numbers { OnOk result (AreNumbers view.now) }
 {
-    let mut file = Vec::new(alloc);
+    let mut file = Vec::with_capacity(alloc, room_for(view))?;
     file.extend_from_slice(MAGIC)?;
     push_number(&mut file, view.server().number())?;
     push_grid(&mut file, view.grid())?;
@@ -197,11 +237,12 @@ fn bytes_of(alloc: Global, view: &View) -> Result<Vec<u8>, AllocError>
 
 /// The transcript of a view, which [`read_view`](crate::read_view) describes. Want of memory is the only error.
 ///
-/// The transcript of a view within the limits of the format is read back as the view. One beyond them is written too,
-/// and refused by the reader.
+/// The transcript of a view within the limits of the format is read back as the view, and is no longer than the reader
+/// takes. One beyond them is written too, and refused by the reader.
 pub fn write_view(alloc: Global, view: &View) -> Result<Vec<u8>, AllocError>
     ensures bytes { IfOk result (λ file. file.items ≡ view_bytes view.now) }
     ensures again { FitsFile view.now → IfOk result (λ file. view_in file.items ≡ Ok view.now) }
+    ensures short { FitsFile view.now → IfOk result (λ file. length file.items ≤ 67108864) }
 {
     let file = bytes_of(alloc, view)?;
     Ok(file)

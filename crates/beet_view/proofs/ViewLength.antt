@@ -1,0 +1,81 @@
+-- The transcript of a view within the limits is not longer than a reader takes.
+use Rattle.std.proofs.Common.{◌≡◌, ℕ, ◌+◌, ◌*◌, ◌≤◌, List, [], ◌∷◌, ◌++◌, length, All, Option, None, Some, IfSome, arith}
+use Rattle.std.specs.List.{flat_map}
+use Rattle.std.proofs.lemmas.List.{length-append}
+use Rattle.std.proofs.lemmas.List.Elements.{All-head, All-tail}
+use Rattle.beet_field.specs.declared.point.Point.{Point}
+use Rattle.beet_words.specs.Fields.{number_bytes}
+use Rattle.beet_bids.specs.Grids.{Grid, IsGrid}
+use Rattle.beet_bids.proofs.GridFacts.{comparisons-le}
+use Rattle.beet_bids.specs.Curves.{Curve}
+use Rattle.beet_view.specs.Views.{Viewed, IsSeenAt, IsView}
+use Rattle.beet_view.specs.Transcripts.{mark_of, most_words, numbers_bytes, counted_bytes, own_bytes, seen_bytes, round_bytes, view_bytes, IsMessage, FitsFile}
+
+-- texts that are at most so long, one after another
+texts-short : {A : Type 0} (text : A → List ℕ) (most : ℕ) (xs : List A) → All (λ x. length (text x) ≤ most) xs → length (flat_map text xs) ≤ length xs * most
+texts-short text most [] all = omega arith
+texts-short text most (x ∷ xs) all =
+    let first = All-head (λ y. length (text y) ≤ most) x xs all in
+    let others = texts-short text most xs (All-tail (λ y. length (text y) ≤ most) x xs all) in
+    omega (arith, first, others, length-append (text x) (flat_map text xs))
+
+-- numbers have 8 bytes each
+numbers-short : (numbers : List ℕ) → length (numbers_bytes numbers) ≤ 8 * length numbers
+numbers-short numbers = omega (arith, texts-short number_bytes 8 numbers (λ k d lt. omega arith))
+
+counted-short : (numbers : List ℕ) → length (counted_bytes number_bytes numbers) ≤ 8 + 8 * length numbers
+counted-short numbers = omega (arith, numbers-short numbers, length-append (number_bytes (length numbers)) (numbers_bytes numbers))
+
+-- a message has at most 64 numbers
+round-short : (round : List ℕ × List ℕ) → IsMessage round.0 × IsMessage round.1 → length (round_bytes round) ≤ 1040
+round-short round are =
+    omega (arith, are.0.1, are.1.1, counted-short round.0, counted-short round.1, length-append (counted_bytes number_bytes round.0) (counted_bytes number_bytes round.1))
+
+own-short : (prices : ℕ) (own : Curve × List ℕ) → length own.0.buy ≡ prices → length own.0.sell ≡ prices → length own.1 ≤ most_words prices →
+    length (own_bytes (Some own)) ≤ 72 + 32 * prices
+own-short prices own buys sells few =
+    let a = numbers_bytes own.0.buy in
+    let b = numbers_bytes own.0.sell in
+    let c = counted_bytes number_bytes own.1 in
+    omega (arith, buys, sells, few, numbers-short own.0.buy, numbers-short own.0.sell, counted-short own.1, length-append a (b ++ c), length-append b c)
+
+-- a bidder whose parts are as many as the prices tell
+seen-short : (server : Point) (grid : Grid) (known : Option Point) (points : List ℕ) (own : Option (Curve × List ℕ)) →
+    IsSeenAt server grid (record { known = known; points = points; own = own }) → IfSome own (λ kept. length kept.1 ≤ most_words grid.prices) →
+    length (seen_bytes (record { known = known; points = points; own = own })) ≤ 80 + 48 * grid.prices
+seen-short server grid known points None is few =
+    omega (arith, is.points, numbers-short points, length-append (number_bytes (mark_of known)) (numbers_bytes points ++ []), length-append (numbers_bytes points) [])
+seen-short server grid known points (Some own) is few =
+    let kept = own-short grid.prices own is.own.1.buy_length is.own.1.sell_length few in
+    let a = numbers_bytes points in
+    let b = own_bytes (Some own) in
+    omega (arith, is.points, kept, numbers-short points, length-append (number_bytes (mark_of known)) (a ++ b), length-append a b)
+
+-- all bidders, of which there are no more than the prices allow
+bidders-short : (view : Viewed) → IsView view → FitsFile view → length (flat_map seen_bytes view.bidders) ≤ 24160000
+bidders-short view is fits =
+    let prices = view.grid.prices in
+    let each : All (λ seen. length (seen_bytes seen) ≤ 80 + 48 * prices) view.bidders =
+    λ k d lt. seen-short view.server view.grid _ _ _ (is.seen k d lt) (fits.words k d lt) in
+    let all = texts-short seen_bytes (80 + 48 * prices) view.bidders each in
+    omega (arith, all, is.few, fits.product)
+
+rounds-short : (view : Viewed) → FitsFile view → length (flat_map round_bytes view.rounds) ≤ 4259840
+rounds-short view fits =
+    let all = texts-short round_bytes 1040 view.rounds (λ k d lt. round-short _ (fits.messages k d lt)) in
+    omega (arith, all, fits.rounds)
+
+-- the whole transcript
+pub view_bytes-short : (view : Viewed) → IsGrid view.grid → IsView view → FitsFile view → length (view_bytes view) ≤ 67108864
+view_bytes-short view grid is fits =
+    let a = counted_bytes seen_bytes view.bidders in
+    let b = counted_bytes number_bytes view.masks in
+    let c = counted_bytes number_bytes view.coefficients in
+    let d = counted_bytes round_bytes view.rounds in
+    let comparisons = comparisons-le view.grid.prices 13 (omega (arith, grid.prices_limit)) in
+    let bidders : length a ≤ 24160008 = omega (arith, bidders-short view is fits, length-append (number_bytes (length view.bidders)) (flat_map seen_bytes view.bidders)) in
+    let masks : length b ≤ 128 = omega (arith, counted-short view.masks, fits.masks, comparisons) in
+    let coefficients : length c ≤ 61512 = omega (arith, counted-short view.coefficients, fits.coefficients, comparisons) in
+    let rounds : length d ≤ 4259848 = omega (arith, rounds-short view fits, length-append (number_bytes (length view.rounds)) (flat_map round_bytes view.rounds)) in
+    let front : length (view_bytes view) ≡ 48 + length (a ++ (b ++ (c ++ d))) = omega arith in
+    omega (arith, front, bidders, masks, coefficients, rounds, length-append a (b ++ (c ++ d)), length-append b (c ++ d), length-append c d)
