@@ -17,7 +17,7 @@ use Rattle.beet_app.specs.Jobs.{Job, Tally, Clear, Rehearse, Record, Worlds, Sea
 use Rattle.beet_app.specs.Doing.{ComparesWorlds, Does, EndsFor, CausesFor}
 use Rattle.beet_two_worlds.specs.Ending.{CausesOfWorlds}
 use Rattle.beet_errand.proofs.Steps.{went_none}
-use Rattle.beet_app.proofs.Giving.{status_cases, given_none, said_whole}
+use Rattle.beet_app.proofs.Giving.{status_cases, left_or_told, given_none, said_whole}
 
 -- a run whose answer goes out
 runs_out : (errand : Errand) (told told_now : Option Told) (given now : Option Given) (before after : ℕ) (answer : Answer) (end : Status) →
@@ -210,6 +210,13 @@ usage_said None faults faults_now (Err (Refused status text)) given now before a
 usage_said None faults faults_now (Err OutOfMemory) given now before after end f out two = absurd (omega (arith, sym (ap code_of out.0) ∙ two))
 usage_said (Some job) faults faults_now result given now before after end f out two =
     let none = (run_codes (Some job) faults faults_now result given now before after end f out).0 two in absurd cc
+
+-- a run that ends by none of the faults of a desk leaves its count as it was
+pub run_undisturbed : (given now : Option Given) (before after : ℕ) (job : Result Answer Stop) (end : Status) →
+    EndGoesOut given now before after job end → (code_of end ≡ 1) ⊎ (code_of end ≡ 4) ⊎ (after ≡ before)
+run_undisturbed given now before after (Ok answer) end out = left_or_told answer.status end before after out.done out.cause out.status
+run_undisturbed given now before after (Err (Refused status line)) end out = left_or_told status end before after out.done out.cause out.status
+run_undisturbed given now before after (Err OutOfMemory) end out = inl (ap code_of out.0)
 
 pub is_status : (status : Status) → IsStatus (code_of status)
 is_status JobDone = inl (omega arith)

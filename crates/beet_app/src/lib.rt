@@ -86,9 +86,10 @@ pub fn run<S: Shelf, K: Desk>(alloc: Global, words: &[String], shelf: &mut S, de
     ensures usage_line { result ≡ 2 → Said (K.given desk.old) (K.given desk.new) usage_text }
     ensures no_job { job_of (map string_bytes words.now) ≡ None → (result ≡ 2) ⊎ (result ≡ 1) ⊎ (result ≡ 4) }
 
-    // A fault of the outside is answered only where that object's count of faults rose.
+    // A fault of the outside is answered only where that object's count of faults rose, and a fault of the desk is not passed over.
     ensures read { result ≡ 3 → Rose (S.faults shelf.old) (S.faults shelf.new) }
     ensures write { result ≡ 4 → Rose (K.faults desk.old) (K.faults desk.new) }
+    ensures undisturbed { (result ≡ 1) ⊎ (result ≡ 4) ⊎ (K.faults desk.new ≡ K.faults desk.old) }
     ensures shelf_faults { S.faults shelf.old ≤ S.faults shelf.new }
     ensures desk_faults { K.faults desk.old ≤ K.faults desk.new }
 

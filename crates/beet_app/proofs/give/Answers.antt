@@ -1,4 +1,4 @@
-use Rattle.std.proofs.Common.{arith, subst, Ok, Err}
+use Rattle.std.proofs.Common.{◌∙◌, subst, Ok, Err}
 use Rattle.std.proofs.lemmas.Result.{err_from_is_err_and}
 use Rattle.beet_store.specs.Desks.{GivesPut}
 use Rattle.beet_app.proofs.Giving.{put_more, put_refused}
@@ -16,7 +16,7 @@ returns-in_err-put-clause-gives g c =
 -- src/lib.rt:32:5
 pub loop-file-preserved : goal.loop-file-preserved
 loop-file-preserved g c = record {
-  later = omega (arith, c.loop-file.invariant.later, c.put.ensures.cause.later);
+  taken = c.in_ok-put.ensures.cause.taken ∙ c.loop-file.invariant.taken;
   given = put_more c.args.files.now c.loop-file.file-index c.file-item.result c.args.text.now _ _ _ c.loop-file-test.true c.file-item.is c.loop-file.invariant.given
       (subst (λ file. GivesPut (g.K.Desk.given c.loop-file.desk) (g.K.Desk.given c.put.new.self) file.0 file.1 (Ok tt)) c.file.view_is
       (rw (c.as_str.ensures.value, c.as_slice.ensures.value) at c.in_ok-put.ensures.content));
