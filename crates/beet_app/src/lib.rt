@@ -98,7 +98,7 @@ pub fn run<S: Shelf, K: Desk>(alloc: Global, words: &[String], shelf: &mut S, de
 
     // The files fetched, the files put, the text said and the status are those of the job.
     ensures runs { Does (job_of (map string_bytes words.now)) (S.told shelf.old) (S.told shelf.new)
-        (λ errand. Runs errand (S.told shelf.old) (S.told shelf.new) (K.given desk.old) (K.given desk.new) result) }
+        (λ told errand. Runs errand told (S.told shelf.new) (K.given desk.old) (K.given desk.new) result) }
 {
     let job = jobs::do_job(alloc, words, shelf);
     give_answer(alloc, desk, job).code()
