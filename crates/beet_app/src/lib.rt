@@ -3,7 +3,7 @@
 
 ghost use Rattle.std.specs.Prelude.{◌≡◌, ◌≤◌, ◌⊎◌, ℕ, map, string_bytes, None};
 ghost use Rattle.beet_store.specs.Causes.{Rose};
-ghost use Rattle.beet_store.specs.Desks.{HasPutCause};
+ghost use Rattle.beet_store.specs.Desks.{HasPutCause, GivesPut};
 ghost use Rattle.beet_app.specs.Doing.{ComparesWorlds, Does};
 ghost use Rattle.beet_app.specs.Jobs.{job_of};
 ghost use Rattle.beet_app.specs.Texts.{usage_text};
@@ -18,6 +18,14 @@ use beet_errand::{NewFile, Reply, Stop};
 use beet_store::{Desk, PutFault, Shelf};
 use std::alloc::Global;
 
+/// Puts a file under its name.
+fn put_file<K: Desk>(alloc: Global, desk: &mut K, file: &NewFile) -> Result<(), PutFault>
+    ensures cause { HasPutCause (K.faults desk.old) (K.faults desk.new) result }
+    ensures content { GivesPut (K.given desk.old) (K.given desk.new) file.now.0 file.now.1 result }
+{
+    desk.put(alloc, file.name.as_str(), file.bytes.as_slice())
+}
+
 /// Puts the files in order, and then says the text. The first call that is refused is the last.
 fn give<K: Desk>(
     alloc: Global,
@@ -29,7 +37,7 @@ fn give<K: Desk>(
     ensures gives { GivesAll (K.given desk.old) (K.given desk.new) files.now text.now result }
 {
     for file in files {
-        desk.put(alloc, file.name.as_str(), file.bytes.as_slice())?;
+        put_file(alloc, desk, file)?;
     }
     desk.say(text)
 }
