@@ -1,5 +1,5 @@
 -- Files that are put in order, and the text that is said after them.
-use Rattle.std.proofs.Common.{◌≡◌, ◌≤◌, ◌<◌, ◌⊎◌, inl, inr, ℕ, List, [], ◌∷◌, ◌+◌, length, drop, get_or, Option, Some, None, Ok, Err, refl, sym, ◌∙◌, ap, arith}
+use Rattle.std.proofs.Common.{◌≡◌, ◌≤◌, ◌<◌, ◌⊎◌, inl, inr, ℕ, List, [], ◌∷◌, ◌+◌, length, drop, get_or, Option, Some, None, Ok, Err, refl, sym, ◌∙◌, ap}
 use Rattle.std.proofs.lemmas.List.{drop_more, drop_all}
 use Rattle.beet_store.specs.Causes.{Rose}
 use Rattle.beet_store.specs.Files.{File}
@@ -7,6 +7,7 @@ use Rattle.beet_store.specs.Desks.{Given, Done, HasPutCause, GivesPut, GivesSay}
 use Rattle.beet_store.specs.declared.desk.PutFault.{PutFault}
 use Rattle.beet_store.specs.declared.desk.PutFault.TheVariants.{Failed, OutOfMemory}
 use Rattle.beet_app.specs.Runs.{GivesAll, status_after, Said}
+use Rattle.beet_errand.specs.Statuses.{code_of}
 use Rattle.beet_errand.specs.declared.answer.Status.{Status}
 use Rattle.beet_errand.specs.declared.answer.Status.TheVariants.{WriteFault, OutOfMemory as NoMemory}
 
@@ -37,22 +38,19 @@ pub said_last : (files : List File) (i : ℕ) (text : List ℕ) (old given now :
     GivesSay given now text done → GivesAll old now files text done
 said_last files i text old given now done h before said = before now done (rw (drop_all i files h) said)
 
-rose_on : (before middle now : ℕ) → before ≤ middle → Rose middle now → Rose before now
-rose_on before middle now h r ne = let less = r ne in omega (arith, less, h)
-
--- the cause of a call that comes after others
-pub cause_on : (before middle now : ℕ) (done : Done) → before ≤ middle → HasPutCause middle now done → HasPutCause before now done
-cause_on before middle now done h c = record {
-  later = omega (arith, h, c.later);
-  failed = λ e. rose_on before middle now h (c.failed e);
-}
-
 -- the status of an answer that went out or was refused
 pub status_cases : (due end : Status) (before now : ℕ) (done : Done) → HasPutCause before now done → end ≡ status_after due done →
     (end ≡ due) ⊎ ((end ≡ WriteFault) × Rose before now) ⊎ (end ≡ NoMemory)
 status_cases due end before now (Ok x) c e = inl e
 status_cases due end before now (Err Failed) c e = inr (inl (e, c.failed refl))
 status_cases due end before now (Err OutOfMemory) c e = inr (inr e)
+
+-- the status, or an answer that leaves the desk's count of faults as it was
+pub left_or_told : (due end : Status) (before now : ℕ) (done : Done) → HasPutCause before now done → end ≡ status_after due done →
+    (code_of end ≡ 1) ⊎ (code_of end ≡ 4) ⊎ (now ≡ before)
+left_or_told due end before now (Ok x) c e = inr (inr c.taken)
+left_or_told due end before now (Err Failed) c e = inr (inl (ap code_of e))
+left_or_told due end before now (Err OutOfMemory) c e = inl (ap code_of e)
 
 same_put : (given : Option Given) (file : File) → GivesPut given given file.0 file.1 (Err OutOfMemory)
 same_put None file = refl

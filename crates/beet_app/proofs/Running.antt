@@ -17,7 +17,7 @@ use Rattle.beet_app.specs.Jobs.{Job, Tally, Clear, Rehearse, Record, Worlds, Sea
 use Rattle.beet_app.specs.Doing.{ComparesWorlds, Does, EndsFor, CausesFor}
 use Rattle.beet_two_worlds.specs.Ending.{CausesOfWorlds}
 use Rattle.beet_errand.proofs.Steps.{went_none}
-use Rattle.beet_app.proofs.Giving.{status_cases, given_none, said_whole}
+use Rattle.beet_app.proofs.Giving.{status_cases, left_or_told, given_none, said_whole}
 
 -- a run whose answer goes out
 runs_out : (errand : Errand) (told told_now : Option Told) (given now : Option Given) (before after : ℕ) (answer : Answer) (end : Status) →
@@ -47,26 +47,26 @@ runs_of errand told told_now given now before after (Err OutOfMemory) end (rest,
 }
 
 -- what holds of an errand and makes something else hold of it does so of a job
-pub does_more : {P Q : Errand → Type 0} (job : Option Job) (old now : Option Told) → ((errand : Errand) → P errand → Q errand) →
-    Does job old now P → Does job old now Q
-does_more None old now f h = f _ h
-does_more (Some (Tally auction book)) old now f h = f _ h
-does_more (Some (Clear auction servers book)) old now f h = f _ h
-does_more (Some (Rehearse auction servers book schedule)) old now f h = f _ h
-does_more (Some (Record auction servers book out)) old now f h = f _ h
+pub does_more : {P Q : Option Told → Errand → Type 0} (job : Option Job) (old now : Option Told) →
+    ((told : Option Told) (errand : Errand) → P told errand → Q told errand) → Does job old now P → Does job old now Q
+does_more None old now f h = f _ _ h
+does_more (Some (Tally auction book)) old now f h = f _ _ h
+does_more (Some (Clear auction servers book)) old now f h = f _ _ h
+does_more (Some (Rehearse auction servers book schedule)) old now f h = f _ _ h
+does_more (Some (Record auction servers book out)) old now f h = f _ _ h
 does_more (Some (Worlds auction servers first second s out)) old now f (inl h) =
-    inl (record { both = h.both; went = h.went; words = h.words; agree = h.agree; mapped = h.mapped; equal = h.equal; holds = f _ h.holds })
-does_more (Some (Worlds auction servers first second s out)) old now f (inr h) = inr (λ words. f _ (h words))
-does_more (Some (Seal auction bid source out)) old now f h = f _ h
-does_more (Some (Open auction servers list)) old now f h = f _ h
-does_more (Some (Trial bidders prices)) old now f h = f _ h
+    inl (record { both = h.both; went = h.went; words = h.words; agree = h.agree; mapped = h.mapped; equal = h.equal; holds = f _ _ h.holds })
+does_more (Some (Worlds auction servers first second s out)) old now f (inr h) = inr (λ words. f _ _ (h words))
+does_more (Some (Seal auction bid source out)) old now f h = f _ _ h
+does_more (Some (Open auction servers list)) old now f h = f _ _ h
+does_more (Some (Trial bidders prices)) old now f h = f _ _ h
 
 -- a run ends as its job does
 pub run_does : (job : Option Job) (told told_now : Option Told) (given now : Option Given) (before after : ℕ) (result : Result Answer Stop) (end : Status) →
-    Does job told told_now (λ errand. Finishes told told_now errand result) → EndGoesOut given now before after result end →
-    Does job told told_now (λ errand. Runs errand told told_now given now (code_of end))
+    Does job told told_now (λ from errand. Finishes from told_now errand result) → EndGoesOut given now before after result end →
+    Does job told told_now (λ from errand. Runs errand from told_now given now (code_of end))
 run_does job told told_now given now before after result end h out =
-    does_more job told told_now (λ errand f. runs_of errand told told_now given now before after result end f out) h
+    does_more job told told_now (λ from errand f. runs_of errand from told_now given now before after result end f out) h
 
 -- words that name no job fetch nothing
 pub usage_finishes : (told : Option Told) (stop : Stop) → Refuses Usage usage_text stop → Finishes told told (answers Usage usage_text) (Err stop)
@@ -74,7 +74,7 @@ usage_finishes told (Refused status line) r = rw (r.0, r.1) (went_none told (ans
 usage_finishes told OutOfMemory r = (answers Usage usage_text, went_none told (answers Usage usage_text))
 
 pub usage_does : (told : Option Told) (job : Option Job) (stop : Stop) → job ≡ None → Refuses Usage usage_text stop →
-    Does job told told (λ errand. Finishes told told errand (Err stop))
+    Does job told told (λ from errand. Finishes from told errand (Err stop))
 usage_does told None stop e r = usage_finishes told stop r
 usage_does told (Some job) stop e r = absurd cc
 
@@ -210,6 +210,13 @@ usage_said None faults faults_now (Err (Refused status text)) given now before a
 usage_said None faults faults_now (Err OutOfMemory) given now before after end f out two = absurd (omega (arith, sym (ap code_of out.0) ∙ two))
 usage_said (Some job) faults faults_now result given now before after end f out two =
     let none = (run_codes (Some job) faults faults_now result given now before after end f out).0 two in absurd cc
+
+-- a run that ends by none of the faults of a desk leaves its count as it was
+pub run_undisturbed : (given now : Option Given) (before after : ℕ) (job : Result Answer Stop) (end : Status) →
+    EndGoesOut given now before after job end → (code_of end ≡ 1) ⊎ (code_of end ≡ 4) ⊎ (after ≡ before)
+run_undisturbed given now before after (Ok answer) end out = left_or_told answer.status end before after out.done out.cause out.status
+run_undisturbed given now before after (Err (Refused status line)) end out = left_or_told status end before after out.done out.cause out.status
+run_undisturbed given now before after (Err OutOfMemory) end out = inl (ap code_of out.0)
 
 pub is_status : (status : Status) → IsStatus (code_of status)
 is_status JobDone = inl (omega arith)

@@ -262,7 +262,7 @@ pub(crate) fn do_job<S: Shelf>(
     ensures cause { EndsFor (job_of (map string_bytes words.now))
         (S.faults shelf.old) (S.faults shelf.new) result }
     ensures finishes { Does (job_of (map string_bytes words.now)) (S.told shelf.old) (S.told shelf.new)
-        (λ errand. Finishes (S.told shelf.old) (S.told shelf.new) errand result) }
+        (λ told errand. Finishes told (S.told shelf.new) errand result) }
 {
     match command_of(words) {
         Some(command) => do_command(alloc, shelf, command),
@@ -276,7 +276,7 @@ fn do_command<S: Shelf>(alloc: Global, shelf: &mut S, command: Command<'_>) -> R
     ensures later { S.faults shelf.old ≤ S.faults shelf.new }
     ensures cause { EndsFor (Some (job_in command.entry)) (S.faults shelf.old) (S.faults shelf.new) result }
     ensures finishes { Does (Some (job_in command.entry)) (S.told shelf.old) (S.told shelf.new)
-        (λ errand. Finishes (S.told shelf.old) (S.told shelf.new) errand result) }
+        (λ told errand. Finishes told (S.told shelf.new) errand result) }
 {
     match command {
         Command::Tally { auction, book } => tally(alloc, shelf, auction, book),

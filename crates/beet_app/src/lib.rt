@@ -3,7 +3,7 @@
 
 ghost use Rattle.std.specs.Prelude.{◌≡◌, ◌≤◌, ◌⊎◌, ℕ, map, string_bytes, None};
 ghost use Rattle.beet_store.specs.Causes.{Rose};
-ghost use Rattle.beet_store.specs.Desks.{HasPutCause};
+ghost use Rattle.beet_store.specs.Desks.{HasPutCause, GivesPut};
 ghost use Rattle.beet_app.specs.Doing.{ComparesWorlds, Does};
 ghost use Rattle.beet_app.specs.Jobs.{job_of};
 ghost use Rattle.beet_app.specs.Texts.{usage_text};
@@ -18,6 +18,14 @@ use beet_errand::{NewFile, Reply, Stop};
 use beet_store::{Desk, PutFault, Shelf};
 use std::alloc::Global;
 
+/// Puts a file under its name.
+fn put_file<K: Desk>(alloc: Global, desk: &mut K, file: &NewFile) -> Result<(), PutFault>
+    ensures cause { HasPutCause (K.faults desk.old) (K.faults desk.new) result }
+    ensures content { GivesPut (K.given desk.old) (K.given desk.new) file.now.0 file.now.1 result }
+{
+    desk.put(alloc, file.name.as_str(), file.bytes.as_slice())
+}
+
 /// Puts the files in order, and then says the text. The first call that is refused is the last.
 fn give<K: Desk>(
     alloc: Global,
@@ -29,7 +37,7 @@ fn give<K: Desk>(
     ensures gives { GivesAll (K.given desk.old) (K.given desk.new) files.now text.now result }
 {
     for file in files {
-        desk.put(alloc, file.name.as_str(), file.bytes.as_slice())?;
+        put_file(alloc, desk, file)?;
     }
     desk.say(text)
 }
@@ -86,9 +94,10 @@ pub fn run<S: Shelf, K: Desk>(alloc: Global, words: &[String], shelf: &mut S, de
     ensures usage_line { result ≡ 2 → Said (K.given desk.old) (K.given desk.new) usage_text }
     ensures no_job { job_of (map string_bytes words.now) ≡ None → (result ≡ 2) ⊎ (result ≡ 1) ⊎ (result ≡ 4) }
 
-    // A fault of the outside is answered only where that object's count of faults rose.
+    // A fault of the outside is answered only where that object's count of faults rose, and a fault of the desk is not passed over.
     ensures read { result ≡ 3 → Rose (S.faults shelf.old) (S.faults shelf.new) }
     ensures write { result ≡ 4 → Rose (K.faults desk.old) (K.faults desk.new) }
+    ensures undisturbed { (result ≡ 1) ⊎ (result ≡ 4) ⊎ (K.faults desk.new ≡ K.faults desk.old) }
     ensures shelf_faults { S.faults shelf.old ≤ S.faults shelf.new }
     ensures desk_faults { K.faults desk.old ≤ K.faults desk.new }
 
@@ -97,7 +106,7 @@ pub fn run<S: Shelf, K: Desk>(alloc: Global, words: &[String], shelf: &mut S, de
 
     // The files fetched, the files put, the text said and the status are those of the job.
     ensures runs { Does (job_of (map string_bytes words.now)) (S.told shelf.old) (S.told shelf.new)
-        (λ errand. Runs errand (S.told shelf.old) (S.told shelf.new) (K.given desk.old) (K.given desk.new) result) }
+        (λ told errand. Runs errand told (S.told shelf.new) (K.given desk.old) (K.given desk.new) result) }
 {
     let job = jobs::do_job(alloc, words, shelf);
     give_answer(alloc, desk, job).code()

@@ -1,11 +1,11 @@
 -- Steps of an errand.
-use Rattle.std.proofs.Common.{◌≡◌, ◌<◌, ℕ, List, [], ◌∷◌, ◌++◌, Option, Some, None, Result, Ok, Err, true, false, refl, sym, ap, ◌∙◌, arith, append-nil, append_assoc, nat_lt, length}
+use Rattle.std.proofs.Common.{◌≡◌, ◌<◌, ◌≤◌, ℕ, List, [], ◌∷◌, ◌++◌, Option, Some, None, Result, Ok, Err, Vec, Global, true, false, refl, sym, ap, ◌∙◌, arith, append-nil, append_assoc, nat_lt, length}
 use Rattle.std.specs.Prelude.{IsSomeAnd}
 use Rattle.std.proofs.lemmas.Grind.{common_steps}
 use Rattle.beet_store.specs.Files.{File, Fetch, Told, TellsFetch, bytes_of}
 use Rattle.beet_store.specs.declared.shelf.FetchFault.TheVariants.{Failed, TooLong, OutOfMemory as NoMemory}
-use Rattle.beet_errand.specs.Errands.{Errand, Ends, Wants, unread, bad_file, too_long, after_fetch, judged, reads}
-use Rattle.beet_errand.specs.Fetches.{Leads, Went, Stops, Gives, Judges, Refuses}
+use Rattle.beet_errand.specs.Errands.{Errand, Ends, Wants, FetchAnswer, Bytes, Longer, Nothing, unread, bad_file, too_long, after_fetch, after_answer, judged, reads}
+use Rattle.beet_errand.specs.Fetches.{Leads, LeadsBy, Went, Stops, Gives, Judges, Refuses}
 use Rattle.beet_forms.specs.Faults.{Reading, Answers}
 use Rattle.beet_forms.specs.declared.faults.ReadFault.{ReadFault}
 use Rattle.beet_forms.specs.declared.faults.ReadFault.TheVariants.{Bad, OutOfMemory as MemoryOut}
@@ -18,15 +18,32 @@ use Rattle.beet_errand.specs.declared.answer.Stop.TheVariants.{Refused, OutOfMem
 
 -- nothing is fetched, and nothing is left out
 pub went_none : (told : Option Told) (errand : Errand) → Went told told errand errand
-went_none None errand = refl
+went_none None errand = (refl, [], refl)
 went_none (Some told) errand = ([], ap Some (ap (λ fetches. record told { fetches = fetches }) (sym (append-nil told.fetches))), refl)
+
+below_false : {m n : ℕ} → m ≤ n → nat_lt n m ≡ false
+below_false h = grind (arith, common_steps)
+
+bytes_after : (files : List File) (name : List ℕ) (limit : ℕ) (bytes : List ℕ) (next : List ℕ → Errand) →
+    bytes_of files name ≡ Some bytes → length bytes ≤ limit → after_fetch files name limit next false ≡ next bytes
+bytes_after files name limit bytes next e within =
+    let within : nat_lt limit (length bytes) ≡ false = below_false within in
+    rw (e, within) refl
+
+-- a file that is fetched is what the errand goes on with
+pub fetched_gives : (told now : Option Told) (name : List ℕ) (limit : ℕ) (bytes : Vec ℕ Global) →
+    TellsFetch told now name (Ok bytes) → length bytes.items ≤ limit →
+    (next : List ℕ → Errand) → Went told now (Wants name limit next) (next bytes.items)
+fetched_gives None now name limit bytes t within next = (t, Bytes bytes.items ∷ [], (within, refl))
+fetched_gives (Some told) now name limit bytes t within next =
+    ((name, false) ∷ [], t.1, (refl, bytes_after told.files name limit bytes.items next t.0 within))
 
 -- a fetch that fails refuses the errand
 pub failed_stops : (told now : Option Told) (name : List ℕ) (limit : ℕ) (stop : Stop) →
     TellsFetch told now name (Err Failed) → Refuses Unread (read_fault_text name) stop →
     Stops told now (Wants name limit) stop
-failed_stops None now name limit (Refused s line) t r = λ next. t
-failed_stops None now name limit OutOfMemory t r = λ next. (unread name, t)
+failed_stops None now name limit (Refused s line) t r = λ next. (t, Nothing ∷ [], (tt, cc))
+failed_stops None now name limit OutOfMemory t r = λ next. (unread name, (t, Nothing ∷ [], (tt, refl)))
 failed_stops (Some told) now name limit (Refused s line) t r = λ next. ((name, true) ∷ [], t.1, (refl, cc))
 failed_stops (Some told) now name limit OutOfMemory t r = λ next. (unread name, ((name, true) ∷ [], t.1, (refl, refl)))
 
@@ -45,8 +62,8 @@ long_after files name limit n next (Some bytes) e s above =
 pub long_stops : (told now : Option Told) (name : List ℕ) (limit n : ℕ) (stop : Stop) →
     TellsFetch told now name (Err (TooLong n)) → limit < n → Refuses BadFile (fault_line_of name (Row 0) 20) stop →
     Stops told now (Wants name limit) stop
-long_stops None now name limit n (Refused s line) t above r = λ next. t
-long_stops None now name limit n OutOfMemory t above r = λ next. (unread name, t)
+long_stops None now name limit n (Refused s line) t above r = λ next. (t, Longer ∷ [], (tt, cc))
+long_stops None now name limit n OutOfMemory t above r = λ next. (bad_file name too_long, (t, Longer ∷ [], (tt, refl)))
 long_stops (Some told) now name limit n (Refused s line) t above r = λ next. (
   (name, false) ∷ [],
   t.1,
@@ -61,7 +78,7 @@ long_stops (Some told) now name limit n OutOfMemory t above r = λ next. (
 pub memory_stops : (told now : Option Told) (name : List ℕ) (limit : ℕ) →
     TellsFetch told now name (Err NoMemory) →
     Stops told now (Wants name limit) OutOfMemory
-memory_stops None now name limit t = λ next. (unread name, t)
+memory_stops None now name limit t = λ next. (Wants name limit next, (t, [], refl))
 memory_stops (Some told) now name limit t = λ next. (
   Wants name limit next,
   ([], t.1 ∙ ap Some (ap (λ fetches. record told { fetches = fetches }) (sym (append-nil told.fetches))), refl),
@@ -75,9 +92,18 @@ leads_on files (fetch ∷ first) second (Ends answer) middle rest l m = absurd l
 leads_on files (fetch ∷ first) second (Wants name limit next) middle rest l m =
     (l.0, leads_on files first second (after_fetch files name limit next fetch.1) middle rest l.1 m)
 
-after_silence : (middle now : Option Told) (half rest : Errand) → middle ≡ None → Went middle now half rest → now ≡ None
-after_silence None now half rest e w = w
-after_silence (Some told) now half rest e w = absurd cc
+-- two lists of answers, one after the other
+leads_by_on : (first second : List FetchAnswer) (errand middle rest : Errand) →
+    LeadsBy first errand middle → LeadsBy second middle rest → LeadsBy (first ++ second) errand rest
+leads_by_on [] second errand middle rest e l = rw e l
+leads_by_on (answer ∷ first) second (Ends end) middle rest l m = absurd l
+leads_by_on (answer ∷ first) second (Wants name limit next) middle rest l m =
+    (l.0, leads_by_on first second (after_answer name next answer) middle rest l.1 m)
+
+after_silence : (middle now : Option Told) (errand half rest : Errand) (first : List FetchAnswer) →
+    middle ≡ None → LeadsBy first errand half → Went middle now half rest → Went None now errand rest
+after_silence None now errand half rest first e l (n, second, m) = (n, first ++ second, leads_by_on first second errand half rest l m)
+after_silence (Some told) now errand half rest first e l w = absurd cc
 
 after_telling : (told : Told) (middle now : Option Told) (errand half rest : Errand) (first : List Fetch) →
     middle ≡ Some (record told { fetches = told.fetches ++ first }) → Leads told.files first errand half →
@@ -93,7 +119,7 @@ after_telling told (Some next) now errand half rest first e l (second, f, m) =
 
 pub went_on : (old middle now : Option Told) (errand half rest : Errand) →
     Went old middle errand half → Went middle now half rest → Went old now errand rest
-went_on None middle now errand half rest e w = after_silence middle now half rest e w
+went_on None middle now errand half rest (e, first, l) w = after_silence middle now errand half rest first e l w
 went_on (Some told) middle now errand half rest (first, e, l) w =
     after_telling told middle now errand half rest first e l w
 

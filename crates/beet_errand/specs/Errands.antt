@@ -55,3 +55,15 @@ with_bytes name limit next (Some bytes) = if nat_lt limit (length bytes) then ba
 -- how an errand goes on after a fetch that failed or did not
 abbrev pub after_fetch : List File → List ℕ → ℕ → (List ℕ → Errand) → Bool → Errand
 after_fetch files name limit next failed = if failed then unread name else with_bytes name limit next (bytes_of files name)
+
+-- what a fetch answers, whatever the shelf tells: the bytes of a whole file, that it is longer than its limit, or nothing, as it failed
+pub data FetchAnswer : Type 0 where
+  Bytes : List ℕ → FetchAnswer
+  Longer : FetchAnswer
+  Nothing : FetchAnswer
+
+-- how an errand goes on that wanted a file, with what its fetch answered
+abbrev pub after_answer : List ℕ → (List ℕ → Errand) → FetchAnswer → Errand
+after_answer name next (Bytes bytes) = next bytes
+after_answer name next Longer = bad_file name too_long
+after_answer name next Nothing = unread name

@@ -1,8 +1,8 @@
 -- How far a list of fetches brings an errand.
-use Rattle.std.specs.Prelude.{◌≡◌, ◌⊎◌, ℕ, List, [], ◌∷◌, ◌++◌, Option, Some, None, Result, Ok, Err}
+use Rattle.std.specs.Prelude.{◌≡◌, ◌≤◌, ◌⊎◌, ℕ, List, [], ◌∷◌, ◌++◌, length, Option, Some, None, Result, Ok, Err}
 use Rattle.beet_store.specs.Causes.{Rose}
 use Rattle.beet_store.specs.Files.{File, Fetch, Told}
-use Rattle.beet_errand.specs.Errands.{Answer, Errand, Ends, Wants, after_fetch, answers}
+use Rattle.beet_errand.specs.Errands.{Answer, Errand, Ends, Wants, FetchAnswer, Bytes, Longer, Nothing, after_fetch, after_answer, answers}
 use Rattle.beet_errand.specs.declared.answer.Status.{Status}
 use Rattle.beet_errand.specs.declared.answer.Status.TheVariants.{Done, OutOfMemory as NoMemory, Usage, ReadFault as Unread, WriteFault, BadFile, MasksSpent, WorldsRefused, TooFewWords}
 use Rattle.beet_forms.specs.FaultLines.{fault_line_of}
@@ -18,9 +18,23 @@ Leads files (fetch ∷ fetches) (Ends answer) rest = ⊥
 Leads files (fetch ∷ fetches) (Wants name limit next) rest =
     (fetch.0 ≡ name) × Leads files fetches (after_fetch files name limit next fetch.1) rest
 
--- a shelf that tells its files has recorded the fetches that lead from the errand to what is left of it
+-- bytes that are answered are no more than the limit
+abbrev pub FitsLimit : ℕ → FetchAnswer → Type 0
+FitsLimit limit (Bytes bytes) = length bytes ≤ limit
+FitsLimit limit Longer = Unit {0}
+FitsLimit limit Nothing = Unit {0}
+
+-- exactly these answers to its fetches, in order, lead from the errand to what is left of it
+abbrev pub LeadsBy : List FetchAnswer → Errand → Errand → Type 0
+LeadsBy [] errand rest = errand ≡ rest
+LeadsBy (answer ∷ answers) (Ends end) rest = ⊥
+LeadsBy (answer ∷ answers) (Wants name limit next) rest =
+    FitsLimit limit answer × LeadsBy answers (after_answer name next answer) rest
+
+-- a shelf that tells its files has recorded the fetches that lead from the errand to what is left of it; over one that tells
+-- nothing, some answers lead there
 abbrev pub Went : Option Told → Option Told → Errand → Errand → Type 0
-Went None now errand rest = now ≡ None
+Went None now errand rest = (now ≡ None) × (answers : List FetchAnswer) × LeadsBy answers errand rest
 Went (Some told) now errand rest =
     (fetches : List Fetch) × (now ≡ Some (record told { fetches = told.fetches ++ fetches }))
     × Leads told.files fetches errand rest

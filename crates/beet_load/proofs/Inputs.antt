@@ -22,7 +22,7 @@ use Rattle.beet_book.proofs.Sums.{item-supply, item-demand}
 use Rattle.beet_book.proofs.Summed.{supply-summed, demand-summed}
 use Rattle.beet_plan.specs.Runs.{sums_of}
 use Rattle.beet_plan.proofs.BookFacts.{length-sums, sums-supply, sums-demand}
-use Rattle.beet_load.specs.Collecting.{curves_of, Collects, Collected}
+use Rattle.beet_load.specs.Collecting.{curves_of, Collected}
 use Rattle.beet_load.specs.Farmers.{bidders_of}
 use Rattle.beet_load.specs.Loading.{Loads, with_all_words}
 use Rattle.beet_auction.specs.Openings.{Farmer, book_of as book_with}
@@ -108,15 +108,14 @@ shares-first totals v h x =
           ∙ rw (← points-first prices v x.slopes One h i, ← points-first prices v x.slopes Two h i, ← points-first prices v x.slopes Three h i) refl;
     }
 
--- all bidders are read: the inputs are shares of the sums of their book
-pub inputs-shares : (grid : Grid) (lists : Option (List (List ℕ))) (entries : List Entry) (old now : Option Told) (totals : Totals) (farmers : List Farmer)
-    (wires : Trio (List ℕ)) → Collects grid lists entries [] old now totals farmers → wires ≡ wires_of totals →
-    AreShares (sums_of (book_with grid farmers)) wires
-inputs-shares grid lists entries old now totals farmers wires c e =
+-- the points of all bidders are added up: the inputs are shares of the sums of their book
+pub inputs-shares : (grid : Grid) (totals : Totals) (farmers : List Farmer) (wires : Trio (List ℕ)) →
+    AreShares (summed_quantities grid.prices (curves_of farmers)) totals.points → totals.prices ≡ grid.prices →
+    All (IsOfGrid grid) (curves_of farmers) → wires ≡ wires_of totals → AreShares (sums_of (book_with grid farmers)) wires
+inputs-shares grid totals farmers wires shares prices of_grid e =
     let v = summed_quantities grid.prices (curves_of farmers) in
-    let prices = c.prices in
-    let x = shares-first totals v (length-summed grid.prices (curves_of farmers) ∙ ap (λ n. 2 * n) (sym prices)) c.shares in
-    rw (e, ← sums-first grid farmers c.of_grid) (subst (λ n. AreShares (supply_first n v) (wires_of totals)) prices x)
+    let x = shares-first totals v (length-summed grid.prices (curves_of farmers) ∙ ap (λ n. 2 * n) (sym prices)) shares in
+    rw (e, ← sums-first grid farmers of_grid) (subst (λ n. AreShares (supply_first n v) (wires_of totals)) prices x)
 
 -- what holds of each curve holds of each bidder's
 each-bidder : (P : Curve → Type 0) (farmers : List Farmer) → All P (curves_of farmers) → All (λ bidder. P bidder.curve) (bidders_of farmers)
@@ -124,13 +123,13 @@ each-bidder P farmers all = All-map (λ bidder. P bidder.curve) (λ farmer. farm
     (λ i d h. subst P (get_or-map (λ farmer. farmer.bidder.curve) farmers i d d.bidder.curve h)
     (all i d.bidder.curve (rw (map_length (λ farmer. farmer.bidder.curve) farmers) h)))
 
--- and their book is one
-pub is-book : (grid : Grid) (lists : Option (List (List ℕ))) (entries : List Entry) (old now : Option Told) (totals : Totals) (farmers : List Farmer) →
-    Collects grid lists entries [] old now totals farmers → length farmers ≤ 2000 → IsBook (book_with grid farmers)
-is-book grid lists entries old now totals farmers c few = record {
+-- bidders with curves of a grid make a book
+pub is-book : (grid : Grid) (farmers : List Farmer) → All IsCurve (curves_of farmers) → All (IsOfGrid grid) (curves_of farmers) →
+    length farmers ≤ 2000 → IsBook (book_with grid farmers)
+is-book grid farmers curves of_grid few = record {
   few = rw (map_length (λ farmer. farmer.bidder) farmers) few;
-  curves = each-bidder IsCurve farmers c.curves;
-  of_grid = each-bidder (IsOfGrid grid) farmers c.of_grid;
+  curves = each-bidder IsCurve farmers curves;
+  of_grid = each-bidder (IsOfGrid grid) farmers of_grid;
 }
 
 -- all bidders are read, after all other words
@@ -140,6 +139,6 @@ pub loads_all : (grid : Grid) (entries : List Entry) (words : AllWords) (old now
 loads_all grid entries words old now totals wires few (farmers, many, c) e = record {
   farmers = farmers;
   went = λ next. c.went (λ f. next (record { grid = grid; servers = words.servers; farmers = f }));
-  book = is-book grid words.bidders entries old now totals farmers c (rw many few);
-  shares = inputs-shares grid words.bidders entries old now totals farmers wires c e;
+  book = is-book grid farmers c.curves c.of_grid (rw many few);
+  shares = inputs-shares grid totals farmers wires c.shares c.prices c.of_grid e;
 }

@@ -1,5 +1,5 @@
 -- What a desk is given: files by name, and a printed text.
-use Rattle.std.specs.Prelude.{◌≡◌, ◌≤◌, ◌≢◌, ℕ, List, ◌++◌, take, Option, Some, None, Result, Ok, Err, IsErrOf, IsSomeAnd}
+use Rattle.std.specs.Prelude.{◌≡◌, ◌≤◌, ◌≢◌, ℕ, List, ◌++◌, take, Option, Some, None, Result, Ok, Err, IsErrOf, IsSomeAnd, OnOk}
 use Rattle.beet_store.specs.Causes.{Rose}
 use Rattle.beet_store.specs.Files.{File, bytes_of}
 use Rattle.beet_store.specs.declared.desk.PutFault.{PutFault}
@@ -14,10 +14,12 @@ pub record Given : Type 0 where
 abbrev pub Done : Type 0
 Done = Result (Unit {0}) PutFault
 
--- why a put or a say answers as it does, whatever the desk tells
+-- why a put or a say answers as it does, whatever the desk tells: the count of faults rose where it failed, and is as it was where
+-- it was taken
 pub record HasPutCause (before now : ℕ) (result : Done) : Type 0 where
   pub later : before ≤ now
   pub failed : IsErrOf result Failed → Rose before now
+  pub taken : OnOk result (now ≡ before)
 
 -- every other name and the printed text stand
 pub record StandsBut (name : List ℕ) (old new : Given) : Type 0 where

@@ -1,5 +1,5 @@
 -- How a trial ends.
-use Rattle.std.proofs.Common.{◌≡◌, ◌≤◌, ℕ, List, [], get_or, Option, None, Ok, Err, All, arith, refl, sym, ◌∙◌, subst}
+use Rattle.std.proofs.Common.{◌≡◌, ◌≤◌, ℕ, List, get_or, Option, Ok, Err, All, arith, sym, ◌∙◌, subst}
 use Rattle.std.specs.List.{range_with_len}
 use Rattle.std.proofs.lemmas.List.FromFn.{length-map-range_with_len}
 use Rattle.std.proofs.lemmas.List.Elements.{All-map}
@@ -19,7 +19,7 @@ use Rattle.beet_errand.specs.Fetches.{Went, Passes, Finishes}
 use Rattle.beet_errand.specs.declared.answer.Stop.{Stop}
 use Rattle.beet_errand.specs.declared.answer.Stop.TheVariants.{Refused, OutOfMemory}
 use Rattle.beet_errand.proofs.Steps.{went_none}
-use Rattle.beet_load.specs.Collecting.{Collects, curves_of}
+use Rattle.beet_load.specs.Collecting.{curves_of}
 use Rattle.beet_load.specs.Servers.{ServerWords, enough_of_all, masks_of}
 use Rattle.beet_load.proofs.Inputs.{inputs-shares, is-book}
 use Rattle.beet_run.specs.Runs.{EndsAuction}
@@ -36,27 +36,17 @@ each-curve P grid bidders each =
     All-map P (λ farmer. farmer.bidder.curve) (trial_farmers grid bidders)
     (All-map (λ (farmer : Farmer). P farmer.bidder.curve) (trial_farmer grid) (range_with_len 0 bidders) (λ k d h. each (get_or (range_with_len 0 bidders) k d)))
 
--- the bidders' points are added up: a shelf that tells nothing stands for the files, of which there are none
-collects : (grid : Grid) (bidders : ℕ) (totals : Totals) → grid.prices ≤ 4096 → CarrySums grid (trial_farmers grid bidders) totals →
-    Collects grid None [] [] None None totals (trial_farmers grid bidders)
-collects grid bidders totals limit c = record {
-  went = λ next. refl;
-  shares = c.shares;
-  prices = c.prices;
-  curves = each-curve IsCurve grid bidders (λ i. is-curve grid i limit);
-  of_grid = each-curve (IsOfGrid grid) grid bidders (is-of-grid grid);
-}
-
 -- the inputs are shares of the sums of the book
-pub trial-shares : (grid : Grid) (bidders : ℕ) (totals : Totals) (inputs : Trio (List ℕ)) → grid.prices ≤ 4096 →
+pub trial-shares : (grid : Grid) (bidders : ℕ) (totals : Totals) (inputs : Trio (List ℕ)) →
     CarrySums grid (trial_farmers grid bidders) totals → inputs ≡ wires_of totals → AreShares (sums_of (trial_book grid bidders)) inputs
-trial-shares grid bidders totals inputs limit c e =
-    inputs-shares grid None [] None None totals (trial_farmers grid bidders) inputs (collects grid bidders totals limit c) e
+trial-shares grid bidders totals inputs c e =
+    inputs-shares grid totals (trial_farmers grid bidders) inputs c.shares c.prices (each-curve (IsOfGrid grid) grid bidders (is-of-grid grid)) e
 
-pub trial-is-book : (grid : Grid) (bidders : ℕ) (totals : Totals) → grid.prices ≤ 4096 → bidders ≤ 2000 →
-    CarrySums grid (trial_farmers grid bidders) totals → IsBook (trial_book grid bidders)
-trial-is-book grid bidders totals limit few c =
-    is-book grid None [] None None totals (trial_farmers grid bidders) (collects grid bidders totals limit c)
+pub trial-is-book : (grid : Grid) (bidders : ℕ) → grid.prices ≤ 4096 → bidders ≤ 2000 →
+    IsBook (trial_book grid bidders)
+trial-is-book grid bidders limit few =
+    is-book grid (trial_farmers grid bidders) (each-curve IsCurve grid bidders (λ i. is-curve grid i limit))
+    (each-curve (IsOfGrid grid) grid bidders (is-of-grid grid))
     (omega (arith, few, length-map-range_with_len (trial_farmer grid) 0 bidders))
 
 -- a test of an errand that fetches nothing stops it
@@ -101,8 +91,8 @@ pub trial-ends : (told : Option Told) (grid : Grid) (servers : Trio ServerWords)
     Went told told (trial_errand bidders prices) (Ends (sized_answer grid bidders finish rounds))
 trial-ends told grid servers bidders prices totals inputs finish rounds e s sizes pass each c w run =
     let limit : grid.prices ≤ 4096 = subst (λ (g : Grid). g.prices ≤ 4096) (sym e) sizes.prices_limit in
-    let ends = book-run (trial_book grid bidders) inputs (trial_servers grid) finish rounds (trial-is-book grid bidders totals limit sizes.few c)
-    (trial-shares grid bidders totals inputs limit c w) (subst (λ x. EndsAuction grid inputs x finish rounds) s run) in
+    let ends = book-run (trial_book grid bidders) inputs (trial_servers grid) finish rounds (trial-is-book grid bidders limit sizes.few)
+    (trial-shares grid bidders totals inputs c w) (subst (λ x. EndsAuction grid inputs x finish rounds) s run) in
     let way = comes-to-answer told grid bidders (subst (λ x. Passes (enough_of_all grid x) (Ok tt)) s pass) each in
     subst (λ g. Went told told (trial_over g bidders) (Ends (sized_answer grid bidders finish rounds))) e
     (subst (λ f. Went told told (trial_over grid bidders) (Ends (sized_answer grid bidders f rounds))) (sym ends.0)

@@ -10,7 +10,7 @@ use Rattle.beet_errand.specs.Errands.{Answer, Errand, Ends, answers}
 use Rattle.beet_errand.specs.Fetches.{Finishes, Stops, Went}
 use Rattle.beet_errand.specs.declared.answer.Stop.{Stop}
 use Rattle.beet_errand.specs.declared.answer.Stop.TheVariants.{Refused, OutOfMemory}
-use Rattle.beet_errand.proofs.Steps.{gives_after, stops_after}
+use Rattle.beet_errand.proofs.Steps.{went_none, gives_after, stops_after}
 use Rattle.beet_load.specs.Loading.{Loaded}
 use Rattle.beet_load.specs.Wholes.{curves_errand, limited_errand}
 use Rattle.beet_load.specs.WholeViews.{loaded_of}
@@ -69,14 +69,14 @@ module _ (old now : Option Told) (auction servers book1 book2 : List ℕ) (s : P
 
   -- the books could not be read
   pub both-stops : (stop : Stop) → Stops old now (both_errand auction servers book1 book2) stop →
-      WithMapped old now auction servers book1 book2 s (λ words. Finishes old now (worlds_errand auction servers book1 book2 s out words) (Err stop))
+      WithMapped old now auction servers book1 book2 s out (λ told errand. Finishes told now errand (Err stop))
   both-stops stop h = inr (stopped stop h)
 
   -- nor the second
   pub second-stops : (middle : Option Told) (first : Loaded) (stop : Stop) →
       ((next : Loaded → Errand) → Went old middle (limited_errand auction servers book1 next) (next first)) →
       Stops middle now (curves_errand book2 first.grid) stop →
-      WithMapped old now auction servers book1 book2 s (λ words. Finishes old now (worlds_errand auction servers book1 book2 s out words) (Err stop))
+      WithMapped old now auction servers book1 book2 s out (λ told errand. Finishes told now errand (Err stop))
   second-stops middle first (Refused status text) w h =
       both-stops (Refused status text) (stops_after old middle now (limited_errand auction servers book1) (rest_errand book2) first (Refused status text) w
       (λ next. h (λ second. next (record { first = first; second = second }))))
@@ -104,13 +104,22 @@ module _ (old now : Option Told) (auction servers book1 book2 : List ℕ) (s : P
     second_is : second_book (both_of whole second) ≡ second
     second_is = second-back whole second grids
 
+    -- the answer for the books that were read is that for those that the program keeps
+    answer_is : (words : Words) → goes_on words (both_of whole second) ≡ worlds_answer s out whole.book whole.words second words
+    answer_is words = λ i. worlds_answer s out (first_is i) (read_is i) (second_is i) words
+
     -- the job has come to this answer
     comes : (words : Words) (rest : Errand) → worlds_answer s out whole.book whole.words second words ≡ rest →
         Went old now (worlds_errand auction servers book1 book2 s out words) rest
     comes words rest e =
-        let is : goes_on words (both_of whole second) ≡ rest =
-        (λ i. worlds_answer s out (first_is i) (read_is i) (second_is i) words) ∙ e in
-        subst (λ (r : Errand). Went old now (worlds_errand auction servers book1 book2 s out words) r) is (went (goes_on words))
+        subst (λ (r : Errand). Went old now (worlds_errand auction servers book1 book2 s out words) r) (answer_is words ∙ e) (went (goes_on words))
+
+    -- and fetches nothing more
+    stays : (words : Words) (rest : Errand) → worlds_answer s out whole.book whole.words second words ≡ rest →
+        Went now now (goes_on words (both_of whole second)) rest
+    stays words rest e =
+        subst (λ (r : Errand). Went now now (goes_on words (both_of whole second)) r) (answer_is words ∙ e)
+        (went_none now (goes_on words (both_of whole second)))
 
     -- what holds of the books and the words that the program keeps holds of those that were read
     as_read : (P : Book → Words → Book → Type 0) → P whole.book whole.words second →
@@ -122,8 +131,7 @@ module _ (old now : Option Told) (auction servers book1 book2 : List ℕ) (s : P
 
     -- the books are answered
     pub books-answered : (result : Result Answer Stop) → AnswersBooks s out whole.book whole.words second result →
-        WithMapped old now auction servers book1 book2 s
-        (λ words. Finishes old now (worlds_errand auction servers book1 book2 s out words) result)
+        WithMapped old now auction servers book1 book2 s out (λ told errand. Finishes told now errand result)
     books-answered (Ok answer) h = inl (record {
       both = both_of whole second;
       went = went;
@@ -131,7 +139,7 @@ module _ (old now : Option Told) (auction servers book1 book2 : List ℕ) (s : P
       agree = as_read (λ (b : Book) (w : Words) (b' : Book). Agree s b b') h.agree;
       mapped = as_read (λ (b : Book) (w : Words) (b' : Book). Mapped s b w b' h.second_words) h.mapped;
       equal = as_read (λ (b : Book) (w : Words) (b' : Book). transcript_in b' h.second_words s ≡ transcript_in b w s) h.equal;
-      holds = comes h.second_words (Ends answer) h.answers_so;
+      holds = stays h.second_words (Ends answer) h.answers_so;
     })
     books-answered (Err (Refused status text)) h = inr (λ words. comes words (answers status text.items) (h words))
     books-answered (Err OutOfMemory) h =

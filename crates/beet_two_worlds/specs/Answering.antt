@@ -63,18 +63,21 @@ worlds_errand auction servers book1 book2 s out mapped =
     (λ both. worlds_answer s out (first_book both) (words_read both) (second_book both) mapped)
 
 -- the books that were read agree, the words are mapped from those that were read, and with them both transcripts are equal; a fact holds
--- of them
-pub record MapsRead (old now : Option Told) (auction servers book1 book2 : List ℕ) (s : Point) (P : Words → Type 0) :
-    Type 0 where
+-- of what the shelf tells then, and of the answer for the books with these words
+pub record MapsRead (old now : Option Told) (auction servers book1 book2 : List ℕ) (s : Point) (out : List ℕ)
+    (P : Option Told → Errand → Type 0) : Type 0 where
   pub both : Both
   pub went : (next : Both → Errand) → Went old now (both_errand auction servers book1 book2 next) (next both)
   pub words : Words
   pub agree : Agree s (first_book both) (second_book both)
   pub mapped : Mapped s (first_book both) (words_read both) (second_book both) words
   pub equal : transcript_in (second_book both) words s ≡ transcript_in (first_book both) (words_read both) s
-  pub holds : P words
+  pub holds : P now (worlds_answer s out (first_book both) (words_read both) (second_book both) words)
 
--- a fact holds of the words that are mapped from those that were read; or none were wanted, and it holds of all words
-abbrev pub WithMapped : Option Told → Option Told → List ℕ → List ℕ → List ℕ → List ℕ → Point → (Words → Type 0) → Type 0
-WithMapped old now auction servers book1 book2 s P =
-    MapsRead old now auction servers book1 book2 s P ⊎ ((words : Words) → P words)
+-- a fact holds of the answer with the words that are mapped from those that were read; or no words were wanted, and it holds of the
+-- whole job with all words
+abbrev pub WithMapped : Option Told → Option Told → List ℕ → List ℕ → List ℕ → List ℕ → Point → List ℕ →
+    (Option Told → Errand → Type 0) → Type 0
+WithMapped old now auction servers book1 book2 s out P =
+    MapsRead old now auction servers book1 book2 s out P
+    ⊎ ((words : Words) → P old (worlds_errand auction servers book1 book2 s out words))

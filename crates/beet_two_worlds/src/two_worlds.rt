@@ -2,7 +2,7 @@
 
 ghost use Rattle.std.specs.Prelude.{◌≡◌, ◌≤◌, IfErr, IfOk};
 ghost use Rattle.beet_errand.specs.Fetches.{Finishes, IsDone};
-ghost use Rattle.beet_two_worlds.specs.Answering.{WithMapped, worlds_errand};
+ghost use Rattle.beet_two_worlds.specs.Answering.{WithMapped};
 ghost use Rattle.beet_two_worlds.specs.Ending.{BeginsWithEqualFiles, CausesOfWorlds};
 
 use crate::answering::answer_both;
@@ -27,9 +27,8 @@ pub fn worlds<S: Shelf>(
     ensures later { S.faults shelf.old ≤ S.faults shelf.new }
     ensures cause { IfErr result (λ stop. CausesOfWorlds (S.faults shelf.old) (S.faults shelf.new) stop) }
     ensures done { IfOk result (λ reply. IsDone reply.status) }
-    ensures finishes { WithMapped (S.told shelf.old) (S.told shelf.new) auction.now servers.now book1.now book2.now server
-        (λ words. Finishes (S.told shelf.old) (S.told shelf.new)
-        (worlds_errand auction.now servers.now book1.now book2.now server out.now words) result) }
+    ensures finishes { WithMapped (S.told shelf.old) (S.told shelf.new) auction.now servers.now book1.now book2.now server out.now
+        (λ told errand. Finishes told (S.told shelf.new) errand result) }
     ensures equal { IfOk result (λ reply. BeginsWithEqualFiles reply.files) }
 {
     let whole = load_whole(alloc, shelf, auction, servers, book1)?;

@@ -1,5 +1,5 @@
 use Rattle.std.proofs.Common.{sym, ◌∙◌}
-use Rattle.beet_app.proofs.Running.{run_does, run_codes, run_no_job, usage_said, is_status}
+use Rattle.beet_app.proofs.Running.{run_does, run_codes, run_no_job, run_undisturbed, usage_said, is_status}
 use Rattle.beet_app.proofs.run.Goals as goal
 
 pub returns-clause-known : goal.returns-clause-known
@@ -19,6 +19,9 @@ returns-clause-worlds g c = λ seven. (run_codes _ _ _ _ _ _ _ _ _ c.do_job-job.
 
 pub returns-clause-no_job : goal.returns-clause-no_job
 returns-clause-no_job g c = λ none. rw c.code.ensures (run_no_job _ _ _ _ _ _ _ _ _ c.do_job-job.ensures.cause c.give_answer.ensures.ends none)
+
+pub returns-clause-undisturbed : goal.returns-clause-undisturbed
+returns-clause-undisturbed g c = rw c.code.ensures (run_undisturbed _ _ _ _ _ _ c.give_answer.ensures.ends)
 
 pub returns-clause-runs : goal.returns-clause-runs
 returns-clause-runs g c =

@@ -1,5 +1,10 @@
-use Rattle.beet_errand.proofs.Steps.{failed_stops, long_stops, memory_stops}
+use Rattle.std.proofs.Common.{arith}
+use Rattle.beet_errand.proofs.Steps.{fetched_gives, failed_stops, long_stops, memory_stops}
 use Rattle.beet_errand.proofs.fetching.fetch_file.Goals as goal
+
+pub returns-in-Ok-clause-gives : goal.returns-in-Ok-clause-gives
+returns-in-Ok-clause-gives g c = fetched_gives _ _ _ _ c.in-Ok.bytes
+    (rw c.in-Ok.is at c.fetch.ensures.content) (let within = (rw c.in-Ok.is at c.fetch.ensures.cause).limited in omega (arith, within))
 
 pub returns-in-Err-Failed-clause-gives : goal.returns-in-Err-Failed-clause-gives
 returns-in-Err-Failed-clause-gives g c =
