@@ -55,7 +55,17 @@ does_more (Some (Clear auction servers book)) old now f h = f _ _ h
 does_more (Some (Rehearse auction servers book schedule)) old now f h = f _ _ h
 does_more (Some (Record auction servers book out)) old now f h = f _ _ h
 does_more (Some (Worlds auction servers first second s out)) old now f (inl h) =
-    inl (record { both = h.both; went = h.went; words = h.words; agree = h.agree; mapped = h.mapped; equal = h.equal; holds = f _ _ h.holds })
+    inl (record {
+      both = h.both;
+      went = h.went;
+      words = h.words;
+      agree = h.agree;
+      mapped = h.mapped;
+      equal = h.equal;
+      only = h.only;
+      back = h.back;
+      holds = f _ _ h.holds;
+    })
 does_more (Some (Worlds auction servers first second s out)) old now f (inr h) = inr (λ words. f _ _ (h words))
 does_more (Some (Seal auction bid source out)) old now f h = f _ _ h
 does_more (Some (Open auction servers list)) old now f h = f _ _ h

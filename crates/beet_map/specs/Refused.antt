@@ -14,7 +14,7 @@ abbrev pub opened_in : (ℕ → List ℕ → Batch) → ℕ → World → List �
 opened_in next most w = (clear_values next most (values_of w.inputs) w.masks).opened
 
 -- the lists differ at this place, where one may have no item, and at none before it
-pub record DifferFirst (xs ys : List ℕ) (n : ℕ) : Type 0 where
+pub record DifferFirst {A : Type 0} (xs ys : List A) (n : ℕ) : Type 0 where
   pub before : (k : ℕ) → k < n → slice_get xs k ≡ slice_get ys k
   pub here : slice_get xs n ≢ slice_get ys n
 

@@ -16,8 +16,11 @@ mod wires;
 mod words;
 
 pub use map::gate_map;
+pub use moving::moved;
+pub use numbers::number_at;
 pub use refusals::GateFault;
 pub use secrets::Secrets;
+pub use words::{numbers_in, word_of};
 
 #[cfg(test)]
 mod tests;

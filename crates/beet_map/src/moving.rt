@@ -7,7 +7,7 @@ ghost use Rattle.beet_server.specs.Runs.{draws_in, secret_of};
 ghost use Rattle.beet_map.specs.Mapped.{moved_of};
 ghost use Rattle.beet_map.specs.Steps.{MovesList};
 
-use crate::numbers::read;
+use crate::numbers::number_at;
 use beet_field::{Fe, Point};
 use beet_gates::Act;
 use beet_words::Word;
@@ -45,7 +45,7 @@ fn bit_of(word: u64, k: usize) -> Fe
 pub(crate) fn multiply(points: &[Fe], pair: (u32, u32)) -> Fe
     ensures { result ≡ product_of points.now pair }
 {
-    read(points, pair.0 as usize).mul(read(points, pair.1 as usize))
+    number_at(points, pair.0 as usize).mul(number_at(points, pair.1 as usize))
 }
 
 /// What the k-th number that a server draws for an act hides: a bit of the word that it deals, or the
@@ -63,7 +63,7 @@ pub(crate) fn secret(act: &Act, points: &[Fe], word: u64, k: usize) -> Fe
 
 /// The number that hides `second` from the server `me` as `number` hides `first`: the point at `me`
 /// stays.
-fn moved(me: Point, number: Fe, first: Fe, second: Fe) -> Fe
+pub fn moved(me: Point, number: Fe, first: Fe, second: Fe) -> Fe
     ensures { result ≡ moved_of me number first second }
 {
     number.add(first.sub(second).over(me))

@@ -49,7 +49,7 @@ impl Numbers {
 }
 
 /// The number at a place, or 0 past the end.
-pub(crate) fn read(numbers: &[Fe], place: usize) -> Fe
+pub fn number_at(numbers: &[Fe], place: usize) -> Fe
     ensures { result ≡ slice_index numbers.now place }
 {
     match numbers.get(place) {

@@ -8,7 +8,7 @@ ghost use Rattle.beet_map.specs.Steps.{dealing, lines_gained, HasEnough};
 ghost use Rattle.beet_map.specs.Worlds.{shares_of};
 
 use crate::moving::{draws, word_at};
-use crate::numbers::{Numbers, read};
+use crate::numbers::{Numbers, number_at};
 use crate::wires::{append_hidden, append_lets, append_points, append_products};
 use beet_field::{Fe, Point, Trio};
 use beet_gates::{Act, Batch};
@@ -66,9 +66,9 @@ fn append_opened(opened: &mut Vec<Fe>, wires: &Numbers, shown: &[u32]) -> Result
     for wire in shown {
         let place = *wire as usize;
         opened.push(recombine(Trio {
-            one: read(wires.one.as_slice(), place),
-            two: read(wires.two.as_slice(), place),
-            three: read(wires.three.as_slice(), place),
+            one: number_at(wires.one.as_slice(), place),
+            two: number_at(wires.two.as_slice(), place),
+            three: number_at(wires.three.as_slice(), place),
         }))?;
     }
     Ok(())

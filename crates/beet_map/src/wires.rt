@@ -9,7 +9,7 @@ ghost use Rattle.beet_map.specs.Steps.{hidden_line, product_line};
 ghost use Rattle.beet_map.specs.Worlds.{shares_of};
 
 use crate::moving::{draws, multiply, secret};
-use crate::numbers::{Numbers, read};
+use crate::numbers::{Numbers, number_at};
 use beet_field::{Fe, Point, Trio};
 use beet_gates::{Act, Linear};
 use beet_shamir::{Line, reshare};
@@ -22,7 +22,7 @@ fn weigh(wires: &[Fe], terms: &[(Fe, u32)]) -> Fe
 {
     let mut sum = Fe::default();
     for (factor, wire) in terms {
-        sum = sum.add(factor.mul(read(wires, *wire as usize)));
+        sum = sum.add(factor.mul(number_at(wires, *wire as usize)));
     }
     sum
 }
@@ -76,7 +76,7 @@ pub(crate) fn append_hidden(
     for k in 0..draws(act) {
         lines.push(Line {
             value: secret(act, points, word, k),
-            slope: read(numbers, drawn + k),
+            slope: number_at(numbers, drawn + k),
         })?;
     }
     Ok(())
@@ -99,9 +99,9 @@ fn product(pairs: &[(u32, u32)], wires: &Numbers, numbers: &Numbers, drawn: usiz
             three: multiply(wires.three.as_slice(), pair),
         }),
         slope: reshare(Trio {
-            one: read(first, place),
-            two: read(numbers.two.as_slice(), place),
-            three: read(numbers.three.as_slice(), place),
+            one: number_at(first, place),
+            two: number_at(numbers.two.as_slice(), place),
+            three: number_at(numbers.three.as_slice(), place),
         }),
     }
 }

@@ -26,7 +26,7 @@ fn keep(numbers: &mut Vec<Fe>, word: Word) -> Result<(), AllocError>
 }
 
 /// The numbers that are drawn from words, in order.
-fn numbers_in(alloc: Global, words: &[Word]) -> Result<Vec<Fe>, AllocError>
+pub fn numbers_in(alloc: Global, words: &[Word]) -> Result<Vec<Fe>, AllocError>
     ensures numbers { IfOk result (λ numbers. numbers.items ≡ accepted words.now) }
     ensures below { OnOk result ((k : ℕ) → IsWord (slice_index words.now k)) }
 {
@@ -50,7 +50,7 @@ pub(crate) fn all_numbers(alloc: Global, words: &Trio<WordList>) -> Result<Numbe
 }
 
 /// The word of a number, which is not all ones.
-fn word_of(number: Fe) -> Word
+pub fn word_of(number: Fe) -> Word
     ensures value { result ≡ number }
     ensures below { IsElement result }
 {

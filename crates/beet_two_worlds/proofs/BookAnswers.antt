@@ -14,7 +14,7 @@ use Rattle.beet_run.specs.Outcomes.{status_of}
 use Rattle.beet_worlds.specs.Agreement.{Agree}
 use Rattle.beet_worlds.specs.Disagreement.{Refuses as RefusesBooks}
 use Rattle.beet_worlds.specs.MapRefusals.{RefusesMap}
-use Rattle.beet_worlds.specs.MappedWords.{Mapped}
+use Rattle.beet_worlds.specs.MappedWords.{IsOnlyFirst, IsOnlySecond, Mapped}
 use Rattle.beet_worlds.specs.declared.agreeing.Disagreement.{Disagreement}
 use Rattle.beet_worlds.specs.declared.agreeing.Disagreement.TheVariants.{Shape, OwnBids, Outcomes}
 use Rattle.beet_worlds.specs.declared.mapping.MapFault.{MapFault}
@@ -44,18 +44,21 @@ module _ (s : Point) (out : List ℕ) (first : Book) (words : Words) (second : B
   agreed-done mapped (Err stop) e = tt
 
   pub agreed-answers : (mapped : Words) → Agree s first second → Mapped s first words second mapped →
-      transcript_in second mapped s ≡ transcript_in first words s → (result : Result Answer Stop) →
+      transcript_in second mapped s ≡ transcript_in first words s → IsOnlySecond s first words second mapped →
+      IsOnlyFirst s first words second mapped → (result : Result Answer Stop) →
       IfErr result (λ stop. stop ≡ OutOfMemory) → IfOk result (λ answer. answer ≡ agreed_answer s out first words second mapped) →
       AnswersBooks s out first words second result
-  agreed-answers mapped a m t (Ok answer) h e = record {
+  agreed-answers mapped a m t only back (Ok answer) h e = record {
     second_words = mapped;
     agree = a;
     mapped = m;
     equal = t;
+    only = only;
+    back = back;
     answers_so = ap (λ d. answer_unless d s out first words second mapped) (no-difference s first second a) ∙ ap Ends (sym e);
   }
-  agreed-answers mapped a m t (Err OutOfMemory) h e = tt
-  agreed-answers mapped a m t (Err (Refused status text)) h e = absurd (cc h)
+  agreed-answers mapped a m t only back (Err OutOfMemory) h e = tt
+  agreed-answers mapped a m t only back (Err (Refused status text)) h e = absurd (cc h)
 
   -- a refusal of books that do not
   refused : (difference : Disagreement) → RefusesBooks s first second difference → (stop : Stop) →

@@ -15,8 +15,9 @@ use Rattle.beet_bids.proofs.GridFacts.{find-range_none, find-range_some}
 use Rattle.beet_server.specs.Events.{same}
 use Rattle.beet_server.proofs.EventFacts.{same_is}
 use Rattle.beet_view.specs.BookViews.{names}
+use Rattle.beet_map.specs.Refused.{DifferFirst}
 use Rattle.beet_worlds.specs.Agreement.{Agree, SameKnown, marks_of}
-use Rattle.beet_worlds.specs.Disagreement.{DifferAt, KnownDiffersAt, Refuses}
+use Rattle.beet_worlds.specs.Disagreement.{KnownDiffersAt, Refuses}
 use Rattle.beet_worlds.specs.declared.agreeing.Disagreement.{Disagreement}
 use Rattle.beet_worlds.specs.declared.agreeing.Disagreement.TheVariants.{Shape, OwnBids, Outcomes}
 use Rattle.beet_two_worlds.specs.Differences.{same_mark, same_shape, same_curve, other_own, same_outcome, shape_between, own_between, outcomes_between, difference_between, or_then}
@@ -109,7 +110,7 @@ shape-none first second e =
     (find-range_none (shape_differs first second) 0 (max (length first.bidders) (length second.bidders))
     (λ k low high. shape-alike first second k (ap (λ l. slice_get l k) (sym e))))
 
-shape-some : (first second : Book) (n : ℕ) → DifferAt (marks_of first) (marks_of second) n → shape_between first second ≡ Some (Shape (n + 1))
+shape-some : (first second : Book) (n : ℕ) → DifferFirst (marks_of first) (marks_of second) n → shape_between first second ≡ Some (Shape (n + 1))
 shape-some first second n d =
     let lt : n < max (length first.bidders) (length second.bidders) = one-has first second n d.here in
     ap (option_map (λ n. Shape (n + 1)))

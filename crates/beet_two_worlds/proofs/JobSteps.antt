@@ -16,7 +16,7 @@ use Rattle.beet_load.specs.Wholes.{curves_errand, limited_errand}
 use Rattle.beet_load.specs.WholeViews.{loaded_of}
 use Rattle.beet_load.specs.declared.whole.Whole.{Whole}
 use Rattle.beet_worlds.specs.Agreement.{Agree}
-use Rattle.beet_worlds.specs.MappedWords.{Mapped}
+use Rattle.beet_worlds.specs.MappedWords.{IsOnlyFirst, IsOnlySecond, Mapped}
 use Rattle.beet_two_worlds.specs.Reading.{Both, both_errand, first_book, second_book, words_read}
 use Rattle.beet_two_worlds.specs.Answering.{WithMapped, transcript_in, worlds_answer, worlds_errand}
 use Rattle.beet_two_worlds.specs.Ending.{AnswersBooks}
@@ -139,6 +139,8 @@ module _ (old now : Option Told) (auction servers book1 book2 : List ℕ) (s : P
       agree = as_read (λ (b : Book) (w : Words) (b' : Book). Agree s b b') h.agree;
       mapped = as_read (λ (b : Book) (w : Words) (b' : Book). Mapped s b w b' h.second_words) h.mapped;
       equal = as_read (λ (b : Book) (w : Words) (b' : Book). transcript_in b' h.second_words s ≡ transcript_in b w s) h.equal;
+      only = as_read (λ (b : Book) (w : Words) (b' : Book). IsOnlySecond s b w b' h.second_words) h.only;
+      back = as_read (λ (b : Book) (w : Words) (b' : Book). IsOnlyFirst s b w b' h.second_words) h.back;
       holds = stays h.second_words (Ends answer) h.answers_so;
     })
     books-answered (Err (Refused status text)) h = inr (λ words. comes words (answers status text.items) (h words))

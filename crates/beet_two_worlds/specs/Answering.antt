@@ -8,7 +8,7 @@ use Rattle.beet_auction.specs.Endings.{book_finish, book_rounds}
 use Rattle.beet_auction.specs.Openings.{farmers_of}
 use Rattle.beet_view.specs.BookViews.{transcript_of_book}
 use Rattle.beet_worlds.specs.Agreement.{Agree}
-use Rattle.beet_worlds.specs.MappedWords.{Mapped}
+use Rattle.beet_worlds.specs.MappedWords.{IsOnlyFirst, IsOnlySecond, Mapped}
 use Rattle.beet_worlds.specs.declared.agreeing.Disagreement.{Disagreement}
 use Rattle.beet_errand.specs.Errands.{Answer, Errand, Ends, answers}
 use Rattle.beet_errand.specs.Fetches.{Went}
@@ -62,8 +62,9 @@ worlds_errand auction servers book1 book2 s out mapped =
     both_errand auction servers book1 book2
     (λ both. worlds_answer s out (first_book both) (words_read both) (second_book both) mapped)
 
--- the books that were read agree, the words are mapped from those that were read, and with them both transcripts are equal; a fact holds
--- of what the shelf tells then, and of the answer for the books with these words
+-- the books that were read agree, the words are mapped from those that were read, and with them both transcripts are equal; no other
+-- words are mapped from those that were read, and these are mapped from no others. A fact holds of what the shelf tells then, and of the
+-- answer for the books with these words
 pub record MapsRead (old now : Option Told) (auction servers book1 book2 : List ℕ) (s : Point) (out : List ℕ)
     (P : Option Told → Errand → Type 0) : Type 0 where
   pub both : Both
@@ -72,6 +73,8 @@ pub record MapsRead (old now : Option Told) (auction servers book1 book2 : List 
   pub agree : Agree s (first_book both) (second_book both)
   pub mapped : Mapped s (first_book both) (words_read both) (second_book both) words
   pub equal : transcript_in (second_book both) words s ≡ transcript_in (first_book both) (words_read both) s
+  pub only : IsOnlySecond s (first_book both) (words_read both) (second_book both) words
+  pub back : IsOnlyFirst s (first_book both) (words_read both) (second_book both) words
   pub holds : P now (worlds_answer s out (first_book both) (words_read both) (second_book both) words)
 
 -- a fact holds of the answer with the words that are mapped from those that were read; or no words were wanted, and it holds of the

@@ -6,7 +6,7 @@ use Rattle.beet_store.specs.Files.{File}
 use Rattle.beet_words.specs.Bundles.{Words}
 use Rattle.beet_bids.specs.Books.{Book}
 use Rattle.beet_worlds.specs.Agreement.{Agree}
-use Rattle.beet_worlds.specs.MappedWords.{Mapped}
+use Rattle.beet_worlds.specs.MappedWords.{IsOnlyFirst, IsOnlySecond, Mapped}
 use Rattle.beet_worlds.specs.declared.agreeing.Disagreement.TheVariants.{Shape, OwnBids, Outcomes}
 use Rattle.beet_worlds.specs.declared.mapping.MapFault.{MapFault}
 use Rattle.beet_worlds.specs.declared.mapping.MapFault.TheVariants.{ShapeDiffers, OwnBidsDiffer, OutcomesDiffer, OutOfMemory as MemoryOut}
@@ -46,12 +46,15 @@ TellsRefusal (OwnBidsDiffer bidder) stop = Refuses WorldsRefused (refused_text (
 TellsRefusal (OutcomesDiffer one other) stop = Refuses WorldsRefused (refused_text (Outcomes one other)) stop
 TellsRefusal MemoryOut stop = stop ≡ OutOfMemory
 
--- books that agree are answered with words of the second world that are mapped, and with which the transcripts are equal
+-- books that agree are answered with words of the second world that are mapped, and with which the transcripts are equal; they are the
+-- only words that are mapped from those of the first world, and those are the only ones from which they are mapped
 pub record Answered (s : Point) (out : List ℕ) (first : Book) (words : Words) (second : Book) (answer : Answer) : Type 0 where
   pub second_words : Words
   pub agree : Agree s first second
   pub mapped : Mapped s first words second second_words
   pub equal : transcript_in second second_words s ≡ transcript_in first words s
+  pub only : IsOnlySecond s first words second second_words
+  pub back : IsOnlyFirst s first words second second_words
   pub answers_so : worlds_answer s out first words second second_words ≡ Ends answer
 
 -- the answer for two books that agree; or their refusal, which no words change

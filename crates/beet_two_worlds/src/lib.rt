@@ -2,10 +2,12 @@
 #![tactic(auto)]
 
 mod answering;
+mod laws;
 mod refusing;
 mod seeing;
 #[cfg(test)]
 mod tests;
 mod two_worlds;
 
+pub use laws::differences_are_told;
 pub use two_worlds::worlds;

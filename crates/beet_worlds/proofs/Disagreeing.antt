@@ -6,8 +6,13 @@ use Rattle.std.proofs.lemmas.Option.{slice_get_past, slice_get_within, slice_get
 use Rattle.beet_field.specs.declared.point.Point.{Point}
 use Rattle.beet_bids.specs.Curves.{Curve}
 use Rattle.beet_bids.specs.declared.book.Bidder.{Bidder}
-use Rattle.beet_worlds.specs.Disagreement.{SameBefore, DifferAt, SameKnownBefore}
+use Rattle.beet_map.specs.Refused.{DifferFirst}
+use Rattle.beet_worlds.specs.Disagreement.{SameKnownBefore}
 use Rattle.beet_worlds.proofs.MasksBack.{get-map, some-same}
+
+-- two lists have the same items before this place
+abbrev pub SameBefore : {A : Type 0} → List A → List A → ℕ → Type 0
+SameBefore xs ys n = (k : ℕ) → k < n → slice_get xs k ≡ slice_get ys k
 
 abbrev pub marks : List Bidder → List (Option Point)
 marks bidders = map (λ (b : Bidder). b.known) bidders
@@ -29,7 +34,7 @@ module _ {A : Type 0} where
 
   -- where one list ends first
   pub ends-first : (xs ys : List A) (n : ℕ) → length xs ≢ length ys → n ≤ length xs → n ≤ length ys → (length xs ≤ n → length ys ≤ n → length xs ≡ length ys) →
-      (n < length xs → length ys ≤ n) → (n < length ys → length xs ≤ n) → SameBefore xs ys n → DifferAt xs ys n
+      (n < length xs → length ys ≤ n) → (n < length ys → length xs ≤ n) → SameBefore xs ys n → DifferFirst xs ys n
   ends-first xs ys n ne a b both c d same = record {
     before = same;
     here = elim (cases_lt n (length xs)) [
@@ -53,7 +58,7 @@ module _ (bidders others : List Bidder) where
   ]
 
   pub marks-differ : (i : ℕ) (one other : Bidder) → slice_get bidders i ≡ Some one → slice_get others i ≡ Some other → one.known ≢ other.known →
-      SameBefore (marks bidders) (marks others) i → DifferAt (marks bidders) (marks others) i
+      SameBefore (marks bidders) (marks others) i → DifferFirst (marks bidders) (marks others) i
   marks-differ i one other a b ne same = record {
     before = same;
     here = λ e.
@@ -68,7 +73,7 @@ module _ (bidders others : List Bidder) where
       all-same (marks bidders) (marks others) (m ∙ e ∙ sym l) (λ k lt. same k (omega (arith, l)))
 
   pub marks-end : (n : ℕ) → length bidders ≢ length others → n ≤ length bidders → n ≤ length others → (n < length bidders → length others ≤ n) → (n < length others → length bidders ≤ n) →
-      SameBefore (marks bidders) (marks others) n → DifferAt (marks bidders) (marks others) n
+      SameBefore (marks bidders) (marks others) n → DifferFirst (marks bidders) (marks others) n
   marks-end n ne a b c d same =
       let l = length-map bidders (λ (b : Bidder). b.known) in
       let m = length-map others (λ (b : Bidder). b.known) in

@@ -4,18 +4,10 @@ use Rattle.beet_field.specs.declared.point.Point.{Point}
 use Rattle.beet_bids.specs.Books.{Book}
 use Rattle.beet_bids.specs.Outcomes.{outcome_of}
 use Rattle.beet_bids.specs.declared.book.Bidder.{Bidder}
+use Rattle.beet_map.specs.Refused.{DifferFirst}
 use Rattle.beet_worlds.specs.Agreement.{SameKnown, marks_of}
 use Rattle.beet_worlds.specs.declared.agreeing.Disagreement.{Disagreement}
 use Rattle.beet_worlds.specs.declared.agreeing.Disagreement.TheVariants.{Shape, OwnBids, Outcomes}
-
--- two lists have the same items before this place
-abbrev pub SameBefore : {A : Type 0} → List A → List A → ℕ → Type 0
-SameBefore xs ys n = (k : ℕ) → k < n → slice_get xs k ≡ slice_get ys k
-
--- two lists differ at this place, where one may have no item, and at none before it
-pub record DifferAt {A : Type 0} (xs ys : List A) (n : ℕ) : Type 0 where
-  pub before : SameBefore xs ys n
-  pub here : slice_get xs n ≢ slice_get ys n
 
 -- the bidders before this place that are known to the server have the same curves
 abbrev pub SameKnownBefore : Point → List Bidder → List Bidder → ℕ → Type 0
@@ -35,7 +27,7 @@ pub record KnownDiffersAt (s : Point) (bidders others : List Bidder) (n : ℕ) :
 
 -- that a refusal says of two books over one grid: bidders are counted from 1
 abbrev pub Refuses : Point → Book → Book → Disagreement → Type 0
-Refuses s first second (Shape bidder) = (n : ℕ) × (bidder ≡ n + 1) × DifferAt (marks_of first) (marks_of second) n
+Refuses s first second (Shape bidder) = (n : ℕ) × (bidder ≡ n + 1) × DifferFirst (marks_of first) (marks_of second) n
 Refuses s first second (OwnBids bidder) =
     (marks_of second ≡ marks_of first) × ((n : ℕ) × (bidder ≡ n + 1) × KnownDiffersAt s first.bidders second.bidders n)
 Refuses s first second (Outcomes one other) =

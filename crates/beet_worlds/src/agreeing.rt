@@ -2,8 +2,9 @@
 
 ghost use Rattle.std.specs.Prelude.{◌≡◌, ◌≢◌, ◌<◌, ◌≤◌, ◌↔◌, Some, map, slice_index, IsTrue, IsFalse, IsOk, MatchOption, IfErr, IfSome};
 ghost use Rattle.beet_bids.specs.Curves.{IsOfGrid};
+ghost use Rattle.beet_map.specs.Refused.{DifferFirst};
 ghost use Rattle.beet_worlds.specs.Agreement.{Agree, SameKnown, marks_of};
-ghost use Rattle.beet_worlds.specs.Disagreement.{DifferAt, KnownDiffersAt, Refuses};
+ghost use Rattle.beet_worlds.specs.Disagreement.{KnownDiffersAt, Refuses};
 
 use beet_bids::{Bidder, Book, Curve, Grid, Outcome, outcome};
 use beet_field::Point;
@@ -22,7 +23,7 @@ pub enum Disagreement {
 /// The first place at which the marks of two books differ, or at which one book has no bidder.
 fn other_mark(first: &Book, second: &Book) -> Option<u32>
     ensures place { MatchOption result (marks_of second.now ≡ marks_of first.now)
-        (λ n. DifferAt (marks_of first.now) (marks_of second.now) n) }
+        (λ n. DifferFirst (marks_of first.now) (marks_of second.now) n) }
     ensures below { IfSome result (λ n. n ≤ 2000) }
 {
     let bidders = first.bidders();

@@ -5,12 +5,12 @@ ghost use Rattle.beet_field.specs.Field.{IsElement};
 ghost use Rattle.beet_words.specs.Words.{accepted, ones};
 ghost use Rattle.beet_bids.specs.Curves.{IsCurve, IsOfGrid, quantity};
 ghost use Rattle.beet_worlds.specs.Agreement.{marks_of};
-ghost use Rattle.beet_map.specs.Mapped.{moved_of};
 ghost use Rattle.beet_worlds.specs.MappedBidders.{BiddersMapped, FarmerMapped, SlopesMoved, slope_mapped};
 ghost use Rattle.beet_auction.specs.Openings.{farmers_of};
 
 use beet_bids::{Bidder, Book, Curve, Grid};
 use beet_field::{Fe, Point};
+use beet_map::{moved, word_of};
 use beet_words::{Word, WordList};
 use std::alloc::{AllocError, Global};
 
@@ -27,23 +27,6 @@ fn quantity_of(grid: &Grid, curve: &Curve, n: u32) -> Fe
         curve.sell(n - prices)
     };
     Fe::reduce(amount as u128)
-}
-
-/// The number that hides `second` from a server where `number` hid `first`.
-fn moved(me: Point, number: Fe, first: Fe, second: Fe) -> Fe
-    ensures { result ≡ moved_of me number first second }
-{
-    number.add(first.sub(second).over(me))
-}
-
-/// The word of a number, which is not all ones.
-fn word_of(number: Fe) -> Word
-    ensures value { result ≡ number }
-{
-    match Word::of(number.value()) {
-        Some(word) => word,
-        None => unreachable!(),
-    }
 }
 
 /// A word in the second world, after so many accepted ones.

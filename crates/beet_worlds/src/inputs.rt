@@ -1,10 +1,9 @@
 //! The lines on which the inputs of a book's auction lie.
 
-ghost use Rattle.std.specs.Prelude.{◌≡◌, ◌≢◌, ◌<◌, ◌≤◌, ◌+◌, ◌*◌, ◌%◌, ◌++◌, ◌∷◌, [], ℕ, length, map, slice_index, sum_by, IfOk, OnOk};
+ghost use Rattle.std.specs.Prelude.{◌≡◌, ◌≢◌, ◌<◌, ◌≤◌, ◌+◌, ◌*◌, ◌%◌, ◌++◌, ℕ, length, map, slice_index, sum_by, IfOk};
 ghost use Rattle.std.specs.List.{range_with_len};
 ghost use Rattle.beet_field.specs.Field.{p, add_of};
 ghost use Rattle.beet_shamir.specs.declared.Line.{Line as Seen};
-ghost use Rattle.beet_words.specs.Words.{accepted};
 ghost use Rattle.beet_gates.specs.Each.{each};
 ghost use Rattle.beet_bids.specs.Sums.{supply_at, demand_at};
 ghost use Rattle.beet_worlds.specs.InputLines.{AreInputLines, summed_slope};
@@ -12,40 +11,10 @@ ghost use Rattle.beet_worlds.specs.InputLines.{AreInputLines, summed_slope};
 use crate::differences::{demand, supply};
 use beet_bids::Book;
 use beet_field::Fe;
+use beet_map::{number_at, numbers_in};
 use beet_shamir::Line;
-use beet_words::{Word, WordList};
+use beet_words::WordList;
 use std::alloc::{AllocError, Global};
-
-/// Appends the number of a word, if it has one.
-fn keep(numbers: &mut Vec<Fe>, word: Word) -> Result<(), AllocError>
-    ensures { OnOk result (numbers.new.items ≡ numbers.old.items ++ accepted (word ∷ [])) }
-{
-    if let Some(number) = word.field() {
-        numbers.push(number)?;
-    }
-    Ok(())
-}
-
-/// The numbers that are drawn from words, in order.
-fn numbers_in(alloc: Global, words: &[Word]) -> Result<Vec<Fe>, AllocError>
-    ensures { IfOk result (λ numbers. numbers.items ≡ accepted words.now) }
-{
-    let mut numbers = Vec::with_capacity(alloc, words.len())?;
-    for word in words {
-        keep(&mut numbers, *word)?;
-    }
-    Ok(numbers)
-}
-
-/// The number at a place, or 0 past the end.
-fn number_at(numbers: &[Fe], place: usize) -> Fe
-    ensures { result ≡ slice_index numbers.now place }
-{
-    match numbers.get(place) {
-        Some(number) => *number,
-        None => Fe::default(),
-    }
-}
 
 /// Adds the numbers to the sums, place by place.
 fn add_numbers(sums: &mut [Fe], numbers: &[Fe])

@@ -35,8 +35,9 @@ pub fn turned_masks()
         add_of z (turned r (sub_of y z)) ≡ add_of y r }
 {}
 
-/// Of mapped mask words those of the server itself are the same. The exclusive ors are the turned masks where they are compared, and words again. The same masks are all
-/// ones, so that the same are rejected and accepted, and the runs are spent alike and deal as many.
+/// Of mapped mask words those of the server itself are the same. The exclusive ors are the turned masks where they are compared, and
+/// words again. The same masks are all ones, so that the same are rejected and accepted, and the runs are spent alike and deal as
+/// many.
 pub fn mapped_masks_count_alike()
     ensures own { (s : Point) (first second : Book) (words words' : Trio (List ℕ)) →
         MasksMapped s first second words words' → member words' s ≡ member words s }

@@ -179,16 +179,17 @@ fn differences_of_books(rt: HostRuntime) -> Result<(), Fail> {
     Ok(())
 }
 
-/// Whether these words of a bidder become those, for server `me`, where it buys and sells one more in the second world.
-fn bidder_becomes(
+/// Whether these words of a bidder become those, for server `me`, where the bidder has another mark and curve in the second world.
+fn curve_becomes(
     alloc: Global,
     me: Point,
-    known: Option<Point>,
+    first: (Option<Point>, u64, u64),
+    second: (Option<Point>, u64, u64),
     before: &[u64],
     after: &[u64],
 ) -> Result<bool, Fail> {
-    let first = book(alloc, known, 40, 35)?;
-    let second = book(alloc, known, 41, 36)?;
+    let first = book(alloc, first.0, first.1, first.2)?;
+    let second = book(alloc, second.0, second.1, second.2)?;
     if first.grid() != second.grid() || first.grid().prices() != 1 {
         return Err(Fail::new("two grids"));
     }
@@ -202,6 +203,33 @@ fn bidder_becomes(
     }
     let mapped = map_bidders(alloc, me, &first, &second, lists.as_slice())?;
     Ok(mapped.len() == 1 && holds(&mapped[0], after))
+}
+
+/// The same, where the bidder buys and sells one more in the second world.
+fn bidder_becomes(
+    alloc: Global,
+    me: Point,
+    known: Option<Point>,
+    before: &[u64],
+    after: &[u64],
+) -> Result<bool, Fail> {
+    curve_becomes(alloc, me, (known, 40, 35), (known, 41, 36), before, after)
+}
+
+/// The slope 1 of 45 becomes 1 + 45/2 for server 2, with which 0 has the same point, 47.
+#[test]
+fn slope_of_another_quantity(rt: HostRuntime) -> Result<(), Fail> {
+    assert!(rt;
+        curve_becomes(
+            rt.alloc(),
+            Point::Two,
+            (None, 60, 45),
+            (None, 60, 0),
+            &[1, 9],
+            &[1_152_921_504_606_846_999, 9]
+        )?
+    );
+    Ok(())
 }
 
 #[test]

@@ -37,6 +37,7 @@ returns-in-Ok-clause-answers c =
     (can-run c.args.me c.args.whole.now.book c.args.second.now c.args.whole.now.words c.in-Ok.mapped c.requires.runs c.requires.grids
     c.in-Ok.ensures.mapped c.in-Ok.ensures.enough)
     c.in-Ok.ensures.bytes)
+    c.in-Ok.ensures.only c.in-Ok.ensures.back
     c.agreed_reply.result c.agreed_reply.ensures.memory c.agreed_reply.ensures.answer
 
 pub returns-in-Err-clause-answers : goal.returns-in-Err-clause-answers
