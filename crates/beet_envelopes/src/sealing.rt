@@ -9,7 +9,7 @@ ghost use Rattle.beet_farmer.specs.Envelopes.{envelope_bytes};
 ghost use Rattle.beet_farmer.specs.Sealing.{points_in};
 ghost use Rattle.beet_load.specs.Farmers.{words_wanted, words_errand};
 ghost use Rattle.beet_errand.specs.Errands.{reads};
-ghost use Rattle.beet_errand.specs.Fetches.{Causes, Finishes, Gives, IsDone};
+ghost use Rattle.beet_errand.specs.Fetches.{Causes, Finishes, Gives};
 ghost use Rattle.beet_envelopes.specs.Seal.{name_for, own_words_errand, seal_errand, sealed_text};
 ghost use Rattle.beet_envelopes.specs.SourceWords.{named_source};
 
@@ -152,7 +152,7 @@ pub fn seal_bid<S: Shelf>(
 ) -> Result<Reply, Stop>
     ensures later { S.faults shelf.old ≤ S.faults shelf.new }
     ensures cause { IfErr result (λ stop. Causes (S.faults shelf.old) (S.faults shelf.new) stop) }
-    ensures done { IfOk result (λ reply. IsDone reply.status) }
+    ensures done { IfOk result (λ reply. reply.status ≡ Status.Done) }
     ensures finishes { Finishes (S.told shelf.old) (S.told shelf.new)
         (seal_errand auction.now bid.now (named_source source.entry) out.now) result }
 {
