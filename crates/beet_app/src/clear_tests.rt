@@ -1,6 +1,6 @@
 use super::tests::{held, words_of};
 use super::*;
-use beet_store::{MemoryDesk, MemoryShelf};
+use beet_store::{Held, MemoryDesk, MemoryShelf};
 use std::alloc::AllocError;
 use std::process::Abort;
 use std::test::Fail;
@@ -43,6 +43,11 @@ pub(crate) fn shelf(
     first: &[(&str, &str)],
     failing: Vec<u64>,
 ) -> Result<MemoryShelf, AllocError> {
+    Ok(MemoryShelf::new(files(alloc, first)?, failing))
+}
+
+/// These files, after those that are given.
+pub(crate) fn files(alloc: Global, first: &[(&str, &str)]) -> Result<Vec<Held>, AllocError> {
     let mut files = Vec::new(alloc);
     for (name, text) in first {
         files.push(held(alloc, name, text)?)?;
@@ -50,7 +55,7 @@ pub(crate) fn shelf(
     for (name, text) in FILES {
         files.push(held(alloc, name, text)?)?;
     }
-    Ok(MemoryShelf::new(files, failing))
+    Ok(files)
 }
 
 /// Runs the words over the files, and compares the status and the text.

@@ -83,9 +83,10 @@ fn give_answer<K: Desk>(alloc: Global, desk: &mut K, job: Result<Reply, Stop>) -
 ///
 /// Answers the exit status: 0 where the job is done; 1 for want of memory, and then nothing is said; 2 where the words
 /// name no job; 3 where a file cannot be fetched; 4 where a file or the text is not taken; 5 for a file that is too long,
-/// breaks its format or breaks a limit of the job; 6 where a run, or in `rehearse` a server, has ended with the third rejected
-/// mask, which is said with the job's text; 7 where two books do not agree for a server; 9 for a bidder or a server whose tape holds too few words. At 2, 3, 5,
-/// 7 and 9 the line that tells the cause is said, and no file is put. The text is said after all files were put.
+/// breaks its format or breaks a limit of the job; 6 where a run, or in `rehearse` a server, has ended with the third
+/// rejected mask, which is said with the job's text; 7 where two books do not agree for a server; 9 for a bidder or a
+/// server whose tape holds too few words. At 2, 3, 5, 7 and 9 the line that tells the cause is said, and no file is put.
+/// The text is said after all files were put.
 pub fn run<S: Shelf, K: Desk>(alloc: Global, words: &[String], shelf: &mut S, desk: &mut K) -> u8
     ensures known { IsStatus result }
 

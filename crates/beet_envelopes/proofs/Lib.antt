@@ -6,3 +6,4 @@ pub mod SealSteps
 pub mod GatherSteps
 pub mod OpenSteps
 pub mod SealedBooks
+pub mod SealedFiles

@@ -1,5 +1,5 @@
 -- Sealing the bid of a farmer, step by step.
-use Rattle.std.proofs.Common.{◌≡◌, ◌≤◌, ◌<◌, ℕ, List, [], ◌∷◌, length, drop, Option, None, ◌∙◌, ap}
+use Rattle.std.proofs.Common.{◌≡◌, ℕ, List, [], ◌∷◌, drop, Option, ◌∙◌, ap}
 use Rattle.beet_field.specs.declared.point.Point.{Point}
 use Rattle.beet_field.specs.declared.point.Point.TheVariants.{One, Two, Three}
 use Rattle.beet_field.specs.declared.trio.Trio.{Trio}
@@ -16,45 +16,10 @@ use Rattle.beet_farmer.specs.declared.envelope.Envelope.{Envelope}
 use Rattle.beet_farmer.specs.Envelopes.{envelope_bytes}
 use Rattle.beet_farmer.specs.Sealing.{AreAddressed, points_in}
 use Rattle.beet_errand.specs.Errands.{Errand, Ends, reads}
-use Rattle.beet_errand.specs.Fetches.{Went, Stops, Refuses}
-use Rattle.beet_errand.specs.declared.answer.Status.TheVariants.{Done, TooFewWords}
-use Rattle.beet_errand.specs.declared.answer.Stop.{Stop}
-use Rattle.beet_errand.specs.declared.answer.Stop.TheVariants.{Refused, OutOfMemory}
-use Rattle.beet_errand.proofs.Steps.{went_none, went_on, stops_after}
-use Rattle.beet_load.specs.Farmers.{words_wanted, words_kept, words_errand, enough_words}
-use Rattle.beet_load.specs.WordTexts.{too_few_text}
-use Rattle.beet_load.proofs.Farming.{lt_false, lt_true}
+use Rattle.beet_errand.specs.Fetches.{Went}
+use Rattle.beet_errand.specs.declared.answer.Status.TheVariants.{Done}
+use Rattle.beet_errand.proofs.Steps.{went_on}
 use Rattle.beet_envelopes.specs.Seal.{name_for, sealed_text, sealed_files, sealed_answer, own_words_errand, with_curve, with_grid, seal_errand}
-
-enough : (told : Option Told) (wanted : ℕ) (words : List ℕ) (next : Errand) → wanted ≤ length (accepted words) →
-    Went told told (enough_words 1 wanted words next) next
-enough told wanted words next h = rw (lt_false (length (accepted words)) wanted h) (went_none told next)
-
--- enough words are read
-pub words_give : (old now : Option Told) (grid : Grid) (source : BidderSource) (words : List ℕ) →
-    ((next : List ℕ → Errand) → Went old now (words_errand None source (words_kept grid) next) (next words)) →
-    words_wanted grid ≤ length (accepted words) →
-    (next : List ℕ → Errand) → Went old now (own_words_errand grid source next) (next words)
-words_give old now grid source words w h = λ next.
-    went_on old now now _ _ _ (w (λ read. enough_words 1 (words_wanted grid) read (next read)))
-    (enough now (words_wanted grid) words (next words) h)
-
-short_stops : (told : Option Told) (wanted : ℕ) (words : List ℕ) (stop : Stop) → length (accepted words) < wanted →
-    Refuses TooFewWords (too_few_text 1 (length (accepted words)) wanted) stop →
-    Stops {A = List ℕ} told told (λ next. enough_words 1 wanted words (next words)) stop
-short_stops told wanted words (Refused status line) h r = λ next.
-    rw (lt_true (length (accepted words)) wanted h, r.0, r.1) (went_none told _)
-short_stops told wanted words OutOfMemory h r = λ next. (enough_words 1 wanted words (next words), went_none told _)
-
--- too few words are read
-pub words_stop : (old now : Option Told) (grid : Grid) (source : BidderSource) (words : List ℕ) (stop : Stop) →
-    ((next : List ℕ → Errand) → Went old now (words_errand None source (words_kept grid) next) (next words)) →
-    length (accepted words) < words_wanted grid →
-    Refuses TooFewWords (too_few_text 1 (length (accepted words)) (words_wanted grid)) stop →
-    Stops old now (own_words_errand grid source) stop
-words_stop old now grid source words stop w h r =
-    stops_after old now now (words_errand None source (words_kept grid))
-    (λ read next. enough_words 1 (words_wanted grid) read (next read)) words stop w (short_stops now (words_wanted grid) words stop h r)
 
 -- the bid is read
 pub comes_to_words : (old middle now : Option Told) (auction bid out : List ℕ) (source : BidderSource) (grid : Grid) (curve : Curve) →

@@ -19,7 +19,7 @@ use Rattle.beet_book.specs.Dealing.{quantities, dealt_points, points_at}
 use Rattle.beet_book.specs.Totals.{supply_first}
 use Rattle.beet_book.proofs.Pairs.{length-pairwise, item-pairwise}
 use Rattle.beet_farmer.specs.Envelopes.{envelope_bytes, envelope_of}
-use Rattle.beet_farmer.proofs.EnvelopeAgain.{envelope_of-bytes}
+use Rattle.beet_farmer.proofs.EnvelopeAgain.{envelope_of-bytes, envelope-size}
 use Rattle.beet_auction.specs.Endings.{book_finish, book_rounds}
 use Rattle.beet_auction.specs.Openings.{Farmer, auction_over, book_inputs, book_of, point_for, summed_point}
 use Rattle.beet_auction.proofs.BookLines.{book-lines, slopes_of}
@@ -69,6 +69,14 @@ sealed-again grid curve words s limits of_grid enough =
     let same = member-dealt curve (accepted words) s in
     envelope_of-bytes grid (sealed_envelope curve words s) limits
     (rw same (long grid curve words s of_grid enough)) (rw same (points-elements grid curve words s of_grid enough))
+
+-- and its file is within the limit
+pub sealed-size : (grid : Grid) (curve : Curve) (words : List ℕ) (s : Point) → IsGrid grid → IsOfGrid grid curve → words_wanted grid ≤ length (accepted words) →
+    length (envelope_bytes grid (sealed_envelope curve words s)) ≤ 131072
+sealed-size grid curve words s limits of_grid enough =
+    let size = envelope-size grid (sealed_envelope curve words s)
+    (rw (member-dealt curve (accepted words) s) (long grid curve words s of_grid enough)) in
+    omega (arith, size, limits.prices_limit)
 
 -- a point that a farmer seals is the one that it deals
 sealed-point : (grid : Grid) (farmer : Farmer) (s : Point) (k : ℕ) → IsOfGrid grid farmer.bidder.curve → words_wanted grid ≤ length (accepted farmer.words) → k < 2 * grid.prices →

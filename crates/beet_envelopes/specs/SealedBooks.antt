@@ -1,11 +1,17 @@
 -- Books whose bids are sealed in envelopes.
-use Rattle.std.specs.Prelude.{ℕ, ◌≤◌, List, length, All}
+use Rattle.std.specs.Prelude.{◌≡◌, ℕ, ◌≤◌, List, [], ◌∷◌, length, All, Some, false, ⊤}
+use Rattle.beet_field.specs.declared.point.Point.{Point}
+use Rattle.beet_field.specs.declared.point.Point.TheVariants.{One, Two, Three}
 use Rattle.beet_field.specs.declared.trio.Trio.{Trio}
+use Rattle.beet_store.specs.Files.{File, Fetch, bytes_of}
 use Rattle.beet_words.specs.Words.{accepted}
 use Rattle.beet_bids.specs.Grids.{Grid}
 use Rattle.beet_book.specs.Dealing.{dealt_points}
+use Rattle.beet_farmer.specs.Envelopes.{envelope_bytes}
+use Rattle.beet_farmer.specs.declared.list_file.ListEntry.{ListEntry}
 use Rattle.beet_auction.specs.Openings.{Farmer}
 use Rattle.beet_load.specs.Farmers.{words_wanted}
+use Rattle.beet_envelopes.specs.Seal.{sealed_envelope}
 
 -- the points that a farmer seals
 abbrev pub sealed_points : Farmer → Trio (List ℕ)
@@ -14,3 +20,28 @@ sealed_points farmer = dealt_points farmer.bidder.curve (accepted farmer.words)
 -- each farmer has enough words for the grid
 abbrev pub HaveWords : Grid → List Farmer → Type 0
 HaveWords grid farmers = All (λ farmer. words_wanted grid ≤ length (accepted farmer.words)) farmers
+
+-- the bytes of the envelope that a farmer seals for a server
+abbrev pub sealed_bytes : Grid → Farmer → Point → List ℕ
+sealed_bytes grid farmer s = envelope_bytes grid (sealed_envelope farmer.bidder.curve farmer.words s)
+
+-- under the names of an entry the files hold the envelopes of a farmer
+pub record HoldsSealed (files : List File) (grid : Grid) (entry : ListEntry) (farmer : Farmer) : Type 0 where
+  pub one : bytes_of files entry.envelopes.one ≡ Some (sealed_bytes grid farmer One)
+  pub two : bytes_of files entry.envelopes.two ≡ Some (sealed_bytes grid farmer Two)
+  pub three : bytes_of files entry.envelopes.three ≡ Some (sealed_bytes grid farmer Three)
+
+-- so it is of each entry and the farmer in its place
+abbrev pub HoldEachSealed : List File → Grid → List ListEntry → List Farmer → Type 0
+HoldEachSealed files grid [] [] = ⊤
+HoldEachSealed files grid [] (farmer ∷ farmers) = ⊥
+HoldEachSealed files grid (entry ∷ entries) [] = ⊥
+HoldEachSealed files grid (entry ∷ entries) (farmer ∷ farmers) =
+    HoldsSealed files grid entry farmer × HoldEachSealed files grid entries farmers
+
+-- a fetch of each envelope of a list, of which none failed
+abbrev pub envelope_fetches : List ListEntry → List Fetch
+envelope_fetches [] = []
+envelope_fetches (entry ∷ entries) =
+    (entry.envelopes.one, false) ∷ (entry.envelopes.two, false) ∷ (entry.envelopes.three, false)
+    ∷ envelope_fetches entries

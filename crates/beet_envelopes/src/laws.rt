@@ -2,23 +2,27 @@
 //!
 //! There is no code here: the laws are contracts of functions that do nothing.
 
-ghost use Rattle.std.specs.Prelude.{◌≡◌, ◌≤◌, ℕ, List, length, map, Ok};
+ghost use Rattle.std.specs.Prelude.{◌≡◌, ◌≤◌, ℕ, List, [], length, map, Ok};
 ghost use Rattle.beet_field.specs.declared.point.Point.{Point};
 ghost use Rattle.beet_field.specs.declared.trio.Trio.{Trio};
+ghost use Rattle.beet_store.specs.Files.{File};
 ghost use Rattle.beet_words.specs.Words.{accepted};
 ghost use Rattle.beet_bids.specs.Books.{IsBook};
 ghost use Rattle.beet_bids.specs.Curves.{Curve, IsOfGrid};
 ghost use Rattle.beet_bids.specs.Grids.{Grid, IsGrid};
 ghost use Rattle.beet_farmer.specs.Envelopes.{envelope_bytes, envelope_of};
+ghost use Rattle.beet_farmer.specs.declared.list_file.ListEntry.{ListEntry};
+ghost use Rattle.beet_errand.specs.Errands.{Errand};
+ghost use Rattle.beet_errand.specs.Fetches.{Leads};
 ghost use Rattle.beet_auction.specs.Endings.{book_finish, book_rounds};
 ghost use Rattle.beet_auction.specs.Openings.{Farmer, book_inputs, book_of};
 ghost use Rattle.beet_load.specs.Farmers.{words_wanted};
 ghost use Rattle.beet_load.specs.Servers.{ServerWords, masks_of};
 ghost use Rattle.beet_run.specs.Outcomes.{outcome_answer};
-ghost use Rattle.beet_envelopes.specs.Gather.{inputs_at};
+ghost use Rattle.beet_envelopes.specs.Gather.{bidders_errand, inputs_at};
 ghost use Rattle.beet_envelopes.specs.Open.{opened_answer};
 ghost use Rattle.beet_envelopes.specs.Seal.{sealed_envelope};
-ghost use Rattle.beet_envelopes.specs.SealedBooks.{HaveWords, sealed_points};
+ghost use Rattle.beet_envelopes.specs.SealedBooks.{HaveWords, HoldEachSealed, envelope_fetches, sealed_points};
 
 /// Where each bidder's envelopes are those that `seal` makes of its curve and its words, the servers begin with the inputs
 /// of the book of these curves, and the answer of `open` is the outcome of that book.
@@ -28,6 +32,20 @@ pub fn sealed_books_open_their_outcome()
         IsGrid grid → IsOfGrid grid curve → words_wanted grid ≤ length (accepted words) →
         envelope_of grid s (envelope_bytes grid (sealed_envelope curve words s))
         ≡ Ok (sealed_envelope curve words s) }
+
+    // Its file is within the limit of an envelope file.
+    ensures size { (grid : Grid) (curve : Curve) (words : List ℕ) (s : Point) →
+        IsGrid grid → IsOfGrid grid curve → words_wanted grid ≤ length (accepted words) →
+        length (envelope_bytes grid (sealed_envelope curve words s)) ≤ 131072 }
+
+    // Where the files of each entry of a list hold the envelopes of a farmer, the errand of the bidders of the list goes on
+    // with the points that the farmers sealed.
+    ensures files { (files : List File) (grid : Grid) (entries : List ListEntry) (farmers : List Farmer)
+        (next : List (Trio (List ℕ)) → Errand) →
+        IsGrid grid → IsBook (book_of grid farmers) → HaveWords grid farmers →
+        HoldEachSealed files grid entries farmers →
+        Leads files (envelope_fetches entries) (bidders_errand grid [] entries next)
+        (next (map sealed_points farmers)) }
 
     ensures inputs { (grid : Grid) (farmers : List Farmer) →
         IsBook (book_of grid farmers) → HaveWords grid farmers →

@@ -29,7 +29,9 @@ fn read_entries<S: Shelf>(alloc: Global, shelf: &mut S, name: &str) -> Result<Ve
 }
 
 /// The outcome of the bids in the envelopes of a list, and the rounds in which three servers find it. The points in the
-/// envelopes need not lie on lines.
+/// envelopes need not lie on lines. Where they were sealed, `sealed_books_open_their_outcome` says that each file is within
+/// its limit and is read, that the bidders of the list have the points that were sealed, and that the outcome is that of
+/// their book.
 pub fn open_envelopes<S: Shelf>(
     alloc: Global,
     shelf: &mut S,

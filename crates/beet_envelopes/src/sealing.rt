@@ -2,52 +2,26 @@
 
 ghost use Rattle.std.specs.Prelude.{◌≡◌, ◌≤◌, ◌*◌, [], ◌∷◌, IfErr, IfOk, length, None};
 ghost use Rattle.beet_words.specs.Words.{accepted};
-ghost use Rattle.beet_bids.specs.BidFiles.{bid_of};
-ghost use Rattle.beet_bids.specs.Curves.{IsOfGrid};
 ghost use Rattle.beet_book.specs.Dealing.{HasLengths};
 ghost use Rattle.beet_farmer.specs.Envelopes.{envelope_bytes};
 ghost use Rattle.beet_farmer.specs.Sealing.{points_in};
 ghost use Rattle.beet_load.specs.Farmers.{words_wanted, words_errand};
-ghost use Rattle.beet_errand.specs.Errands.{reads};
-ghost use Rattle.beet_errand.specs.Fetches.{Causes, Finishes, Gives, IsDone};
+ghost use Rattle.beet_errand.specs.Fetches.{Causes, Finishes, Gives};
 ghost use Rattle.beet_envelopes.specs.Seal.{name_for, own_words_errand, seal_errand, sealed_text};
 ghost use Rattle.beet_envelopes.specs.SourceWords.{named_source};
 
 use crate::source_word::SourceWord;
-use beet_bids::{Curve, Grid, read_bid};
-use beet_errand::{NewFile, Reply, Status, Stop, fetch_file, judge};
+use beet_bids::Grid;
+use beet_errand::{NewFile, Reply, Status, Stop};
 use beet_farmer::{Envelope, seal, write_envelope};
 use beet_field::Trio;
-use beet_load::{read_grid, read_tape_file, too_few_words};
+use beet_load::{check_words, read_curve, read_grid, read_tape_file, words_kept};
 use beet_store::Shelf;
 use beet_words::Tape;
 use std::alloc::{AllocError, Global};
 
-/// The limit of a bid file in bytes.
-const BID_LIMIT: u64 = 1_048_576;
-
-/// Words that are kept of a source beyond those that are wanted, for words that are passed over.
-const SPARE_WORDS: u32 = 8;
-
 /// The number that a farmer has in a line on too few words.
 const FARMER: u32 = 1;
-
-/// The curve of a bid file.
-fn read_curve<S: Shelf>(
-    alloc: Global,
-    shelf: &mut S,
-    grid: &Grid,
-    name: &str,
-) -> Result<Curve, Stop>
-    ensures later { S.faults shelf.old ≤ S.faults shelf.new }
-    ensures cause { IfErr result (λ stop. Causes (S.faults shelf.old) (S.faults shelf.new) stop) }
-    ensures of_grid { IfOk result (λ curve. IsOfGrid grid.now curve) }
-    ensures gives { Gives (λ curve. curve) (S.told shelf.old) (S.told shelf.new)
-        (reads name.now 1048576 (bid_of grid.now)) result }
-{
-    let bytes = fetch_file(alloc, shelf, name, BID_LIMIT)?;
-    judge(alloc, name, read_bid(alloc, grid, bytes.as_slice()))
-}
 
 /// The tape of a source, at its first word.
 fn read_source<S: Shelf>(
@@ -63,10 +37,7 @@ fn read_source<S: Shelf>(
         (words_errand None (named_source source.entry) kept) result }
 {
     match source {
-        SourceWord::Seed(seed) => match Tape::of_seed(alloc, &seed, 0, kept) {
-            Ok(tape) => Ok(tape),
-            Err(_) => Err(Stop::OutOfMemory),
-        },
+        SourceWord::Seed(seed) => Ok(Tape::of_seed(alloc, &seed, 0, kept)?),
         SourceWord::Tape(name) => read_tape_file(alloc, shelf, name, kept),
     }
 }
@@ -85,12 +56,8 @@ fn read_words<S: Shelf>(
     ensures gives { Gives (λ tape. tape.words) (S.told shelf.old) (S.told shelf.new)
         (own_words_errand grid.now (named_source source.entry)) result }
 {
-    let wanted = 2 * grid.prices();
-    let tape = read_source(alloc, shelf, source, wanted + SPARE_WORDS)?;
-    let held = tape.accepted_left();
-    if held < wanted {
-        return Err(too_few_words(alloc, FARMER, held, wanted));
-    }
+    let tape = read_source(alloc, shelf, source, words_kept(grid))?;
+    check_words(alloc, grid, FARMER, &tape)?;
     Ok(tape)
 }
 
@@ -152,7 +119,7 @@ pub fn seal_bid<S: Shelf>(
 ) -> Result<Reply, Stop>
     ensures later { S.faults shelf.old ≤ S.faults shelf.new }
     ensures cause { IfErr result (λ stop. Causes (S.faults shelf.old) (S.faults shelf.new) stop) }
-    ensures done { IfOk result (λ reply. IsDone reply.status) }
+    ensures done { IfOk result (λ reply. reply.status ≡ Status.Done) }
     ensures finishes { Finishes (S.told shelf.old) (S.told shelf.new)
         (seal_errand auction.now bid.now (named_source source.entry) out.now) result }
 {

@@ -49,6 +49,11 @@ const FARMERS: [(&str, &str, &str); 3] = [
 /// The outcome of the three bids.
 const OUTCOME: &str = "price 110\nvolume 35\nrounds 255\n";
 
+/// Rows of a tape: a word whose bits are all set, and zero.
+const ONES: &str = "1fffffffffffffff\n";
+
+const ZERO: &str = "0000000000000000\n";
+
 fn held(alloc: Global, name: &str, text: &str) -> Result<Held, AllocError> {
     Ok(Held {
         name: String::from_str(alloc, name)?,
@@ -102,10 +107,22 @@ fn seal_with(
     source: &str,
     out: &str,
 ) -> Result<Reply, Fail> {
+    seal_failing(alloc, first, Vec::new(alloc), bid, source, out)
+}
+
+/// Seals a bid over a shelf of which these fetches fail.
+fn seal_failing(
+    alloc: Global,
+    first: &[(&str, &str)],
+    failing: Vec<u64>,
+    bid: &str,
+    source: &str,
+    out: &str,
+) -> Result<Reply, Fail> {
     let Some(source) = read_source_word(source) else {
         return Err(Fail::new("no source"));
     };
-    let mut shelf = shelf(alloc, first, Vec::new(alloc), Vec::new(alloc))?;
+    let mut shelf = shelf(alloc, first, Vec::new(alloc), failing)?;
     end_of(
         alloc,
         seal_bid(alloc, &mut shelf, "g.auc", bid, source, out),
@@ -267,11 +284,30 @@ fn sealing(rt: HostRuntime) -> Result<(), Fail> {
 #[test]
 fn one_word_too_few(rt: HostRuntime) -> Result<(), Fail> {
     let alloc = rt.alloc();
-    let tape = tape_to(alloc, 7)?;
-    let end = seal_with(alloc, &[("t8", tape.as_str())], "anna.bid", "tape:t8", "e")?;
-    let text = "too few words: bidder 1 7 of 8\n";
-    expect_end(&rt, &end, Status::TooFewWords, text);
-    assert_eq!(rt; end.files.len(), 0);
+    // Of the second tape the first sixteen words are kept.
+    let mut cut = ONES.repeat(alloc, 9)?;
+    cut.push_str(tape_to(alloc, 8)?.as_str())?;
+    for tape in [tape_to(alloc, 7)?, cut] {
+        let end = seal_with(alloc, &[("t8", tape.as_str())], "anna.bid", "tape:t8", "e")?;
+        let text = "too few words: bidder 1 7 of 8\n";
+        expect_end(&rt, &end, Status::TooFewWords, text);
+        assert_eq!(rt; end.files.len(), 0);
+    }
+    Ok(())
+}
+
+#[test]
+fn each_fetch_of_a_seal_fails(rt: HostRuntime) -> Result<(), Fail> {
+    let alloc = rt.alloc();
+    let tape = tape_to(alloc, 8)?;
+    for (i, name) in ["g.auc", "anna.bid", "t8"].iter().enumerate() {
+        let mut failing = Vec::new(alloc);
+        failing.push(i as u64 + 1)?;
+        let first = [("t8", tape.as_str())];
+        let end = seal_failing(alloc, &first, failing, "anna.bid", "tape:t8", "e")?;
+        let text = format!(in alloc; "read fault: {name}\n")?;
+        expect_end(&rt, &end, Status::ReadFault, text.as_str());
+    }
     Ok(())
 }
 
@@ -289,6 +325,22 @@ fn bid_comes_before_words(rt: HostRuntime) -> Result<(), Fail> {
 #[test]
 fn opening(rt: HostRuntime) -> Result<(), Fail> {
     expect_open(&rt, rt.alloc(), &[], Status::Done, OUTCOME)
+}
+
+#[test]
+fn three_masks_are_rejected(rt: HostRuntime) -> Result<(), Fail> {
+    let alloc = rt.alloc();
+    let mut masks = ONES.repeat(alloc, 3)?;
+    masks.push_str(ZERO.repeat(alloc, 2)?.as_str())?;
+    let zeros = ZERO.repeat(alloc, 2_560)?;
+    let rows = "beet-servers,1\n1,tape,c,m\n2,tape,c,c\n3,tape,c,c\n";
+    let first = [
+        ("s.srv", rows),
+        ("c", zeros.as_str()),
+        ("m", masks.as_str()),
+    ];
+    let text = "masks spent\nrounds 192\n";
+    expect_open(&rt, alloc, &first, Status::MasksSpent, text)
 }
 
 #[test]
@@ -382,6 +434,32 @@ fn bundle_of_no_bidder(rt: HostRuntime) -> Result<(), Fail> {
     let words = ("w.words", bundle.as_str());
     let text = "too few words: server 1 coefficients 0 of 2560\n";
     expect_open(&rt, alloc, &[servers, words], Status::TooFewWords, text)
+}
+
+/// A bundle of two bidders without words, where each server has enough words, all zero.
+fn bundle_of_two(alloc: Global) -> Result<String, AllocError> {
+    let zero = "\0\0\0\0\0\0\0\0";
+    let masks = zero.repeat(alloc, 5)?;
+    let numbers = zero.repeat(alloc, 2_560)?;
+    let mut bundle = String::from_str(alloc, "BEETWD01\0\0\0\0\0\0\0\x02")?;
+    for _ in 0..3 {
+        bundle.push_str("\0\0\0\0\0\0\0\x05")?;
+        bundle.push_str(masks.as_str())?;
+        bundle.push_str("\0\0\0\0\0\0\x0a\0")?;
+        bundle.push_str(numbers.as_str())?;
+    }
+    bundle.push_str(zero)?;
+    bundle.push_str(zero)?;
+    Ok(bundle)
+}
+
+#[test]
+fn bundle_of_two_bidders(rt: HostRuntime) -> Result<(), Fail> {
+    let alloc = rt.alloc();
+    let bundle = bundle_of_two(alloc)?;
+    let servers = ("s.srv", "beet-servers,1\nbundle,w.words\n");
+    let words = ("w.words", bundle.as_str());
+    expect_open(&rt, alloc, &[servers, words], Status::Done, OUTCOME)
 }
 
 #[test]

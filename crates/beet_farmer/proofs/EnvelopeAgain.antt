@@ -1,5 +1,5 @@
 -- An envelope that was written is read again.
-use Rattle.std.proofs.Common.{◌≡◌, ◌≤◌, ℕ, ◌+◌, ◌*◌, List, [], ◌++◌, length, All, Ok, refl, sym, subst, arith}
+use Rattle.std.proofs.Common.{◌≡◌, ◌≤◌, ℕ, ◌+◌, ◌*◌, List, [], ◌∷◌, ◌++◌, length, All, Ok, refl, sym, subst, arith}
 use Rattle.std.specs.List.{flat_map}
 use Rattle.std.proofs.lemmas.Bool.{le-ltb}
 use Rattle.std.proofs.lemmas.List.{append-nil, length-append}
@@ -88,3 +88,14 @@ envelope_of-bytes grid envelope limits long below =
     let all : length file ≡ 40 + length points = length-append header points in
     let end : ended file 5 (40 + length points) ≡ Ok tt = rw (le-ltb (40 + length points) (length file) (omega arith)) refl in
     envelope_of-parts grid envelope.server file envelope.points (40 + length points) (after_header-bytes grid envelope.server points limits) read end
+
+points-size : (points : List ℕ) → length (flat_map number_bytes points) ≡ 8 * length points
+points-size [] = refl
+points-size (point ∷ points) =
+    omega (arith, length-append (number_bytes point) (flat_map number_bytes points), points-size points)
+
+-- the bytes of an envelope are those before the points and sixteen for each price
+pub envelope-size : (grid : Grid) (envelope : Envelope) → length envelope.points ≡ 2 * grid.prices →
+    length (envelope_bytes grid envelope) ≡ 40 + 16 * grid.prices
+envelope-size grid envelope long =
+    omega (arith, length-append (header_bytes grid envelope.server) (flat_map number_bytes envelope.points), points-size envelope.points, long)

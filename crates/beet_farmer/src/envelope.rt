@@ -1,6 +1,6 @@
 //! Envelopes: the points of a bidder for one server.
 
-ghost use Rattle.std.specs.Prelude.{◌≡◌, ◌≤◌, ◌*◌, ◌++◌, length, All, IfOk, OnOk, Ok};
+ghost use Rattle.std.specs.Prelude.{◌≡◌, ◌≤◌, ◌+◌, ◌*◌, ◌++◌, length, All, IfOk, OnOk, Ok};
 ghost use Rattle.std.specs.List.{flat_map};
 ghost use Rattle.beet_field.specs.Field.{IsElement};
 ghost use Rattle.beet_forms.specs.Faults.{Answers};
@@ -179,6 +179,7 @@ pub fn write_envelope(
     ensures bytes { IfOk result (λ file. file.items ≡ envelope_bytes grid.now envelope.now) }
     ensures again { IfOk result
         (λ file. envelope_of grid.now envelope.now.server file.items ≡ Ok envelope.now) }
+    ensures size { IfOk result (λ file. length file.items ≡ 40 + 16 * grid.now.prices) }
 {
     let file = bytes_of(alloc, grid, envelope)?;
     Ok(file)

@@ -1,5 +1,5 @@
 -- Reading the bidders of a book.
-use Rattle.std.proofs.Common.{◌≡◌, ◌≤◌, ◌<◌, ℕ, List, length, Option, nat_lt, true, false, arith}
+use Rattle.std.proofs.Common.{◌≡◌, ◌≤◌, ◌<◌, ℕ, List, length, Option, Ok, Err, nat_lt, true, false, refl, arith}
 use Rattle.std.proofs.lemmas.Grind.{common_steps}
 use Rattle.beet_store.specs.Files.{Told}
 use Rattle.beet_words.specs.Words.{accepted}
@@ -10,7 +10,7 @@ use Rattle.beet_book.specs.declared.entries.Entry.{Entry}
 use Rattle.beet_errand.specs.Errands.{Errand, reads}
 use Rattle.beet_load.specs.Farmers.{words_wanted, words_kept, words_errand, enough_words, with_words, with_curve, farmer_errand}
 use Rattle.beet_auction.specs.Openings.{Farmer}
-use Rattle.beet_errand.specs.Fetches.{Went, Stops, Refuses}
+use Rattle.beet_errand.specs.Fetches.{Went, Stops, Passes, Refuses}
 use Rattle.beet_load.specs.WordTexts.{too_few_text}
 use Rattle.beet_errand.specs.declared.answer.Status.TheVariants.{TooFewWords}
 use Rattle.beet_errand.specs.declared.answer.Stop.{Stop}
@@ -39,22 +39,29 @@ farmer_gives old middle now grid given number entry curve words c w h = λ next.
     (went_on middle now now _ _ _ (w (λ read. with_words grid number entry curve read next))
     (enough now number (words_wanted grid) words _ h))
 
+-- words that are enough pass the test
+pub words_pass : (number wanted : ℕ) (words : List ℕ) → wanted ≤ length (accepted words) → Passes (enough_words number wanted words) (Ok tt)
+words_pass number wanted words h = λ next. rw (lt_false (length (accepted words)) wanted h) refl
+
+-- words that are too few do not
+pub words_short : (number wanted : ℕ) (words : List ℕ) (stop : Stop) → length (accepted words) < wanted →
+    Refuses TooFewWords (too_few_text number (length (accepted words)) wanted) stop → Passes (enough_words number wanted words) (Err stop)
+words_short number wanted words (Refused status line) h r = λ next. rw (lt_true (length (accepted words)) wanted h, r.0, r.1) refl
+words_short number wanted words OutOfMemory h r = tt
+
 short_stops : (told : Option Told) (grid : Grid) (number : ℕ) (entry : Entry) (curve : Curve) (words : List ℕ) (stop : Stop) →
-    length (accepted words) < words_wanted grid →
-    Refuses TooFewWords (too_few_text number (length (accepted words)) (words_wanted grid)) stop →
-    Stops told told (with_words grid number entry curve words) stop
-short_stops told grid number entry curve words (Refused status line) h r = λ next.
-    rw (lt_true (length (accepted words)) (words_wanted grid) h, r.0, r.1) (went_none told _)
-short_stops told grid number entry curve words OutOfMemory h r = λ next. (with_words grid number entry curve words next, went_none told _)
+    Passes (enough_words number (words_wanted grid) words) (Err stop) → Stops told told (with_words grid number entry curve words) stop
+short_stops told grid number entry curve words (Refused status line) p = λ next.
+    rw (p (next (record { bidder = record { known = entry.known; curve = curve }; words = words }))) (went_none told _)
+short_stops told grid number entry curve words OutOfMemory p = λ next. (with_words grid number entry curve words next, went_none told _)
 
 -- too few words are read
 pub farmer_stops : (old middle now : Option Told) (grid : Grid) (given : Option (List ℕ)) (number : ℕ) (entry : Entry) (curve : Curve) (words : List ℕ) (stop : Stop) →
     ((next : Curve → Errand) → Went old middle (reads entry.bid 1048576 (bid_of grid) next) (next curve)) →
     ((next : List ℕ → Errand) → Went middle now (words_errand given entry.source (words_kept grid) next) (next words)) →
-    length (accepted words) < words_wanted grid →
-    Refuses TooFewWords (too_few_text number (length (accepted words)) (words_wanted grid)) stop →
+    Passes (enough_words number (words_wanted grid) words) (Err stop) →
     Stops old now (farmer_errand grid given number entry) stop
-farmer_stops old middle now grid given number entry curve words stop c w h r =
+farmer_stops old middle now grid given number entry curve words stop c w p =
     stops_after old middle now (reads entry.bid 1048576 (bid_of grid)) (with_curve grid given number entry) curve stop c
     (stops_after middle now now (words_errand given entry.source (words_kept grid)) (with_words grid number entry curve) words stop w
-    (short_stops now grid number entry curve words stop h r))
+    (short_stops now grid number entry curve words stop p))

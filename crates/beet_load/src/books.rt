@@ -13,9 +13,10 @@ use beet_errand::{Stop, fetch_file, judge};
 use beet_store::Shelf;
 use std::alloc::Global;
 
-/// The limits of an auction file and a book file in bytes.
+/// The limit of an auction file in bytes.
 const AUCTION_LIMIT: u64 = 4096;
 
+/// The limit of a book file in bytes.
 const BOOK_LIMIT: u64 = 4_194_304;
 
 /// The grid of an auction file.

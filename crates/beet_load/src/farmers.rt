@@ -1,6 +1,6 @@
 //! Reading the bidders of a book.
 
-ghost use Rattle.std.specs.Prelude.{◌≡◌, ◌≤◌, ◌<◌, ◌^◌, ◌+◌, ◌*◌, ℕ, IfErr, IfOk, length, take, decimal, option_map, None};
+ghost use Rattle.std.specs.Prelude.{◌≡◌, ◌≤◌, ◌<◌, ◌^◌, ◌+◌, ◌*◌, ℕ, IfErr, IfOk, OnOk, length, take, decimal, option_map, None};
 ghost use Rattle.beet_forms.specs.Faults.{Answers};
 ghost use Rattle.beet_words.specs.Words.{accepted};
 ghost use Rattle.beet_words.specs.TapeFiles.{tape_of};
@@ -9,9 +9,9 @@ ghost use Rattle.beet_bids.specs.Curves.{IsOfGrid, IsCurve, Curve};
 ghost use Rattle.beet_bids.specs.BidFiles.{bid_of};
 ghost use Rattle.beet_load.specs.WordTexts.{too_few_text};
 ghost use Rattle.beet_errand.specs.Errands.{reads};
-ghost use Rattle.beet_load.specs.Farmers.{words_errand, words_wanted, words_kept, farmer_errand, enough_words};
+ghost use Rattle.beet_load.specs.Farmers.{words_errand, words_wanted, words_kept as kept_of, farmer_errand, enough_words};
 ghost use Rattle.beet_load.specs.FarmerViews.{farmer_of};
-ghost use Rattle.beet_errand.specs.Fetches.{Gives, Causes, Refuses};
+ghost use Rattle.beet_errand.specs.Fetches.{Gives, Causes, Passes, Refuses};
 
 use beet_bids::{Curve, Grid, read_bid};
 use beet_book::{BidderSource, Entry};
@@ -21,16 +21,24 @@ use beet_store::Shelf;
 use beet_words::{Tape, WordList, read_tape};
 use std::alloc::{AllocError, Global};
 
-/// The limits of a bid file and a tape file in bytes.
+/// The limit of a bid file in bytes.
 const BID_LIMIT: u64 = 1_048_576;
 
+/// The limit of a tape file in bytes.
 const TAPE_LIMIT: u64 = 1_048_576;
 
-/// Words that are kept of a source beyond those that are wanted, for words that are passed over.
-const SPARE_WORDS: u32 = 8;
+/// Words that are kept for numbers beyond those that are wanted, for words that are passed over.
+pub(crate) const SPARE_WORDS: u32 = 8;
 
-/// The curve of a bid file.
-pub(crate) fn read_curve<S: Shelf>(
+/// How many words are kept of a bidder's source.
+pub fn words_kept(grid: &Grid) -> u32
+    ensures { result ≡ kept_of grid.now }
+{
+    2 * grid.prices() + SPARE_WORDS
+}
+
+/// The curve of a bid file, over the places of the grid.
+pub fn read_curve<S: Shelf>(
     alloc: Global,
     shelf: &mut S,
     grid: &Grid,
@@ -102,10 +110,7 @@ fn source_tape<S: Shelf>(
         (words_errand None source.now kept) result }
 {
     match source {
-        BidderSource::Seed(seed) => match Tape::of_seed(alloc, seed, 0, kept) {
-            Ok(tape) => Ok(tape),
-            Err(_) => Err(Stop::OutOfMemory),
-        },
+        BidderSource::Seed(seed) => Ok(Tape::of_seed(alloc, seed, 0, kept)?),
         BidderSource::Tape(name) => read_tape_file(alloc, shelf, name.as_str(), kept),
     }
 }
@@ -126,10 +131,7 @@ fn bidder_tape<S: Shelf>(
         (words_errand (option_map (λ words. words.now) given.entry) source.now kept) result }
 {
     match given {
-        Some(words) => match front(alloc, words, kept) {
-            Ok(tape) => Ok(tape),
-            Err(_) => Err(Stop::OutOfMemory),
-        },
+        Some(words) => Ok(front(alloc, words, kept)?),
         None => source_tape(alloc, shelf, source, kept),
     }
 }
@@ -149,6 +151,21 @@ pub fn too_few_words(alloc: Global, number: u32, held: u32, wanted: u32) -> Stop
         Ok(line) => Stop::Refused(Status::TooFewWords, line),
         Err(_) => Stop::OutOfMemory,
     }
+}
+
+/// Refuses the bidder of this number where its tape, at its first word, has fewer accepted words than it wants.
+pub fn check_words(alloc: Global, grid: &Grid, number: u32, tape: &Tape) -> Result<(), Stop>
+    requires { tape.now.passed ≡ 0 }
+    ensures cause { (before now : ℕ) → IfErr result (λ stop. Causes before now stop) }
+    ensures passes { Passes (enough_words number (words_wanted grid.now) tape.now.words) result }
+    ensures enough { OnOk result (words_wanted grid.now ≤ length (accepted tape.now.words)) }
+{
+    let wanted = 2 * grid.prices();
+    let held = tape.accepted_left();
+    if held < wanted {
+        return Err(too_few_words(alloc, number, held, wanted));
+    }
+    Ok(())
 }
 
 /// A bidder's curve, and the tape that it deals its quantities with.
@@ -173,16 +190,12 @@ pub fn read_farmer<S: Shelf>(
     ensures curve { IfOk result (λ farmer. IsCurve farmer.curve) }
     ensures fresh { IfOk result (λ farmer. farmer.tape.passed ≡ 0) }
     ensures enough { IfOk result (λ farmer. words_wanted grid.now ≤ length (accepted farmer.tape.words)) }
-    ensures cut { IfOk result (λ farmer. length farmer.tape.words ≤ words_kept grid.now) }
+    ensures cut { IfOk result (λ farmer. length farmer.tape.words ≤ kept_of grid.now) }
     ensures gives { Gives (farmer_of entry.now) (S.told shelf.old) (S.told shelf.new)
         (farmer_errand grid.now (option_map (λ words. words.now) given.entry) number entry.now) result }
 {
     let curve = read_curve(alloc, shelf, grid, entry.bid.as_str())?;
-    let wanted = 2 * grid.prices();
-    let tape = bidder_tape(alloc, shelf, given, &entry.source, wanted + SPARE_WORDS)?;
-    let held = tape.accepted_left();
-    if held < wanted {
-        return Err(too_few_words(alloc, number, held, wanted));
-    }
+    let tape = bidder_tape(alloc, shelf, given, &entry.source, words_kept(grid))?;
+    check_words(alloc, grid, number, &tape)?;
     Ok(Farmer { curve, tape })
 }

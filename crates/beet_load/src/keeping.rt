@@ -1,6 +1,6 @@
 //! Keeping the bidders of a book with their words.
 
-ghost use Rattle.std.specs.Prelude.{◌≡◌, ◌≤◌, ◌++◌, ◌∷◌, [], IfErr, IfOk, OnOk, length, map, option_map};
+ghost use Rattle.std.specs.Prelude.{◌≡◌, ◌≤◌, ◌++◌, ◌∷◌, [], IfErr, OnOk, length, map, option_map};
 ghost use Rattle.beet_errand.specs.Fetches.{Causes};
 ghost use Rattle.beet_load.specs.Wholes.{GivesFarmer, GivesFarmers};
 
@@ -10,7 +10,7 @@ use beet_bids::{Bidder, Grid};
 use beet_book::Entry;
 use beet_errand::Stop;
 use beet_store::Shelf;
-use beet_words::{Word, WordList};
+use beet_words::WordList;
 use std::alloc::{AllocError, Global};
 use std::marker::Model;
 
@@ -66,13 +66,6 @@ impl Farmers {
     }
 }
 
-/// A list of these words, in memory of its own.
-pub(crate) fn list_in(alloc: Global, words: &[Word]) -> Result<WordList, AllocError>
-    ensures { IfOk result (λ list. list ≡ words.now) }
-{
-    Ok(WordList::of(Vec::from_slice(alloc, words)?))
-}
-
 /// Reads the bidder of an entry, which has this number, and keeps it with its words.
 fn keep_farmer<S: Shelf>(
     alloc: Global,
@@ -89,12 +82,11 @@ fn keep_farmer<S: Shelf>(
         (S.told shelf.old) (S.told shelf.new) farmers.old farmers.new result }
 {
     let farmer = read_farmer(alloc, shelf, grid, given, number, entry)?;
-    let words = list_in(alloc, farmer.tape.words())?;
     let bidder = Bidder {
         known: entry.known,
         curve: farmer.curve,
     };
-    farmers.push(bidder, words)?;
+    farmers.push(bidder, farmer.tape.into_words())?;
     Ok(())
 }
 

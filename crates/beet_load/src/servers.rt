@@ -10,7 +10,7 @@ ghost use Rattle.beet_errand.specs.Fetches.{Gives, Causes, Passes, Refuses};
 ghost use Rattle.beet_load.specs.Servers.{masks_wanted, coefficients_kept, seeded, source_errand, enough_of, enough_of_all, HasEnough, HaveEnough, IsCut, AreCut, server_errand, three_errand, counted, cut_server, cut_servers, all_words_errand, with_bundle};
 ghost use Rattle.beet_load.specs.WordTexts.{server_short_text};
 
-use crate::farmers::{front, read_tape_file};
+use crate::farmers::{SPARE_WORDS, front, read_tape_file};
 use beet_bids::Grid;
 use beet_book::{ServerSource, Servers, read_servers};
 use beet_errand::{Status, Stop, fetch_file, judge};
@@ -21,9 +21,10 @@ use beet_words::{Tape, WordList, Words, read_bundle};
 use std::alloc::{AllocError, Global};
 use std::marker::Model;
 
-/// The limits of a servers file and a bundle in bytes.
+/// The limit of a servers file in bytes.
 const SERVERS_LIMIT: u64 = 4096;
 
+/// The limit of a bundle in bytes.
 const BUNDLE_LIMIT: u64 = 67_108_864;
 
 /// Masks that may be rejected beside those that are used.
@@ -31,9 +32,6 @@ const SPARE_MASKS: u32 = 2;
 
 /// Numbers that a server draws at most for a mask and a comparison with it.
 const NUMBERS: u32 = 512;
-
-/// Words that are kept of a list for numbers beyond those that are wanted, for words that are passed over.
-const SPARE_WORDS: u32 = 8;
 
 /// The two tapes of a server, at their first words.
 #[derive(Drop)]

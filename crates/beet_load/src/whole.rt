@@ -11,7 +11,7 @@ ghost use Rattle.beet_load.specs.Wholes.{CanRun, all_words, limited_entries, lim
 ghost use Rattle.beet_load.specs.WholeViews.{loaded_of};
 
 use crate::books::{read_entries, read_grid};
-use crate::keeping::{list_in, read_farmers};
+use crate::keeping::read_farmers;
 use crate::limits::check_product;
 use crate::loading::lists_in;
 use crate::servers::{AllWords, ServerWords, read_sources, read_words};
@@ -21,7 +21,7 @@ use beet_errand::Stop;
 use beet_field::Trio;
 use beet_store::Shelf;
 use beet_words::{WordList, Words};
-use std::alloc::{AllocError, Global};
+use std::alloc::Global;
 
 /// An auction that is read: its book, and the words of its servers and of the bidders of the book.
 #[derive(Drop)]
@@ -30,41 +30,24 @@ pub struct Whole {
     pub words: Words,
 }
 
-/// The mask words of a server, in memory of their own.
-fn masks_in(alloc: Global, words: &ServerWords) -> Result<WordList, AllocError>
-    ensures { IfOk result (λ list. list ≡ words.now.masks) }
-{
-    list_in(alloc, words.masks.words())
-}
-
-/// The words of a server for the numbers that it draws, in memory of their own.
-fn coefficients_in(alloc: Global, words: &ServerWords) -> Result<WordList, AllocError>
-    ensures { IfOk result (λ list. list ≡ words.now.coefficients) }
-{
-    list_in(alloc, words.coefficients.words())
-}
-
 /// The words of the servers and of the bidders.
-fn words_with(
-    alloc: Global,
-    servers: &Trio<ServerWords>,
-    bidders: Vec<WordList>,
-) -> Result<Words, AllocError>
-    ensures { IfOk result (λ words. words ≡ all_words servers.now bidders.items) }
+fn words_with(servers: Trio<ServerWords>, bidders: Vec<WordList>) -> Words
+    ensures { result ≡ all_words servers bidders.items }
 {
-    Ok(Words {
+    let Trio { one, two, three } = servers;
+    Words {
         masks: Trio {
-            one: masks_in(alloc, &servers.one)?,
-            two: masks_in(alloc, &servers.two)?,
-            three: masks_in(alloc, &servers.three)?,
+            one: one.masks.into_words(),
+            two: two.masks.into_words(),
+            three: three.masks.into_words(),
         },
         coefficients: Trio {
-            one: coefficients_in(alloc, &servers.one)?,
-            two: coefficients_in(alloc, &servers.two)?,
-            three: coefficients_in(alloc, &servers.three)?,
+            one: one.coefficients.into_words(),
+            two: two.coefficients.into_words(),
+            three: three.coefficients.into_words(),
         },
         bidders,
-    })
+    }
 }
 
 /// Reads the bidders.
@@ -90,7 +73,7 @@ fn whole_bidders<S: Shelf>(
 {
     let farmers = read_farmers(alloc, shelf, grid, lists_in(&words), entries)?;
     let (bidders, lists) = farmers.into_parts();
-    let words = words_with(alloc, &words.servers, lists)?;
+    let words = words_with(words.servers, lists);
     match Book::new(*grid, bidders) {
         Some(book) => Ok(Whole { book, words }),
         None => unreachable!(),

@@ -1,6 +1,5 @@
-use Rattle.std.proofs.Common.{arith, ◌≡◌, ◌∙◌, ap, length, drop, subst, option_map}
+use Rattle.std.proofs.Common.{subst, option_map}
 use Rattle.beet_bids.specs.Curves.{IsCurve}
-use Rattle.beet_words.specs.Words.{accepted}
 use Rattle.std.proofs.lemmas.Result.{err_from_is_err_and}
 use Rattle.beet_load.specs.Farmers.{with_curve, with_words}
 use Rattle.beet_errand.proofs.Steps.{stops_before, stops_after}
@@ -16,31 +15,30 @@ pub returns-in_err-tape-clause-gives : goal.returns-in_err-tape-clause-gives
 returns-in_err-tape-clause-gives g c =
     let p = err_from_is_err_and c.from_residual-in_err-tape.result c.from_residual-in_err-tape.ensures.1 in
     rw (p.1, p.2) (stops_after _ _ _ _ (with_curve c.args.grid.now (option_map (λ words. words.now) c.args.given) c.args.number c.args.entry.now) _ _ (rw c.as_str.ensures at c.in_ok-curve.ensures.gives)
-    (stops_before _ _ _ (with_words c.args.grid.now c.args.number c.args.entry.now c.in_ok-curve.curve) _ (rw c.prices-wanted.ensures.value at c.in_err-tape.ensures.gives)))
+    (stops_before _ _ _ (with_words c.args.grid.now c.args.number c.args.entry.now c.in_ok-curve.curve) _ (rw c.words_kept.ensures at c.in_err-tape.ensures.gives)))
 
-pub returns-then-held-wanted-clause-gives : goal.returns-then-held-wanted-clause-gives
-returns-then-held-wanted-clause-gives g c =
-    let words = c.in_ok-tape.tape.words in
-    let held : c.accepted_left-held.result ≡ length (accepted words) =
-    c.accepted_left-held.ensures ∙ ap (λ n. length (accepted (drop n words))) c.in_ok-tape.ensures.fresh in
-    farmer_stops _ _ _ c.args.grid.now (option_map (λ words. words.now) c.args.given) c.args.number c.args.entry.now c.in_ok-curve.curve words _
+pub returns-in_err-check_words-clause-cause : goal.returns-in_err-check_words-clause-cause
+returns-in_err-check_words-clause-cause g c =
+    let p = err_from_is_err_and c.from_residual-in_err-check_words.result c.from_residual-in_err-check_words.ensures.1 in
+    rw (p.1, p.2) (c.in_err-check_words.ensures.cause _ _)
+
+pub returns-in_err-check_words-clause-gives : goal.returns-in_err-check_words-clause-gives
+returns-in_err-check_words-clause-gives g c =
+    let p = err_from_is_err_and c.from_residual-in_err-check_words.result c.from_residual-in_err-check_words.ensures.1 in
+    rw (p.1, p.2) (farmer_stops _ _ _ c.args.grid.now (option_map (λ words. words.now) c.args.given) c.args.number c.args.entry.now c.in_ok-curve.curve c.in_ok-tape.tape.words _
     (rw c.as_str.ensures at c.in_ok-curve.ensures.gives)
-    (rw c.prices-wanted.ensures.value at c.in_ok-tape.ensures.gives)
-    (omega arith)
-    (rw (held, c.prices-wanted.ensures.value) at c.too_few_words.ensures)
+    (rw c.words_kept.ensures at c.in_ok-tape.ensures.gives)
+    c.in_err-check_words.ensures.passes)
 
 pub returns-clause-of_grid : goal.returns-clause-of_grid
 returns-clause-of_grid g c = c.in_ok-curve.ensures.of_grid
 
 pub returns-clause-gives : goal.returns-clause-gives
 returns-clause-gives g c =
-    let words = c.in_ok-tape.tape.words in
-    let held : c.accepted_left-held.result ≡ length (accepted words) =
-    c.accepted_left-held.ensures ∙ ap (λ n. length (accepted (drop n words))) c.in_ok-tape.ensures.fresh in
-    farmer_gives _ _ _ c.args.grid.now (option_map (λ words. words.now) c.args.given) c.args.number c.args.entry.now c.in_ok-curve.curve words
+    farmer_gives _ _ _ c.args.grid.now (option_map (λ words. words.now) c.args.given) c.args.number c.args.entry.now c.in_ok-curve.curve c.in_ok-tape.tape.words
     (rw c.as_str.ensures at c.in_ok-curve.ensures.gives)
-    (rw c.prices-wanted.ensures.value at c.in_ok-tape.ensures.gives)
-    (omega arith)
+    (rw c.words_kept.ensures at c.in_ok-tape.ensures.gives)
+    c.in_ok-check_words.ensures.enough
 
 pub returns-clause-curve : goal.returns-clause-curve
 returns-clause-curve g c = subst (λ curve. IsCurve curve) c.curve.view_is c.curve.invariant

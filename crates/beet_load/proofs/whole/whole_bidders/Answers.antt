@@ -4,7 +4,6 @@ use Rattle.beet_load.specs.Farmers.{farmers_errand}
 use Rattle.beet_load.specs.Wholes.{all_words}
 use Rattle.beet_load.specs.Loading.{with_all_words}
 use Rattle.beet_errand.proofs.Steps.{stops_before}
-use Rattle.beet_load.proofs.ServerSteps.{memory_after}
 use Rattle.beet_load.proofs.KeptFarmers.{kept-gives, kept-many, kept-of-grid, kept-runs}
 use Rattle.beet_load.proofs.whole.whole_bidders.Goals as goal
 
@@ -14,13 +13,6 @@ returns-in_err-farmers-clause-gives g c =
     rw (p.1, p.2) (stops_before _ _ (farmers_errand c.args.grid.now c.args.words.bidders [] c.args.entries.now)
     (λ farmers next. next (record { grid = c.args.grid.now; servers = c.args.words.servers; farmers = farmers })) _
     (rw c.lists_in.ensures at c.in_err-farmers.ensures.gives))
-
-pub returns-in_err-words-clause-gives : goal.returns-in_err-words-clause-gives
-returns-in_err-words-clause-gives g c =
-    let p = err_from_is_err_and c.from_residual-in_err-words.result c.from_residual-in_err-words.ensures.1 in
-    rw (p.1, p.2) (memory_after _ _ (farmers_errand c.args.grid.now c.args.words.bidders [] c.args.entries.now)
-    (λ farmers next. next (record { grid = c.args.grid.now; servers = c.args.words.servers; farmers = farmers })) c.in_ok-farmers.farmers
-    (rw c.lists_in.ensures at c.in_ok-farmers.ensures.gives).went)
 
 pub unreachable-requires : goal.unreachable-requires
 unreachable-requires g c =
@@ -33,11 +25,11 @@ returns-clause-runs g c =
     let kept = rw c.lists_in.ensures at c.in_ok-farmers.ensures.gives in
     kept-runs c.args.grid.now _ _ _ _ _ kept _ c.into_parts-bidders.ensures.bidders c.args.words _ _ _ c.into_parts-bidders.ensures.words
     c.in-Some.ensures.made.1
-    (c.in_ok-words.ensures ∙ ap (λ servers. all_words servers c.into_parts-bidders.result.1.items) (ap (λ words. words.servers) c.words.view_is))
+    (c.words_with-words.ensures ∙ ap (λ servers. all_words servers c.into_parts-bidders.result.1.items) (ap (λ words. words.servers) c.words.view_is))
     c.requires.gates c.requires.enough c.requires.cut
 
 pub returns-clause-gives : goal.returns-clause-gives
 returns-clause-gives g c =
     let kept = rw c.lists_in.ensures at c.in_ok-farmers.ensures.gives in
     kept-gives c.args.grid.now c.args.entries.now c.args.words _ _ _ _ _ _ _ kept c.into_parts-bidders.ensures.farmers c.in-Some.ensures.made.1
-    (c.in_ok-words.ensures ∙ ap (λ servers. all_words servers c.into_parts-bidders.result.1.items) (ap (λ words. words.servers) c.words.view_is))
+    (c.words_with-words.ensures ∙ ap (λ servers. all_words servers c.into_parts-bidders.result.1.items) (ap (λ words. words.servers) c.words.view_is))

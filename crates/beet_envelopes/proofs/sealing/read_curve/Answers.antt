@@ -1,6 +1,0 @@
-use Rattle.beet_errand.proofs.Steps.{reads_gives}
-use Rattle.beet_envelopes.proofs.sealing.read_curve.Goals as goal
-
-pub returns-clause-gives : goal.returns-clause-gives
-returns-clause-gives g c =
-    reads_gives _ _ _ _ _ _ _ _ _ c.in_ok-bytes.ensures.gives (rw c.as_slice.ensures.value at c.read_bid.ensures.reads) c.judge.ensures

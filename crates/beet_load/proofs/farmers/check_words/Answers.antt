@@ -1,0 +1,25 @@
+use Rattle.std.proofs.Common.{arith, ◌≡◌, ◌∙◌, ap, length, drop}
+use Rattle.beet_words.specs.Words.{accepted}
+use Rattle.beet_load.proofs.Farming.{words_pass, words_short}
+use Rattle.beet_load.proofs.farmers.check_words.Goals as goal
+
+pub returns-then-held-wanted-clause-passes : goal.returns-then-held-wanted-clause-passes
+returns-then-held-wanted-clause-passes c =
+    let words = c.args.tape.now.words in
+    let held : c.accepted_left-held.result ≡ length (accepted words) =
+    c.accepted_left-held.ensures ∙ ap (λ n. length (accepted (drop n words))) c.requires in
+    words_short c.args.number _ words _ (omega arith) (rw (held, c.prices-wanted.ensures.value) at c.too_few_words.ensures)
+
+pub returns-clause-passes : goal.returns-clause-passes
+returns-clause-passes c =
+    let words = c.args.tape.now.words in
+    let held : c.accepted_left-held.result ≡ length (accepted words) =
+    c.accepted_left-held.ensures ∙ ap (λ n. length (accepted (drop n words))) c.requires in
+    words_pass c.args.number _ words (omega arith)
+
+pub returns-clause-enough : goal.returns-clause-enough
+returns-clause-enough c =
+    let words = c.args.tape.now.words in
+    let held : c.accepted_left-held.result ≡ length (accepted words) =
+    c.accepted_left-held.ensures ∙ ap (λ n. length (accepted (drop n words))) c.requires in
+    omega arith
