@@ -20,17 +20,18 @@ use Rattle.beet_book.specs.Totals.{Totals, added, none_of, wires_of}
 use Rattle.beet_book.proofs.Pairs.{length-pairwise, item-pairwise}
 use Rattle.beet_auction.specs.Openings.{Farmer, book_inputs, farmers_of, point_for, summed_points}
 use Rattle.beet_auction.proofs.Adding.{summed-none, summed-more}
+use Rattle.beet_load.specs.Farmers.{words_kept}
 use Rattle.beet_load.specs.Wholes.{CanDeal}
 use Rattle.beet_view.specs.BookViews.{seen_at}
 use Rattle.beet_view.specs.declared.view.Seen.{Seen}
 use Rattle.beet_record.specs.DealtBooks.{HasDealt, seen_with}
 
 -- a tape of words that are all kept has them left
-pub tape-left : (grid : Grid) (prices : ℕ) (tape : Tape) (words : List ℕ) → tape ≡ record { words = take (2 * prices + 8) words; passed = 0 } →
-    prices ≡ grid.prices → CanDeal grid words → left_of tape ≡ accepted words
-tape-left grid prices tape words e same can =
-    let few : length words ≤ 2 * prices + 8 = omega (arith, can.kept, same) in
-    ap left_of e ∙ ap accepted (take_all (2 * prices + 8) words few)
+pub tape-left : (grid : Grid) (kept : ℕ) (tape : Tape) (words : List ℕ) → tape ≡ record { words = take kept words; passed = 0 } →
+    kept ≡ words_kept grid → CanDeal grid words → left_of tape ≡ accepted words
+tape-left grid kept tape words e same can =
+    let few : length words ≤ kept = omega (arith, can.kept, same) in
+    ap left_of e ∙ ap accepted (take_all kept words few)
 
 -- what holds of each item holds of the one at a place
 pub at-place : {A : Type 0} (P : A → Type 0) (xs ys : List A) (i : ℕ) (x : A) → ys ≡ xs → x ≡ get_or ys i x → i < length ys → All P xs → P x

@@ -12,14 +12,11 @@ ghost use Rattle.beet_record.specs.DealtBooks.{HasDealt, own_at, seen_with};
 use beet_bids::{Bidder, Book, Curve, Grid};
 use beet_book::{Totals, deal_bidder};
 use beet_field::{Point, Trio};
-use beet_load::front;
+use beet_load::{front, words_kept};
 use beet_view::Seen;
 use beet_words::{FeList, WordList};
 use std::alloc::{AllocError, Global};
 use std::marker::Model;
-
-/// Words of a bidder that are kept beyond those that are wanted.
-const SPARE_WORDS: u32 = 8;
 
 /// The bidders, in their order, as each server sees them.
 #[derive(Drop)]
@@ -141,7 +138,7 @@ fn deal_one(
         → OnOk result (HasDealt grid.now (farmers ++ record { bidder = bidder.now; words = words.now } ∷ [])
         totals.new seen.new) }
 {
-    let mut tape = front(alloc, words, 2 * grid.prices() + SPARE_WORDS)?;
+    let mut tape = front(alloc, words, words_kept(grid))?;
     let dealt = deal_bidder(alloc, grid, &bidder.curve, &mut tape)?;
     totals.add(&dealt);
     let points = dealt.into_points();

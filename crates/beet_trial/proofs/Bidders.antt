@@ -1,5 +1,5 @@
 -- The bidders one after another.
-use Rattle.std.proofs.Common.{◌≡◌, ◌<◌, ◌≤◌, ℕ, ◌+◌, ◌*◌, [], ◌∷◌, ◌++◌, length, drop, Ok, Err, arith, refl, ap, sym, ◌∙◌, length-append}
+use Rattle.std.proofs.Common.{◌≡◌, ◌<◌, ◌≤◌, ℕ, ◌+◌, ◌*◌, [], ◌∷◌, ◌++◌, length, drop, Ok, Err, arith, refl, ap, sym, ◌∙◌, length-append, subst, Result, List}
 use Rattle.std.proofs.lemmas.List.{drop_more, drop_all, map-append}
 use Rattle.std.proofs.lemmas.List.FromFn.{get_or-map-range_with_len, length-map-range_with_len, map-range_with_len_more}
 use Rattle.beet_words.specs.Words.{accepted}
@@ -47,6 +47,12 @@ adds-farmer grid farmer curve tape before after e f of_grid enough sums adds = �
           ∙ sym (points-more grid.prices farmers farmer long (rw numbers at enough));
       shares = rw values (adds (summed_quantities grid.prices (curves_of farmers)) c.shares);
     }
+
+-- a test of a tape at its first word is one of its words
+pub same-words : (number wanted : ℕ) (tape : Tape) (words : List ℕ) (result : Result (Unit {0}) Stop) →
+    tape ≡ record { words = words; passed = 0 } → Passes (enough_words number wanted tape.words) result →
+    Passes (enough_words number wanted words) result
+same-words number wanted tape words result e p = subst (λ w. Passes (enough_words number wanted w) result) (ap (λ t. t.words) e) p
 
 farmers-more : (grid : Grid) (i : ℕ) → trial_farmers grid (i + 1) ≡ trial_farmers grid i ++ trial_farmer grid i ∷ []
 farmers-more grid i = map-range_with_len_more (trial_farmer grid) 0 i i (omega arith)

@@ -10,7 +10,7 @@ use crate::rules::{curve_of, tape_of};
 use beet_bids::Grid;
 use beet_book::Totals;
 use beet_errand::Stop;
-use beet_load::too_few_words;
+use beet_load::check_words;
 use std::alloc::Global;
 
 /// Makes bidder `i`, from 0, deals its quantities and adds their points.
@@ -23,11 +23,7 @@ fn add_bidder(alloc: Global, grid: &Grid, i: u32, totals: &mut Totals) -> Result
 {
     let curve = curve_of(alloc, grid, i)?;
     let mut tape = tape_of(alloc, grid, i)?;
-    let wanted = 2 * grid.prices();
-    let held = tape.accepted_left();
-    if held < wanted {
-        return Err(too_few_words(alloc, i + 1, held, wanted));
-    }
+    check_words(alloc, grid, i + 1, &tape)?;
     totals.deal(&curve, &mut tape);
     Ok(())
 }

@@ -3,27 +3,25 @@
 ghost use Rattle.std.specs.Prelude.{◌≡◌, ◌≤◌, IfOk};
 ghost use Rattle.beet_bids.specs.Grids.{IsGrid};
 ghost use Rattle.beet_words.specs.Seeds.{seed_words as words_of_seed};
-ghost use Rattle.beet_load.specs.Farmers.{words_kept};
+ghost use Rattle.beet_load.specs.Farmers.{words_kept as kept_of};
 ghost use Rattle.beet_load.specs.Servers.{seeded};
 ghost use Rattle.beet_trial.specs.Rules.{bidder_seed, bought, buying, selling, server_seed, sold, trial_curve, trial_grid, trial_servers, weight};
 
 use beet_bids::{Curve, Grid};
 use beet_field::Trio;
 use beet_gates::Gates;
-use beet_load::{ServerWords, seed_words};
+use beet_load::{ServerWords, seed_words, words_kept};
 use beet_words::Tape;
 use std::alloc::{AllocError, Global};
 
-/// The lowest price, and the step from one price to the next.
+/// The lowest price.
 const BASE: u64 = 1_000;
 
+/// The step from one price to the next.
 const TICK: u64 = 10;
 
 /// The number that the seed of the first bidder ends with.
 const FIRST_SEED: u64 = 256;
-
-/// Words that are made of a seed beyond those that are wanted, for words that are passed over.
-const SPARE_WORDS: u32 = 8;
 
 /// The grid with so many prices.
 pub(crate) fn grid_of(prices: u32) -> Grid
@@ -70,10 +68,9 @@ fn seed_of(i: u32) -> [u8; 32]
 /// The words of bidder `i`, at the first.
 pub(crate) fn tape_of(alloc: Global, grid: &Grid, i: u32) -> Result<Tape, AllocError>
     ensures { IfOk result (λ tape. tape
-        ≡ record { words = words_of_seed (bidder_seed i) 0 (words_kept grid.now); passed = 0 }) }
+        ≡ record { words = words_of_seed (bidder_seed i) 0 (kept_of grid.now); passed = 0 }) }
 {
-    let kept = 2 * grid.prices() + SPARE_WORDS;
-    Tape::of_seed(alloc, &seed_of(i), 0, kept)
+    Tape::of_seed(alloc, &seed_of(i), 0, words_kept(grid))
 }
 
 /// The weights with which bidder `i` buys and sells.
