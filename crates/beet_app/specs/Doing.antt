@@ -19,7 +19,8 @@ use Rattle.beet_app.specs.Tally.{tally_errand}
 use Rattle.beet_app.specs.Texts.{usage_text}
 
 -- what holds of the errand of a job, with what the shelf tells before it. Words that name no job are answered by the usage line. Of a
--- job that compares two worlds it holds once both books are read, with words that are mapped from what was read: there are some
+-- job that compares two worlds it holds once both books are read, with words that are mapped from what was read; or it holds of the
+-- whole job with all words, where the job ends without any
 abbrev pub Does : Option Job → Option Told → Option Told → (Option Told → Errand → Type 0) → Type 0
 Does None old now P = P old (answers Usage usage_text)
 Does (Some (Tally auction book)) old now P = P old (tally_errand auction book)

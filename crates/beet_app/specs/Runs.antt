@@ -17,7 +17,7 @@ abbrev pub Said : Option Given → Option Given → List ℕ → Type 0
 Said None now text = now ≡ None
 Said (Some given) now text = now ≡ Some (record given { said = given.said ++ text })
 
--- these files are put in order and then the text is said, each by one call of the desk; the first call that is refused is the last
+-- these files are put in order and then the text is said; what stands is what these calls leave, up to the first that is refused
 abbrev pub GivesAll : Option Given → Option Given → List File → List ℕ → Done → Type 0
 GivesAll given now [] text done = GivesSay given now text done
 GivesAll given now (file ∷ files) text done =

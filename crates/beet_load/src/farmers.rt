@@ -30,14 +30,15 @@ const TAPE_LIMIT: u64 = 1_048_576;
 /// Words that are kept for numbers beyond those that are wanted, for words that are passed over.
 pub(crate) const SPARE_WORDS: u32 = 8;
 
-/// How many words are kept of a bidder's source.
+/// How many words are kept of a bidder's source: two for each price, and eight more.
 pub fn words_kept(grid: &Grid) -> u32
     ensures { result ≡ kept_of grid.now }
 {
     2 * grid.prices() + SPARE_WORDS
 }
 
-/// The curve of a bid file, over the places of the grid.
+/// The curve of a bid file of at most 1,048,576 bytes, over the places of the grid. A file that cannot be fetched, is too
+/// long or breaks the format is refused with its line.
 pub fn read_curve<S: Shelf>(
     alloc: Global,
     shelf: &mut S,
@@ -153,7 +154,8 @@ pub fn too_few_words(alloc: Global, number: u32, held: u32, wanted: u32) -> Stop
     }
 }
 
-/// Refuses the bidder of this number where its tape, at its first word, has fewer accepted words than it wants.
+/// Refuses the bidder of this number where its tape, at its first word, has fewer accepted words than it wants, with the
+/// line `too few words: bidder N H of W`. Want of memory is the only other error.
 pub fn check_words(alloc: Global, grid: &Grid, number: u32, tape: &Tape) -> Result<(), Stop>
     requires { tape.now.passed ≡ 0 }
     ensures cause { (before now : ℕ) → IfErr result (λ stop. Causes before now stop) }

@@ -87,8 +87,8 @@ impl Ran {
         view_of(alloc, self.cores.get(at), &self.grid, seen)
     }
 
-    /// The transcript of each server. Beside the transcripts at most one view is held at a time. Want of memory is the only
-    /// error.
+    /// The transcript of each server. Each view is dropped once its transcript is written; the bidders' parts of the later
+    /// views are held until then. Want of memory is the only error.
     pub fn into_transcripts(self, alloc: Global) -> Result<Trio<Vec<u8>>, AllocError>
         ensures { (book : Bids) (words : Lists) → HasRun book words self
             → IfOk result (λ files. (s : Server) → (member files s).items ≡ view_bytes (view_for book words s)) }

@@ -77,8 +77,8 @@ pub record MapsRead (old now : Option Told) (auction servers book1 book2 : List 
   pub back : IsOnlyFirst s (first_book both) (words_read both) (second_book both) words
   pub holds : P now (worlds_answer s out (first_book both) (words_read both) (second_book both) words)
 
--- a fact holds of the answer with the words that are mapped from those that were read; or no words were wanted, and it holds of the
--- whole job with all words
+-- a fact holds of the answer with the words that are mapped from those that were read; or it holds of the whole job with all words, so
+-- that none were wanted
 abbrev pub WithMapped : Option Told → Option Told → List ℕ → List ℕ → List ℕ → List ℕ → Point → List ℕ →
     (Option Told → Errand → Type 0) → Type 0
 WithMapped old now auction servers book1 book2 s out P =
