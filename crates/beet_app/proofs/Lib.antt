@@ -1,5 +1,3 @@
-pub mod Giving
 pub mod Running
-pub mod Tallying
-pub mod Clearing
+pub mod Showing
 pub mod Words

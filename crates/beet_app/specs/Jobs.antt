@@ -1,25 +1,26 @@
 -- The words of the command line, and the job that they name.
-use Rattle.std.specs.Prelude.{◌≡◌, ℕ, List, [], ◌∷◌, Option, Some, None, option_map, Result, Ok, Err, Bool, ◌&&◌, if◌then◌else◌, codes, nat_eq, true}
+use Rattle.std.specs.Prelude.{◌≡◌, ℕ, List, [], ◌∷◌, Option, Some, None, option_map, Bool, ◌&&◌, if◌then◌else◌, codes, nat_eq, true}
 use Rattle.std.specs.Cmp.Lexicographic.{pointwise}
 use Rattle.beet_field.specs.declared.point.Point.{Point}
 use Rattle.beet_forms.specs.Names.{is_name_of}
-use Rattle.beet_book.specs.declared.entries.BidderSource.{BidderSource}
 use Rattle.beet_world.specs.Schedules.{server_of}
+use Rattle.beet_errand.specs.Errands.{Errand}
+use Rattle.beet_tally.specs.Tally.{tally_errand}
+use Rattle.beet_clear.specs.Clear.{clear_errand}
+use Rattle.beet_rehearse.specs.Rehearse.{rehearse_errand}
+use Rattle.beet_record.specs.Records.{record_errand}
 use Rattle.beet_envelopes.specs.SourceWords.{source_word, named_source}
+use Rattle.beet_envelopes.specs.Seal.{seal_errand}
+use Rattle.beet_envelopes.specs.Open.{open_errand}
 use Rattle.beet_trial.specs.Sizes.{AreSizes, sizes_of}
+use Rattle.beet_trial.specs.Trial.{trial_errand}
 use Rattle.beet_app.specs.declared.jobs.Command.{Command}
 use Rattle.beet_app.specs.declared.jobs.Command.TheVariants.{Tally as TallyOf, Clear as ClearOf, Rehearse as RehearseOf, Record as RecordOf, Worlds as WorldsOf, Seal as SealOf, Open as OpenOf, Trial as TrialOf}
 
--- a command with its words
+-- a job: it has an errand, which ends with its answer; or it compares two worlds, with the words of the second as they are mapped
 pub data Job : Type 0 where
-  Tally : List ℕ → List ℕ → Job
-  Clear : List ℕ → List ℕ → List ℕ → Job
-  Rehearse : List ℕ → List ℕ → List ℕ → List ℕ → Job
-  Record : List ℕ → List ℕ → List ℕ → List ℕ → Job
-  Worlds : List ℕ → List ℕ → List ℕ → List ℕ → Point → List ℕ → Job
-  Seal : List ℕ → List ℕ → BidderSource → List ℕ → Job
-  Open : List ℕ → List ℕ → List ℕ → Job
-  Trial : ℕ → ℕ → Job
+  Answering : Errand → Job
+  Comparing : List ℕ → List ℕ → List ℕ → List ℕ → Point → List ℕ → Job
 
 -- whether a word is this text
 abbrev pub is_word : List ℕ → List ℕ → Bool
@@ -33,31 +34,31 @@ are_names (word ∷ words) = is_name_of word && are_names words
 -- the job of a command with two words
 abbrev pub job_of_two : List ℕ → List ℕ → List ℕ → Option Job
 job_of_two command first second =
-    if is_word command (codes "tally") && are_names (first ∷ second ∷ []) then Some (Tally first second)
-    else if is_word command (codes "trial") then option_map (λ sizes. Trial sizes.0 sizes.1) (sizes_of first second)
+    if is_word command (codes "tally") && are_names (first ∷ second ∷ []) then Some (Answering (tally_errand first second))
+    else if is_word command (codes "trial") then option_map (λ sizes. Answering (trial_errand sizes.0 sizes.1)) (sizes_of first second)
     else None
 
 -- the job of a command with three files
 abbrev pub job_of_three : List ℕ → List ℕ → List ℕ → List ℕ → Option Job
 job_of_three command first second third =
     if are_names (first ∷ second ∷ third ∷ []) then
-    if is_word command (codes "clear") then Some (Clear first second third)
-    else if is_word command (codes "open") then Some (Open first second third)
+    if is_word command (codes "clear") then Some (Answering (clear_errand first second third))
+    else if is_word command (codes "open") then Some (Answering (open_errand first second third))
     else None
     else None
 
 -- the job `seal` with its words, of which the third names where the farmer's words come from
-abbrev pub seal_job : List ℕ → List ℕ → List ℕ → List ℕ → Option Job
-seal_job auction bid source out = option_map (λ from. Seal auction bid from out) (source_word source)
+abbrev pub seal_of : List ℕ → List ℕ → List ℕ → List ℕ → Option Job
+seal_of auction bid source out = option_map (λ from. Answering (seal_errand auction bid from out)) (source_word source)
 
 -- the job of a command with four words
 abbrev pub job_of_four : List ℕ → List ℕ → List ℕ → List ℕ → List ℕ → Option Job
 job_of_four command first second third fourth =
     if are_names (first ∷ second ∷ fourth ∷ []) then
-    if is_word command (codes "seal") then seal_job first second third fourth
+    if is_word command (codes "seal") then seal_of first second third fourth
     else if is_name_of third then
-    if is_word command (codes "rehearse") then Some (Rehearse first second third fourth)
-    else if is_word command (codes "record") then Some (Record first second third fourth)
+    if is_word command (codes "rehearse") then Some (Answering (rehearse_errand first second third fourth))
+    else if is_word command (codes "record") then Some (Answering (record_errand first second third fourth))
     else None
     else None
     else None
@@ -66,7 +67,7 @@ job_of_four command first second third fourth =
 abbrev pub job_of_six : List ℕ → List ℕ → List ℕ → List ℕ → List ℕ → List ℕ → List ℕ → Option Job
 job_of_six command auction servers first second server out =
     if is_word command (codes "worlds") && are_names (auction ∷ servers ∷ first ∷ second ∷ out ∷ [])
-    then option_map (λ s. Worlds auction servers first second s out) (server_of server)
+    then option_map (λ s. Comparing auction servers first second s out) (server_of server)
     else None
 
 -- the job that the words name: a command, and exactly its words
@@ -79,14 +80,14 @@ job_of words = None
 
 -- the job of a command that is read
 abbrev pub job_in : Command → Job
-job_in (TallyOf auction book) = Tally auction.now book.now
-job_in (ClearOf auction servers book) = Clear auction.now servers.now book.now
-job_in (RehearseOf auction servers book schedule) = Rehearse auction.now servers.now book.now schedule.now
-job_in (RecordOf auction servers book out) = Record auction.now servers.now book.now out.now
-job_in (WorldsOf auction servers first second server out) = Worlds auction.now servers.now first.now second.now server out.now
-job_in (SealOf auction bid source out) = Seal auction.now bid.now (named_source source) out.now
-job_in (OpenOf auction servers list) = Open auction.now servers.now list.now
-job_in (TrialOf bidders prices) = Trial bidders prices
+job_in (TallyOf auction book) = Answering (tally_errand auction.now book.now)
+job_in (ClearOf auction servers book) = Answering (clear_errand auction.now servers.now book.now)
+job_in (RehearseOf auction servers book schedule) = Answering (rehearse_errand auction.now servers.now book.now schedule.now)
+job_in (RecordOf auction servers book out) = Answering (record_errand auction.now servers.now book.now out.now)
+job_in (WorldsOf auction servers first second server out) = Comparing auction.now servers.now first.now second.now server out.now
+job_in (SealOf auction bid source out) = Answering (seal_errand auction.now bid.now (named_source source) out.now)
+job_in (OpenOf auction servers list) = Answering (open_errand auction.now servers.now list.now)
+job_in (TrialOf bidders prices) = Answering (trial_errand bidders prices)
 
 -- the sizes of a trial are within their limits
 abbrev pub IsSized : Command → Type 0

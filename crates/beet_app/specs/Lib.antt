@@ -1,6 +1,4 @@
 pub mod Texts
-pub mod Tally
-pub mod Clear
 pub mod Jobs
+pub mod Showing
 pub mod Doing
-pub mod Runs

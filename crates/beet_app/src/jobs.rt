@@ -1,15 +1,14 @@
 //! The jobs that words name.
 
-ghost use Rattle.std.specs.Prelude.{◌≡◌, ◌≤◌, Some, map, string_bytes};
+ghost use Rattle.std.specs.Prelude.{◌≡◌, Some, map, string_bytes};
 ghost use Rattle.beet_forms.specs.Names.{is_name_of};
 ghost use Rattle.beet_world.specs.Schedules.{server_of};
-ghost use Rattle.beet_errand.specs.Fetches.{Finishes, Refuses};
+ghost use Rattle.beet_errand.specs.Fetches.{Refuses};
 ghost use Rattle.beet_app.specs.Texts.{usage_text};
-ghost use Rattle.beet_app.specs.Doing.{Does, EndsFor};
-ghost use Rattle.beet_app.specs.Jobs.{IsSized, Knows, job_in, job_of, job_of_four, job_of_six, job_of_three, job_of_two, seal_job};
+ghost use Rattle.beet_app.specs.Doing.{DoesJob};
+ghost use Rattle.beet_app.specs.Jobs.{IsSized, Knows, job_in, job_of, job_of_four, job_of_six, job_of_three, job_of_two, seal_of};
 
-use crate::clear::clear;
-use crate::tally::tally;
+use beet_clear::clear;
 use beet_envelopes::{SourceWord, open_envelopes, read_source_word, seal_bid};
 use beet_errand::{Reply, Status, Stop};
 use beet_field::Point;
@@ -17,6 +16,7 @@ use beet_forms::is_name;
 use beet_record::record;
 use beet_rehearse::rehearse;
 use beet_store::Shelf;
+use beet_tally::tally;
 use beet_trial::{numbers_of_words, trial};
 use beet_two_worlds::worlds;
 use std::alloc::{AllocError, Global};
@@ -123,8 +123,13 @@ fn command_of_three<'a>(
 }
 
 /// The job `seal` with its words.
-fn seal_of<'a>(auction: &'a str, bid: &'a str, source: &'a str, out: &'a str) -> Option<Command<'a>>
-    ensures { Knows (seal_job auction.now bid.now source.now out.now) result }
+fn seal_command<'a>(
+    auction: &'a str,
+    bid: &'a str,
+    source: &'a str,
+    out: &'a str,
+) -> Option<Command<'a>>
+    ensures { Knows (seal_of auction.now bid.now source.now out.now) result }
 {
     let source = read_source_word(source)?;
     Some(Command::Seal {
@@ -148,7 +153,7 @@ fn command_of_four<'a>(
     if !(is_file(first) && is_file(second) && is_file(fourth)) {
         None
     } else if command == "seal" {
-        seal_of(first, second, third, fourth)
+        seal_command(first, second, third, fourth)
     } else if !is_file(third) {
         None
     } else if command == "rehearse" {
@@ -258,11 +263,7 @@ pub(crate) fn do_job<S: Shelf>(
     words: &[String],
     shelf: &mut S,
 ) -> Result<Reply, Stop>
-    ensures later { S.faults shelf.old ≤ S.faults shelf.new }
-    ensures cause { EndsFor (job_of (map string_bytes words.now))
-        (S.faults shelf.old) (S.faults shelf.new) result }
-    ensures finishes { Does (job_of (map string_bytes words.now)) (S.told shelf.old) (S.told shelf.new)
-        (λ told errand. Finishes told (S.told shelf.new) errand result) }
+    ensures { DoesJob (job_of (map string_bytes words.now)) (S.seen shelf.old) (S.seen shelf.new) result }
 {
     match command_of(words) {
         Some(command) => do_command(alloc, shelf, command),
@@ -273,10 +274,7 @@ pub(crate) fn do_job<S: Shelf>(
 /// Does a job, but for its files and its text, which it answers.
 fn do_command<S: Shelf>(alloc: Global, shelf: &mut S, command: Command<'_>) -> Result<Reply, Stop>
     requires { IsSized command }
-    ensures later { S.faults shelf.old ≤ S.faults shelf.new }
-    ensures cause { EndsFor (Some (job_in command.entry)) (S.faults shelf.old) (S.faults shelf.new) result }
-    ensures finishes { Does (Some (job_in command.entry)) (S.told shelf.old) (S.told shelf.new)
-        (λ told errand. Finishes told (S.told shelf.new) errand result) }
+    ensures { DoesJob (Some (job_in command.entry)) (S.seen shelf.old) (S.seen shelf.new) result }
 {
     match command {
         Command::Tally { auction, book } => tally(alloc, shelf, auction, book),

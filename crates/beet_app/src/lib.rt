@@ -1,72 +1,20 @@
 //! The jobs of the program, over any shelf and desk.
 #![tactic(auto)]
 
-ghost use Rattle.std.specs.Prelude.{◌≡◌, ◌≤◌, ◌⊎◌, ℕ, map, string_bytes, None};
+ghost use Rattle.std.specs.Prelude.{◌≡◌, ◌≤◌, ◌⊎◌, map, string_bytes, None};
 ghost use Rattle.beet_store.specs.Causes.{Rose};
-ghost use Rattle.beet_store.specs.Desks.{HasPutCause, GivesPut};
-ghost use Rattle.beet_app.specs.Doing.{ComparesWorlds, Does};
+ghost use Rattle.beet_answer.specs.Runs.{IsStatus, Runs, Said};
+ghost use Rattle.beet_app.specs.Doing.{ComparesWorlds, OfJob};
 ghost use Rattle.beet_app.specs.Jobs.{job_of};
+ghost use Rattle.beet_app.specs.Showing.{Shows};
 ghost use Rattle.beet_app.specs.Texts.{usage_text};
-ghost use Rattle.beet_app.specs.Runs.{Runs, IsStatus, Said, GivesAll, AnswersBy, EndGoesOut};
 
-mod clear;
 mod jobs;
-mod tally;
 
+use beet_answer::give_answer;
 pub use beet_errand::Status;
-use beet_errand::{NewFile, Reply, Stop};
-use beet_store::{Desk, PutFault, Shelf};
+use beet_store::{Desk, Shelf};
 use std::alloc::Global;
-
-/// Puts a file under its name.
-fn put_file<K: Desk>(alloc: Global, desk: &mut K, file: &NewFile) -> Result<(), PutFault>
-    ensures cause { HasPutCause (K.faults desk.old) (K.faults desk.new) result }
-    ensures content { GivesPut (K.given desk.old) (K.given desk.new) file.now.0 file.now.1 result }
-{
-    desk.put(alloc, file.name.as_str(), file.bytes.as_slice())
-}
-
-/// Puts the files in order, and then says the text. The first call that is refused is the last.
-fn give<K: Desk>(
-    alloc: Global,
-    desk: &mut K,
-    files: &[NewFile],
-    text: &[u8],
-) -> Result<(), PutFault>
-    ensures cause { HasPutCause (K.faults desk.old) (K.faults desk.new) result }
-    ensures gives { GivesAll (K.given desk.old) (K.given desk.new) files.now text.now result }
-{
-    for file in files {
-        put_file(alloc, desk, file)?;
-    }
-    desk.say(text)
-}
-
-/// Gives the files and the text of a reply to the desk. The status is the reply's, or that of the call that was refused.
-fn send<K: Desk>(alloc: Global, desk: &mut K, reply: &Reply) -> Status
-    ensures later { K.faults desk.old ≤ K.faults desk.new }
-    ensures ends { AnswersBy reply.now (K.given desk.old) (K.given desk.new) (K.faults desk.old) (K.faults desk.new) result }
-{
-    match give(alloc, desk, reply.files.as_slice(), reply.text.as_slice()) {
-        Ok(()) => reply.status,
-        Err(PutFault::Failed) => Status::WriteFault,
-        Err(PutFault::OutOfMemory) => Status::OutOfMemory,
-    }
-}
-
-/// Gives what a job answers to the desk. Where memory ran out nothing is given.
-fn give_answer<K: Desk>(alloc: Global, desk: &mut K, job: Result<Reply, Stop>) -> Status
-    ensures later { K.faults desk.old ≤ K.faults desk.new }
-    ensures ends { EndGoesOut (K.given desk.old) (K.given desk.new) (K.faults desk.old) (K.faults desk.new) job result }
-{
-    match job {
-        Ok(reply) => send(alloc, desk, &reply),
-        Err(Stop::Refused(status, line)) => {
-            send(alloc, desk, &Reply::of_text(alloc, status, line))
-        }
-        Err(Stop::OutOfMemory) => Status::OutOfMemory,
-    }
-}
 
 /// Does the job that the words after the program's name ask for. Words that stand for files are names of 1 to 200 bytes.
 ///
@@ -92,30 +40,27 @@ pub fn run<S: Shelf, K: Desk>(alloc: Global, words: &[String], shelf: &mut S, de
 
     // The usage line is said exactly where the words name no job.
     ensures usage { result ≡ 2 → job_of (map string_bytes words.now) ≡ None }
-    ensures usage_line { result ≡ 2 → Said (K.given desk.old) (K.given desk.new) usage_text }
+    ensures usage_line { result ≡ 2 → Said (K.seen desk.old).given (K.seen desk.new).given usage_text }
     ensures no_job { job_of (map string_bytes words.now) ≡ None → (result ≡ 2) ⊎ (result ≡ 1) ⊎ (result ≡ 4) }
 
     // A fault of the outside is answered only where that object's count of faults rose, and a fault of the desk is not passed over.
-    ensures read { result ≡ 3 → Rose (S.faults shelf.old) (S.faults shelf.new) }
-    ensures write { result ≡ 4 → Rose (K.faults desk.old) (K.faults desk.new) }
-    ensures undisturbed { (result ≡ 1) ⊎ (result ≡ 4) ⊎ (K.faults desk.new ≡ K.faults desk.old) }
-    ensures shelf_faults { S.faults shelf.old ≤ S.faults shelf.new }
-    ensures desk_faults { K.faults desk.old ≤ K.faults desk.new }
+    ensures read { result ≡ 3 → Rose (S.seen shelf.old).faults (S.seen shelf.new).faults }
+    ensures write { result ≡ 4 → Rose (K.seen desk.old).faults (K.seen desk.new).faults }
+    ensures undisturbed { (result ≡ 1) ⊎ (result ≡ 4) ⊎ ((K.seen desk.new).faults ≡ (K.seen desk.old).faults) }
+    ensures shelf_faults { (S.seen shelf.old).faults ≤ (S.seen shelf.new).faults }
+    ensures desk_faults { (K.seen desk.old).faults ≤ (K.seen desk.new).faults }
 
     // Two books are refused only by the job that compares them.
     ensures worlds { result ≡ 7 → ComparesWorlds (job_of (map string_bytes words.now)) }
 
     // The files fetched, the files put, the text said and the status are those of the job.
-    ensures runs { Does (job_of (map string_bytes words.now)) (S.told shelf.old) (S.told shelf.new)
-        (λ told errand. Runs errand told (S.told shelf.new) (K.given desk.old) (K.given desk.new) result) }
+    ensures runs { OfJob (job_of (map string_bytes words.now)) (S.seen shelf.old).told (S.seen shelf.new).told
+        (λ told errand. Runs errand told (S.seen shelf.new).told (K.seen desk.old).given (K.seen desk.new).given result) }
+
+    // Two worlds that were compared are shown to look the same to the server.
+    ensures shows { (result ≡ 0) ⊎ (result ≡ 6) → Shows (job_of (map string_bytes words.now))
+        (S.seen shelf.old).told (S.seen shelf.new).told (K.seen desk.old).given (K.seen desk.new).given }
 {
     let job = jobs::do_job(alloc, words, shelf);
     give_answer(alloc, desk, job).code()
 }
-
-#[cfg(test)]
-mod clear_tests;
-#[cfg(test)]
-mod job_tests;
-#[cfg(test)]
-mod tests;

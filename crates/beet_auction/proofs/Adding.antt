@@ -15,7 +15,7 @@ use Rattle.beet_book.specs.Dealing.{points_at, quantities, dealt_points}
 use Rattle.beet_book.specs.Totals.{sums_of, added, none_of}
 use Rattle.beet_book.proofs.Pairs.{length-pairwise, item-pairwise}
 use Rattle.beet_book.proofs.Sums.{sums-by_item}
-use Rattle.beet_auction.specs.Openings.{Farmer, point_for, summed_point, summed_points}
+use Rattle.beet_book.specs.Farmers.{Farmer, point_for, summed_point, summed_points}
 
 no-points : (prices : ℕ) (i : Point) → each (summed_point [] i) (2 * prices) ≡ replicate (2 * prices) 0
 no-points prices i =
@@ -29,7 +29,7 @@ no-points prices i =
 pub summed-none : (prices : ℕ) → summed_points prices [] ≡ (none_of prices).points
 summed-none prices = λ j. record { one = no-points prices One j; two = no-points prices Two j; three = no-points prices Three j }
 
-one-more : (total point : ℕ) → (total + point) % p ≡ add_of (total % p) point
+pub one-more : (total point : ℕ) → (total + point) % p ≡ add_of (total % p) point
 one-more total point = omega arith
 
 more-points : (prices : ℕ) (farmers : List Farmer) (farmer : Farmer) (i : Point) →

@@ -13,9 +13,12 @@ use Rattle.beet_gates.specs.Scripts.{revealed}
 use Rattle.beet_gates.specs.declared.Act.{Act}
 use Rattle.beet_gates.specs.declared.Act.TheVariants.{Deal, Mul, Reveal, End}
 use Rattle.beet_gates.specs.declared.Batch.{Batch}
+use Rattle.beet_gates.specs.declared.Gates.TheVariants.{Chain}
 use Rattle.beet_gates.specs.declared.Linear.{Linear}
 use Rattle.beet_gates.proofs.EachFacts.{length-each, each-same}
-use Rattle.beet_server.specs.Runs.{Opening, Shared, act_among, batch_among, gained, hidden_at, number_drawn, pair_at, product_at, trio_of, with_batch_lets}
+use Rattle.beet_mask.specs.Mask.{mask_wires_of}
+use Rattle.beet_server.specs.Runs.{Opening, Shared, act_among, batch_among, gained, hidden_at, number_drawn, pair_at, product_at, with_batch_lets}
+use Rattle.beet_field.specs.Trio.{trio_of}
 use Rattle.beet_server.specs.Steps.{gained_in}
 
 -- the opening with these points of server 3
@@ -34,10 +37,14 @@ abbrev pub wires_after_all : ℕ → List Batch → ℕ
 wires_after_all n [] = n
 wires_after_all n (b ∷ bs) = wires_after_all (wires_after n b) bs
 
+-- the wires of a mask, which has as many with any gates
+abbrev pub mask_wires : ℕ
+mask_wires = mask_wires_of Chain
+
 module _ (start : ℕ) where
   -- a wire of the mask that begins at `start` or of the comparison with it, other than the masked difference
   abbrev pub IsOwn : ℕ → Type 0
-  IsOwn w = (start ≤ w) × (w ≢ start + 547)
+  IsOwn w = (start ≤ w) × (w ≢ start + (mask_wires + 60))
 
   -- each term names such a wire, or has the factor 0
   abbrev pub TermsOwn : List (ℕ × ℕ) → Type 0

@@ -15,14 +15,13 @@ use Rattle.beet_gates.proofs.EachFacts.{length-each, item-each}
 use Rattle.beet_bids.specs.Books.{IsBook}
 use Rattle.beet_bids.specs.Curves.{quantity, IsOfGrid}
 use Rattle.beet_bids.specs.Grids.{Grid}
-use Rattle.beet_bids.specs.Sums.{supply_at, demand_at}
-use Rattle.beet_plan.specs.Runs.{sums_of}
-use Rattle.beet_plan.proofs.BookFacts.{length-sums, sums-supply, sums-demand, sums-elements}
+use Rattle.beet_bids.specs.Sums.{supply_at, demand_at, sums_of}
+use Rattle.beet_bids.proofs.BookSums.{length-sums, sums-supply, sums-demand, sums-elements}
 use Rattle.beet_book.specs.Totals.{supply_first}
 use Rattle.beet_book.proofs.Sums.{item-supply, item-demand}
 use Rattle.beet_server.specs.Lines.{OnLines}
 use Rattle.beet_server.proofs.Lined.{member-trio}
-use Rattle.beet_auction.specs.Openings.{Farmer, book_of, book_inputs, summed_point, slope_for}
+use Rattle.beet_book.specs.Farmers.{Farmer, book_of, book_inputs, summed_point, slope_for}
 use Rattle.beet_auction.proofs.Inputs.{points-summed}
 
 module _ (grid : Grid) where

@@ -9,15 +9,16 @@ use Rattle.beet_field.specs.declared.trio.Trio.{Trio}
 use Rattle.beet_bids.specs.Books.{Book, IsBook}
 use Rattle.beet_bids.specs.Grids.{comparisons_of}
 use Rattle.beet_bids.specs.Outcomes.{clearing_place}
-use Rattle.beet_bids.specs.Sums.{supply_at, demand_at}
+use Rattle.beet_bids.specs.Sums.{supply_at, demand_at, sums_of}
 use Rattle.beet_compare.specs.Compare.{is_doubled_even}
 use Rattle.beet_compare.proofs.Parity.{doubled_even-≤}
 use Rattle.beet_gates.proofs.EachFacts.{length-each, item-each}
-use Rattle.beet_plan.specs.Auction.{Auction}
-use Rattle.beet_plan.specs.Runs.{found, place_of_inputs, run_finish, run_rounds, sums_of}
+use Rattle.beet_plan.specs.Auction.{Auction, auction_over}
+use Rattle.beet_plan.specs.Runs.{found, place_of_inputs, run_finish, run_rounds}
 use Rattle.beet_plan.specs.Search.{mask_at}
 use Rattle.beet_plan.proofs.AuctionLaw.{below_comparisons}
-use Rattle.beet_plan.proofs.BookFacts.{book-turn, clearing-within, found-outcome, length-sums, sums-supply, sums-demand, small}
+use Rattle.beet_plan.proofs.BookFacts.{found-outcome}
+use Rattle.beet_bids.proofs.BookSums.{book-turn, clearing-within, length-sums, sums-supply, sums-demand, small}
 use Rattle.beet_plan.proofs.Searches.{place-turn}
 use Rattle.beet_server.specs.Lines.{OnLines}
 use Rattle.beet_server.specs.Runs.{opened_at}
@@ -26,7 +27,7 @@ use Rattle.beet_auction.specs.AnyPoints.{points_finish, points_place, points_rou
 use Rattle.beet_auction.specs.Endings.{book_finish, book_rounds}
 
 -- two tests agree where both say the same
-same_test : (b : Bool) (s d : ℕ) → IsTrue b ↔ (d ≤ s) → b ≡ nat_le d s
+pub same_test : (b : Bool) (s d : ℕ) → IsTrue b ↔ (d ≤ s) → b ≡ nat_le d s
 same_test b s d e = elim (cases_Bool b) [
   | inl t ↦ let h = e.0 t in t ∙ (let le : nat_le d s ≡ true = grind (arith, nat_tests, h) in sym le)
   | inr f ↦ f ∙ (let h = iff_false e f in let le : nat_le d s ≡ false = grind (arith, nat_tests, h) in sym le)
@@ -34,7 +35,7 @@ same_test b s d e = elim (cases_Bool b) [
 
 module _ (book : Book) where
   abbrev auction : Auction
-  auction = record { prices = book.grid.prices }
+  auction = auction_over book.grid
 
   -- the search over the sums ends at the clearing place
   book-place : IsBook book → place_of_inputs auction (sums_of book) ≡ clearing_place book
@@ -63,7 +64,7 @@ module _ (book : Book) where
 
   pub points-rounds : (slopes : List ℕ) (inputs masks : Trio (List ℕ)) → IsBook book → OnLines (sums_of book) slopes inputs →
       points_rounds auction inputs masks ≡ book_rounds book masks
-  points-rounds slopes inputs masks b lines = ap (run_rounds book.grid.prices (mask_at masks)) (points-place slopes inputs b lines)
+  points-rounds slopes inputs masks b lines = ap (run_rounds auction (mask_at masks)) (points-place slopes inputs b lines)
 
   pub points-finish : (slopes : List ℕ) (inputs masks : Trio (List ℕ)) → IsBook book → OnLines (sums_of book) slopes inputs →
       points_finish auction inputs masks ≡ book_finish book masks

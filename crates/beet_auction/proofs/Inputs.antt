@@ -8,7 +8,7 @@ use Rattle.beet_field.specs.Point.{number_of}
 use Rattle.beet_field.specs.declared.point.Point.{Point}
 use Rattle.beet_shamir.specs.Line.{point_of}
 use Rattle.beet_bids.specs.Curves.{quantity}
-use Rattle.beet_auction.specs.Openings.{Farmer, point_for, slope_for, summed_point}
+use Rattle.beet_book.specs.Farmers.{Farmer, point_for, slope_for, summed_point}
 
 -- sums of points are the points of the sums
 pub points-summed : (farmers : List Farmer) (i : Point) (n : ℕ) →

@@ -1,6 +1,7 @@
 pub mod Inputs
 pub mod BookLines
 pub mod Ends
+pub mod WorldEnds
 pub mod Adding
 pub mod Apart
 pub mod OwnBlocks

@@ -25,6 +25,8 @@ use Rattle.beet_server.specs.Runs.{Opening, end_from, opened_at}
 use Rattle.beet_server.proofs.Lined.{lined-each, lined-same, on-lines}
 use Rattle.beet_auction.specs.AnyPoints.{ArePoints, points_finish, points_place, points_rounds, values_on}
 use Rattle.beet_auction.specs.Endings.{AuctionEnds}
+use Rattle.beet_plan.specs.Blocks.{blocks_of}
+use Rattle.beet_auction.proofs.OwnBlocks.{own-blocks}
 use Rattle.beet_auction.proofs.Apart.{with_third}
 use Rattle.beet_auction.proofs.Ends.{lines-end}
 use Rattle.beet_auction.proofs.SameOpened.{SameOpened, search-goes, start-alike}
@@ -34,7 +36,7 @@ same-opened : (a : Auction) (o : Opening) (points : List ℕ) → o.next ≡ auc
     (t : ℕ) → SameOpened o points t
 same-opened a o points next long as_long t =
     subst (SameOpened o points) (zero-add t)
-    (search-goes o points a.prices (comparisons_of a.prices + 3) 0 a.prices (2 * a.prices) 0 0 (start-alike o points (2 * a.prices) long as_long)
+    (search-goes o points (blocks_of a.gates) (own-blocks a.gates) a.prices (comparisons_of a.prices + 3) 0 a.prices (2 * a.prices) 0 0 (start-alike o points (2 * a.prices) long as_long)
     (subst (λ n. Follows n 0 [] (auction_plan a)) (sym next) (follows-itself a)) t)
 
 -- and end alike

@@ -1,5 +1,5 @@
 -- The blocks of the auction open the same numbers in two runs that differ in points of server 3.
-use Rattle.std.proofs.Common.{◌≡◌, ℕ, zero, suc, ◌+◌, ◌-◌, ◌*◌, ◌<◌, inl, inr, List, [], ◌∷◌, ◌++◌, length, refl, sym, ◌∙◌, ap, arith, add-zero, mul-zero, mul-suc, eq-eqb, ne_eqb, length-append}
+use Rattle.std.proofs.Common.{◌≡◌, ℕ, zero, suc, ◌+◌, ◌-◌, ◌*◌, ◌<◌, inl, inr, List, [], ◌∷◌, ◌++◌, length, refl, subst, sym, ◌∙◌, ap, arith, add-zero, mul-zero, mul-suc, eq-eqb, ne_eqb, length-append}
 use Rattle.std.specs.Int.{bit_at}
 use Rattle.std.proofs.lemmas.Bool.{cases_eq}
 use Rattle.beet_field.specs.Field.{p}
@@ -10,10 +10,17 @@ use Rattle.beet_gates.specs.Scripts.{revealed}
 use Rattle.beet_gates.specs.declared.Batch.{Batch}
 use Rattle.beet_gates.specs.declared.Linear.{Linear}
 use Rattle.beet_gates.proofs.EachFacts.{length-each, each-zero, each-cons, each-suc}
-use Rattle.beet_mask.specs.Mask.{mask_batches, xor_let}
-use Rattle.beet_compare.specs.Compare.{masked_batch, borrow_batches, same_let, lowest_batch, bit_batch, last_batch, answer_batch}
+use Rattle.beet_mask.specs.Mask.{bit_wire_of, mask_batches, xor_let}
+use Rattle.beet_compare.specs.Compare.{compare_wires_of, masked_batch, borrow_batches, same_let, lowest_batch, bit_batch, last_batch, answer_batch}
 use Rattle.beet_compare.proofs.CompareTable.{last_two}
-use Rattle.beet_auction.proofs.Apart.{IsOwn, TermsOwn, LetsOwn, PairsOwn, BatchOwn, BlockOwn, wires_after, wires_after_all}
+use Rattle.beet_gates.specs.declared.Gates.{Gates}
+use Rattle.beet_gates.specs.declared.Gates.TheVariants.{Chain, Tree}
+use Rattle.beet_plan.specs.Blocks.{Blocks, after_both, after_mask, blocks_of, chain_blocks}
+use Rattle.beet_auction.proofs.Apart.{IsOwn, TermsOwn, LetsOwn, PairsOwn, BatchOwn, BlockOwn, mask_wires, wires_after, wires_after_all}
+
+-- the wires of a mask before its bits
+abbrev before_bits : ℕ
+before_bits = bit_wire_of 0 0
 
 wires_after_all-append : (n : ℕ) (xs ys : List Batch) → wires_after_all n (xs ++ ys) ≡ wires_after_all (wires_after_all n xs) ys
 wires_after_all-append n [] ys = refl
@@ -80,7 +87,7 @@ module _ (start : ℕ) where
   ]
 
   -- the block of a mask
-  pub mask-own : BlockOwn start start (mask_batches start) × (wires_after_all start (mask_batches start) ≡ start + 487)
+  pub mask-own : BlockOwn start start (mask_batches start) × (wires_after_all start (mask_batches start) ≡ start + mask_wires)
   mask-own =
       let p1 : ℕ → ℕ × ℕ = λ k. (start + k, start + 61 + k) in
       let l2 = λ (k : ℕ). xor_let (start + k) (start + 61 + k) (start + 183 + k) in
@@ -89,7 +96,7 @@ module _ (start : ℕ) where
       let rule = λ (j : ℕ). mul_batch [] ((start + 427 + j, start + 368 + j) ∷ []) in
       let b2 = mul_batch [] (each p1 61) in
       let b3 = mul_batch (each l2 61) (each p2 61) in
-      let b4 = mul_batch (each l3 61) ((start + 366, start + 367) ∷ []) in
+      let b4 = mul_batch (each l3 61) ((start + before_bits, start + (before_bits + 1)) ∷ []) in
       let w1 = wires_after start deal_batch in
       let w2 = wires_after w1 b2 in
       let w3 = wires_after w2 b3 in
@@ -118,11 +125,11 @@ module _ (start : ℕ) where
 
   -- the opening of the masked difference
   pub masked-own : (supply demand : ℕ) →
-      BlockOwn start (start + 487) (masked_batch (start + 487) start supply demand ∷ [])
-      × (wires_after_all (start + 487) (masked_batch (start + 487) start supply demand ∷ []) ≡ start + 548)
+      BlockOwn start (start + mask_wires) (masked_batch (start + mask_wires) start supply demand ∷ [])
+      × (wires_after_all (start + mask_wires) (masked_batch (start + mask_wires) start supply demand ∷ []) ≡ start + (mask_wires + 61))
   masked-own supply demand =
-      let first = start + 487 in
-      let rule = λ (k : ℕ). two_terms 0 (2, first + k) (1, start + 366 + (58 - k)) in
+      let first = start + mask_wires in
+      let rule = λ (k : ℕ). two_terms 0 (2, first + k) (1, start + before_bits + (58 - k)) in
       let tail = three_terms 0 (2, supply) (p - 2, demand) (1, first + 59) in
       let n = length-each rule 59 in (
         own-last first (masked_batch first start supply demand) (
@@ -138,17 +145,17 @@ module _ (start : ℕ) where
       )
 
   -- the borrows and the answer
-  pub borrow-own : (c : ℕ) → BlockOwn start (start + 548) (borrow_batches (start + 487) start c)
-      × (wires_after_all (start + 548) (borrow_batches (start + 487) start c) ≡ start + 732)
+  pub borrow-own : (c : ℕ) → BlockOwn start (start + (mask_wires + 61)) (borrow_batches (start + mask_wires) start c)
+      × (wires_after_all (start + (mask_wires + 61)) (borrow_batches (start + mask_wires) start c) ≡ start + (mask_wires + compare_wires_of Chain))
   borrow-own c =
-      let first = start + 487 in
+      let first = start + mask_wires in
       let one = lowest_batch first start c in
-      let w1 = wires_after (start + 548) one in
+      let w1 = wires_after (start + (mask_wires + 61)) one in
       let chain = own-each (bit_batch first start c) 3 w1 59 (λ k l w. (
         (
           (
             λ own. (inr (omega arith, omega arith), (inr (omega arith, omega arith), (inl refl, tt))),
-            (λ own. same-own (bit_at c (k + 2)) (start + 366 + (k + 2)) (omega arith, omega arith), tt),
+            (λ own. same-own (bit_at c (k + 2)) (start + before_bits + (k + 2)) (omega arith, omega arith), tt),
           ),
           ((omega arith, omega arith), (omega arith, omega arith), tt),
         ),
@@ -158,12 +165,12 @@ module _ (start : ℕ) where
       let w2 = wires_after_all w1 (each (bit_batch first start c) 59) in
       let product = last_batch first start c in
       let answer = answer_batch first in
-      let end : wires_after_all (start + 548) (borrow_batches first start c) ≡ wires_after (wires_after w2 product) answer =
+      let end : wires_after_all (start + (mask_wires + 61)) (borrow_batches first start c) ≡ wires_after (wires_after w2 product) answer =
       wires_after_all-append w1 (each (bit_batch first start c) 59) (last_two first start c) in (
-        own-cons (start + 548) one _ (
+        own-cons (start + (mask_wires + 61)) one _ (
           (
             λ own. (inr (omega arith, omega arith), (inl refl, (inl refl, tt))),
-            (λ own. same-own (bit_at c 1) (start + 367) (omega arith, omega arith), tt),
+            (λ own. same-own (bit_at c 1) (start + (before_bits + 1)) (omega arith, omega arith), tt),
           ),
           ((omega arith, omega arith), (omega arith, omega arith), tt),
         ) refl
@@ -171,7 +178,7 @@ module _ (start : ℕ) where
             (own-cons w2 product (answer ∷ []) (
               (
                 λ own. (inr (omega arith, omega arith), (inr (omega arith, omega arith), (inl refl, tt))),
-                (λ own. same-own (1 - bit_at c 0) (start + 366) (omega arith, omega arith), tt),
+                (λ own. same-own (1 - bit_at c 0) (start + before_bits) (omega arith, omega arith), tt),
               ),
               ((omega arith, omega arith), (omega arith, omega arith), tt),
             ) refl
@@ -179,3 +186,24 @@ module _ (start : ℕ) where
             ((λ own. (inr (omega arith, omega arith), (inr (omega arith, omega arith), (inr (omega arith, omega arith), tt))), tt), tt) refl))),
         omega (arith, end, chain.1),
       )
+
+-- blocks of such batches
+pub record AreOwn (g : Blocks) : Type 0 where
+  pub mask : (start : ℕ) → BlockOwn start start (g.mask start) × (wires_after_all start (g.mask start) ≡ after_mask g start)
+  pub masked : (start supply demand : ℕ) → BlockOwn start (after_mask g start) (g.masked (after_mask g start) start supply demand ∷ [])
+  pub answer : (start supply demand c : ℕ) →
+      (let n = wires_after_all (after_mask g start) (g.masked (after_mask g start) start supply demand ∷ []) in
+      BlockOwn start n (g.answer (after_mask g start) start c) × (wires_after_all n (g.answer (after_mask g start) start c) ≡ after_both g start))
+
+chain-own : AreOwn chain_blocks
+chain-own = record {
+  mask = mask-own;
+  masked = λ start supply demand. (masked-own start supply demand).0;
+  answer = λ start supply demand c.
+      subst (λ n. BlockOwn start n (borrow_batches (start + mask_wires) start c) × (wires_after_all n (borrow_batches (start + mask_wires) start c) ≡ start + (mask_wires + compare_wires_of Chain)))
+      (sym (masked-own start supply demand).1) (borrow-own start c);
+}
+
+pub own-blocks : (gates : Gates) → AreOwn (blocks_of gates)
+own-blocks Chain = chain-own
+own-blocks Tree = chain-own

@@ -1,27 +1,30 @@
 -- Runs of the auction that differ in server 3's points of the inputs open the same numbers.
-use Rattle.std.proofs.Common.{◌≡◌, ℕ, zero, suc, ◌+◌, ◌/◌, Bool, true, false, List, [], ◌∷◌, ◌++◌, length, refl, sym, ◌∙◌, ap, subst, arith, add-zero, add-one, append-nil}
+use Rattle.std.proofs.Common.{◌≡◌, ℕ, zero, suc, ◌+◌, ◌/◌, Bool, true, false, List, [], ◌∷◌, ◌++◌, length, slice_index, refl, sym, ◌∙◌, ap, subst, arith, add-zero, add-one, append-nil}
 use Rattle.std.specs.Prelude.{nat_lt, if◌then◌else◌, ◌==◌}
 use Rattle.std.proofs.Math.ListN.{get_or-eq_default}
 use Rattle.beet_gates.specs.Batches.{end_batch, reveal_batch}
-use Rattle.beet_gates.specs.Plans.{Plan, Ended, Block, plan_batch}
+use Rattle.beet_gates.specs.Plans.{Plan, Ended, Block, Last, plan_batch}
 use Rattle.beet_gates.specs.Scripts.{revealed}
 use Rattle.beet_gates.specs.declared.Act.{Act}
 use Rattle.beet_gates.specs.declared.Act.TheVariants.{Deal, Mul, Reveal, End}
 use Rattle.beet_gates.specs.declared.Batch.{Batch}
-use Rattle.beet_gates.proofs.PlanFacts.{Follows, follows-now, follows-next, follows-tail}
-use Rattle.beet_mask.specs.Mask.{mask_batches}
-use Rattle.beet_compare.specs.Compare.{masked_batch, borrow_batches}
+use Rattle.beet_gates.proofs.PlanFacts.{Follows, follows-last, follows-now, follows-next, follows-tail}
+use Rattle.beet_plan.specs.Blocks.{Blocks, after_both, after_mask}
 use Rattle.beet_plan.specs.Auction.{search_plan, end_plan, compare_plan, after_answer, after_product}
 use Rattle.beet_plan.specs.declared.Finish.{Finish}
 use Rattle.beet_plan.specs.declared.Finish.TheVariants.{Price, NoPrice, MasksSpent}
 use Rattle.beet_server.specs.Runs.{Opening, Shared, batch_among, opened_at, opened_by, shared_at, with_batch_lets}
 use Rattle.beet_auction.proofs.Apart.{Agree, Alike, BatchOwn, BlockOwn, batch-alike, wires_after, wires_after_all, with_third}
-use Rattle.beet_auction.proofs.OwnBlocks.{mask-own, masked-own, borrow-own}
+use Rattle.beet_auction.proofs.OwnBlocks.{AreOwn}
 
 module _ {F : Type 0} where
   now-block : (b : Batch) (bs : List Batch) (k : ℕ → Plan F) → plan_batch (Block (b ∷ bs) k) 0 [] ≡ b
   unfolding plan_batch
   now-block b bs k = refl
+
+  now-last : (b : Batch) (n : ℕ) (named : List ℕ → F) → plan_batch (Last b n named) 0 [] ≡ b
+  unfolding plan_batch
+  now-last b n named = refl
 
   ended-batch : (f : F) (done : ℕ) (opened : List ℕ) → plan_batch (Ended f) done opened ≡ end_batch
   unfolding plan_batch
@@ -145,43 +148,58 @@ module _ (o : Opening) (points : List ℕ) where
         subst SameOpened e (ended-goes f start (wires_after n end_batch) (suc t) (advance start n t end_batch now (tt, tt) a)
         (subst (λ x. Follows o.next (suc t) x (Ended f)) (sym opened) later) j)
 
-  shows-own : (start n w : ℕ) → BlockOwn start n (reveal_batch [] (w ∷ []) ∷ [])
-  unfolding BlockOwn
-  shows-own start n w = ((tt, tt), refl)
+  shows-own : (start n w : ℕ) → BatchOwn start n (reveal_batch [] (w ∷ []))
+  shows-own start n w = (tt, tt)
+
+  last-goes : (b : Batch) (k : ℕ) (named : List ℕ → Finish) (start n t : ℕ) → BatchOwn start n b → AlikeAt start n t → FollowsAt t (Last b k named) →
+      (j : ℕ) → SameOpened (t + j)
+  last-goes b k named start n t h a f zero = subst SameOpened (sym (add-zero t)) (same-now start n t a)
+  last-goes b k named start n t h a f (suc j) =
+      let s = shared_at o t in
+      let now : o.next t s.opened ≡ b = follows-now o.next t s.opened (Last b k named) f ∙ now-last b k named in
+      let new = opened_by (with_batch_lets b s) b.act in
+      let opened : (shared_at o (suc t)).opened ≡ s.opened ++ new = ap (λ x. (batch_among o x s).opened) now in
+      let e : suc t + j ≡ t + suc j = omega arith in
+      subst SameOpened e (ended-goes (named new) start (wires_after n b) (suc t) (advance start n t b now h a)
+      (subst (λ x. Follows o.next (suc t) x (Ended (named new))) (sym opened) (rw add-one at (follows-last o.next t s.opened new b k named f))) j)
 
   end-goes : (prices place start n t : ℕ) → AlikeAt start n t → FollowsAt t (end_plan prices place) → (j : ℕ) → SameOpened (t + j)
   end-goes prices place start n t a f =
       let shows = reveal_batch [] ((prices + place) ∷ []) in
-      let more : ℕ → Plan Finish = λ volume. Ended (Price place volume) in
-      follows-if o.next t (shared_at o t).opened (nat_lt place prices) (Block (shows ∷ []) more) (Ended NoPrice) f
-      (λ g. block-goes start n (shows ∷ []) more t (shows-own start n (prices + place)) a g (λ x u b h. ended-goes (Price place x) start (wires_after n shows) u b h))
+      let named : List ℕ → Finish = λ opened. Price place (slice_index opened 0) in
+      follows-if o.next t (shared_at o t).opened (nat_lt place prices) (Last shows 1 named) (Ended NoPrice) f
+      (λ g. last-goes shows 1 named start n t (shows-own start n (prices + place)) a g)
       (λ g. ended-goes NoPrice start n t a g)
 
   -- the whole search
-  pub search-goes : (prices n lo hi first rej t : ℕ) → AlikeAt first first t → FollowsAt t (search_plan prices n lo hi first rej) → (j : ℕ) → SameOpened (t + j)
-  unfolding search_plan
-  search-goes prices zero lo hi first rej t a f = end-goes prices lo first first t a f
-  search-goes prices (suc n) lo hi first rej t a f =
-      let mid = (lo + hi) / 2 in
-      let spent = if rej == 2 then Ended MasksSpent else search_plan prices n lo hi (first + 487) (rej + 1) in
-      let compares = compare_plan prices (first + 487) first mid (after_answer prices n lo hi first rej) in
-      let borrows : ℕ → Plan Finish = λ c. Block (borrow_batches (first + 487) first c) (after_answer prices n lo hi first rej) in
-      let masked = masked_batch (first + 487) first mid (prices + mid) in
-      follows-if o.next t (shared_at o t).opened (nat_lt lo hi) (Block (mask_batches first) (after_product prices n lo hi first rej)) (end_plan prices lo) f
-      (λ g. block-goes first first (mask_batches first) (after_product prices n lo hi first rej) t (mask-own first).0 a g
-      (λ product u b h.
-      let b' : AlikeAt first (first + 487) u = subst (λ m. AlikeAt first m u) (mask-own first).1 b in
-      follows-if o.next u (shared_at o u).opened (product == 1) spent compares h
-      (λ h'. follows-if o.next u (shared_at o u).opened (rej == 2) (Ended MasksSpent) (search_plan prices n lo hi (first + 487) (rej + 1)) h'
-      (λ g'. ended-goes MasksSpent first (first + 487) u b' g')
-      (λ g'. search-goes prices n lo hi (first + 487) (rej + 1) u (renew first (first + 487) _ _ b') g'))
-      (λ h'. block-goes first (first + 487) (masked ∷ []) borrows u (masked-own first mid (prices + mid)).0 b' h'
-      (λ c v d i.
-      let d' : AlikeAt first (first + 548) v = subst (λ m. AlikeAt first m v) (masked-own first mid (prices + mid)).1 d in
-      block-goes first (first + 548) (borrow_batches (first + 487) first c) (after_answer prices n lo hi first rej) v (borrow-own first c).0 d' i
-      (λ answer w x y.
-      let x' : AlikeAt (first + 732) (first + 732) w = renew first (first + 732) _ _ (subst (λ m. AlikeAt first m w) (borrow-own first c).1 x) in
-      follows-if o.next w (shared_at o w).opened (answer == 1) (search_plan prices n lo mid (first + 732) rej) (search_plan prices n (mid + 1) hi (first + 732) rej) y
-      (λ z. search-goes prices n lo mid (first + 732) rej w x' z)
-      (λ z. search-goes prices n (mid + 1) hi (first + 732) rej w x' z))))))
-      (λ g. end-goes prices lo first first t a g)
+  module _ (g : Blocks) (own : AreOwn g) where
+    pub search-goes : (prices n lo hi first rej t : ℕ) → AlikeAt first first t → FollowsAt t (search_plan g prices n lo hi first rej) → (j : ℕ) → SameOpened (t + j)
+    unfolding search_plan
+    search-goes prices zero lo hi first rej t a f = end-goes prices lo first first t a f
+    search-goes prices (suc n) lo hi first rej t a f =
+        let mid = (lo + hi) / 2 in
+        let next = after_mask g first in
+        let both = after_both g first in
+        let spent = if rej == 2 then Ended MasksSpent else search_plan g prices n lo hi next (rej + 1) in
+        let compares = compare_plan g prices next first mid (after_answer g prices n lo hi first rej) in
+        let answers : ℕ → Plan Finish = λ c. Block (g.answer next first c) (after_answer g prices n lo hi first rej) in
+        let masked = g.masked next first mid (prices + mid) in
+        let middle = wires_after_all next (masked ∷ []) in
+        follows-if o.next t (shared_at o t).opened (nat_lt lo hi) (Block (g.mask first) (after_product g prices n lo hi first rej)) (end_plan prices lo) f
+        (λ f. block-goes first first (g.mask first) (after_product g prices n lo hi first rej) t (own.mask first).0 a f
+        (λ product u b h.
+        let b' : AlikeAt first next u = subst (λ m. AlikeAt first m u) (own.mask first).1 b in
+        follows-if o.next u (shared_at o u).opened (product == 1) spent compares h
+        (λ h'. follows-if o.next u (shared_at o u).opened (rej == 2) (Ended MasksSpent) (search_plan g prices n lo hi next (rej + 1)) h'
+        (λ g'. ended-goes MasksSpent first next u b' g')
+        (λ g'. search-goes prices n lo hi next (rej + 1) u (renew first next _ _ b') g'))
+        (λ h'. block-goes first next (masked ∷ []) answers u (own.masked first mid (prices + mid)) b' h'
+        (λ c v d i.
+        let answer = own.answer first mid (prices + mid) c in
+        block-goes first middle (g.answer next first c) (after_answer g prices n lo hi first rej) v answer.0 d i
+        (λ reached w x y.
+        let x' : AlikeAt both both w = renew first both _ _ (subst (λ m. AlikeAt first m w) answer.1 x) in
+        follows-if o.next w (shared_at o w).opened (reached == 1) (search_plan g prices n lo mid both rej) (search_plan g prices n (mid + 1) hi both rej) y
+        (λ z. search-goes prices n lo mid both rej w x' z)
+        (λ z. search-goes prices n (mid + 1) hi both rej w x' z))))))
+        (λ f. end-goes prices lo first first t a f)

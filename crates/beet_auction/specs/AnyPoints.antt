@@ -34,4 +34,4 @@ points_finish a inputs masks =
 
 -- and after how many rounds
 abbrev pub points_rounds : Auction → Trio (List ℕ) → Trio (List ℕ) → ℕ
-points_rounds a inputs masks = run_rounds a.prices (mask_at masks) (points_place a inputs)
+points_rounds a inputs masks = run_rounds a (mask_at masks) (points_place a inputs)

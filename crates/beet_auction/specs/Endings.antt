@@ -5,7 +5,7 @@ use Rattle.beet_field.specs.declared.trio.Trio.{Trio}
 use Rattle.beet_gates.specs.Plans.{plan_finish}
 use Rattle.beet_bids.specs.Books.{Book}
 use Rattle.beet_bids.specs.Outcomes.{clearing_place, outcome_of}
-use Rattle.beet_plan.specs.Auction.{Auction, auction_plan, most_rounds}
+use Rattle.beet_plan.specs.Auction.{Auction, auction_over, auction_plan, most_rounds}
 use Rattle.beet_plan.specs.Runs.{run_finish, run_rounds, finish_of}
 use Rattle.beet_plan.specs.Search.{mask_at}
 use Rattle.beet_plan.specs.declared.Finish.{Finish}
@@ -19,7 +19,7 @@ book_finish book masks = run_finish book.grid.prices (mask_at masks) (clearing_p
 
 -- and after how many rounds
 abbrev pub book_rounds : Book → Trio (List ℕ) → ℕ
-book_rounds book masks = run_rounds book.grid.prices (mask_at masks) (clearing_place book)
+book_rounds book masks = run_rounds (auction_over book.grid) (mask_at masks) (clearing_place book)
 
 -- the run of an auction has these rounds, and the script names this finish after the numbers opened in them
 pub record AuctionEnds (a : Auction) (o : Opening) (rounds : ℕ) (finish : Finish) : Type 0 where

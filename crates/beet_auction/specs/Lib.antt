@@ -1,3 +1,4 @@
 pub mod Openings
 pub mod Endings
 pub mod AnyPoints
+pub mod WorldEnds

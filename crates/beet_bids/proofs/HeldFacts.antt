@@ -11,7 +11,8 @@ use Rattle.std.proofs.lemmas.List.Folds.{find-append}
 use Rattle.std.proofs.lemmas.List.FromFn.{get_or-map-range_with_len, length-map-range_with_len, map-range_with_len_more}
 use Rattle.std.proofs.lemmas.List.Elements.{All-head, All-tail, All-map}
 use Rattle.beet_bids.specs.Grids.{Grid, price_of, place_of, places_of}
-use Rattle.beet_bids.specs.Curves.{IsCurve, IsOfGrid, largest_quantity}
+use Rattle.beet_bids.specs.declared.curve.TheConstants.{LARGEST_QUANTITY}
+use Rattle.beet_bids.specs.Curves.{IsCurve, IsOfGrid}
 use Rattle.beet_bids.specs.Lines.{Precedes, AreLines, begin_at, begin_of}
 use Rattle.beet_bids.specs.BidFiles.{line_at, held_line, curve_in}
 use Rattle.beet_bids.specs.declared.lines.Line.{Line}
@@ -141,10 +142,10 @@ curve_in-is grid lines are =
     let sell : ℕ → ℕ = λ (place : ℕ). (held_line grid lines place).sell in
     record {
       one_length = length-map-range_with_len sell 0 grid.prices ∙ sym (length-map-range_with_len buy 0 grid.prices);
-      buy_limit = All-map (λ quantity. quantity ≤ largest_quantity) buy (places_of grid)
-          (λ k d h. line_at-all (λ l. l.buy ≤ largest_quantity) lines (price_of grid (get_or (places_of grid) k d)) _ are.buy_limit (held_found grid lines (get_or (places_of grid) k d) are));
-      sell_limit = All-map (λ quantity. quantity ≤ largest_quantity) sell (places_of grid)
-          (λ k d h. line_at-all (λ l. l.sell ≤ largest_quantity) lines (price_of grid (get_or (places_of grid) k d)) _ are.sell_limit (held_found grid lines (get_or (places_of grid) k d) are));
+      buy_limit = All-map (λ quantity. quantity ≤ LARGEST_QUANTITY) buy (places_of grid)
+          (λ k d h. line_at-all (λ l. l.buy ≤ LARGEST_QUANTITY) lines (price_of grid (get_or (places_of grid) k d)) _ are.buy_limit (held_found grid lines (get_or (places_of grid) k d) are));
+      sell_limit = All-map (λ quantity. quantity ≤ LARGEST_QUANTITY) sell (places_of grid)
+          (λ k d h. line_at-all (λ l. l.sell ≤ LARGEST_QUANTITY) lines (price_of grid (get_or (places_of grid) k d)) _ are.sell_limit (held_found grid lines (get_or (places_of grid) k d) are));
       buy_never_rises = λ i j d h k.
           let within : j < grid.prices = omega (arith, length-map-range_with_len buy 0 grid.prices) in
           let first : get_or (map buy (places_of grid)) i d ≡ buy i = get_or-map-range_with_len buy 0 grid.prices i i d (omega arith) (omega arith) in

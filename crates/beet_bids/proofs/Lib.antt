@@ -2,3 +2,4 @@ pub mod GridFacts
 pub mod CurveFacts
 pub mod LineFacts
 pub mod HeldFacts
+pub mod BookSums

@@ -1,11 +1,10 @@
 -- Which lines are accepted, and what is known of them.
-use Rattle.std.proofs.Common.{codes, zero, suc, ◌++◌, take, drop, drop-cons, ◌≡◌, ℕ, ◌+◌, ◌-◌, ◌<◌, ◌≤◌, ◌==◌, ◌||◌, min, not, Bool, true, false, nat_lt, nat_le, is_none, is_some, nat_eq, unwrap_or, IsTrue, if◌then◌else◌, List, [], ◌∷◌, map, zip, filter_map, length, get_or, All, AllPairs, Option, Some, None, Ok, Err, option_map, refl, ap, sym, subst, ◌∙◌, arith, inl, inr}
+use Rattle.std.proofs.Common.{append_assoc, codes, ◌++◌, drop, ◌≡◌, ℕ, ◌+◌, ◌-◌, ◌<◌, ◌≤◌, ◌==◌, ◌||◌, min, not, Bool, true, false, nat_lt, nat_le, is_none, is_some, IsTrue, if◌then◌else◌, List, [], ◌∷◌, map, zip, filter_map, length, All, AllPairs, Option, Some, None, Ok, Err, option_map, refl, ap, sym, subst, ◌∙◌, arith, inl, inr}
 use Rattle.std.specs.Option.{option_or}
 use Rattle.std.specs.List.{cons_option}
 use Rattle.std.proofs.lemmas.Bool.{cases_lt, ltb-false, leb-false, eqb-true, lt-ltb, or_parts, not-false, true≢false}
 use Rattle.std.proofs.lemmas.Nat.{mul-le}
-use Rattle.std.proofs.lemmas.List.{drop-map, drop_all, length-map, take_all, take_more, take-map}
-use Rattle.std.proofs.lemmas.List.Elements.{filter_map-append, All-nil, All-cons, All-weaker}
+use Rattle.std.proofs.lemmas.List.Elements.{All-nil, All-cons, All-weaker}
 use Rattle.std.proofs.lemmas.List.Kept.{AllPairs-cons}
 use Rattle.beet_forms.specs.Faults.{Fault, Reading, Answers, at_row, reading_of, row_reading}
 use Rattle.beet_forms.specs.declared.faults.ReadFault.{ReadFault}
@@ -13,12 +12,14 @@ use Rattle.beet_forms.specs.declared.faults.ReadFault.TheVariants.{Bad, OutOfMem
 use Rattle.beet_forms.specs.declared.row.Row.{Row}
 use Rattle.beet_bids.specs.Grids.{Grid, price_of, place_of}
 use Rattle.beet_forms.specs.Rows.{begins_with}
-use Rattle.beet_bids.specs.Curves.{Curve, largest_quantity}
+use Rattle.beet_bids.specs.declared.curve.TheConstants.{LARGEST_QUANTITY}
+use Rattle.beet_bids.specs.Curves.{Curve}
+use Rattle.beet_bids.specs.declared.lines.TheConstants.{OFF_GRID, NOT_ASCENDING, BUY_RISES, SELL_FALLS, TOO_LARGE, NO_BASE}
 use Rattle.beet_bids.specs.Reasons.{first_fault}
 use Rattle.beet_bids.specs.Lines.{cut_line, Precedes, AreLines}
-use Rattle.beet_bids.specs.BidFiles.{bid_in, curve_in, header_reason, first_reason, next_reason, line_reason, line_reasons, line_of, is_large}
+use Rattle.beet_bids.specs.BidFiles.{bid_in, curve_in, first_reason, next_reason, line_reason, line_reasons, line_of, is_large}
 use Rattle.beet_bids.specs.declared.lines.Line.{Line}
-use Rattle.beet_bids.proofs.GridFacts.{place_of-none, find-range_found}
+use Rattle.beet_bids.proofs.GridFacts.{place_of-none}
 
 -- ---- cut lines
 
@@ -27,7 +28,7 @@ off_above : (grid : Grid) (price : ℕ) → price_of grid (grid.prices - 1) < pr
 off_above grid price high =
     place_of-none grid price (λ k h e. absurd (omega (arith, mul-le k grid.tick (grid.prices - 1) grid.tick (omega arith) (omega arith))))
 
-reason_off : (grid : Grid) (before : Option Line) (line : Line) → place_of grid line.price ≡ None → line_reason grid before (Some line) ≡ Some 3
+reason_off : (grid : Grid) (before : Option Line) (line : Line) → place_of grid line.price ≡ None → line_reason grid before (Some line) ≡ Some OFF_GRID
 reason_off grid None line off = rw off refl
 reason_off grid (Some before) line off = rw off refl
 
@@ -37,15 +38,15 @@ reason_large : (grid : Grid) (before : Option Line) (price a b c d : ℕ) →
 reason_large grid None price a b c d one other = rw (one, other) refl
 reason_large grid (Some before) price a b c d one other = rw (one, other) refl
 
-large_buy : (price a b : ℕ) → largest_quantity < a → is_large (record { price = price; buy = a; sell = b }) ≡ true
-large_buy price a b h = rw (lt-ltb largest_quantity a h) refl
+large_buy : (price a b : ℕ) → LARGEST_QUANTITY < a → is_large (record { price = price; buy = a; sell = b }) ≡ true
+large_buy price a b h = rw (lt-ltb LARGEST_QUANTITY a h) refl
 
 or_right_true : (x y : Bool) → y ≡ true → (x || y) ≡ true
 or_right_true true y e = refl
 or_right_true false y e = e
 
-large_sell : (price a b : ℕ) → largest_quantity < b → is_large (record { price = price; buy = a; sell = b }) ≡ true
-large_sell price a b h = or_right_true (nat_lt largest_quantity a) _ (lt-ltb largest_quantity b h)
+large_sell : (price a b : ℕ) → LARGEST_QUANTITY < b → is_large (record { price = price; buy = a; sell = b }) ≡ true
+large_sell price a b h = or_right_true (nat_lt LARGEST_QUANTITY a) _ (lt-ltb LARGEST_QUANTITY b h)
 
 -- a line of these numbers
 abbrev line_with : ℕ → ℕ → ℕ → Line
@@ -60,12 +61,12 @@ cut_quantities : (grid : Grid) (before : Option Line) (line : Line) → (cut_lin
     line_reason grid before (Some (cut_line grid line)) ≡ line_reason grid before (Some line)
 cut_quantities grid before line same =
     let price : cut_line grid line ≡ line_with line.price (cut_line grid line).buy (cut_line grid line).sell = line_is _ _ same refl refl in
-    elim (cases_lt largest_quantity line.buy) [
+    elim (cases_lt LARGEST_QUANTITY line.buy) [
       | inl large ↦ ap (λ (l : Line). line_reason grid before (Some l)) price
-          ∙ reason_large grid before line.price _ _ line.buy line.sell (large_buy line.price (min line.buy (largest_quantity + 1)) (min line.sell (largest_quantity + 1)) (omega arith)) (large_buy line.price line.buy line.sell large)
-      | inr some ↦ elim (cases_lt largest_quantity line.sell) [
+          ∙ reason_large grid before line.price _ _ line.buy line.sell (large_buy line.price (min line.buy (LARGEST_QUANTITY + 1)) (min line.sell (LARGEST_QUANTITY + 1)) (omega arith)) (large_buy line.price line.buy line.sell large)
+      | inr some ↦ elim (cases_lt LARGEST_QUANTITY line.sell) [
         | inl large ↦ ap (λ (l : Line). line_reason grid before (Some l)) price
-            ∙ reason_large grid before line.price _ _ line.buy line.sell (large_sell line.price (min line.buy (largest_quantity + 1)) (min line.sell (largest_quantity + 1)) (omega arith)) (large_sell line.price line.buy line.sell large)
+            ∙ reason_large grid before line.price _ _ line.buy line.sell (large_sell line.price (min line.buy (LARGEST_QUANTITY + 1)) (min line.sell (LARGEST_QUANTITY + 1)) (omega arith)) (large_sell line.price line.buy line.sell large)
         | inr few ↦ ap (λ (l : Line). line_reason grid before (Some l)) (line_is (cut_line grid line) line same (omega arith) (omega arith))
       ]
     ]
@@ -88,33 +89,33 @@ not_refused false reason more e = (refl, e)
 
 record IsAccepted (grid : Grid) (line : Line) : Type 0 where
   on_grid : is_none (place_of grid line.price) ≡ false
-  buy : line.buy ≤ largest_quantity
-  sell : line.sell ≤ largest_quantity
+  buy : line.buy ≤ LARGEST_QUANTITY
+  sell : line.sell ≤ LARGEST_QUANTITY
 
 -- a line on the grid that is not large
 accepted_from : (grid : Grid) (line : Line) → is_none (place_of grid line.price) ≡ false → is_large line ≡ false → IsAccepted grid line
 accepted_from grid line on small =
-    let parts = or_parts (nat_lt largest_quantity line.buy) (nat_lt largest_quantity line.sell) small in
+    let parts = or_parts (nat_lt LARGEST_QUANTITY line.buy) (nat_lt LARGEST_QUANTITY line.sell) small in
     record { on_grid = on; buy = ltb-false _ _ parts.0; sell = ltb-false _ _ parts.1 }
 
 -- the first line, where it is accepted
 first_accepted : (grid : Grid) (line : Line) → line_reason grid None (Some line) ≡ None → IsAccepted grid line × (line.price ≡ grid.base)
 first_accepted grid line none =
-    let on = not_refused (is_none (place_of grid line.price)) 3 (first_reason grid line) none in
-    let base = not_refused (not (line.price == grid.base)) 8 (if is_large line then Some 7 else None) on.1 in
-    let small = not_refused (is_large line) 7 None base.1 in
+    let on = not_refused (is_none (place_of grid line.price)) OFF_GRID (first_reason grid line) none in
+    let base = not_refused (not (line.price == grid.base)) NO_BASE (if is_large line then Some TOO_LARGE else None) on.1 in
+    let small = not_refused (is_large line) TOO_LARGE None base.1 in
     (accepted_from grid line on.0 small.0, eqb-true _ _ (not-false _ base.0))
 
 -- a further line, where it is accepted
 next_accepted : (grid : Grid) (before line : Line) → line_reason grid (Some before) (Some line) ≡ None → IsAccepted grid line × Precedes before line
 next_accepted grid before line none =
-    let sells : Option ℕ = if nat_lt line.sell before.sell then Some 6 else None in
-    let buys : Option ℕ = if nat_lt before.buy line.buy then Some 5 else sells in
-    let on = not_refused (is_none (place_of grid line.price)) 3 (next_reason before line) none in
-    let above = not_refused (nat_le line.price before.price) 4 (if is_large line then Some 7 else buys) on.1 in
-    let small = not_refused (is_large line) 7 buys above.1 in
-    let buy = not_refused (nat_lt before.buy line.buy) 5 sells small.1 in
-    let sell = not_refused (nat_lt line.sell before.sell) 6 None buy.1 in
+    let sells : Option ℕ = if nat_lt line.sell before.sell then Some SELL_FALLS else None in
+    let buys : Option ℕ = if nat_lt before.buy line.buy then Some BUY_RISES else sells in
+    let on = not_refused (is_none (place_of grid line.price)) OFF_GRID (next_reason before line) none in
+    let above = not_refused (nat_le line.price before.price) NOT_ASCENDING (if is_large line then Some TOO_LARGE else buys) on.1 in
+    let small = not_refused (is_large line) TOO_LARGE buys above.1 in
+    let buy = not_refused (nat_lt before.buy line.buy) BUY_RISES sells small.1 in
+    let sell = not_refused (nat_lt line.sell before.sell) SELL_FALLS None buy.1 in
     (accepted_from grid line on.0 small.0, record { price = leb-false _ _ above.0; buy = ltb-false _ _ buy.0; sell = ltb-false _ _ sell.0 })
 
 line_accepted : (grid : Grid) (before : Option Line) (line : Line) → line_reason grid before (Some line) ≡ None → IsAccepted grid line
@@ -176,8 +177,8 @@ is_some-not_none (Some k) e = refl
 record AreLinesAfter (grid : Grid) (before : Line) (lines : List Line) : Type 0 where
   after : All (Precedes before) lines
   on_grid : All (λ line. IsTrue (is_some (place_of grid line.price))) lines
-  buy_limit : All (λ line. line.buy ≤ largest_quantity) lines
-  sell_limit : All (λ line. line.sell ≤ largest_quantity) lines
+  buy_limit : All (λ line. line.buy ≤ LARGEST_QUANTITY) lines
+  sell_limit : All (λ line. line.sell ≤ LARGEST_QUANTITY) lines
   in_order : AllPairs Precedes lines
 
 precedes-trans : (a b c : Line) → Precedes a b → Precedes b c → Precedes a c
@@ -202,8 +203,8 @@ lines_after grid number before (Some line ∷ rows) none =
       after = All-cons (Precedes before) line (lines_in rows) here.1
           (All-weaker (Precedes line) (Precedes before) (λ later after. precedes-trans before line later here.1 after) (lines_in rows) rest.after);
       on_grid = All-cons (λ l. IsTrue (is_some (place_of grid l.price))) line (lines_in rows) (is_some-not_none _ here.0.on_grid) rest.on_grid;
-      buy_limit = All-cons (λ l. l.buy ≤ largest_quantity) line (lines_in rows) here.0.buy rest.buy_limit;
-      sell_limit = All-cons (λ l. l.sell ≤ largest_quantity) line (lines_in rows) here.0.sell rest.sell_limit;
+      buy_limit = All-cons (λ l. l.buy ≤ LARGEST_QUANTITY) line (lines_in rows) here.0.buy rest.buy_limit;
+      sell_limit = All-cons (λ l. l.sell ≤ LARGEST_QUANTITY) line (lines_in rows) here.0.sell rest.sell_limit;
       in_order = AllPairs-cons Precedes line (lines_in rows) rest.after rest.in_order;
     }
 
@@ -218,8 +219,8 @@ lines_accepted grid (Some line ∷ rows) none =
       some = omega arith;
       base = λ d. here.1;
       on_grid = All-cons (λ l. IsTrue (is_some (place_of grid l.price))) line (lines_in rows) (is_some-not_none _ here.0.on_grid) rest.on_grid;
-      buy_limit = All-cons (λ l. l.buy ≤ largest_quantity) line (lines_in rows) here.0.buy rest.buy_limit;
-      sell_limit = All-cons (λ l. l.sell ≤ largest_quantity) line (lines_in rows) here.0.sell rest.sell_limit;
+      buy_limit = All-cons (λ l. l.buy ≤ LARGEST_QUANTITY) line (lines_in rows) here.0.buy rest.buy_limit;
+      sell_limit = All-cons (λ l. l.sell ≤ LARGEST_QUANTITY) line (lines_in rows) here.0.sell rest.sell_limit;
       in_order = AllPairs-cons Precedes line (lines_in rows) rest.after rest.in_order;
     }
 
@@ -233,45 +234,32 @@ rows_accepted grid rows none = subst (AreLines grid) (lines_in-map rows) (lines_
 
 -- ---- a turn of the reader
 
--- the rows from one on are the one and the rows after it
-pub turn_reasons : (grid : Grid) (i : ℕ) (before : Option Line) (rows : List Row) (row : Row) → i < length rows → row ≡ get_or rows i row →
-    first_fault (i + 2) (reasons_after grid before (drop i (map line_of rows)))
-    ≡ option_or (option_map (at_row (i + 2)) (line_reason grid before (line_of row)))
-    (first_fault (i + 1 + 2) (reasons_after grid (line_of row) (drop (i + 1) (map line_of rows))))
-turn_reasons grid i before rows row within here =
-    let more : suc i ≡ i + 1 = omega arith in
-    let next : drop (suc i) rows ≡ drop (i + 1) rows = ap (λ (n : ℕ). drop n rows) more in
-    let front : drop i rows ≡ row ∷ drop (i + 1) rows = cc (drop-cons rows i row within, next) in
-    let e : drop i (map line_of rows) ≡ line_of row ∷ drop (i + 1) (map line_of rows) =
-    drop-map line_of i rows ∙ (ap (map line_of) front ∙ ap (λ (ls : List (Option Line)). line_of row ∷ ls) (sym (drop-map line_of (i + 1) rows))) in
-    let n : i + 2 + 1 ≡ i + 1 + 2 = omega arith in
-    rw (e, n) refl
+-- the first of the rows that are left is refused, or the rows after it are
+pub turn_reasons : (grid : Grid) (number : ℕ) (before : Option Line) (row : Row) (rows more : List Row) → rows ≡ row ∷ more →
+    first_fault number (reasons_after grid before (map line_of rows))
+    ≡ option_or (option_map (at_row number) (line_reason grid before (line_of row))) (first_fault (number + 1) (reasons_after grid (line_of row) (map line_of more)))
+turn_reasons grid number before row rows more is = rw is refl
 
 -- an accepted row leaves what the rows are refused for to the rows after it
-pub turn_goes_on : (grid : Grid) (i : ℕ) (before : Option Line) (rows : List Row) (row : Row) (line : Line) → i < length rows → row ≡ get_or rows i row →
+pub turn_goes_on : (grid : Grid) (number : ℕ) (before : Option Line) (row : Row) (rows more : List Row) (line : Line) → rows ≡ row ∷ more →
     line_reason grid before (line_of row) ≡ None → line_of row ≡ Some line →
-    first_fault (i + 1 + 2) (reasons_after grid (Some line) (drop (i + 1) (map line_of rows)))
-    ≡ first_fault (i + 2) (reasons_after grid before (drop i (map line_of rows)))
-turn_goes_on grid i before rows row line within here none is =
-    let last : first_fault (i + 1 + 2) (reasons_after grid (line_of row) (drop (i + 1) (map line_of rows)))
-    ≡ first_fault (i + 1 + 2) (reasons_after grid (Some line) (drop (i + 1) (map line_of rows))) =
-    ap (λ (o : Option Line). first_fault (i + 1 + 2) (reasons_after grid o (drop (i + 1) (map line_of rows)))) is in
-    sym (turn_reasons grid i before rows row within here ∙ (rw none last))
-
--- after the last row there is no fault
-pub turn_ends : (grid : Grid) (i : ℕ) (before : Option Line) (rows : List Row) → length rows ≤ i →
-    first_fault (i + 2) (reasons_after grid before (drop i (map line_of rows))) ≡ None
-turn_ends grid i before rows past =
-    let e : drop i (map line_of rows) ≡ [] = drop_all i (map line_of rows) (omega (arith, length-map rows line_of)) in
-    rw e refl
+    first_fault (number + 1) (reasons_after grid (Some line) (map line_of more)) ≡ first_fault number (reasons_after grid before (map line_of rows))
+turn_goes_on grid number before row rows more line is none read =
+    let last : first_fault (number + 1) (reasons_after grid (line_of row) (map line_of more)) ≡ first_fault (number + 1) (reasons_after grid (Some line) (map line_of more)) =
+    ap (λ (o : Option Line). first_fault (number + 1) (reasons_after grid o (map line_of more))) read in
+    sym (turn_reasons grid number before row rows more is ∙ rw none last)
 
 -- the line of the row is one more line
-pub lines_more : (rows : List Row) (i : ℕ) (row : Row) (line : Line) → i < length rows → row ≡ get_or rows i row → line_of row ≡ Some line →
-    filter_map line_of (take (i + 1) rows) ≡ filter_map line_of (take i rows) ++ line ∷ []
-lines_more rows i row line within here is =
-    ap (filter_map line_of) (take_more rows i row within)
-    ∙ (filter_map-append line_of (take i rows) (get_or rows i row ∷ [])
-    ∙ ap (λ (o : Option Line). filter_map line_of (take i rows) ++ cons_option o []) (ap line_of (sym here) ∙ is))
+pub lines_more : (lines : List Line) (row : Row) (rows more all : List Row) (line : Line) → rows ≡ row ∷ more → line_of row ≡ Some line →
+    lines ++ filter_map line_of rows ≡ filter_map line_of all → (lines ++ line ∷ []) ++ filter_map line_of more ≡ filter_map line_of all
+lines_more lines row rows more all line is read so_far =
+    append_assoc lines (line ∷ []) (filter_map line_of more)
+    ∙ (ap (λ (o : Option Line). lines ++ cons_option o (filter_map line_of more)) (sym read) ∙ (ap (λ (rs : List Row). lines ++ filter_map line_of rs) (sym is) ∙ so_far))
+
+-- rows that are some are refused for what stands against them after no line
+pub some_rows : (grid : Grid) (rows : List Row) → 0 < length rows → reasons_after grid None (map line_of rows) ≡ line_reasons grid (map line_of rows)
+some_rows grid [] some = absurd (omega arith)
+some_rows grid (row ∷ rows) some = refl
 
 -- a row that was read is not refused
 pub row_read : (number : ℕ) (reason : Option ℕ) (row line : Option Line) → row_reading number reason row ≡ Ok line → (reason ≡ None) × (row ≡ line)
@@ -317,107 +305,3 @@ pub file_refused : {T : Type 0} (grid : Grid) (rows rest : List Row) (lines : Li
 file_refused grid rows rest lines view refused begins is reads =
     subst (λ (r : Reading Curve). Answers (λ (c : Curve). c) r (Err refused)) (sym (header_passes grid rows rest begins is))
     (lines_refused (first_fault 2 (line_reasons grid (map line_of rest))) lines (curve_in grid (filter_map line_of rest)) view refused reads)
-
--- ---- more rows than the grid has prices
-
--- where the row has no fault, what comes after it decides
-either_reason : (number : ℕ) (reason : Option ℕ) (a b : Option Fault) → (reason ≡ None → a ≡ b) →
-    option_or (option_map (at_row number) reason) a ≡ option_or (option_map (at_row number) reason) b
-either_reason number None a b h = h refl
-either_reason number (Some reason) a b h = refl
-
--- the place of an accepted line, after the place of the line before it
-record IsAfter (grid : Grid) (k : ℕ) (line : Line) (place : ℕ) : Type 0 where
-  inside : place < grid.prices
-  price : price_of grid place ≡ line.price
-  above : k < place
-
-place_in : Grid → Line → ℕ
-place_in grid line = unwrap_or (place_of grid line.price) 0
-
-some_place : (o : Option ℕ) → is_none o ≡ false → o ≡ Some (unwrap_or o 0)
-some_place None e = absurd (true≢false e)
-some_place (Some k) e = refl
-
-place_in-is : (grid : Grid) (line : Line) → IsAccepted grid line → (place_in grid line < grid.prices) × (price_of grid (place_in grid line) ≡ line.price)
-unfolding place_in
-place_in-is grid line accepted =
-    let found = find-range_found (λ (k : ℕ). nat_eq (price_of grid k) line.price) 0 grid.prices _ (some_place _ accepted.on_grid) in
-    (omega (arith, found.0), eqb-true _ _ found.1)
-
-place_after : (grid : Grid) (k : ℕ) (before line : Line) → price_of grid k ≡ before.price → IsAccepted grid line → Precedes before line →
-    IsAfter grid k line (place_in grid line)
-place_after grid k before line at accepted precedes =
-    let place = place_in-is grid line accepted in
-    record {
-      inside = place.0;
-      price = place.1;
-      above = elim (cases_lt k (place_in grid line)) [
-        | inl above ↦ above
-        | inr below ↦ absurd (omega (arith, mul-le (place_in grid line) grid.tick k grid.tick below (omega arith), place.1, precedes.price))
-      ];
-    }
-
--- after the line at a place, as many rows as there are places above it decide
-enough_after : (grid : Grid) (number k n : ℕ) (before : Line) (rows : List (Option Line)) →
-    k < grid.prices → price_of grid k ≡ before.price → grid.prices ≤ n + k →
-    first_fault number (reasons_after grid (Some before) (take n rows)) ≡ first_fault number (reasons_after grid (Some before) rows)
-enough_after grid number k zero before rows inside at enough = absurd (omega arith)
-enough_after grid number k (suc n) before [] inside at enough = refl
-enough_after grid number k (suc n) before (None ∷ rows) inside at enough = refl
-enough_after grid number k (suc n) before (Some line ∷ rows) inside at enough =
-    either_reason number (line_reason grid (Some before) (Some line)) _ _ (λ none.
-    let here = next_accepted grid before line none in
-    let place = place_after grid k before line at here.0 here.1 in
-    enough_after grid (number + 1) (place_in grid line) n line rows place.inside place.price (omega (arith, place.above)))
-
--- rows without a fault are no more than there are places
-few_after : (grid : Grid) (number k : ℕ) (before : Line) (rows : List (Option Line)) → k < grid.prices → price_of grid k ≡ before.price →
-    first_fault number (reasons_after grid (Some before) rows) ≡ None → length rows + k < grid.prices
-few_after grid number k before [] inside at none = omega arith
-few_after grid number k before (None ∷ rows) inside at none = absurd (cc)
-few_after grid number k before (Some line ∷ rows) inside at none =
-    let parts = no_fault number (line_reason grid (Some before) (Some line)) (first_fault (number + 1) (reasons_after grid (Some line) rows)) none in
-    let here = next_accepted grid before line parts.0 in
-    let place = place_after grid k before line at here.0 here.1 in
-    omega (arith, place.above, few_after grid (number + 1) (place_in grid line) line rows place.inside place.price parts.1)
-
-enough_lines : (grid : Grid) (n : ℕ) (rows : List (Option Line)) → grid.prices ≤ n →
-    first_fault 2 (line_reasons grid (take (suc n) rows)) ≡ first_fault 2 (line_reasons grid rows)
-enough_lines grid n [] enough = refl
-enough_lines grid n (None ∷ rows) enough = refl
-enough_lines grid n (Some line ∷ rows) enough =
-    either_reason 2 (line_reason grid None (Some line)) _ _ (λ none.
-    let place = place_in-is grid line (first_accepted grid line none).0 in
-    enough_after grid 3 (place_in grid line) n line rows place.0 place.1 (omega arith))
-
-few_lines : (grid : Grid) (rows : List (Option Line)) → first_fault 2 (line_reasons grid rows) ≡ None → length rows ≤ grid.prices
-few_lines grid [] none = omega arith
-few_lines grid (None ∷ rows) none = absurd (cc)
-few_lines grid (Some line ∷ rows) none =
-    let parts = no_fault 2 (line_reason grid None (Some line)) (first_fault 3 (reasons_after grid (Some line) rows)) none in
-    let place = place_in-is grid line (first_accepted grid line parts.0).0 in
-    omega (arith, few_after grid 3 (place_in grid line) line rows place.0 place.1 parts.1)
-
-same_reading : (a b : Option Fault) (x y : Curve) → a ≡ b → (b ≡ None → x ≡ y) → reading_of a x ≡ reading_of b y
-same_reading a None x y e h = rw (e, h refl) refl
-same_reading a (Some fault) x y e h = rw e refl
-
-front_decides : (grid : Grid) (n : ℕ) (rows : List Row) → grid.prices ≤ n → bid_in grid (take (suc (suc n)) rows) ≡ bid_in grid rows
-front_decides grid n [] enough = refl
-front_decides grid n (header ∷ rows) enough =
-    let reason : Option ℕ = header_reason (header ∷ rows) in
-    let fault : Option Fault = first_fault 2 (line_reasons grid (map line_of rows)) in
-    let front : first_fault 2 (line_reasons grid (map line_of (take (suc n) rows))) ≡ fault =
-    ap (λ (ls : List (Option Line)). first_fault 2 (line_reasons grid ls)) (sym (take-map line_of (suc n) rows)) ∙ enough_lines grid n (map line_of rows) enough in
-    same_reading _ (option_or (option_map (at_row 1) reason) fault) _ _
-    (either_reason 1 reason _ fault (λ passes. front))
-    (λ none.
-    let count = few_lines grid (map line_of rows) (no_fault 1 reason fault none).1 in
-    ap (λ (rs : List Row). curve_in grid (filter_map line_of rs)) (take_all (suc n) rows (omega (arith, count, length-map rows line_of))))
-
--- a header and one row more than there are prices decide what a bid file reads as
-pub bid_in-front : (grid : Grid) (rows : List Row) → bid_in grid (take (grid.prices + 2) rows) ≡ bid_in grid rows
-bid_in-front grid rows =
-    let more : grid.prices + 2 ≡ suc (suc grid.prices) = omega arith in
-    rw more (front_decides grid grid.prices rows (omega arith))

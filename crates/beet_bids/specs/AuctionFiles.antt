@@ -6,6 +6,8 @@ use Rattle.beet_forms.specs.Rows.{rows_of, same_bytes, two_of}
 use Rattle.beet_forms.specs.declared.decimals.NumberFault.{NumberFault}
 use Rattle.beet_forms.specs.declared.row.Row.{Row}
 use Rattle.beet_gates.specs.declared.Gates.TheVariants.{Chain}
+use Rattle.beet_bids.specs.declared.auction_file.TheConstants.{BAD_HEADER, BAD_KEY, BAD_VALUE, WRONG_VERSION}
+use Rattle.beet_bids.specs.declared.grid.TheConstants.{LARGEST_BASE, LARGEST_TICK, MOST_PRICES}
 use Rattle.beet_bids.specs.Grids.{Grid}
 use Rattle.beet_bids.specs.Reasons.{first_fault}
 
@@ -20,8 +22,8 @@ value_of key row = value_in key (option_and_then two_of row)
 
 -- row 1: no such row, or another version
 abbrev pub version_reason : Option (List ℕ) → Option ℕ
-version_reason None = Some 1
-version_reason (Some version) = if same_bytes version (codes "1") then None else Some 4
+version_reason None = Some BAD_HEADER
+version_reason (Some version) = if same_bytes version (codes "1") then None else Some WRONG_VERSION
 
 -- whether there is a number that is not below this one
 abbrev pub is_from : ℕ → Result ℕ NumberFault → Bool
@@ -30,18 +32,18 @@ is_from low (Err fault) = false
 
 -- the row of a number: no such row, or no number within its limits
 abbrev pub number_reason : ℕ → ℕ → Option (List ℕ) → Option ℕ
-number_reason low high None = Some 2
-number_reason low high (Some digits) = if is_from low (number_of digits high) then None else Some 3
+number_reason low high None = Some BAD_KEY
+number_reason low high (Some digits) = if is_from low (number_of digits high) then None else Some BAD_VALUE
 
 -- the row of the gates: no such row, or no kind of gates
 abbrev pub gates_reason : Option (List ℕ) → Option ℕ
-gates_reason None = Some 2
-gates_reason (Some kind) = if same_bytes kind (codes "chain") then None else Some 3
+gates_reason None = Some BAD_KEY
+gates_reason (Some kind) = if same_bytes kind (codes "chain") then None else Some BAD_VALUE
 
 -- a row after the last one
 abbrev pub extra_reason : Option Row → Option ℕ
 extra_reason None = None
-extra_reason (Some row) = Some 2
+extra_reason (Some row) = Some BAD_KEY
 
 -- the number of a row's value
 abbrev pub number_in : Option (List ℕ) → ℕ
@@ -58,9 +60,9 @@ auction_in rows =
     reading_of
     (first_fault 1
     (version_reason version
-    ∷ number_reason 0 1000000000000 base
-    ∷ number_reason 1 1000000000 tick
-    ∷ number_reason 1 4096 prices
+    ∷ number_reason 0 LARGEST_BASE base
+    ∷ number_reason 1 LARGEST_TICK tick
+    ∷ number_reason 1 MOST_PRICES prices
     ∷ gates_reason gates
     ∷ extra_reason (slice_get rows 5)
     ∷ []))

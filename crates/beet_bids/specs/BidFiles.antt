@@ -5,7 +5,10 @@ use Rattle.beet_forms.specs.Numbers.{number_of, decimal_value}
 use Rattle.beet_forms.specs.Rows.{rows_of, begins_with, three_of}
 use Rattle.beet_forms.specs.declared.row.Row.{Row}
 use Rattle.beet_bids.specs.Grids.{Grid, price_of, place_of, places_of}
-use Rattle.beet_bids.specs.Curves.{Curve, largest_quantity}
+use Rattle.beet_bids.specs.declared.curve.TheConstants.{LARGEST_QUANTITY}
+use Rattle.beet_bids.specs.Curves.{Curve}
+use Rattle.beet_bids.specs.declared.bid_file.TheConstants.{BAD_HEADER}
+use Rattle.beet_bids.specs.declared.lines.TheConstants.{BAD_ROW, OFF_GRID, NOT_ASCENDING, BUY_RISES, SELL_FALLS, TOO_LARGE, NO_BASE}
 use Rattle.beet_bids.specs.Reasons.{first_fault}
 use Rattle.beet_bids.specs.declared.lines.Line.{Line}
 
@@ -27,42 +30,42 @@ line_of row = line_in (three_of row)
 
 -- whether a quantity of the line is above its limit
 abbrev pub is_large : Line → Bool
-is_large line = nat_lt largest_quantity line.buy || nat_lt largest_quantity line.sell
+is_large line = nat_lt LARGEST_QUANTITY line.buy || nat_lt LARGEST_QUANTITY line.sell
 
 -- the first line begins at the base
 abbrev pub first_reason : Grid → Line → Option ℕ
 first_reason grid line =
-    if not (line.price == grid.base) then Some 8
-    else if is_large line then Some 7
+    if not (line.price == grid.base) then Some NO_BASE
+    else if is_large line then Some TOO_LARGE
     else None
 
 -- each further line is above the line before it, buys no more and sells no less
 abbrev pub next_reason : Line → Line → Option ℕ
 next_reason before line =
-    if nat_le line.price before.price then Some 4
-    else if is_large line then Some 7
-    else if nat_lt before.buy line.buy then Some 5
-    else if nat_lt line.sell before.sell then Some 6
+    if nat_le line.price before.price then Some NOT_ASCENDING
+    else if is_large line then Some TOO_LARGE
+    else if nat_lt before.buy line.buy then Some BUY_RISES
+    else if nat_lt line.sell before.sell then Some SELL_FALLS
     else None
 
 -- why a row is refused, beside the row before it: no line, a price that the grid has not, or what stands above; a row
 -- before that has no line is refused itself
 abbrev pub line_reason : Grid → Option Line → Option Line → Option ℕ
-line_reason grid before None = Some 2
+line_reason grid before None = Some BAD_ROW
 line_reason grid None (Some line) =
-    if is_none (place_of grid line.price) then Some 3 else first_reason grid line
+    if is_none (place_of grid line.price) then Some OFF_GRID else first_reason grid line
 line_reason grid (Some before) (Some line) =
-    if is_none (place_of grid line.price) then Some 3 else next_reason before line
+    if is_none (place_of grid line.price) then Some OFF_GRID else next_reason before line
 
 -- the reasons of all rows after the header; where there is none, the second row is missed
 abbrev pub line_reasons : Grid → List (Option Line) → List (Option ℕ)
-line_reasons grid [] = Some 8 ∷ []
+line_reasons grid [] = Some NO_BASE ∷ []
 line_reasons grid (line ∷ lines) =
     map (λ pair. line_reason grid pair.0 pair.1) (zip (None ∷ line ∷ lines) (line ∷ lines))
 
 -- row 1: no header
 abbrev pub header_reason : List Row → Option ℕ
-header_reason rows = if begins_with rows (codes "beet-bid" ∷ codes "1" ∷ []) then None else Some 1
+header_reason rows = if begins_with rows (codes "beet-bid" ∷ codes "1" ∷ []) then None else Some BAD_HEADER
 
 -- the last line whose price is at most this one
 abbrev pub line_at : List Line → ℕ → Option Line

@@ -1,5 +1,6 @@
 -- The quantities that a bidder buys and sells at each place.
 use Rattle.std.specs.Prelude.{◌≡◌, ℕ, ◌≤◌, List, ◌++◌, length, slice_index, All, AllPairs}
+use Rattle.beet_bids.specs.declared.curve.TheConstants.{LARGEST_QUANTITY}
 use Rattle.beet_bids.specs.Grids.{Grid}
 
 -- the quantities at each place, from the lowest price on
@@ -7,15 +8,11 @@ pub record Curve : Type 0 where
   pub buy : List ℕ
   pub sell : List ℕ
 
--- the largest quantity, 2^48 - 1
-abbrev pub largest_quantity : ℕ
-largest_quantity = 281474976710655
-
 -- two lists of one length, with each quantity within its limit, where buy never rises and sell never falls
 pub record IsCurve (curve : Curve) : Type 0 where
   pub one_length : length curve.sell ≡ length curve.buy
-  pub buy_limit : All (λ quantity. quantity ≤ largest_quantity) curve.buy
-  pub sell_limit : All (λ quantity. quantity ≤ largest_quantity) curve.sell
+  pub buy_limit : All (λ quantity. quantity ≤ LARGEST_QUANTITY) curve.buy
+  pub sell_limit : All (λ quantity. quantity ≤ LARGEST_QUANTITY) curve.sell
   pub buy_never_rises : AllPairs (λ before after. after ≤ before) curve.buy
   pub sell_never_falls : AllPairs (λ before after. before ≤ after) curve.sell
 

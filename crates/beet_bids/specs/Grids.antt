@@ -3,6 +3,7 @@ use Rattle.std.specs.Prelude.{ℕ, ◌+◌, ◌*◌, ◌≤◌, ◌==◌, List, 
 use Rattle.std.specs.List.{range_with_len}
 use Rattle.std.specs.Int.Digits.{digits_of}
 use Rattle.beet_gates.specs.declared.Gates.{Gates}
+use Rattle.beet_bids.specs.declared.grid.TheConstants.{LARGEST_BASE, LARGEST_TICK, MOST_PRICES}
 
 -- a lowest price, the step from one price to the next, how many prices there are, and the kind of gates
 pub record Grid : Type 0 where
@@ -13,11 +14,11 @@ pub record Grid : Type 0 where
 
 -- the limits of a grid
 pub record IsGrid (grid : Grid) : Type 0 where
-  pub base_limit : grid.base ≤ 1000000000000
+  pub base_limit : grid.base ≤ LARGEST_BASE
   pub tick_some : 1 ≤ grid.tick
-  pub tick_limit : grid.tick ≤ 1000000000
+  pub tick_limit : grid.tick ≤ LARGEST_TICK
   pub prices_some : 1 ≤ grid.prices
-  pub prices_limit : grid.prices ≤ 4096
+  pub prices_limit : grid.prices ≤ MOST_PRICES
 
 -- the places of a grid, in order
 abbrev pub places_of : Grid → List ℕ

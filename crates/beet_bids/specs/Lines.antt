@@ -1,15 +1,15 @@
 -- The lines of a bid.
 use Rattle.std.specs.Prelude.{◌≡◌, ℕ, ◌+◌, ◌<◌, ◌≤◌, min, List, Option, None, Some, is_some, unwrap_or, length, slice_get, slice_index_or, All, AllPairs, IsTrue, ◌-◌}
 use Rattle.beet_bids.specs.Grids.{Grid, price_of, place_of}
-use Rattle.beet_bids.specs.Curves.{largest_quantity}
+use Rattle.beet_bids.specs.declared.curve.TheConstants.{LARGEST_QUANTITY}
 use Rattle.beet_bids.specs.declared.lines.Line.{Line}
 
 -- the line with each number cut to one above the largest that it may be
 abbrev pub cut_line : Grid → Line → Line
 cut_line grid line = record {
   price = min line.price (price_of grid (grid.prices - 1) + 1);
-  buy = min line.buy (largest_quantity + 1);
-  sell = min line.sell (largest_quantity + 1);
+  buy = min line.buy (LARGEST_QUANTITY + 1);
+  sell = min line.sell (LARGEST_QUANTITY + 1);
 }
 
 -- a later line is at a higher price, buys no more and sells no less
@@ -23,8 +23,8 @@ pub record AreLines (grid : Grid) (lines : List Line) : Type 0 where
   pub some : 0 < length lines
   pub base : (d : Line) → (slice_index_or lines 0 d).price ≡ grid.base
   pub on_grid : All (λ line. IsTrue (is_some (place_of grid line.price))) lines
-  pub buy_limit : All (λ line. line.buy ≤ largest_quantity) lines
-  pub sell_limit : All (λ line. line.sell ≤ largest_quantity) lines
+  pub buy_limit : All (λ line. line.buy ≤ LARGEST_QUANTITY) lines
+  pub sell_limit : All (λ line. line.sell ≤ LARGEST_QUANTITY) lines
   pub in_order : AllPairs Precedes lines
 
 -- the place where a line begins, or the number of places where there is no line

@@ -1,85 +1,115 @@
 //! The reader of an auction file.
 
-ghost use Rattle.std.specs.Prelude.{◌≡◌, ◌≤◌, ◌-◌, IfOk, length, option_map, slice_get, codes};
+ghost use Rattle.std.specs.Prelude.{◌≡◌, ◌≤◌, ◌∷◌, IfOk, OnOk, length, option_map, slice_get, codes};
 ghost use Rattle.beet_forms.specs.Faults.{Answers, row_reading};
+ghost use Rattle.beet_forms.specs.Rows.{two_of};
 ghost use Rattle.beet_gates.specs.declared.Gates.TheVariants.{Chain};
-ghost use Rattle.beet_bids.specs.AuctionFiles.{auction_in, auction_of, gates_reason, number_in, number_reason, value_of, version_reason};
+ghost use Rattle.beet_bids.specs.AuctionFiles.{auction_in, auction_of, gates_reason, number_in, number_reason, value_in, value_of, version_reason};
 
 use crate::grid::{Grid, LARGEST_BASE, LARGEST_TICK, MOST_PRICES};
-use crate::refusals::refused;
-use beet_forms::{ReadFault, Row, first_rows, two_fields};
+use beet_forms::{ReadFault, Row, RowReader, two_fields};
 use beet_gates::Gates;
 use std::alloc::Global;
 
-/// How many rows are looked at: five, and one that is refused.
-const MOST_ROWS: usize = 6;
+/// The most bytes of an auction file.
+pub const AUCTION_LIMIT: u64 = 4_096;
 
-/// The value of the row of this number, if it is there and has the key.
-fn value<'a>(rows: &'a [Row], number: u32, key: &[u8]) -> Option<&'a [u8]>
-    requires { 1 ≤ number }
-    ensures { option_map (λ s. s.now) result ≡ value_of key.now (slice_get rows.now (number - 1)) }
+/// The reason against a row 1 that is missing, has not two fields, or is of another kind.
+const BAD_HEADER: u32 = 1;
+
+/// The reason against a row that is missing, has not two fields, has another key, or is a sixth one.
+const BAD_KEY: u32 = 2;
+
+/// The reason against a value that is no number within its limits, or no kind of gates.
+const BAD_VALUE: u32 = 3;
+
+/// The reason against another version.
+const WRONG_VERSION: u32 = 4;
+
+/// The reason against more prices than one, where one is wanted.
+pub const NOT_ONE_PRICE: u32 = 5;
+
+/// The value of a row, if it has two fields and the key.
+fn value<'a>(row: &'a Row, key: &[u8]) -> Option<&'a [u8]>
+    ensures { option_map (λ s. s.now) result ≡ value_in key.now (two_of row.now) }
 {
-    let row = rows.get(number as usize - 1)?;
     let (first, second) = two_fields(row)?;
     if first == key { Some(second) } else { None }
 }
 
-/// Why row 1 is refused, if it is.
-fn header_reason(rows: &[Row]) -> Option<u32>
-    ensures { result ≡ version_reason (value_of (codes "beet-auction") (slice_get rows.now 0)) }
+/// Takes row 1.
+fn read_version(rows: &mut RowReader, row: &mut Row) -> Result<(), ReadFault>
+    ensures reads { let version = value_of (codes "beet-auction") (slice_get rows.old 0) in
+        Answers (λ done. done) (row_reading 1 (version_reason version) tt) result }
+    ensures row { OnOk result (rows.old ≡ row.new ∷ rows.new) }
 {
-    match value(rows, 1, b"beet-auction") {
-        None => Some(1),
-        Some(version) if version == b"1".as_slice() => None,
-        Some(_) => Some(4),
+    if !rows.next(row)? {
+        return Err(ReadFault::at_row(1, BAD_HEADER));
+    }
+    match value(row, b"beet-auction") {
+        None => Err(ReadFault::at_row(1, BAD_HEADER)),
+        Some(version) if version == b"1".as_slice() => Ok(()),
+        Some(_) => Err(ReadFault::at_row(1, WRONG_VERSION)),
     }
 }
 
-/// The number in the row of this number.
-fn read_number(rows: &[Row], number: u32, key: &[u8], low: u64, high: u64) -> Result<u64, ReadFault>
-    requires { 1 ≤ number }
-    ensures reads { let value = value_of key.now (slice_get rows.now (number - 1)) in
+/// Takes the row of this number, which has a number with this key.
+fn read_number(
+    rows: &mut RowReader,
+    row: &mut Row,
+    number: u32,
+    key: &[u8],
+    low: u64,
+    high: u64,
+) -> Result<u64, ReadFault>
+    ensures reads { let value = value_of key.now (slice_get rows.old 0) in
         let reason = number_reason low high value in
         Answers (λ n. n) (row_reading number reason (number_in value)) result }
     ensures within { IfOk result (λ n. (low ≤ n) × (n ≤ high)) }
+    ensures row { OnOk result (rows.old ≡ row.new ∷ rows.new) }
 {
-    let Some(digits) = value(rows, number, key) else {
-        return Err(refused(number, 2));
+    if !rows.next(row)? {
+        return Err(ReadFault::at_row(number, BAD_KEY));
+    }
+    let Some(digits) = value(row, key) else {
+        return Err(ReadFault::at_row(number, BAD_KEY));
     };
     match beet_forms::number(digits, high) {
         Ok(n) if n >= low => Ok(n),
-        _ => Err(refused(number, 3)),
+        _ => Err(ReadFault::at_row(number, BAD_VALUE)),
     }
 }
 
-/// The kind of gates in row 5.
-fn read_gates(rows: &[Row]) -> Result<Gates, ReadFault>
-    ensures { let kind = value_of (codes "gates") (slice_get rows.now 4) in
+/// Takes row 5, which has the kind of gates.
+fn read_gates(rows: &mut RowReader, row: &mut Row) -> Result<Gates, ReadFault>
+    ensures reads { let kind = value_of (codes "gates") (slice_get rows.old 0) in
         Answers (λ gates. gates) (row_reading 5 (gates_reason kind) Chain) result }
+    ensures row { OnOk result (rows.old ≡ row.new ∷ rows.new) }
 {
-    let Some(kind) = value(rows, 5, b"gates") else {
-        return Err(refused(5, 2));
+    if !rows.next(row)? {
+        return Err(ReadFault::at_row(5, BAD_KEY));
+    }
+    let Some(kind) = value(row, b"gates") else {
+        return Err(ReadFault::at_row(5, BAD_KEY));
     };
     if kind == b"chain".as_slice() {
         Ok(Gates::Chain)
     } else {
-        Err(refused(5, 3))
+        Err(ReadFault::at_row(5, BAD_VALUE))
     }
 }
 
-/// The grid of the rows.
-fn read_grid(rows: &[Row]) -> Result<Grid, ReadFault>
-    ensures { Answers (λ grid. grid) (auction_in rows.now) result }
+/// The grid of all rows.
+fn read_grid(rows: &mut RowReader, row: &mut Row) -> Result<Grid, ReadFault>
+    ensures { Answers (λ grid. grid) (auction_in rows.old) result }
 {
-    if let Some(reason) = header_reason(rows) {
-        return Err(refused(1, reason));
-    }
-    let base = read_number(rows, 2, b"base", 0, LARGEST_BASE)?;
-    let tick = read_number(rows, 3, b"tick", 1, LARGEST_TICK)?;
-    let prices = read_number(rows, 4, b"prices", 1, MOST_PRICES as u64)?;
-    let gates = read_gates(rows)?;
-    if rows.len() > 5 {
-        return Err(refused(6, 2));
+    read_version(rows, row)?;
+    let base = read_number(rows, row, 2, b"base", 0, LARGEST_BASE)?;
+    let tick = read_number(rows, row, 3, b"tick", 1, LARGEST_TICK)?;
+    let prices = read_number(rows, row, 4, b"prices", 1, MOST_PRICES as u64)?;
+    let gates = read_gates(rows, row)?;
+    if rows.next(row)? {
+        return Err(ReadFault::at_row(6, BAD_KEY));
     }
     match Grid::new(base, tick, prices as u32, gates) {
         Some(grid) => Ok(grid),
@@ -88,15 +118,13 @@ fn read_grid(rows: &[Row]) -> Result<Grid, ReadFault>
 }
 
 /// The grid of an auction file: the rows `beet-auction,1`, `base,N`, `tick,N`, `prices,N` and `gates,chain`. The first
-/// row that breaks this is named. Its reason is 1 for a row 1 that is missing, has not two fields or is of another kind,
-/// 4 for another version, 2 for a row that is missing, has not two fields, has another key, or is a sixth one, and 3 for
-/// a value that is no number within its limits or no kind of gates.
+/// row that breaks this is named: row 1 as [`BAD_HEADER`] or [`WRONG_VERSION`], each other one as [`BAD_KEY`] or
+/// [`BAD_VALUE`].
 pub fn read_auction(alloc: Global, bytes: &[u8]) -> Result<Grid, ReadFault>
     requires { length bytes.now ≤ 67108864 }
     ensures { Answers (λ grid. grid) (auction_of bytes.now) result }
 {
-    match first_rows(alloc, bytes, MOST_ROWS) {
-        Ok(rows) => read_grid(&rows),
-        Err(_) => Err(ReadFault::OutOfMemory),
-    }
+    let mut rows = RowReader::new(alloc, bytes);
+    let mut row = Row::new(alloc);
+    read_grid(&mut rows, &mut row)
 }

@@ -8,30 +8,29 @@ ghost use Rattle.beet_bids.specs.BidFiles.{bid_of};
 use crate::curve::Curve;
 use crate::grid::Grid;
 use crate::lines::{curve_of, read_lines};
-use crate::refusals::refused;
-use beet_forms::{ReadFault, begins_with_header, first_rows};
+use beet_forms::{ReadFault, Row, RowReader};
 use std::alloc::Global;
 
+/// The most bytes of a bid file.
+pub const BID_LIMIT: u64 = 1_048_576;
+
+/// The reason against a row 1 that is missing or another one.
+const BAD_HEADER: u32 = 1;
+
 /// The curve of a bid file: the row `beet-bid,1`, and rows `PRICE,BUY,SELL` from the base on, in rising order. Between two
-/// rows the quantities of the earlier one hold. The first row that breaks this is named. Its reason is the first that
-/// stands of these: 1 for row 1 that is not the header, 2 for a row that has not three numbers, 3 for a price that the
-/// grid has not, 8 for row 2 missing or not at the base, 4 for a price not above the row before, 7 for a quantity above
-/// the largest, 5 for buy above the row before, and 6 for sell below it.
+/// rows the quantities of the earlier one hold. The first row that breaks this is named. Its reason is [`BAD_HEADER`] for
+/// row 1, and for a further row the first that stands against it of [`BAD_ROW`], [`OFF_GRID`], [`NO_BASE`],
+/// [`NOT_ASCENDING`], [`TOO_LARGE`], [`BUY_RISES`] and [`SELL_FALLS`].
 pub fn read_bid(alloc: Global, grid: &Grid, bytes: &[u8]) -> Result<Curve, ReadFault>
     requires { length bytes.now ≤ 67108864 }
     ensures reads { Answers (λ curve. curve) (bid_of grid.now bytes.now) result }
     ensures of_grid { IfOk result (λ curve. IsOfGrid grid.now curve) }
 {
-    // the header and one row more than there are prices: so many rows have a fault, as prices rise
-    let Ok(rows) = first_rows(alloc, bytes, grid.prices() as usize + 2) else {
-        return Err(ReadFault::OutOfMemory);
-    };
-    if !begins_with_header(&rows, b"beet-bid", b"1") {
-        return Err(refused(1, 1));
+    let mut rows = RowReader::new(alloc, bytes);
+    let mut row = Row::new(alloc);
+    if !rows.begins_with(&mut row, b"beet-bid", b"1")? {
+        return Err(ReadFault::at_row(1, BAD_HEADER));
     }
-    let lines = read_lines(alloc, grid, &rows[1..])?;
-    match curve_of(alloc, grid, &lines) {
-        Ok(curve) => Ok(curve),
-        Err(_) => Err(ReadFault::OutOfMemory),
-    }
+    let lines = read_lines(alloc, grid, &mut rows, &mut row)?;
+    Ok(curve_of(alloc, grid, &lines)?)
 }

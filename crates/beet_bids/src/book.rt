@@ -8,7 +8,7 @@ use beet_field::Point;
 use std::marker::Model;
 
 /// The largest number of bidders.
-pub(crate) const MOST_BIDDERS: usize = 2_000;
+pub const MOST_BIDDERS: usize = 2_000;
 
 /// A bidder, and the one server that knows its curve, if there is one.
 #[derive(Debug, Drop)]
@@ -42,7 +42,7 @@ impl Book {
     /// then.
     pub fn new(grid: Grid, bidders: Vec<Bidder>) -> Option<Book>
         ensures made { SomeIff result
-            ((length bidders.items ≤ 2000)
+            ((length bidders.items ≤ MOST_BIDDERS)
             × All (λ bidder. IsOfGrid grid bidder.curve) bidders.items)
             (record { grid = grid; bidders = bidders.items }) }
         ensures limits { IfSome result (λ book. IsBook book) }

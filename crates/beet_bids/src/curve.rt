@@ -1,14 +1,14 @@
 //! Curves of quantities.
 
 ghost use Rattle.std.specs.Prelude.{◌≡◌, ◌<◌, ◌↔◌, ◌≤◌, length, slice_index, All, AllPairs, IsTrue, SomeIff, IfOk};
-ghost use Rattle.beet_bids.specs.Curves.{IsCurve, IsOfGrid, largest_quantity};
+ghost use Rattle.beet_bids.specs.Curves.{IsCurve, IsOfGrid};
 
 use crate::grid::Grid;
 use std::alloc::{AllocError, Global};
 use std::marker::Model;
 
-/// The largest quantity of a bidder at a price.
-pub(crate) const LARGEST_QUANTITY: u64 = 281_474_976_710_655;
+/// The largest quantity of a bidder at a price, 2^48 - 1.
+pub const LARGEST_QUANTITY: u64 = 281_474_976_710_655;
 
 /// The quantities that a bidder buys and sells at each price. Buy never rises and sell never falls.
 #[derive(Debug, Drop)]
@@ -29,7 +29,7 @@ impl Model for Curve {
 
 /// Whether each quantity is within its limit.
 fn are_within(quantities: &[u64]) -> bool
-    ensures { IsTrue result ↔ All (λ quantity. quantity ≤ largest_quantity) quantities.now }
+    ensures { IsTrue result ↔ All (λ quantity. quantity ≤ LARGEST_QUANTITY) quantities.now }
 {
     quantities
         .iter()

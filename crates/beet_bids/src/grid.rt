@@ -7,13 +7,13 @@ use beet_gates::Gates;
 use std::marker::Model;
 
 /// The largest base price.
-pub(crate) const LARGEST_BASE: u64 = 1_000_000_000_000;
+pub const LARGEST_BASE: u64 = 1_000_000_000_000;
 
 /// The largest step from one price to the next.
-pub(crate) const LARGEST_TICK: u64 = 1_000_000_000;
+pub const LARGEST_TICK: u64 = 1_000_000_000;
 
 /// The largest number of prices.
-pub(crate) const MOST_PRICES: u32 = 4_096;
+pub const MOST_PRICES: u32 = 4_096;
 
 /// The prices of an auction: a base, and each further price a tick above the one before.
 #[derive(Clone, Copy, PartialEq, Eq, Debug)]

@@ -9,14 +9,13 @@ mod curve;
 mod grid;
 mod lines;
 mod outcomes;
-mod refusals;
 
-pub use auction_file::read_auction;
-pub use bid_file::read_bid;
-pub use book::{Bidder, Book};
+pub use auction_file::{AUCTION_LIMIT, NOT_ONE_PRICE, read_auction};
+pub use bid_file::{BID_LIMIT, read_bid};
+pub use book::{Bidder, Book, MOST_BIDDERS};
 pub use clearing::outcome;
-pub use curve::Curve;
-pub use grid::Grid;
+pub use curve::{Curve, LARGEST_QUANTITY};
+pub use grid::{Grid, LARGEST_BASE, LARGEST_TICK, MOST_PRICES};
 pub use outcomes::Outcome;
 
 #[cfg(test)]

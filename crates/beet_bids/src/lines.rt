@@ -10,9 +10,29 @@ ghost use Rattle.beet_bids.specs.BidFiles.{curve_in, first_reason, is_large, is_
 
 use crate::curve::{Curve, LARGEST_QUANTITY};
 use crate::grid::Grid;
-use crate::refusals::refused;
-use beet_forms::{NumberFault, ReadFault, Row, number, three_fields};
+use beet_forms::{NumberFault, ReadFault, Row, RowReader, number, three_fields};
 use std::alloc::{AllocError, Global};
+
+/// The reason against a row that has not three fields, each of them a number.
+const BAD_ROW: u32 = 2;
+
+/// The reason against a price that the grid has not.
+const OFF_GRID: u32 = 3;
+
+/// The reason against a price that is not above the one of the row before.
+const NOT_ASCENDING: u32 = 4;
+
+/// The reason against a quantity to buy above the one of the row before.
+const BUY_RISES: u32 = 5;
+
+/// The reason against a quantity to sell below the one of the row before.
+const SELL_FALLS: u32 = 6;
+
+/// The reason against a quantity above the largest.
+const TOO_LARGE: u32 = 7;
+
+/// The reason against row 2 where it is missing or not at the base.
+const NO_BASE: u32 = 8;
 
 /// A line of a bid: from this price on, these quantities.
 #[derive(Clone, Copy, Drop)]
@@ -58,9 +78,9 @@ fn first_reason(grid: &Grid, line: Line) -> Option<u32>
     ensures { result ≡ first_reason grid.now line }
 {
     if line.price != grid.base() {
-        Some(8)
+        Some(NO_BASE)
     } else if is_large(line) {
-        Some(7)
+        Some(TOO_LARGE)
     } else {
         None
     }
@@ -71,13 +91,13 @@ fn next_reason(before: Line, line: Line) -> Option<u32>
     ensures { result ≡ next_reason before line }
 {
     if line.price <= before.price {
-        Some(4)
+        Some(NOT_ASCENDING)
     } else if is_large(line) {
-        Some(7)
+        Some(TOO_LARGE)
     } else if line.buy > before.buy {
-        Some(5)
+        Some(BUY_RISES)
     } else if line.sell < before.sell {
-        Some(6)
+        Some(SELL_FALLS)
     } else {
         None
     }
@@ -88,7 +108,7 @@ fn line_reason(grid: &Grid, before: Option<Line>, line: Line) -> Option<u32>
     ensures { result ≡ line_reason grid.now before (Some line) }
 {
     if grid.place(line.price).is_none() {
-        return Some(3);
+        return Some(OFF_GRID);
     }
     match before {
         None => first_reason(grid, line),
@@ -103,32 +123,35 @@ fn read_line(grid: &Grid, before: Option<Line>, number: u32, row: &Row) -> Resul
         Answers (λ read. Some read) (row_reading number reason line) result }
 {
     let Some(line) = cut_line(grid, row) else {
-        return Err(refused(number, 2));
+        return Err(ReadFault::at_row(number, BAD_ROW));
     };
     match line_reason(grid, before, line) {
-        Some(reason) => Err(refused(number, reason)),
+        Some(reason) => Err(ReadFault::at_row(number, reason)),
         None => Ok(line),
     }
 }
 
-/// The lines of the rows after the header.
-pub(crate) fn read_lines(alloc: Global, grid: &Grid, rows: &[Row]) -> Result<Vec<Line>, ReadFault>
-    requires { length rows.now + 2 < 2 ^ 32 }
-    ensures reads { let fault = first_fault 2 (line_reasons grid.now (map line_of rows.now)) in
-        Answers (λ v. v.items) (reading_of fault (filter_map line_of rows.now)) result }
+/// The lines of the rows that are left, which are those after the header.
+pub(crate) fn read_lines(
+    alloc: Global,
+    grid: &Grid,
+    rows: &mut RowReader,
+    row: &mut Row,
+) -> Result<Vec<Line>, ReadFault>
+    requires { length rows.old + 2 < 2 ^ 32 }
+    ensures reads { let fault = first_fault 2 (line_reasons grid.now (map line_of rows.old)) in
+        Answers (λ v. v.items) (reading_of fault (filter_map line_of rows.old)) result }
     ensures lines { IfOk result (λ v. AreLines grid.now v.items) }
 {
-    if rows.is_empty() {
-        return Err(refused(2, 8));
-    }
     let mut lines = Vec::new(alloc);
     let mut before = None;
-    for (i, row) in rows.iter().enumerate() {
-        let line = read_line(grid, before, i as u32 + 2, row)?;
-        if lines.push(line).is_err() {
-            return Err(ReadFault::OutOfMemory);
-        }
+    while rows.next(row)? {
+        let line = read_line(grid, before, lines.len() as u32 + 2, row)?;
+        lines.push(line)?;
         before = Some(line);
+    }
+    if lines.is_empty() {
+        return Err(ReadFault::at_row(2, NO_BASE));
     }
     Ok(lines)
 }

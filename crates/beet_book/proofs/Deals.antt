@@ -16,6 +16,7 @@ drawn-more old mid new n first last = record {
   words = last.words ∙ first.words;
   left = last.left ∙ ap (drop 1) first.left ∙ drop-drop 1 n (left_of old);
   forward = omega (arith, first.forward, last.forward);
+  none = λ zero. omega (arith, zero);
   last = λ _. rw (← first.words) (last.last (omega arith));
 }
 

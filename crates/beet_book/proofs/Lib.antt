@@ -5,8 +5,5 @@ pub mod Deals
 pub mod Each
 pub mod Begins
 pub mod NamedRows
-pub mod BookRows
 pub mod Summed
-pub mod Few
-pub mod Fronts
 pub mod Direct

@@ -17,7 +17,7 @@ use Rattle.beet_book.specs.Totals.{Totals, plain_sums, none_of, supply_first, po
 use Rattle.beet_book.proofs.Pairs.{length-pairwise, item-pairwise}
 use Rattle.beet_book.proofs.Sums.{item-supply, item-demand}
 
-length-summed : (prices : ℕ) (curves : List Curve) → length (summed_quantities prices curves) ≡ 2 * prices
+pub length-summed : (prices : ℕ) (curves : List Curve) → length (summed_quantities prices curves) ≡ 2 * prices
 length-summed prices curves = length-map-range_with_len (λ n. sum_by (λ curve. quantity curve n) curves) 0 (2 * prices)
 
 item-summed : (prices : ℕ) (curves : List Curve) (n : ℕ) → n < 2 * prices →

@@ -78,7 +78,7 @@ item-points : (v s : List ℕ) (at : Point) (k : ℕ) → k < length v → lengt
     get_or (points_at v s at) k 0 ≡ point_of (get_or v k 0) (get_or s k 0) at
 item-points v s at k lt paired = item-pairwise (λ value slope. point_of value slope at) v s k lt (omega arith)
 
-length-points : (v s : List ℕ) (at : Point) → length s ≡ length v → length (points_at v s at) ≡ length v
+pub length-points : (v s : List ℕ) (at : Point) → length s ≡ length v → length (points_at v s at) ≡ length v
 length-points v s at paired = omega (arith, length-pairwise (λ value slope. point_of value slope at) v s)
 
 -- each wire recombines to its value

@@ -1,13 +1,14 @@
 -- The row of a bidder in a book: NAME,KNOWN,BID,KIND,SOURCE.
-use Rattle.std.specs.Prelude.{ℕ, if◌then◌else◌, List, Option, Some, None, option_map, Result, Ok, Err, bytes_eq, codes}
+use Rattle.std.specs.Prelude.{ℕ, if◌then◌else◌, List, Option, Some, None, option_map, Result, Err, bytes_eq, codes}
 use Rattle.std.specs.Option.{ok_or}
 use Rattle.beet_field.specs.declared.point.Point.{Point}
 use Rattle.beet_field.specs.declared.point.Point.TheVariants.{One, Two, Three}
 use Rattle.beet_forms.specs.declared.row.Row.{Row}
-use Rattle.beet_forms.specs.Faults.{Reading, at_row}
 use Rattle.beet_forms.specs.Names.{is_name_of}
 use Rattle.beet_forms.specs.Rows.{five_of}
 use Rattle.beet_words.specs.Seeds.{seed_of}
+use Rattle.beet_book.specs.declared.named_file.TheConstants.{BAD_ROW}
+use Rattle.beet_book.specs.declared.entries.TheConstants.{BAD_SOURCE}
 use Rattle.beet_book.specs.declared.entries.Entry.{Entry}
 use Rattle.beet_book.specs.declared.entries.BidderSource.{BidderSource}
 use Rattle.beet_book.specs.declared.entries.BidderSource.TheVariants.{Seed, Tape}
@@ -35,19 +36,14 @@ source_of kind text =
 -- the entry of the parts of a row, or the reason against them
 abbrev pub entry_of : Option (List ℕ) → Option (Option Point) → Option (List ℕ) → Option BidderSource → Result Entry ℕ
 entry_of (Some name) (Some known) (Some bid) source =
-    ok_or (option_map (λ source. record { name = name; known = known; bid = bid; source = source }) source) 3
-entry_of _ _ _ _ = Err 2
+    ok_or (option_map (λ source. record { name = name; known = known; bid = bid; source = source }) source) BAD_SOURCE
+entry_of _ _ _ _ = Err BAD_ROW
 
 -- the entry of a row's five fields, or the reason against them; a row of another width has none
 abbrev pub entry_of_fields : Option (List ℕ × List ℕ × List ℕ × List ℕ × List ℕ) → Result Entry ℕ
-entry_of_fields None = Err 2
+entry_of_fields None = Err BAD_ROW
 entry_of_fields (Some (name, known, bid, kind, source)) = entry_of (name_of name) (known_of known) (name_of bid) (source_of kind source)
 
--- the entry of a bidder's row, or the reason against the row: 2 for its shape, 3 for its source
+-- the entry of a bidder's row, or the reason against the row
 abbrev pub entry_in : Row → Result Entry ℕ
 entry_in row = entry_of_fields (five_of row)
-
--- what one row reads as, by its number
-abbrev pub reading_at : {A : Type 0} → ℕ → Result A ℕ → Reading A
-reading_at number (Ok value) = Ok value
-reading_at number (Err reason) = Err (at_row number reason)

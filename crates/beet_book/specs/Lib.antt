@@ -5,3 +5,4 @@ pub mod ServerFiles
 pub mod Dealing
 pub mod Columns
 pub mod Totals
+pub mod Farmers

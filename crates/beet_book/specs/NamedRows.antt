@@ -1,10 +1,16 @@
--- Files of a header and then at most 2,000 rows, each of which begins with a name of its own.
+-- Files of a header and then few rows, each of which begins with a name of its own.
 use Rattle.std.specs.Prelude.{ℕ, Bool, ◌-◌, ◌==◌, if◌then◌else◌, List, [], take, drop, Option, unwrap_or, Result, Ok, Err, bytes_eq}
 use Rattle.std.specs.List.{filter_map, list_any, slice_get}
 use Rattle.std.specs.Result.{result_ok, result_err}
 use Rattle.beet_forms.specs.declared.row.Row.{Row}
 use Rattle.beet_forms.specs.Faults.{Reading, at_row, reading_of, first_row_fault}
 use Rattle.beet_forms.specs.Rows.{begins_with}
+use Rattle.beet_book.specs.declared.named_file.TheConstants.{BAD_HEADER, SAME_NAME, TOO_MANY, ONE_TOO_MANY}
+
+-- what one row reads as, by its number
+abbrev pub reading_at : {A : Type 0} → ℕ → Result A ℕ → Reading A
+reading_at number (Ok value) = Ok value
+reading_at number (Err reason) = Err (at_row number reason)
 
 -- the first field of a row
 abbrev pub first_field : Row → List ℕ
@@ -16,12 +22,12 @@ has_name name rows = list_any (λ row. bytes_eq (first_field row) name) rows
 
 -- the value of a row, unless its name is taken
 abbrev pub untaken : {A : Type 0} → Bool → Result A ℕ → Result A ℕ
-untaken taken (Ok value) = if taken then Err 4 else Ok value
+untaken taken (Ok value) = if taken then Err SAME_NAME else Ok value
 untaken taken (Err reason) = Err reason
 
--- the value of a row with this number, or the reason against it: 5 for one row too many, then what stands against the row by itself, 4 for a name that is taken
+-- the value of a row with this number, or the first reason against it: it is one row too many, it is not of its form, or its name is taken
 abbrev pub named_in : {A : Type 0} → (Row → Result A ℕ) → Bool → ℕ → Row → Result A ℕ
-named_in value_in taken number row = if number == 2002 then Err 5 else untaken taken (value_in row)
+named_in value_in taken number row = if number == ONE_TOO_MANY then Err TOO_MANY else untaken taken (value_in row)
 
 -- the reason against a row, where the name of an earlier row is taken; the first of the rows is row 2
 abbrev pub reason_against : {A : Type 0} → (Row → Result A ℕ) → List Row → ℕ → Row → Option ℕ
@@ -33,4 +39,4 @@ named_rows value_in rows = reading_of (first_row_fault (reason_against value_in 
 
 -- what the rows of a file with this header read as
 abbrev pub named_file : {A : Type 0} → (Row → Result A ℕ) → Row → List Row → Reading (List A)
-named_file value_in header rows = if begins_with rows header then named_rows value_in (drop 1 rows) else Err (at_row 1 1)
+named_file value_in header rows = if begins_with rows header then named_rows value_in (drop 1 rows) else Err (at_row 1 BAD_HEADER)

@@ -10,7 +10,9 @@ use Rattle.beet_book.specs.declared.sources.ServerSource.{ServerSource}
 use Rattle.beet_book.specs.declared.sources.ServerSource.TheVariants.{Seed, Tapes}
 use Rattle.beet_book.specs.declared.sources.Servers.{Servers}
 use Rattle.beet_book.specs.declared.sources.Servers.TheVariants.{Three, Bundle}
-use Rattle.beet_book.specs.Entries.{name_of, reading_at}
+use Rattle.beet_book.specs.declared.server_file.TheConstants.{BAD_HEADER, BAD_ROW, BAD_SOURCE, TOO_MANY}
+use Rattle.beet_book.specs.Entries.{name_of}
+use Rattle.beet_book.specs.NamedRows.{reading_at}
 
 -- whether the first field of a row is this text
 abbrev pub begins : List ℕ → Row → Bool
@@ -29,10 +31,10 @@ source_in (server ∷ kind ∷ coefficients ∷ masks ∷ []) =
     if bytes_eq kind (codes "tape") then tapes_of (name_of coefficients) (name_of masks) else None
 source_in _ = None
 
--- the source of the server with this digit, or the reason against its row: 2 for a row that is missing or of another server, 3 for the source
+-- the source of the server with this digit, or the reason against its row
 abbrev pub server_in : List ℕ → Option Row → Result ServerSource ℕ
-server_in digit None = Err 2
-server_in digit (Some row) = if begins digit row then ok_or (source_in row) 3 else Err 2
+server_in digit None = Err BAD_ROW
+server_in digit (Some row) = if begins digit row then ok_or (source_in row) BAD_SOURCE else Err BAD_ROW
 
 -- the three servers, or the first row that is refused
 abbrev pub three_of : Reading ServerSource → Reading ServerSource → Reading ServerSource → Reading Servers
@@ -50,18 +52,18 @@ three_in rows =
 
 -- the bundle of a row that begins so: bundle,NAME
 abbrev pub bundle_in : Row → Result Servers ℕ
-bundle_in (key ∷ name ∷ []) = ok_or (option_map Bundle (name_of name)) 3
-bundle_in _ = Err 3
+bundle_in (key ∷ name ∷ []) = ok_or (option_map Bundle (name_of name)) BAD_SOURCE
+bundle_in _ = Err BAD_SOURCE
 
 -- the reading, unless it is whole and one more row is there, with this number
 abbrev pub last_before : ℕ → Option Row → Reading Servers → Reading Servers
 last_before number None reading = reading
-last_before number (Some row) (Ok servers) = Err (at_row number 5)
+last_before number (Some row) (Ok servers) = Err (at_row number TOO_MANY)
 last_before number (Some row) (Err fault) = Err fault
 
 -- what the rows after the first read as, where the first of them decides whether there is a bundle
 abbrev pub sources_from : List Row → Option Row → Reading Servers
-sources_from rows None = Err (at_row 2 2)
+sources_from rows None = Err (at_row 2 BAD_ROW)
 sources_from rows (Some row) =
     if begins (codes "bundle") row then last_before 3 (slice_get rows 1) (reading_at 2 (bundle_in row))
     else last_before 5 (slice_get rows 3) (three_in rows)
@@ -72,7 +74,7 @@ sources_in rows = sources_from rows (slice_get rows 0)
 
 -- what the rows of a servers file read as
 abbrev pub servers_in : List Row → Reading Servers
-servers_in rows = if begins_with rows (codes "beet-servers" ∷ codes "1" ∷ []) then sources_in (drop 1 rows) else Err (at_row 1 1)
+servers_in rows = if begins_with rows (codes "beet-servers" ∷ codes "1" ∷ []) then sources_in (drop 1 rows) else Err (at_row 1 BAD_HEADER)
 
 -- what a servers file reads as
 abbrev pub servers_of : List ℕ → Reading Servers

@@ -2,12 +2,17 @@
 
 ghost use Rattle.std.specs.Prelude.{◌≡◌, IfOk};
 ghost use Rattle.beet_forms.specs.Faults.{Answers};
-ghost use Rattle.beet_book.specs.Entries.{entry_in, known_of, reading_at, source_of};
+ghost use Rattle.beet_book.specs.Entries.{entry_in, known_of, source_of};
+ghost use Rattle.beet_book.specs.NamedRows.{first_field, reading_at};
 
+use crate::named_file::BAD_ROW;
 use beet_field::Point;
-use beet_forms::{Name, Place, ReadFault, Row, five_fields};
+use beet_forms::{Name, ReadFault, Row, five_fields};
 use beet_words::read_seed;
 use std::alloc::{AllocError, Global};
+
+/// The reason against a source that is neither a seed nor a tape.
+const BAD_SOURCE: u32 = 3;
 
 /// Where a bidder's words come from.
 #[derive(Debug, Drop)]
@@ -58,26 +63,23 @@ fn read_source(alloc: Global, kind: &[u8], text: &[u8]) -> Result<Option<BidderS
 
 /// The entry of a bidder's row.
 pub(crate) fn read_entry(alloc: Global, number: u32, row: &Row) -> Result<Entry, ReadFault>
-    ensures { Answers (λ entry. entry) (reading_at number (entry_in row.now)) result }
+    ensures entry { Answers (λ entry. entry) (reading_at number (entry_in row.now)) result }
+    ensures name { IfOk result (λ entry. entry.name ≡ first_field row.now) }
 {
-    let place = Place::Row(number);
     let Some((name, known, bid, kind, text)) = five_fields(row) else {
-        return Err(ReadFault::Bad { place, reason: 2 });
+        return Err(ReadFault::at_row(number, BAD_ROW));
     };
-    let (Ok(name), Ok(bid)) = (Name::of(alloc, name), Name::of(alloc, bid)) else {
-        return Err(ReadFault::OutOfMemory);
-    };
+    let (name, bid) = (Name::of(alloc, name)?, Name::of(alloc, bid)?);
     let (Some(name), Some(known), Some(bid)) = (name, read_known(known), bid) else {
-        return Err(ReadFault::Bad { place, reason: 2 });
+        return Err(ReadFault::at_row(number, BAD_ROW));
     };
-    match read_source(alloc, kind, text) {
-        Ok(Some(source)) => Ok(Entry {
-            name,
-            known,
-            bid,
-            source,
-        }),
-        Ok(None) => Err(ReadFault::Bad { place, reason: 3 }),
-        Err(_) => Err(ReadFault::OutOfMemory),
-    }
+    let Some(source) = read_source(alloc, kind, text)? else {
+        return Err(ReadFault::at_row(number, BAD_SOURCE));
+    };
+    Ok(Entry {
+        name,
+        known,
+        bid,
+        source,
+    })
 }

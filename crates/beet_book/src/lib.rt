@@ -5,16 +5,17 @@ mod book_file;
 mod columns;
 mod dealing;
 mod entries;
+mod named_file;
 mod naming;
 mod server_file;
 mod sources;
 mod summing;
 
-pub use book_file::read_book;
+pub use book_file::{BOOK_LIMIT, MOST_PRODUCT, OVER_PRODUCT, read_book};
 pub use dealing::{Dealt, deal_bidder, deal_many};
 pub use entries::{BidderSource, Entry};
-pub use naming::add_name;
-pub use server_file::read_servers;
+pub use named_file::{BAD_ROW, NamedRow, read_named};
+pub use server_file::{SERVERS_LIMIT, read_servers};
 pub use sources::{ServerSource, Servers};
 pub use summing::Totals;
 

@@ -1,21 +1,30 @@
 //! The reader of servers files.
 
-ghost use Rattle.std.specs.Prelude.{◌≡◌, ◌≤◌, ◌<◌, ◌+◌, length, slice_get, IfOk, Ok};
+ghost use Rattle.std.specs.Prelude.{◌≡◌, ◌≤◌, ◌∷◌, length, drop, slice_get, IfOk, OnOk, Ok, Some};
 ghost use Rattle.beet_forms.specs.Faults.{Answers};
-ghost use Rattle.beet_book.specs.Entries.{reading_at};
+ghost use Rattle.beet_book.specs.NamedRows.{reading_at};
 ghost use Rattle.beet_book.specs.ServerFiles.{begins, bundle_in, last_before, servers_of, server_in, source_in, sources_in, three_in};
 
 use crate::sources::{ServerSource, Servers};
 use beet_field::Trio;
-use beet_forms::{
-    Name, Place, ReadFault, Row, begins_with_header, first_rows, four_fields, three_fields,
-    two_fields,
-};
+use beet_forms::{Name, ReadFault, Row, RowReader, four_fields, three_fields, two_fields};
 use beet_words::read_seed;
 use std::alloc::{AllocError, Global};
 
-/// How many rows of a file decide it: the fifth is one too many.
-const DECIDING_ROWS: usize = 5;
+/// The most bytes of a servers file.
+pub const SERVERS_LIMIT: u64 = 4_096;
+
+/// The reason against a row 1 that is missing or another one.
+const BAD_HEADER: u32 = 1;
+
+/// The reason against a row that is missing, or does not begin with its server's number.
+const BAD_ROW: u32 = 2;
+
+/// The reason against a source that is neither a seed nor two tapes, or a bundle without one name.
+const BAD_SOURCE: u32 = 3;
+
+/// The reason against a row after the third server or after a bundle.
+const TOO_MANY: u32 = 5;
 
 /// Whether the first field of a row is this text.
 fn begins_with(row: &Row, text: &[u8]) -> bool
@@ -52,102 +61,111 @@ fn read_source(alloc: Global, row: &Row) -> Result<Option<ServerSource>, AllocEr
     Ok(None)
 }
 
-/// The source of the server with this digit, of the row at this place of the rows after the first.
+/// The source of the server with this digit, of the row of this number.
 fn read_server(
     alloc: Global,
-    rows: &[Row],
-    place: u32,
+    number: u32,
+    row: &Row,
     digit: &[u8],
 ) -> Result<ServerSource, ReadFault>
-    requires { place < 3 }
     ensures { Answers (λ source. source)
-        (reading_at (place + 2) (server_in digit.now (slice_get rows.now place))) result }
+        (reading_at number (server_in digit.now (Some row.now))) result }
 {
-    let row = rows.get(place as usize);
-    let place = Place::Row(place + 2);
-    let Some(row) = row else {
-        return Err(ReadFault::Bad { place, reason: 2 });
-    };
     if !begins_with(row, digit) {
-        return Err(ReadFault::Bad { place, reason: 2 });
+        return Err(ReadFault::at_row(number, BAD_ROW));
     }
-    match read_source(alloc, row) {
-        Ok(Some(source)) => Ok(source),
-        Ok(None) => Err(ReadFault::Bad { place, reason: 3 }),
-        Err(_) => Err(ReadFault::OutOfMemory),
-    }
+    let Some(source) = read_source(alloc, row)? else {
+        return Err(ReadFault::at_row(number, BAD_SOURCE));
+    };
+    Ok(source)
 }
 
-/// The three servers, of the rows after the first.
-fn read_three(alloc: Global, rows: &[Row]) -> Result<Servers, ReadFault>
-    ensures { Answers (λ servers. servers) (three_in rows.now) result }
+/// Takes the next row, which has this number and the source of the server with this digit.
+fn next_server(
+    alloc: Global,
+    number: u32,
+    rows: &mut RowReader,
+    row: &mut Row,
+    digit: &[u8],
+) -> Result<ServerSource, ReadFault>
+    ensures source { Answers (λ source. source)
+        (reading_at number (server_in digit.now (slice_get rows.old 0))) result }
+    ensures row { OnOk result (rows.old ≡ row.new ∷ rows.new) }
 {
-    let one = read_server(alloc, rows, 0, b"1")?;
-    let two = read_server(alloc, rows, 1, b"2")?;
-    let three = read_server(alloc, rows, 2, b"3")?;
+    if !rows.next(row)? {
+        return Err(ReadFault::at_row(number, BAD_ROW));
+    }
+    read_server(alloc, number, row, digit)
+}
+
+/// The three servers, of row 2 and those that are left.
+fn read_three(alloc: Global, rows: &mut RowReader, row: &mut Row) -> Result<Servers, ReadFault>
+    ensures servers { Answers (λ servers. servers) (three_in (row.old ∷ rows.old)) result }
+    ensures rest { OnOk result (rows.new ≡ drop 2 rows.old) }
+{
+    let one = read_server(alloc, 2, row, b"1")?;
+    let two = next_server(alloc, 3, rows, row, b"2")?;
+    let three = next_server(alloc, 4, rows, row, b"3")?;
     Ok(Servers::Three(Trio { one, two, three }))
 }
 
-/// The bundle of a row that begins so.
+/// The bundle of a row 2 that begins so.
 fn read_bundle(alloc: Global, row: &Row) -> Result<Servers, ReadFault>
     ensures { Answers (λ servers. servers) (reading_at 2 (bundle_in row.now)) result }
 {
-    let place = Place::Row(2);
     let Some((_, name)) = two_fields(row) else {
-        return Err(ReadFault::Bad { place, reason: 3 });
+        return Err(ReadFault::at_row(2, BAD_SOURCE));
     };
-    match Name::of(alloc, name) {
-        Ok(Some(name)) => Ok(Servers::Bundle(name)),
-        Ok(None) => Err(ReadFault::Bad { place, reason: 3 }),
-        Err(_) => Err(ReadFault::OutOfMemory),
-    }
+    let Some(name) = Name::of(alloc, name)? else {
+        return Err(ReadFault::at_row(2, BAD_SOURCE));
+    };
+    Ok(Servers::Bundle(name))
 }
 
-/// The servers, unless more rows than so many stand after the first.
-fn without_more(rows: &[Row], count: u32, servers: Servers) -> Result<Servers, ReadFault>
-    requires { count < 4 }
+/// The servers, unless a row is left, which has this number.
+fn without_more(
+    rows: &mut RowReader,
+    row: &mut Row,
+    number: u32,
+    servers: Servers,
+) -> Result<Servers, ReadFault>
     ensures { Answers (λ servers. servers)
-        (last_before (count + 2) (slice_get rows.now count) (Ok servers)) result }
+        (last_before number (slice_get rows.old 0) (Ok servers)) result }
 {
-    if rows.len() > count as usize {
-        let place = Place::Row(count + 2);
-        return Err(ReadFault::Bad { place, reason: 5 });
+    if rows.next(row)? {
+        return Err(ReadFault::at_row(number, TOO_MANY));
     }
     Ok(servers)
 }
 
-/// What the rows after the first say.
-fn read_sources(alloc: Global, rows: &[Row]) -> Result<Servers, ReadFault>
-    ensures { Answers (λ servers. servers) (sources_in rows.now) result }
+/// What the rows that are left say, which are those after the first.
+fn read_sources(alloc: Global, rows: &mut RowReader, row: &mut Row) -> Result<Servers, ReadFault>
+    ensures { Answers (λ servers. servers) (sources_in rows.old) result }
 {
-    let Some(first) = rows.first() else {
-        let place = Place::Row(2);
-        return Err(ReadFault::Bad { place, reason: 2 });
-    };
-    if begins_with(first, b"bundle") {
-        let servers = read_bundle(alloc, first)?;
-        return without_more(rows, 1, servers);
+    if !rows.next(row)? {
+        return Err(ReadFault::at_row(2, BAD_ROW));
     }
-    let servers = read_three(alloc, rows)?;
-    without_more(rows, 3, servers)
+    if begins_with(row, b"bundle") {
+        let servers = read_bundle(alloc, row)?;
+        return without_more(rows, row, 3, servers);
+    }
+    let servers = read_three(alloc, rows, row)?;
+    without_more(rows, row, 5, servers)
 }
 
 /// Where the words come from, of a servers file: the row `beet-servers,1` and then either the row `bundle,NAME`, or a row
 /// for each of the servers 1, 2 and 3 in order, `S,seed,HEX` or `S,tape,COEFFICIENTS,MASKS`.
 ///
-/// The first row with a fault is named, with the first reason that stands against it: 1 for a row 1 that is missing or
-/// another one; 2 for a row that is missing, or does not begin with its server's number; 3 for a source that is neither
-/// `seed` with 64 hexadecimal digits nor `tape` with two names, or a `bundle` row without one name; 5 for a row too many.
+/// The first row with a fault is named. Its reason is [`BAD_HEADER`] for row 1, and for a further row the first that stands
+/// against it of [`BAD_ROW`], [`BAD_SOURCE`] and [`TOO_MANY`].
 pub fn read_servers(alloc: Global, bytes: &[u8]) -> Result<Servers, ReadFault>
     requires { length bytes.now ≤ 67108864 }
     ensures { Answers (λ servers. servers) (servers_of bytes.now) result }
 {
-    let Ok(rows) = first_rows(alloc, bytes, DECIDING_ROWS) else {
-        return Err(ReadFault::OutOfMemory);
-    };
-    if !begins_with_header(&rows, b"beet-servers", b"1") {
-        let place = Place::Row(1);
-        return Err(ReadFault::Bad { place, reason: 1 });
+    let mut rows = RowReader::new(alloc, bytes);
+    let mut row = Row::new(alloc);
+    if !rows.begins_with(&mut row, b"beet-servers", b"1")? {
+        return Err(ReadFault::at_row(1, BAD_HEADER));
     }
-    read_sources(alloc, &rows[1..])
+    read_sources(alloc, &mut rows, &mut row)
 }

@@ -3,7 +3,7 @@
 ghost use Rattle.std.specs.Prelude.{◌≡◌, ◌≤◌, ◌*◌, All, IfOk, length};
 ghost use Rattle.beet_field.specs.Field.{add_of, mul_of};
 ghost use Rattle.beet_words.specs.Tapes.{left_of, DrawsMany};
-ghost use Rattle.beet_bids.specs.Curves.{largest_quantity};
+ghost use Rattle.beet_bids.specs.declared.curve.TheConstants.{LARGEST_QUANTITY};
 ghost use Rattle.beet_book.specs.Dealing.{dealt_points, points_by, quantities, HasLengths};
 ghost use Rattle.beet_book.specs.Totals.{added, sums_of, none_of, wires_of, AddsQuantities, AddsValues, CarriesValues};
 
@@ -54,7 +54,7 @@ fn add_each(sums: &mut [Fe], points: &[Fe])
 /// The sum with one more point: that at `AT` of the line with this value and slope.
 fn with_point<const AT: u64>(sum: Fe, value: u64, slope: Fe) -> Fe
     requires at { AT ≤ 3 }
-    requires value { value ≤ largest_quantity }
+    requires value { value ≤ LARGEST_QUANTITY }
     ensures { result ≡ add_of sum (add_of value (mul_of slope AT)) }
 {
     Fe::reduce_u64(sum.value() + value + AT * slope.value())
@@ -65,7 +65,7 @@ fn add_lines<const AT: u64>(sums: &mut [Fe], values: &[u64], slopes: &[Fe])
     requires at { AT ≤ 3 }
     requires values { length values.now ≡ length sums.old }
     requires slopes { length slopes.now ≡ length sums.old }
-    requires limit { All (λ value. value ≤ largest_quantity) values.now }
+    requires limit { All (λ value. value ≤ LARGEST_QUANTITY) values.now }
     ensures { sums.new ≡ sums_of sums.old (points_by AT values.now slopes.now) }
 {
     for (i, sum) in sums.iter_mut().enumerate() {

@@ -1,9 +1,11 @@
 -- The batch at each step of the block of a comparison.
-use Rattle.std.proofs.Common.{◌≡◌, ◌↔◌, ℕ, zero, suc, ◌-◌, ◌≤◌, List, [], ◌∷◌, length, slice_get, Some, None, refl, ap, ◌∙◌, arith, length-append}
+use Rattle.std.proofs.Common.{◌≡◌, ◌↔◌, ℕ, zero, suc, ◌-◌, ◌<◌, ◌≤◌, List, [], ◌∷◌, length, slice_get, Some, None, refl, ap, ◌∙◌, arith, length-append}
 use Rattle.std.specs.Prelude.{IsNone}
 use Rattle.beet_gates.specs.declared.Batch.{Batch}
 use Rattle.beet_gates.specs.Each.{each}
 use Rattle.beet_gates.proofs.EachFacts.{length-each, get-front, get-back, get-past}
+use Rattle.beet_gates.specs.Plans.{batch_at}
+use Rattle.beet_gates.proofs.PlanFacts.{batch-there}
 use Rattle.beet_compare.specs.Compare.{compare_batches, bit_batch, last_batch, answer_batch}
 
 -- there is no item exactly past the end
@@ -39,3 +41,7 @@ module _ (first mask supply demand c : ℕ) where
   compare-none step =
       let e = none-past (compare_batches first mask supply demand c) step in
       (λ h. omega (arith, e.0 h, length-compare_batches), λ h. e.1 (omega (arith, length-compare_batches)))
+
+  pub compare-there : (step : ℕ) → step < 63 →
+      Some (batch_at (compare_batches first mask supply demand c) step) ≡ slice_get (compare_batches first mask supply demand c) step
+  compare-there step h = batch-there (compare_batches first mask supply demand c) step (omega (arith, length-compare_batches))

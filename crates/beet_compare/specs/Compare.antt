@@ -6,6 +6,7 @@ use Rattle.beet_gates.specs.declared.Batch.{Batch}
 use Rattle.beet_gates.specs.declared.Gates.{Gates}
 use Rattle.beet_gates.specs.declared.Gates.TheVariants.{Chain, Tree}
 use Rattle.beet_gates.specs.declared.Linear.{Linear}
+use Rattle.beet_compare.specs.declared.TheConstants.{CHAIN_ROUNDS, CHAIN_WIRES, TREE_ROUNDS, TREE_WIRES}
 use Rattle.beet_gates.specs.Batches.{mul_batch, reveal_batch}
 use Rattle.beet_gates.specs.Clear.{Values}
 use Rattle.beet_gates.specs.Each.{each}
@@ -13,13 +14,18 @@ use Rattle.beet_gates.specs.Linears.{three_terms, two_terms, one_term}
 
 -- how many rounds a block takes
 abbrev pub compare_rounds_of : Gates → ℕ
-compare_rounds_of Chain = 63
-compare_rounds_of Tree = 9
+compare_rounds_of Chain = CHAIN_ROUNDS
+compare_rounds_of Tree = TREE_ROUNDS
 
 -- how many wires a block appends
 abbrev pub compare_wires_of : Gates → ℕ
-compare_wires_of Chain = 245
-compare_wires_of Tree = 366
+compare_wires_of Chain = CHAIN_WIRES
+compare_wires_of Tree = TREE_WIRES
+
+-- how many numbers each server draws in it: one for each product
+abbrev pub compare_draws_of : Gates → ℕ
+compare_draws_of Chain = 60 + 1
+compare_draws_of Tree = 2 * 60 + 1
 
 -- The wires of a block, from its first one: the sums s of the mask's high bits from place 59 down to 0 (0), the masked difference
 -- (60), then for k from 1 to 60 the borrow g below k, whether c and r have the same bit k, and the product of both (61 and on, three
@@ -100,6 +106,6 @@ pub record BeforeCompare (first mask supply demand r s d : ℕ) (before : Values
 pub record AfterCompare (first r s d : ℕ) (before after : Values) : Type 0 where
   pub more : List ℕ
   pub wires : after.wires ≡ before.wires ++ more
-  pub len : length after.wires ≡ first + 245
+  pub len : length after.wires ≡ first + CHAIN_WIRES
   pub opened : after.opened ≡ before.opened ++ add_of (doubled s d) r ∷ (if is_doubled_even s d then 1 else 0) ∷ []
   pub dealt : after.dealt ≡ before.dealt

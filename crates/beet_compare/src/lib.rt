@@ -6,7 +6,8 @@
 ghost use Rattle.std.specs.Prelude.{◌≡◌, ◌<◌, ◌≤◌, ◌+◌, ◌-◌, ◌*◌, ◌^◌, ◌↔◌, ℕ, List, [], ◌∷◌, ◌++◌, length, slice_get, IsNone, IsTrue};
 ghost use Rattle.std.specs.Int.{bit_at};
 ghost use Rattle.beet_field.specs.Field.{IsElement, add_of};
-ghost use Rattle.beet_gates.specs.Batches.{mul_batch, reveal_batch};
+ghost use Rattle.beet_gates.specs.Batches.{mul_batch};
+ghost use Rattle.beet_gates.specs.Plans.{batch_at};
 ghost use Rattle.beet_gates.specs.Clear.{Values, batches_on};
 ghost use Rattle.beet_gates.specs.Each.{each};
 ghost use Rattle.beet_gates.specs.Linears.{three_terms, two_terms};
@@ -14,7 +15,7 @@ ghost use Rattle.beet_compare.specs.Compare.{compare_rounds_of, compare_wires_of
 
 use arrayvec::ArrayVec;
 use beet_field::Fe;
-use beet_gates::{Act, Batch, Gates, Linear};
+use beet_gates::{Batch, Gates, Linear};
 
 /// 1 less than the modulus.
 const MINUS_ONE: u128 = 2_305_843_009_213_693_950;
@@ -22,13 +23,25 @@ const MINUS_ONE: u128 = 2_305_843_009_213_693_950;
 /// 2 less than the modulus.
 const MINUS_TWO: u128 = 2_305_843_009_213_693_949;
 
+/// The rounds of a block with chain gates: the opening of the masked difference, one for each bit, and the opening of the answer.
+const CHAIN_ROUNDS: u32 = 63;
+
+/// The rounds of a block with tree gates.
+const TREE_ROUNDS: u32 = 9;
+
+/// The wires of a block with chain gates.
+const CHAIN_WIRES: u32 = 245;
+
+/// The wires of a block with tree gates.
+const TREE_WIRES: u32 = 366;
+
 /// How many rounds a block takes.
 pub fn compare_rounds(gates: Gates) -> u32
     ensures { result ≡ compare_rounds_of gates }
 {
     match gates {
-        Gates::Chain => 63,
-        Gates::Tree => 9,
+        Gates::Chain => CHAIN_ROUNDS,
+        Gates::Tree => TREE_ROUNDS,
     }
 }
 
@@ -37,8 +50,8 @@ pub fn compare_wires(gates: Gates) -> u32
     ensures { result ≡ compare_wires_of gates }
 {
     match gates {
-        Gates::Chain => 245,
-        Gates::Tree => 366,
+        Gates::Chain => CHAIN_WIRES,
+        Gates::Tree => TREE_WIRES,
     }
 }
 
@@ -87,20 +100,15 @@ fn borrow_past(c_bit: u128, wire: u32, below: (u128, u32)) -> Linear
     sum(Fe::reduce(0), (1 - c_bit, wire), below, (0, 0))
 }
 
-/// The product of the second combination and the first, which are the first wires of the batch.
-fn product_of_two(first: Linear, second: Linear, start: u32) -> Batch
+/// Multiplies the second combination and the first, which are the first wires of the batch.
+fn set_product_of_two(batch: &mut Batch, first: Linear, second: Linear, start: u32)
     requires { start + 1 < 2 ^ 32 }
-    ensures { result ≡ mul_batch (first ∷ second ∷ []) ((start + 1, start) ∷ []) }
+    ensures { batch.new ≡ mul_batch (first ∷ second ∷ []) ((start + 1, start) ∷ []) }
 {
-    let mut lets = ArrayVec::new();
-    lets.push(first);
-    lets.push(second);
-    let mut pairs = ArrayVec::new();
-    pairs.push((start + 1, start));
-    Batch {
-        lets,
-        act: Act::Mul(pairs),
-    }
+    batch.lets.clear();
+    batch.add_let(first.constant, first.terms);
+    batch.add_let(second.constant, second.terms);
+    batch.set_product(start + 1, start);
 }
 
 /// The combinations of the mask's high bits, from place 58 down.
@@ -118,98 +126,124 @@ fn high_bits(first: u32, mask: u32, lets: &mut ArrayVec<Linear, 128>)
     }
 }
 
-/// The batch that opens the masked difference.
-fn masked(first: u32, mask: u32, supply: u32, demand: u32) -> Batch
-    requires first { first + 366 < 2 ^ 32 }
+/// Opens the masked difference.
+fn set_masked(batch: &mut Batch, first: u32, mask: u32, supply: u32, demand: u32)
+    requires first { first + TREE_WIRES < 2 ^ 32 }
     requires mask { mask + 487 < 2 ^ 32 }
-    ensures { result ≡ masked_batch first mask supply demand }
+    ensures { batch.new ≡ masked_batch first mask supply demand }
 {
     let zero = Fe::reduce(0);
-    let mut lets = ArrayVec::new();
-    lets.push(sum(zero, (2, mask + 426), (1, mask + 425), (0, 0)));
-    high_bits(first, mask, &mut lets);
-    lets.push(sum(zero, (2, supply), (MINUS_TWO, demand), (1, first + 59)));
-    let mut shown = ArrayVec::new();
-    shown.push(first + 60);
-    Batch {
-        lets,
-        act: Act::Reveal(shown),
-    }
+    batch.lets.clear();
+    batch
+        .lets
+        .push(sum(zero, (2, mask + 426), (1, mask + 425), (0, 0)));
+    high_bits(first, mask, &mut batch.lets);
+    batch.lets.push(sum(zero, (2, supply), (MINUS_TWO, demand), (1, first + 59)));
+    batch.set_opening(first + 60);
 }
 
 /// The batch of bit 1, below which there is no product yet.
-fn lowest_bit(first: u32, mask: u32, c: Fe) -> Batch
-    requires first { first + 366 < 2 ^ 32 }
+fn set_lowest_bit(batch: &mut Batch, first: u32, mask: u32, c: Fe)
+    requires first { first + TREE_WIRES < 2 ^ 32 }
     requires mask { mask + 487 < 2 ^ 32 }
-    ensures { result ≡ lowest_batch first mask c }
+    ensures { batch.new ≡ lowest_batch first mask c }
 {
-    product_of_two(
+    set_product_of_two(
+        batch,
         borrow_past(bit(c, 0), mask + 366, (0, 0)),
         same(bit(c, 1), mask + 367),
         first + 61,
-    )
+    );
 }
 
 /// The batch of bit `j + 2`.
-fn next_bit(first: u32, mask: u32, c: Fe, j: u32) -> Batch
-    requires first { first + 366 < 2 ^ 32 }
+fn set_next_bit(batch: &mut Batch, first: u32, mask: u32, c: Fe, j: u32)
+    requires first { first + TREE_WIRES < 2 ^ 32 }
     requires mask { mask + 487 < 2 ^ 32 }
     requires bit { j < 59 }
-    ensures { result ≡ bit_batch first mask c j }
+    ensures { batch.new ≡ bit_batch first mask c j }
 {
-    product_of_two(
+    set_product_of_two(
+        batch,
         borrow_past(bit(c, j + 1), mask + 366 + (j + 1), (1, first + 63 + 3 * j)),
         same(bit(c, j + 2), mask + 366 + (j + 2)),
         first + 64 + 3 * j,
-    )
+    );
 }
 
 /// The batch of the whole borrow and the low bit of the difference.
-fn last_bit(first: u32, mask: u32, c: Fe) -> Batch
-    requires first { first + 366 < 2 ^ 32 }
+fn set_last_bit(batch: &mut Batch, first: u32, mask: u32, c: Fe)
+    requires first { first + TREE_WIRES < 2 ^ 32 }
     requires mask { mask + 487 < 2 ^ 32 }
-    ensures { result ≡ last_batch first mask c }
+    ensures { batch.new ≡ last_batch first mask c }
 {
-    product_of_two(
+    set_product_of_two(
+        batch,
         borrow_past(bit(c, 60), mask + 426, (1, first + 240)),
         same(1 - bit(c, 0), mask + 366),
         first + 241,
-    )
+    );
 }
 
-/// The batch that opens the answer.
-fn answer(first: u32) -> Batch
-    requires { first + 366 < 2 ^ 32 }
-    ensures { result ≡ answer_batch first }
+/// Opens the answer.
+fn set_answer(batch: &mut Batch, first: u32)
+    requires { first + TREE_WIRES < 2 ^ 32 }
+    ensures { batch.new ≡ answer_batch first }
 {
-    let mut lets = ArrayVec::new();
-    lets.push(sum(
+    batch.lets.clear();
+    batch.lets.push(sum(
         Fe::reduce(1),
         (MINUS_ONE, first + 242),
         (MINUS_ONE, first + 241),
         (2, first + 243),
     ));
-    let mut shown = ArrayVec::new();
-    shown.push(first + 244);
-    Batch {
-        lets,
-        act: Act::Reveal(shown),
+    batch.set_opening(first + 244);
+}
+
+/// Makes a batch the one at this step of a block with chain gates, or the end past it.
+fn refill_chain(
+    step: u32,
+    first: u32,
+    mask: u32,
+    supply: u32,
+    demand: u32,
+    c: Fe,
+    batch: &mut Batch,
+)
+    requires first { first + TREE_WIRES < 2 ^ 32 }
+    requires mask { mask + 487 < 2 ^ 32 }
+    ensures { batch.new ≡ batch_at (compare_batches first mask supply demand c) step }
+{
+    match step {
+        0 => set_masked(batch, first, mask, supply, demand),
+        1 => set_lowest_bit(batch, first, mask, c),
+        2..=60 => set_next_bit(batch, first, mask, c, step - 2),
+        61 => set_last_bit(batch, first, mask, c),
+        62 => set_answer(batch, first),
+        _ => batch.set_end(),
     }
 }
 
-/// The batch at this step of a block with chain gates.
-fn chain_batch(step: u32, first: u32, mask: u32, supply: u32, demand: u32, c: Fe) -> Option<Batch>
-    requires first { first + 366 < 2 ^ 32 }
+/// Makes a batch the one at this step of a block whose first wire is `first`, or the end past it. The block is that of
+/// `compare_batch`. The gates are to be a chain.
+pub fn refill_compare(
+    gates: Gates,
+    step: u32,
+    first: u32,
+    mask: u32,
+    supply: u32,
+    demand: u32,
+    c: Fe,
+    batch: &mut Batch,
+)
+    requires chain { gates ≡ Gates.Chain }
+    requires first { first + TREE_WIRES < 2 ^ 32 }
     requires mask { mask + 487 < 2 ^ 32 }
-    ensures { result ≡ slice_get (compare_batches first mask supply demand c) step }
+    ensures { batch.new ≡ batch_at (compare_batches first mask supply demand c) step }
 {
-    match step {
-        0 => Some(masked(first, mask, supply, demand)),
-        1 => Some(lowest_bit(first, mask, c)),
-        2..=60 => Some(next_bit(first, mask, c, step - 2)),
-        61 => Some(last_bit(first, mask, c)),
-        62 => Some(answer(first)),
-        _ => None,
+    match gates {
+        Gates::Chain => refill_chain(step, first, mask, supply, demand, c, batch),
+        Gates::Tree => unreachable!(),
     }
 }
 
@@ -226,15 +260,17 @@ pub fn compare_batch(
     c: Fe,
 ) -> Option<Batch>
     requires chain { gates ≡ Gates.Chain }
-    requires first { first + 366 < 2 ^ 32 }
+    requires first { first + TREE_WIRES < 2 ^ 32 }
     requires mask { mask + 487 < 2 ^ 32 }
     ensures batch { result ≡ slice_get (compare_batches first mask supply demand c) step }
     ensures past { IsNone result ↔ (compare_rounds_of gates ≤ step) }
 {
-    match gates {
-        Gates::Chain => chain_batch(step, first, mask, supply, demand, c),
-        Gates::Tree => unreachable!(),
+    if step >= compare_rounds(gates) {
+        return None;
     }
+    let mut batch = Batch::end();
+    refill_compare(gates, step, first, mask, supply, demand, c, &mut batch);
+    Some(batch)
 }
 
 /// What a block does on plain values, wherever it stands and whatever was opened before it: with an accepted mask r, and y twice the

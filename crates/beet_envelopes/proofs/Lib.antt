@@ -1,7 +1,5 @@
 pub mod TextAfter
 pub mod Summed
-pub mod Finishing
-pub mod Causing
 pub mod SealSteps
 pub mod GatherSteps
 pub mod OpenSteps

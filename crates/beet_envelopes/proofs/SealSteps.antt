@@ -1,43 +1,19 @@
 -- Sealing the bid of a farmer, step by step.
-use Rattle.std.proofs.Common.{◌≡◌, ℕ, List, [], ◌∷◌, drop, Option, ◌∙◌, ap}
+use Rattle.std.proofs.Common.{◌≡◌, ℕ, List, [], ◌∷◌, drop, ◌∙◌, ap}
 use Rattle.beet_field.specs.declared.point.Point.{Point}
 use Rattle.beet_field.specs.declared.point.Point.TheVariants.{One, Two, Three}
 use Rattle.beet_field.specs.declared.trio.Trio.{Trio}
-use Rattle.beet_store.specs.Files.{File, Told}
+use Rattle.beet_store.specs.Files.{File}
 use Rattle.beet_words.specs.Words.{accepted}
 use Rattle.beet_words.specs.Tapes.{Tape}
-use Rattle.beet_bids.specs.AuctionFiles.{auction_of}
-use Rattle.beet_bids.specs.BidFiles.{bid_of}
 use Rattle.beet_bids.specs.Curves.{Curve}
 use Rattle.beet_bids.specs.Grids.{Grid}
 use Rattle.beet_book.specs.Dealing.{DealsBidder, dealt_points}
-use Rattle.beet_book.specs.declared.entries.BidderSource.{BidderSource}
 use Rattle.beet_farmer.specs.declared.envelope.Envelope.{Envelope}
 use Rattle.beet_farmer.specs.Envelopes.{envelope_bytes}
 use Rattle.beet_farmer.specs.Sealing.{AreAddressed, points_in}
-use Rattle.beet_errand.specs.Errands.{Errand, Ends, reads}
-use Rattle.beet_errand.specs.Fetches.{Went}
 use Rattle.beet_errand.specs.declared.answer.Status.TheVariants.{Done}
-use Rattle.beet_errand.proofs.Steps.{went_on}
-use Rattle.beet_envelopes.specs.Seal.{name_for, sealed_text, sealed_files, sealed_answer, own_words_errand, with_curve, with_grid, seal_errand}
-
--- the bid is read
-pub comes_to_words : (old middle now : Option Told) (auction bid out : List ℕ) (source : BidderSource) (grid : Grid) (curve : Curve) →
-    ((next : Grid → Errand) → Went old middle (reads auction 4096 auction_of next) (next grid)) →
-    ((next : Curve → Errand) → Went middle now (reads bid 1048576 (bid_of grid) next) (next curve)) →
-    Went old now (seal_errand auction bid source out) (with_curve grid source out curve)
-comes_to_words old middle now auction bid out source grid curve g c =
-    went_on old middle now _ _ _ (g (with_grid bid source out)) (c (with_curve grid source out))
-
--- the words are read
-pub comes_to_envelopes : (old middle last now : Option Told) (auction bid out : List ℕ) (source : BidderSource) (grid : Grid) (curve : Curve) (words : List ℕ) →
-    ((next : Grid → Errand) → Went old middle (reads auction 4096 auction_of next) (next grid)) →
-    ((next : Curve → Errand) → Went middle last (reads bid 1048576 (bid_of grid) next) (next curve)) →
-    ((next : List ℕ → Errand) → Went last now (own_words_errand grid source next) (next words)) →
-    Went old now (seal_errand auction bid source out) (Ends (sealed_answer grid out curve words))
-comes_to_envelopes old middle last now auction bid out source grid curve words g c w =
-    went_on old last now _ _ _ (comes_to_words old middle last auction bid out source grid curve g c)
-    (w (λ words. Ends (sealed_answer grid out curve words)))
+use Rattle.beet_envelopes.specs.Seal.{name_for, sealed_text, sealed_files, sealed_answer}
 
 abbrev file_of : Grid → List ℕ → Envelope → File
 file_of grid out envelope = (name_for out envelope.server, envelope_bytes grid envelope)

@@ -21,7 +21,8 @@ use Rattle.beet_book.proofs.Pairs.{length-pairwise, item-pairwise}
 use Rattle.beet_farmer.specs.Envelopes.{envelope_bytes, envelope_of}
 use Rattle.beet_farmer.proofs.EnvelopeAgain.{envelope_of-bytes, envelope-size}
 use Rattle.beet_auction.specs.Endings.{book_finish, book_rounds}
-use Rattle.beet_auction.specs.Openings.{Farmer, auction_over, book_inputs, book_of, point_for, summed_point}
+use Rattle.beet_plan.specs.Auction.{auction_over}
+use Rattle.beet_book.specs.Farmers.{Farmer, book_inputs, book_of, point_for, summed_point}
 use Rattle.beet_auction.proofs.BookLines.{book-lines, slopes_of}
 use Rattle.beet_auction.proofs.BookPoints.{points-finish, points-rounds}
 use Rattle.beet_load.specs.Farmers.{words_wanted}
@@ -32,6 +33,7 @@ use Rattle.beet_envelopes.specs.Gather.{sum_at, inputs_at}
 use Rattle.beet_envelopes.specs.Open.{opened_answer}
 use Rattle.beet_envelopes.specs.Seal.{sealed_envelope}
 use Rattle.beet_envelopes.specs.SealedBooks.{HaveWords, sealed_points}
+use Rattle.beet_farmer.specs.declared.envelope.TheConstants.{ENVELOPE_LIMIT}
 
 -- there are as many quantities as points
 count : (grid : Grid) (curve : Curve) → IsOfGrid grid curve → length (quantities curve) ≡ 2 * grid.prices
@@ -72,7 +74,7 @@ sealed-again grid curve words s limits of_grid enough =
 
 -- and its file is within the limit
 pub sealed-size : (grid : Grid) (curve : Curve) (words : List ℕ) (s : Point) → IsGrid grid → IsOfGrid grid curve → words_wanted grid ≤ length (accepted words) →
-    length (envelope_bytes grid (sealed_envelope curve words s)) ≤ 131072
+    length (envelope_bytes grid (sealed_envelope curve words s)) ≤ ENVELOPE_LIMIT
 sealed-size grid curve words s limits of_grid enough =
     let size = envelope-size grid (sealed_envelope curve words s)
     (rw (member-dealt curve (accepted words) s) (long grid curve words s of_grid enough)) in

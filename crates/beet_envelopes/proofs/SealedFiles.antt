@@ -4,7 +4,7 @@ use Rattle.std.proofs.lemmas.List.Elements.{All-head, All-tail}
 use Rattle.beet_field.specs.declared.point.Point.{Point}
 use Rattle.beet_field.specs.declared.point.Point.TheVariants.{One, Two, Three}
 use Rattle.beet_field.specs.declared.trio.Trio.{Trio}
-use Rattle.beet_store.specs.Files.{File, Fetch, bytes_of}
+use Rattle.beet_store.specs.Files.{File, Fetch, bytes_of, fetch_of}
 use Rattle.beet_forms.specs.Faults.{Reading}
 use Rattle.beet_words.specs.Words.{accepted}
 use Rattle.beet_bids.specs.Curves.{IsOfGrid}
@@ -14,7 +14,7 @@ use Rattle.beet_farmer.specs.declared.list_file.ListEntry.{ListEntry}
 use Rattle.beet_farmer.specs.Envelopes.{envelope_of}
 use Rattle.beet_farmer.specs.Sealing.{points_in}
 use Rattle.beet_bids.specs.Books.{IsBook}
-use Rattle.beet_auction.specs.Openings.{Farmer, book_of}
+use Rattle.beet_book.specs.Farmers.{Farmer, book_of}
 use Rattle.beet_errand.specs.Errands.{Errand, reads}
 use Rattle.beet_errand.specs.Fetches.{Leads}
 use Rattle.beet_load.specs.Farmers.{words_wanted}
@@ -23,13 +23,14 @@ use Rattle.beet_envelopes.specs.Gather.{envelopes_errand, bidders_errand}
 use Rattle.beet_envelopes.specs.Seal.{sealed_envelope}
 use Rattle.beet_envelopes.specs.SealedBooks.{HaveWords, HoldsSealed, HoldEachSealed, sealed_bytes, sealed_points, envelope_fetches}
 use Rattle.beet_envelopes.proofs.SealedBooks.{sealed-again, sealed-size}
+use Rattle.beet_farmer.specs.declared.envelope.TheConstants.{ENVELOPE_LIMIT}
 
 -- a file that is held and within the limit is read, and the errand goes on
 read-on : {A : Type 0} (files : List File) (name : List ℕ) (limit : ℕ) (grammar : List ℕ → Reading A) (bytes : List ℕ) (value : A) (next : A → Errand) (fetches : List Fetch) (rest : Errand) →
     bytes_of files name ≡ Some bytes → length bytes ≤ limit → grammar bytes ≡ Ok value → Leads files fetches (next value) rest →
-    Leads files ((name, false) ∷ fetches) (reads name limit grammar next) rest
+    Leads files (fetch_of name limit false ∷ fetches) (reads name limit grammar next) rest
 read-on files name limit grammar bytes value next fetches rest held short is l =
-    (refl, rw (held, lt_false limit (length bytes) short, is) l)
+    (refl, refl, rw (held, lt_false limit (length bytes) short, is) l)
 
 module _ (files : List File) (grid : Grid) (limits : IsGrid grid) where
   -- the envelope of a farmer for a server
@@ -37,9 +38,9 @@ module _ (files : List File) (grid : Grid) (limits : IsGrid grid) where
       IsOfGrid grid farmer.bidder.curve → words_wanted grid ≤ length (accepted farmer.words) →
       bytes_of files name ≡ Some (sealed_bytes grid farmer s) →
       Leads files fetches (next (sealed_envelope farmer.bidder.curve farmer.words s)) rest →
-      Leads files ((name, false) ∷ fetches) (reads name 131072 (envelope_of grid s) next) rest
+      Leads files (fetch_of name ENVELOPE_LIMIT false ∷ fetches) (reads name ENVELOPE_LIMIT (envelope_of grid s) next) rest
   envelope-on farmer s name next fetches rest of_grid enough held l =
-      read-on files name 131072 (envelope_of grid s) (sealed_bytes grid farmer s) (sealed_envelope farmer.bidder.curve farmer.words s) next fetches rest held
+      read-on files name ENVELOPE_LIMIT (envelope_of grid s) (sealed_bytes grid farmer s) (sealed_envelope farmer.bidder.curve farmer.words s) next fetches rest held
       (sealed-size grid farmer.bidder.curve farmer.words s limits of_grid enough)
       (sealed-again grid farmer.bidder.curve farmer.words s limits of_grid enough) l
 
@@ -47,16 +48,16 @@ module _ (files : List File) (grid : Grid) (limits : IsGrid grid) where
   bidder-on : (farmer : Farmer) (entry : ListEntry) (next : Trio (List ℕ) → Errand) (fetches : List Fetch) (rest : Errand) →
       IsOfGrid grid farmer.bidder.curve → words_wanted grid ≤ length (accepted farmer.words) →
       HoldsSealed files grid entry farmer → Leads files fetches (next (sealed_points farmer)) rest →
-      Leads files ((entry.envelopes.one, false) ∷ (entry.envelopes.two, false) ∷ (entry.envelopes.three, false) ∷ fetches)
+      Leads files (fetch_of entry.envelopes.one ENVELOPE_LIMIT false ∷ fetch_of entry.envelopes.two ENVELOPE_LIMIT false ∷ fetch_of entry.envelopes.three ENVELOPE_LIMIT false ∷ fetches)
       (envelopes_errand grid entry.envelopes next) rest
   bidder-on farmer entry next fetches rest of_grid enough held l =
       let one = sealed_envelope farmer.bidder.curve farmer.words One in
       let two = sealed_envelope farmer.bidder.curve farmer.words Two in
       let last : Envelope → Envelope → Envelope → Errand = λ first second third. next (points_in (record { one = first; two = second; three = third })) in
-      let third : Envelope → Envelope → Errand = λ first second. reads entry.envelopes.three 131072 (envelope_of grid Three) (last first second) in
-      let second : Envelope → Errand = λ first. reads entry.envelopes.two 131072 (envelope_of grid Two) (third first) in
-      envelope-on farmer One entry.envelopes.one second ((entry.envelopes.two, false) ∷ (entry.envelopes.three, false) ∷ fetches) rest of_grid enough held.one
-      (envelope-on farmer Two entry.envelopes.two (third one) ((entry.envelopes.three, false) ∷ fetches) rest of_grid enough held.two
+      let third : Envelope → Envelope → Errand = λ first second. reads entry.envelopes.three ENVELOPE_LIMIT (envelope_of grid Three) (last first second) in
+      let second : Envelope → Errand = λ first. reads entry.envelopes.two ENVELOPE_LIMIT (envelope_of grid Two) (third first) in
+      envelope-on farmer One entry.envelopes.one second (fetch_of entry.envelopes.two ENVELOPE_LIMIT false ∷ fetch_of entry.envelopes.three ENVELOPE_LIMIT false ∷ fetches) rest of_grid enough held.one
+      (envelope-on farmer Two entry.envelopes.two (third one) (fetch_of entry.envelopes.three ENVELOPE_LIMIT false ∷ fetches) rest of_grid enough held.two
       (envelope-on farmer Three entry.envelopes.three (last one two) fetches rest of_grid enough held.three l))
 
   -- the envelopes of all farmers, after those that are read

@@ -16,9 +16,11 @@ use Rattle.beet_bids.specs.Grids.{Grid}
 use Rattle.beet_book.specs.Dealing.{HasLengths}
 use Rattle.beet_book.specs.Totals.{sums_of, added, none_of, supply_first}
 use Rattle.beet_book.proofs.Sums.{sums-by_item}
-use Rattle.beet_auction.specs.Openings.{auction_over}
+use Rattle.beet_plan.specs.Auction.{auction_over}
 use Rattle.beet_auction.specs.AnyPoints.{ArePoints}
 use Rattle.beet_envelopes.specs.Gather.{sum_at, sums_at, inputs_at}
+use Rattle.beet_load.proofs.Inputs.{length-first}
+use Rattle.beet_auction.proofs.Adding.{one-more}
 
 none-at : (prices : ℕ) (s : Point) → replicate (2 * prices) 0 ≡ each (sum_at [] s) (2 * prices)
 none-at prices s =
@@ -34,9 +36,6 @@ sums-none prices = λ j. record {
   prices = prices;
   points = record { one = none-at prices One j; two = none-at prices Two j; three = none-at prices Three j };
 }
-
-one-more : (total point : ℕ) → (total + point) % p ≡ add_of (total % p) point
-one-more total point = omega arith
 
 more-at : (prices : ℕ) (bidders : List (Trio (List ℕ))) (points : Trio (List ℕ)) (s : Point) → length (member points s) ≡ 2 * prices →
     each (sum_at (bidders ++ points ∷ []) s) (2 * prices) ≡ sums_of (each (sum_at bidders s) (2 * prices)) (member points s)
@@ -60,10 +59,6 @@ sums-more prices bidders points long = λ j. record {
   two = sym (more-at prices bidders points Two long.two) j;
   three = sym (more-at prices bidders points Three long.three) j;
 }
-
-length-first : (prices : ℕ) (xs : List ℕ) → length xs ≡ 2 * prices → length (supply_first prices xs) ≡ 2 * prices
-length-first prices xs h =
-    omega (arith, length-append (drop prices xs) (take prices xs), length-drop prices xs, length-take-le prices xs (omega arith))
 
 first-elements : (prices : ℕ) (xs : List ℕ) → All IsElement xs → All IsElement (supply_first prices xs)
 first-elements prices xs all =

@@ -1,21 +1,20 @@
 -- What is read of the bidders of a list, three envelopes of each, and their points added up.
-use Rattle.std.specs.Prelude.{◌≡◌, ℕ, ◌*◌, ◌%◌, List, [], ◌∷◌, ◌++◌, slice_index, sum_by, Option, Result, Ok, Err}
+use Rattle.std.specs.Prelude.{◌≡◌, ℕ, ◌*◌, ◌%◌, List, [], ◌∷◌, ◌++◌, slice_index, sum_by}
 use Rattle.beet_field.specs.Field.{p}
-use Rattle.beet_field.specs.Trio.{member}
+use Rattle.beet_field.specs.Trio.{member, trio_of}
 use Rattle.beet_field.specs.declared.point.Point.{Point}
 use Rattle.beet_field.specs.declared.point.Point.TheVariants.{One, Two, Three}
 use Rattle.beet_field.specs.declared.trio.Trio.{Trio}
-use Rattle.beet_store.specs.Files.{Told}
+use Rattle.beet_store.specs.Files.{Seen}
 use Rattle.beet_gates.specs.Each.{each}
 use Rattle.beet_bids.specs.Grids.{Grid}
 use Rattle.beet_book.specs.Totals.{Totals, supply_first}
 use Rattle.beet_farmer.specs.Envelopes.{envelope_of}
 use Rattle.beet_farmer.specs.Sealing.{points_in}
 use Rattle.beet_farmer.specs.declared.list_file.ListEntry.{ListEntry}
-use Rattle.beet_server.specs.Runs.{trio_of}
-use Rattle.beet_errand.specs.Errands.{Errand, reads}
-use Rattle.beet_errand.specs.Fetches.{Went, Stops}
-use Rattle.beet_errand.specs.declared.answer.Stop.{Stop}
+use Rattle.beet_errand.specs.Errands.{Step, ◌>>=◌, gives, reads}
+use Rattle.beet_errand.specs.Fetches.{Reached}
+use Rattle.beet_farmer.specs.declared.envelope.TheConstants.{ENVELOPE_LIMIT}
 
 -- the n-th points of all bidders at a server, added up
 abbrev pub sum_at : List (Trio (List ℕ)) → Point → ℕ → ℕ
@@ -30,31 +29,26 @@ abbrev pub inputs_at : ℕ → List (Trio (List ℕ)) → Trio (List ℕ)
 inputs_at prices bidders = trio_of (λ s. supply_first prices (each (sum_at bidders s) (2 * prices)))
 
 -- the points in the three envelopes of a bidder, for the servers in order
-abbrev pub envelopes_errand : Grid → Trio (List ℕ) → (Trio (List ℕ) → Errand) → Errand
-envelopes_errand grid names next =
-    reads names.one 131072 (envelope_of grid One)
-    (λ one. reads names.two 131072 (envelope_of grid Two)
-    (λ two. reads names.three 131072 (envelope_of grid Three)
-    (λ three. next (points_in (record { one = one; two = two; three = three })))))
+abbrev pub envelopes_errand : Grid → Trio (List ℕ) → Step (Trio (List ℕ))
+envelopes_errand grid names = do
+  one ← reads names.one ENVELOPE_LIMIT (envelope_of grid One)
+  two ← reads names.two ENVELOPE_LIMIT (envelope_of grid Two)
+  three ← reads names.three ENVELOPE_LIMIT (envelope_of grid Three)
+  gives (points_in (record { one = one; two = two; three = three }))
 
 -- the points of the bidders of a list in order, after those that are read
-abbrev pub bidders_errand : Grid → List (Trio (List ℕ)) → List ListEntry → (List (Trio (List ℕ)) → Errand) → Errand
-bidders_errand grid read [] next = next read
-bidders_errand grid read (entry ∷ entries) next =
-    envelopes_errand grid entry.envelopes (λ points. bidders_errand grid (read ++ points ∷ []) entries next)
+abbrev pub bidders_errand : Grid → List (Trio (List ℕ)) → List ListEntry → Step (List (Trio (List ℕ)))
+bidders_errand grid read [] = gives read
+bidders_errand grid read (entry ∷ entries) = do
+  points ← envelopes_errand grid entry.envelopes
+  bidders_errand grid (read ++ points ∷ []) entries
 
--- these bidders are read, and their points are added up
-pub record Gathers (grid : Grid) (entries rest : List ListEntry) (old now : Option Told) (totals : Totals)
-    (bidders : List (Trio (List ℕ))) : Type 0 where
-  pub went : (next : List (Trio (List ℕ)) → Errand) →
-      Went old now (bidders_errand grid [] entries next) (bidders_errand grid bidders rest next)
-  pub sums : totals ≡ record { prices = grid.prices; points = sums_at grid.prices bidders }
+-- the points of these bidders are added up
+abbrev pub AddsUp : Grid → Totals → List (Trio (List ℕ)) → Type 0
+AddsUp grid totals bidders = totals ≡ record { prices = grid.prices; points = sums_at grid.prices bidders }
 
 -- the bidders before the rest are read, and their points are added up
-abbrev pub Gathered : Grid → List ListEntry → List ListEntry → Option Told → Option Told → Totals → Type 0
-Gathered grid entries rest old now totals = (bidders : List (Trio (List ℕ))) × Gathers grid entries rest old now totals bidders
-
--- all bidders are read, and their points are added up
-abbrev pub GivesSums : Grid → List ListEntry → Option Told → Option Told → Result Totals Stop → Type 0
-GivesSums grid entries old now (Ok totals) = Gathered grid entries [] old now totals
-GivesSums grid entries old now (Err stop) = Stops old now (bidders_errand grid [] entries) stop
+pub record Gathered (grid : Grid) (entries rest : List ListEntry) (old now : Seen) (totals : Totals) : Type 0 where
+  pub bidders : List (Trio (List ℕ))
+  pub read : Reached old now (bidders_errand grid [] entries) (bidders_errand grid bidders rest)
+  pub sums : AddsUp grid totals bidders

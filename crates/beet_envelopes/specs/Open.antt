@@ -7,12 +7,15 @@ use Rattle.beet_book.specs.ServerFiles.{servers_of}
 use Rattle.beet_book.specs.declared.sources.Servers.{Servers}
 use Rattle.beet_farmer.specs.Lists.{list_of}
 use Rattle.beet_farmer.specs.declared.list_file.ListEntry.{ListEntry}
-use Rattle.beet_auction.specs.Openings.{auction_over}
-use Rattle.beet_errand.specs.Errands.{Answer, Errand, Ends, reads}
-use Rattle.beet_load.specs.Servers.{ServerWords, AllWords, all_words_errand, masks_of}
+use Rattle.beet_plan.specs.Auction.{auction_over}
+use Rattle.beet_errand.specs.Errands.{Answer, Errand, Ends, Step, ◌>>=◌, gives, reads}
+use Rattle.beet_load.specs.Servers.{ServerWords, all_words_errand, masks_of}
 use Rattle.beet_run.specs.Outcomes.{outcome_answer}
 use Rattle.beet_auction.specs.AnyPoints.{points_finish, points_rounds}
 use Rattle.beet_envelopes.specs.Gather.{inputs_at, bidders_errand}
+use Rattle.beet_bids.specs.declared.auction_file.TheConstants.{AUCTION_LIMIT}
+use Rattle.beet_book.specs.declared.server_file.TheConstants.{SERVERS_LIMIT}
+use Rattle.beet_farmer.specs.declared.list_file.TheConstants.{LIST_LIMIT}
 
 -- the answer for the points of the bidders, which need not lie on lines
 abbrev pub opened_answer : Grid → Trio ServerWords → List (Trio (List ℕ)) → Answer
@@ -22,22 +25,21 @@ opened_answer grid servers bidders =
     let masks = masks_of servers in
     outcome_answer grid (points_finish auction inputs masks) (points_rounds auction inputs masks)
 
--- the envelopes come after the words of the servers
-abbrev pub with_words : Grid → List ListEntry → AllWords → Errand
-with_words grid entries words = bidders_errand grid [] entries (λ bidders. Ends (opened_answer grid words.servers bidders))
-
--- the words of the servers come after the list; a bundle may have any number of bidders
-abbrev pub with_entries : Grid → Servers → List ListEntry → Errand
-with_entries grid sources entries = all_words_errand grid None sources (with_words grid entries)
-
--- the list comes after the servers
-abbrev pub with_sources : List ℕ → Grid → Servers → Errand
-with_sources list grid sources = reads list 4194304 list_of (with_entries grid sources)
-
--- the servers come after the auction
-abbrev pub with_grid : List ℕ → List ℕ → Grid → Errand
-with_grid servers list grid = reads servers 4096 servers_of (with_sources list grid)
+-- the bids in the envelopes of these entries are opened: the words of the servers come first, and a bundle may have any number of bidders
+unfoldable pub entries_job : Grid → Servers → List ListEntry → Step Answer
+entries_job grid sources entries = do
+  words ← all_words_errand grid None sources
+  bidders ← bidders_errand grid [] entries
+  gives (opened_answer grid words.servers bidders)
 
 -- the whole job
+unfoldable pub open_job : List ℕ → List ℕ → List ℕ → Step Answer
+open_job auction servers list = do
+  grid ← reads auction AUCTION_LIMIT auction_of
+  sources ← reads servers SERVERS_LIMIT servers_of
+  entries ← reads list LIST_LIMIT list_of
+  entries_job grid sources entries
+
+-- what it does outside
 abbrev pub open_errand : List ℕ → List ℕ → List ℕ → Errand
-open_errand auction servers list = reads auction 4096 auction_of (with_grid servers list)
+open_errand auction servers list = open_job auction servers list Ends

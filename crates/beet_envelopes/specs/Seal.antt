@@ -14,10 +14,13 @@ use Rattle.beet_book.specs.Dealing.{dealt_points}
 use Rattle.beet_book.specs.declared.entries.BidderSource.{BidderSource}
 use Rattle.beet_farmer.specs.declared.envelope.Envelope.{Envelope}
 use Rattle.beet_farmer.specs.Envelopes.{envelope_bytes}
-use Rattle.beet_errand.specs.Errands.{Answer, Errand, Ends, reads}
+use Rattle.beet_errand.specs.Errands.{Answer, Errand, Ends, Step, ◌>>=◌, ◌>>◌, gives, reads}
 use Rattle.beet_errand.specs.Texts.{line_of}
 use Rattle.beet_errand.specs.declared.answer.Status.TheVariants.{Done}
-use Rattle.beet_load.specs.Farmers.{words_wanted, words_kept, words_errand, enough_words}
+use Rattle.beet_plan.specs.Kept.{words_kept}
+use Rattle.beet_load.specs.Farmers.{words_wanted, words_errand, enough_words}
+use Rattle.beet_bids.specs.declared.auction_file.TheConstants.{AUCTION_LIMIT}
+use Rattle.beet_bids.specs.declared.bid_file.TheConstants.{BID_LIMIT}
 
 -- the name of the file for a server
 abbrev pub name_for : List ℕ → Point → List ℕ
@@ -49,18 +52,20 @@ sealed_answer grid out curve words = record {
 }
 
 -- the words of the farmer, who is the bidder 1, of which there have to be enough
-abbrev pub own_words_errand : Grid → BidderSource → (List ℕ → Errand) → Errand
-own_words_errand grid source next =
-    words_errand None source (words_kept grid) (λ words. enough_words 1 (words_wanted grid) words (next words))
-
--- the words come after the bid
-abbrev pub with_curve : Grid → BidderSource → List ℕ → Curve → Errand
-with_curve grid source out curve = own_words_errand grid source (λ words. Ends (sealed_answer grid out curve words))
-
--- the bid comes after the auction
-abbrev pub with_grid : List ℕ → BidderSource → List ℕ → Grid → Errand
-with_grid bid source out grid = reads bid 1048576 (bid_of grid) (with_curve grid source out)
+abbrev pub own_words_errand : Grid → BidderSource → Step (List ℕ)
+own_words_errand grid source = do
+  words ← words_errand None source (words_kept grid.prices)
+  enough_words 1 (words_wanted grid) words
+  gives words
 
 -- the whole job
+unfoldable pub seal_job : List ℕ → List ℕ → BidderSource → List ℕ → Step Answer
+seal_job auction bid source out = do
+  grid ← reads auction AUCTION_LIMIT auction_of
+  curve ← reads bid BID_LIMIT (bid_of grid)
+  words ← own_words_errand grid source
+  gives (sealed_answer grid out curve words)
+
+-- what it does outside
 abbrev pub seal_errand : List ℕ → List ℕ → BidderSource → List ℕ → Errand
-seal_errand auction bid source out = reads auction 4096 auction_of (with_grid bid source out)
+seal_errand auction bid source out = seal_job auction bid source out Ends

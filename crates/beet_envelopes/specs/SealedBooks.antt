@@ -3,15 +3,16 @@ use Rattle.std.specs.Prelude.{◌≡◌, ℕ, ◌≤◌, List, [], ◌∷◌, le
 use Rattle.beet_field.specs.declared.point.Point.{Point}
 use Rattle.beet_field.specs.declared.point.Point.TheVariants.{One, Two, Three}
 use Rattle.beet_field.specs.declared.trio.Trio.{Trio}
-use Rattle.beet_store.specs.Files.{File, Fetch, bytes_of}
+use Rattle.beet_store.specs.Files.{File, Fetch, bytes_of, fetch_of}
 use Rattle.beet_words.specs.Words.{accepted}
 use Rattle.beet_bids.specs.Grids.{Grid}
 use Rattle.beet_book.specs.Dealing.{dealt_points}
 use Rattle.beet_farmer.specs.Envelopes.{envelope_bytes}
 use Rattle.beet_farmer.specs.declared.list_file.ListEntry.{ListEntry}
-use Rattle.beet_auction.specs.Openings.{Farmer}
+use Rattle.beet_book.specs.Farmers.{Farmer}
 use Rattle.beet_load.specs.Farmers.{words_wanted}
 use Rattle.beet_envelopes.specs.Seal.{sealed_envelope}
+use Rattle.beet_farmer.specs.declared.envelope.TheConstants.{ENVELOPE_LIMIT}
 
 -- the points that a farmer seals
 abbrev pub sealed_points : Farmer → Trio (List ℕ)
@@ -43,5 +44,5 @@ HoldEachSealed files grid (entry ∷ entries) (farmer ∷ farmers) =
 abbrev pub envelope_fetches : List ListEntry → List Fetch
 envelope_fetches [] = []
 envelope_fetches (entry ∷ entries) =
-    (entry.envelopes.one, false) ∷ (entry.envelopes.two, false) ∷ (entry.envelopes.three, false)
-    ∷ envelope_fetches entries
+    fetch_of entry.envelopes.one ENVELOPE_LIMIT false ∷ fetch_of entry.envelopes.two ENVELOPE_LIMIT false
+    ∷ fetch_of entry.envelopes.three ENVELOPE_LIMIT false ∷ envelope_fetches entries

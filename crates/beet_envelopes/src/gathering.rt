@@ -1,22 +1,20 @@
 //! Reading the envelopes of the bidders of a list, and adding up their points.
 
-ghost use Rattle.std.specs.Prelude.{◌≡◌, ◌≤◌, ◌*◌, IfErr, IfOk, length};
+ghost use Rattle.std.specs.Prelude.{◌≡◌, ◌*◌, [], IfOk, length};
 ghost use Rattle.beet_book.specs.Dealing.{HasLengths};
 ghost use Rattle.beet_farmer.specs.Envelopes.{envelope_of};
 ghost use Rattle.beet_errand.specs.Errands.{reads};
-ghost use Rattle.beet_errand.specs.Fetches.{Causes, Gives};
-ghost use Rattle.beet_envelopes.specs.Gather.{GivesSums, envelopes_errand};
+ghost use Rattle.beet_errand.specs.Fetches.{Reads, ReadsFor};
+ghost use Rattle.beet_envelopes.specs.Gather.{AddsUp, bidders_errand, envelopes_errand};
+ghost use Rattle.beet_farmer.specs.declared.envelope.TheConstants.{ENVELOPE_LIMIT};
 
 use beet_bids::Grid;
 use beet_book::{Dealt, Totals};
 use beet_errand::{Stop, fetch_file, judge};
-use beet_farmer::{Envelope, ListEntry, read_envelope};
+use beet_farmer::{ENVELOPE_LIMIT, Envelope, ListEntry, read_envelope};
 use beet_field::{Point, Trio};
 use beet_store::Shelf;
 use std::alloc::Global;
-
-/// The limit of an envelope file in bytes.
-const ENVELOPE_LIMIT: u64 = 131_072;
 
 /// The envelope of a file, for this server.
 fn read_envelope_file<S: Shelf>(
@@ -26,11 +24,9 @@ fn read_envelope_file<S: Shelf>(
     server: Point,
     name: &str,
 ) -> Result<Envelope, Stop>
-    ensures later { S.faults shelf.old ≤ S.faults shelf.new }
-    ensures cause { IfErr result (λ stop. Causes (S.faults shelf.old) (S.faults shelf.new) stop) }
     ensures lengths { IfOk result (λ envelope. length envelope.points ≡ 2 * grid.now.prices) }
-    ensures gives { Gives (λ envelope. envelope) (S.told shelf.old) (S.told shelf.new)
-        (reads name.now 131072 (envelope_of grid.now server)) result }
+    ensures reads { Reads (λ envelope. envelope) (S.seen shelf.old) (S.seen shelf.new)
+        (reads name.now ENVELOPE_LIMIT (envelope_of grid.now server)) result }
 {
     let bytes = fetch_file(alloc, shelf, name, ENVELOPE_LIMIT)?;
     judge(
@@ -47,10 +43,8 @@ fn read_bidder<S: Shelf>(
     grid: &Grid,
     entry: &ListEntry,
 ) -> Result<Dealt, Stop>
-    ensures later { S.faults shelf.old ≤ S.faults shelf.new }
-    ensures cause { IfErr result (λ stop. Causes (S.faults shelf.old) (S.faults shelf.new) stop) }
     ensures lengths { IfOk result (λ dealt. HasLengths dealt (2 * grid.now.prices)) }
-    ensures gives { Gives (λ dealt. dealt) (S.told shelf.old) (S.told shelf.new)
+    ensures reads { Reads (λ dealt. dealt) (S.seen shelf.old) (S.seen shelf.new)
         (envelopes_errand grid.now entry.now.envelopes) result }
 {
     let names = &entry.envelopes;
@@ -74,9 +68,7 @@ pub(crate) fn add_bidders<S: Shelf>(
     grid: &Grid,
     entries: &[ListEntry],
 ) -> Result<Totals, Stop>
-    ensures later { S.faults shelf.old ≤ S.faults shelf.new }
-    ensures cause { IfErr result (λ stop. Causes (S.faults shelf.old) (S.faults shelf.new) stop) }
-    ensures gives { GivesSums grid.now entries.now (S.told shelf.old) (S.told shelf.new) result }
+    ensures { ReadsFor (AddsUp grid.now) (S.seen shelf.old) (S.seen shelf.new) (bidders_errand grid.now [] entries.now) result }
 {
     let mut totals = Totals::new(alloc, grid)?;
     for entry in entries {

@@ -15,7 +15,7 @@ ghost use Rattle.beet_farmer.specs.declared.list_file.ListEntry.{ListEntry};
 ghost use Rattle.beet_errand.specs.Errands.{Errand};
 ghost use Rattle.beet_errand.specs.Fetches.{Leads};
 ghost use Rattle.beet_auction.specs.Endings.{book_finish, book_rounds};
-ghost use Rattle.beet_auction.specs.Openings.{Farmer, book_inputs, book_of};
+ghost use Rattle.beet_book.specs.Farmers.{Farmer, book_inputs, book_of};
 ghost use Rattle.beet_load.specs.Farmers.{words_wanted};
 ghost use Rattle.beet_load.specs.Servers.{ServerWords, masks_of};
 ghost use Rattle.beet_run.specs.Outcomes.{outcome_answer};
@@ -23,6 +23,7 @@ ghost use Rattle.beet_envelopes.specs.Gather.{bidders_errand, inputs_at};
 ghost use Rattle.beet_envelopes.specs.Open.{opened_answer};
 ghost use Rattle.beet_envelopes.specs.Seal.{sealed_envelope};
 ghost use Rattle.beet_envelopes.specs.SealedBooks.{HaveWords, HoldEachSealed, envelope_fetches, sealed_points};
+ghost use Rattle.beet_farmer.specs.declared.envelope.TheConstants.{ENVELOPE_LIMIT};
 
 /// Where each bidder's envelopes are those that `seal` makes of its curve and its words, the servers begin with the inputs
 /// of the book of these curves, and the answer of `open` is the outcome of that book.
@@ -36,7 +37,7 @@ pub fn sealed_books_open_their_outcome()
     // Its file is within the limit of an envelope file.
     ensures size { (grid : Grid) (curve : Curve) (words : List ℕ) (s : Point) →
         IsGrid grid → IsOfGrid grid curve → words_wanted grid ≤ length (accepted words) →
-        length (envelope_bytes grid (sealed_envelope curve words s)) ≤ 131072 }
+        length (envelope_bytes grid (sealed_envelope curve words s)) ≤ ENVELOPE_LIMIT }
 
     // Where the files of each entry of a list hold the envelopes of a farmer, the errand of the bidders of the list goes on
     // with the points that the farmers sealed.

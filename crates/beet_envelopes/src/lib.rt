@@ -12,6 +12,3 @@ pub use laws::sealed_books_open_their_outcome;
 pub use opening::open_envelopes;
 pub use sealing::seal_bid;
 pub use source_word::{SourceWord, read_source_word};
-
-#[cfg(test)]
-mod tests;

@@ -1,31 +1,51 @@
 //! The job `open`.
 
-ghost use Rattle.std.specs.Prelude.{◌≤◌, IfErr, IfOk};
+ghost use Rattle.std.specs.Prelude.{◌≡◌, IfOk};
+ghost use Rattle.beet_gates.specs.declared.Gates.TheVariants.{Chain};
+ghost use Rattle.beet_bids.specs.Grids.{IsGrid};
 ghost use Rattle.beet_farmer.specs.Lists.{list_of};
 ghost use Rattle.beet_errand.specs.Errands.{reads};
-ghost use Rattle.beet_errand.specs.Fetches.{Causes, Finishes, Gives, IsDone};
-ghost use Rattle.beet_envelopes.specs.Open.{open_errand};
+ghost use Rattle.beet_errand.specs.Fetches.{IsDone, Reads};
+ghost use Rattle.beet_envelopes.specs.Open.{entries_job, open_job};
+ghost use Rattle.beet_farmer.specs.declared.list_file.TheConstants.{LIST_LIMIT};
 
 use crate::gathering::add_bidders;
+use beet_bids::Grid;
+use beet_book::Servers;
 use beet_errand::{Reply, Stop, fetch_file, judge};
-use beet_farmer::{ListEntry, read_list};
+use beet_farmer::{LIST_LIMIT, ListEntry, read_list};
 use beet_load::{read_grid, read_sources, read_words};
 use beet_run::{outcome_reply, run_auction};
 use beet_store::Shelf;
 use std::alloc::Global;
 
-/// The limit of a list file in bytes.
-const LIST_LIMIT: u64 = 4_194_304;
-
 /// The bidders of a list file.
 fn read_entries<S: Shelf>(alloc: Global, shelf: &mut S, name: &str) -> Result<Vec<ListEntry>, Stop>
-    ensures later { S.faults shelf.old ≤ S.faults shelf.new }
-    ensures cause { IfErr result (λ stop. Causes (S.faults shelf.old) (S.faults shelf.new) stop) }
-    ensures gives { Gives (λ entries. entries.items) (S.told shelf.old) (S.told shelf.new)
-        (reads name.now 4194304 list_of) result }
+    ensures { Reads (λ entries. entries.items) (S.seen shelf.old) (S.seen shelf.new)
+        (reads name.now LIST_LIMIT list_of) result }
 {
     let bytes = fetch_file(alloc, shelf, name, LIST_LIMIT)?;
     judge(alloc, name, read_list(alloc, bytes.as_slice()))
+}
+
+/// The outcome of the bids in the envelopes of these entries, and the rounds in which three servers find it.
+fn open_entries<S: Shelf>(
+    alloc: Global,
+    shelf: &mut S,
+    grid: &Grid,
+    sources: &Servers,
+    entries: &[ListEntry],
+) -> Result<Reply, Stop>
+    requires limits { IsGrid grid.now }
+    requires gates { grid.now.gates ≡ Chain }
+    ensures done { IfOk result (λ reply. IsDone reply.status) }
+    ensures reads { Reads (λ reply. reply) (S.seen shelf.old) (S.seen shelf.new)
+        (entries_job grid.now sources.now entries.now) result }
+{
+    let words = read_words(alloc, shelf, grid, sources, None)?;
+    let totals = add_bidders(alloc, shelf, grid, entries)?;
+    let (finish, rounds) = run_auction(alloc, grid, totals.inputs(), words.servers)?;
+    Ok(outcome_reply(alloc, grid, finish, rounds)?)
 }
 
 /// The outcome of the bids in the envelopes of a list, and the rounds in which three servers find it. The points in the
@@ -39,17 +59,12 @@ pub fn open_envelopes<S: Shelf>(
     servers: &str,
     list: &str,
 ) -> Result<Reply, Stop>
-    ensures later { S.faults shelf.old ≤ S.faults shelf.new }
-    ensures cause { IfErr result (λ stop. Causes (S.faults shelf.old) (S.faults shelf.new) stop) }
     ensures done { IfOk result (λ reply. IsDone reply.status) }
-    ensures finishes { Finishes (S.told shelf.old) (S.told shelf.new)
-        (open_errand auction.now servers.now list.now) result }
+    ensures reads { Reads (λ reply. reply) (S.seen shelf.old) (S.seen shelf.new)
+        (open_job auction.now servers.now list.now) result }
 {
     let grid = read_grid(alloc, shelf, auction)?;
     let sources = read_sources(alloc, shelf, servers)?;
     let entries = read_entries(alloc, shelf, list)?;
-    let words = read_words(alloc, shelf, &grid, &sources, None)?;
-    let totals = add_bidders(alloc, shelf, &grid, entries.as_slice())?;
-    let (finish, rounds) = run_auction(alloc, &grid, totals.inputs(), words.servers)?;
-    Ok(outcome_reply(alloc, &grid, finish, rounds)?)
+    open_entries(alloc, shelf, &grid, &sources, entries.as_slice())
 }

@@ -6,8 +6,8 @@ ghost use Rattle.beet_book.specs.Dealing.{HasLengths};
 ghost use Rattle.beet_farmer.specs.Envelopes.{envelope_bytes};
 ghost use Rattle.beet_farmer.specs.Sealing.{points_in};
 ghost use Rattle.beet_load.specs.Farmers.{words_wanted, words_errand};
-ghost use Rattle.beet_errand.specs.Fetches.{Causes, Finishes, Gives};
-ghost use Rattle.beet_envelopes.specs.Seal.{name_for, own_words_errand, seal_errand, sealed_text};
+ghost use Rattle.beet_errand.specs.Fetches.{Reads};
+ghost use Rattle.beet_envelopes.specs.Seal.{name_for, own_words_errand, seal_job, sealed_text};
 ghost use Rattle.beet_envelopes.specs.SourceWords.{named_source};
 
 use crate::source_word::SourceWord;
@@ -30,10 +30,8 @@ fn read_source<S: Shelf>(
     source: SourceWord<'_>,
     kept: u32,
 ) -> Result<Tape, Stop>
-    ensures later { S.faults shelf.old ≤ S.faults shelf.new }
-    ensures cause { IfErr result (λ stop. Causes (S.faults shelf.old) (S.faults shelf.new) stop) }
     ensures fresh { IfOk result (λ tape. tape.passed ≡ 0) }
-    ensures gives { Gives (λ tape. tape.words) (S.told shelf.old) (S.told shelf.new)
+    ensures reads { Reads (λ tape. tape.words) (S.seen shelf.old) (S.seen shelf.new)
         (words_errand None (named_source source.entry) kept) result }
 {
     match source {
@@ -49,11 +47,9 @@ fn read_words<S: Shelf>(
     grid: &Grid,
     source: SourceWord<'_>,
 ) -> Result<Tape, Stop>
-    ensures later { S.faults shelf.old ≤ S.faults shelf.new }
-    ensures cause { IfErr result (λ stop. Causes (S.faults shelf.old) (S.faults shelf.new) stop) }
     ensures fresh { IfOk result (λ tape. tape.passed ≡ 0) }
     ensures enough { IfOk result (λ tape. words_wanted grid.now ≤ length (accepted tape.words)) }
-    ensures gives { Gives (λ tape. tape.words) (S.told shelf.old) (S.told shelf.new)
+    ensures reads { Reads (λ tape. tape.words) (S.seen shelf.old) (S.seen shelf.new)
         (own_words_errand grid.now (named_source source.entry)) result }
 {
     let tape = read_source(alloc, shelf, source, words_kept(grid))?;
@@ -117,11 +113,9 @@ pub fn seal_bid<S: Shelf>(
     source: SourceWord<'_>,
     out: &str,
 ) -> Result<Reply, Stop>
-    ensures later { S.faults shelf.old ≤ S.faults shelf.new }
-    ensures cause { IfErr result (λ stop. Causes (S.faults shelf.old) (S.faults shelf.new) stop) }
     ensures done { IfOk result (λ reply. reply.status ≡ Status.Done) }
-    ensures finishes { Finishes (S.told shelf.old) (S.told shelf.new)
-        (seal_errand auction.now bid.now (named_source source.entry) out.now) result }
+    ensures reads { Reads (λ reply. reply) (S.seen shelf.old) (S.seen shelf.new)
+        (seal_job auction.now bid.now (named_source source.entry) out.now) result }
 {
     let grid = read_grid(alloc, shelf, auction)?;
     let curve = read_curve(alloc, shelf, &grid, bid)?;

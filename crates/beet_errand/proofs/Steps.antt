@@ -2,8 +2,9 @@
 use Rattle.std.proofs.Common.{◌≡◌, ◌<◌, ◌≤◌, ℕ, List, [], ◌∷◌, ◌++◌, Option, Some, None, Result, Ok, Err, Vec, Global, true, false, refl, sym, ap, ◌∙◌, arith, append-nil, append_assoc, nat_lt, length}
 use Rattle.std.specs.Prelude.{IsSomeAnd}
 use Rattle.std.proofs.lemmas.Grind.{common_steps}
-use Rattle.beet_store.specs.Files.{File, Fetch, Told, TellsFetch, bytes_of}
+use Rattle.beet_store.specs.Files.{File, Fetch, Told, TellsFetch, bytes_of, fetch_of}
 use Rattle.beet_store.specs.declared.shelf.FetchFault.TheVariants.{Failed, TooLong, OutOfMemory as NoMemory}
+use Rattle.beet_errand.specs.declared.fetching.TheConstants.{TOO_LONG}
 use Rattle.beet_errand.specs.Errands.{Errand, Ends, Wants, FetchAnswer, Bytes, Longer, Nothing, unread, bad_file, too_long, after_fetch, after_answer, judged, reads}
 use Rattle.beet_errand.specs.Fetches.{Leads, LeadsBy, Went, Stops, Gives, Judges, Refuses}
 use Rattle.beet_forms.specs.Faults.{Reading, Answers}
@@ -32,20 +33,20 @@ bytes_after files name limit bytes next e within =
 
 -- a file that is fetched is what the errand goes on with
 pub fetched_gives : (told now : Option Told) (name : List ℕ) (limit : ℕ) (bytes : Vec ℕ Global) →
-    TellsFetch told now name (Ok bytes) → length bytes.items ≤ limit →
+    TellsFetch told now name limit (Ok bytes) → length bytes.items ≤ limit →
     (next : List ℕ → Errand) → Went told now (Wants name limit next) (next bytes.items)
 fetched_gives None now name limit bytes t within next = (t, Bytes bytes.items ∷ [], (within, refl))
 fetched_gives (Some told) now name limit bytes t within next =
-    ((name, false) ∷ [], t.1, (refl, bytes_after told.files name limit bytes.items next t.0 within))
+    (fetch_of name limit false ∷ [], t.1, (refl, refl, bytes_after told.files name limit bytes.items next t.0 within))
 
 -- a fetch that fails refuses the errand
 pub failed_stops : (told now : Option Told) (name : List ℕ) (limit : ℕ) (stop : Stop) →
-    TellsFetch told now name (Err Failed) → Refuses Unread (read_fault_text name) stop →
+    TellsFetch told now name limit (Err Failed) → Refuses Unread (read_fault_text name) stop →
     Stops told now (Wants name limit) stop
 failed_stops None now name limit (Refused s line) t r = λ next. (t, Nothing ∷ [], (tt, cc))
 failed_stops None now name limit OutOfMemory t r = λ next. (unread name, (t, Nothing ∷ [], (tt, refl)))
-failed_stops (Some told) now name limit (Refused s line) t r = λ next. ((name, true) ∷ [], t.1, (refl, cc))
-failed_stops (Some told) now name limit OutOfMemory t r = λ next. (unread name, ((name, true) ∷ [], t.1, (refl, refl)))
+failed_stops (Some told) now name limit (Refused s line) t r = λ next. (fetch_of name limit true ∷ [], t.1, (refl, refl, cc))
+failed_stops (Some told) now name limit OutOfMemory t r = λ next. (unread name, (fetch_of name limit true ∷ [], t.1, (refl, refl, refl)))
 
 lt_true : {m n : ℕ} → m < n → nat_lt m n ≡ true
 lt_true h = grind (arith, common_steps)
@@ -60,23 +61,23 @@ long_after files name limit n next (Some bytes) e s above =
 
 -- a file that is longer than its limit refuses the errand
 pub long_stops : (told now : Option Told) (name : List ℕ) (limit n : ℕ) (stop : Stop) →
-    TellsFetch told now name (Err (TooLong n)) → limit < n → Refuses BadFile (fault_line_of name (Row 0) 20) stop →
+    TellsFetch told now name limit (Err (TooLong n)) → limit < n → Refuses BadFile (fault_line_of name (Row 0) TOO_LONG) stop →
     Stops told now (Wants name limit) stop
 long_stops None now name limit n (Refused s line) t above r = λ next. (t, Longer ∷ [], (tt, cc))
 long_stops None now name limit n OutOfMemory t above r = λ next. (bad_file name too_long, (t, Longer ∷ [], (tt, refl)))
 long_stops (Some told) now name limit n (Refused s line) t above r = λ next. (
-  (name, false) ∷ [],
+  fetch_of name limit false ∷ [],
   t.1,
-  (refl, long_after told.files name limit n next (bytes_of told.files name) refl t.0 above ∙ cc),
+  (refl, refl, long_after told.files name limit n next (bytes_of told.files name) refl t.0 above ∙ cc),
 )
 long_stops (Some told) now name limit n OutOfMemory t above r = λ next. (
   bad_file name too_long,
-  ((name, false) ∷ [], t.1, (refl, long_after told.files name limit n next (bytes_of told.files name) refl t.0 above)),
+  (fetch_of name limit false ∷ [], t.1, (refl, refl, long_after told.files name limit n next (bytes_of told.files name) refl t.0 above)),
 )
 
 -- memory ran out at a fetch
 pub memory_stops : (told now : Option Told) (name : List ℕ) (limit : ℕ) →
-    TellsFetch told now name (Err NoMemory) →
+    TellsFetch told now name limit (Err NoMemory) →
     Stops told now (Wants name limit) OutOfMemory
 memory_stops None now name limit t = λ next. (Wants name limit next, (t, [], refl))
 memory_stops (Some told) now name limit t = λ next. (
@@ -90,7 +91,7 @@ leads_on : (files : List File) (first second : List Fetch) (errand middle rest :
 leads_on files [] second errand middle rest e l = rw e l
 leads_on files (fetch ∷ first) second (Ends answer) middle rest l m = absurd l
 leads_on files (fetch ∷ first) second (Wants name limit next) middle rest l m =
-    (l.0, leads_on files first second (after_fetch files name limit next fetch.1) middle rest l.1 m)
+    (l.0, l.1, leads_on files first second (after_fetch files name limit next fetch.failed) middle rest l.2 m)
 
 -- two lists of answers, one after the other
 leads_by_on : (first second : List FetchAnswer) (errand middle rest : Errand) →

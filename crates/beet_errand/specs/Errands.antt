@@ -2,6 +2,7 @@
 use Rattle.std.specs.Prelude.{ℕ, List, [], length, Option, Some, None, Ok, Err, Bool, nat_lt, if◌then◌else◌}
 use Rattle.beet_store.specs.Files.{File, bytes_of}
 use Rattle.beet_forms.specs.Faults.{Fault, Reading, at_row}
+use Rattle.beet_errand.specs.declared.fetching.TheConstants.{TOO_LONG}
 use Rattle.beet_errand.specs.declared.answer.Status.{Status}
 use Rattle.beet_errand.specs.declared.answer.Status.TheVariants.{ReadFault, BadFile}
 use Rattle.beet_errand.specs.Texts.{read_fault_text}
@@ -17,6 +18,24 @@ pub record Answer : Type 0 where
 pub data Errand : Type 0 where
   Ends : Answer → Errand
   Wants : List ℕ → ℕ → (List ℕ → Errand) → Errand
+
+-- a step of an errand: what is done until it goes on with a value
+abbrev pub Step : Type 0 → Type 0
+Step A = (A → Errand) → Errand
+
+infixl 10 ◌>>=◌
+infixl 10 ◌>>◌
+-- a step, and then the one that its value leads to
+abbrev pub ◌>>=◌ : {A B : Type 0} → Step A → (A → Step B) → Step B
+(step >>= rest) next = step (λ value. rest value next)
+
+-- a test, and then a step
+abbrev pub ◌>>◌ : {A : Type 0} → (Errand → Errand) → Step A → Step A
+(test >> step) next = test (step next)
+
+-- a step that fetches nothing
+abbrev pub gives : {A : Type 0} → A → Step A
+gives value next = next value
 
 -- an answer that puts no file
 abbrev pub text_answer : Status → List ℕ → Answer
@@ -36,7 +55,7 @@ bad_file name fault = answers BadFile (fault_line_of name fault.place fault.reas
 
 -- what stands for a file that is longer than its limit
 abbrev pub too_long : Fault
-too_long = at_row 0 20
+too_long = at_row 0 TOO_LONG
 
 -- the errand goes on with the value that a file reads as
 abbrev pub judged : {A : Type 0} → List ℕ → Reading A → (A → Errand) → Errand
@@ -56,7 +75,8 @@ with_bytes name limit next (Some bytes) = if nat_lt limit (length bytes) then ba
 abbrev pub after_fetch : List File → List ℕ → ℕ → (List ℕ → Errand) → Bool → Errand
 after_fetch files name limit next failed = if failed then unread name else with_bytes name limit next (bytes_of files name)
 
--- what a fetch answers, whatever the shelf tells: the bytes of a whole file, that it is longer than its limit, or nothing, as it failed
+-- what a fetch answers, whatever the shelf tells: the bytes of a whole file, that it is longer than its limit, or that it cannot be
+-- fetched
 pub data FetchAnswer : Type 0 where
   Bytes : List ℕ → FetchAnswer
   Longer : FetchAnswer

@@ -1,8 +1,8 @@
 -- How far a list of fetches brings an errand.
-use Rattle.std.specs.Prelude.{◌≡◌, ◌≤◌, ◌⊎◌, ℕ, List, [], ◌∷◌, ◌++◌, length, Option, Some, None, Result, Ok, Err}
+use Rattle.std.specs.Prelude.{◌≡◌, ◌≤◌, ◌⊎◌, ℕ, List, [], ◌∷◌, ◌++◌, length, Option, Some, None, Result, Ok, Err, IfErr}
 use Rattle.beet_store.specs.Causes.{Rose}
-use Rattle.beet_store.specs.Files.{File, Fetch, Told}
-use Rattle.beet_errand.specs.Errands.{Answer, Errand, Ends, Wants, FetchAnswer, Bytes, Longer, Nothing, after_fetch, after_answer, answers}
+use Rattle.beet_store.specs.Files.{File, Fetch, Told, Seen}
+use Rattle.beet_errand.specs.Errands.{Answer, Errand, Step, Ends, Wants, FetchAnswer, Bytes, Longer, Nothing, after_fetch, after_answer, answers}
 use Rattle.beet_errand.specs.declared.answer.Status.{Status}
 use Rattle.beet_errand.specs.declared.answer.Status.TheVariants.{Done, OutOfMemory as NoMemory, Usage, ReadFault as Unread, WriteFault, BadFile, MasksSpent, WorldsRefused, TooFewWords}
 use Rattle.beet_forms.specs.FaultLines.{fault_line_of}
@@ -16,7 +16,7 @@ abbrev pub Leads : List File → List Fetch → Errand → Errand → Type 0
 Leads files [] errand rest = errand ≡ rest
 Leads files (fetch ∷ fetches) (Ends answer) rest = ⊥
 Leads files (fetch ∷ fetches) (Wants name limit next) rest =
-    (fetch.0 ≡ name) × Leads files fetches (after_fetch files name limit next fetch.1) rest
+    (fetch.name ≡ name) × (fetch.limit ≡ limit) × Leads files fetches (after_fetch files name limit next fetch.failed) rest
 
 -- bytes that are answered are no more than the limit
 abbrev pub FitsLimit : ℕ → FetchAnswer → Type 0
@@ -82,6 +82,31 @@ Causes before now (Refused WorldsRefused text) = ⊥
 Causes before now (Refused TooFewWords text) = Unit {0}
 Causes before now OutOfMemory = Unit {0}
 
+-- what a step of an errand gives: a value, for one that the next step takes; or it stops
+abbrev pub GivesFor : {A T : Type 0} → (T → A → Type 0) → Option Told → Option Told → Step A → Result T Stop → Type 0
+GivesFor {A = A} shows old now step (Ok value) = (a : A) × shows value a × ((next : A → Errand) → Went old now (step next) (next a))
+GivesFor shows old now step (Err stop) = Stops old now step stop
+
+-- a call over a shelf does what the step says and no more, in order: it gives a value, for one that the next step takes, or it stops
+pub record ReadsFor {A T : Type 0} (shows : T → A → Type 0) (old now : Seen) (step : Step A) (result : Result T Stop) : Type 0 where
+  pub gives : GivesFor shows old.told now.told step result
+  pub cause : IfErr result (λ stop. Causes old.faults now.faults stop)
+  pub later : old.faults ≤ now.faults
+
+-- the same, where the next step takes the value as `view` shows it
+abbrev pub Reads : {A T : Type 0} → (T → A) → Seen → Seen → Step A → Result T Stop → Type 0
+Reads view old now step result = ReadsFor (λ value a. a ≡ view value) old now step result
+
+-- what was read so far of a step leaves it with another, which goes on with the same value
+pub record Reached {A : Type 0} (old now : Seen) (step rest : Step A) : Type 0 where
+  pub went : (next : A → Errand) → Went old.told now.told (step next) (rest next)
+  pub later : old.faults ≤ now.faults
+
+-- a test passes, or it stops with a cause; it fetches nothing
+pub record Tests (test : Errand → Errand) (result : Result (Unit {0}) Stop) : Type 0 where
+  pub passes : Passes test result
+  pub cause : (before now : ℕ) → IfErr result (λ stop. Causes before now stop)
+
 -- how a job ends that is not refused
 abbrev pub IsDone : Status → Type 0
 IsDone status = (status ≡ Done) ⊎ (status ≡ MasksSpent)
@@ -91,3 +116,9 @@ abbrev pub Finishes : Option Told → Option Told → Errand → Result Answer S
 Finishes old now errand (Ok answer) = Went old now errand (Ends answer)
 Finishes old now errand (Err (Refused status text)) = Went old now errand (answers status text.items)
 Finishes old now errand (Err OutOfMemory) = (rest : Errand) × Went old now errand rest
+
+-- a whole job does what its errand says and no more: it has gone to its end, or it stops with a cause
+pub record Does (old now : Seen) (errand : Errand) (result : Result Answer Stop) : Type 0 where
+  pub finishes : Finishes old.told now.told errand result
+  pub cause : IfErr result (λ stop. Causes old.faults now.faults stop)
+  pub later : old.faults ≤ now.faults

@@ -1,11 +1,10 @@
 //! Fetching a file, and judging it before the next one.
 
-ghost use Rattle.std.specs.Prelude.{◌≡◌, ◌≤◌, Result, Ok, Err, IfOk, IfErr, List, ℕ, vec_len};
-ghost use Rattle.beet_forms.specs.Faults.{Reading};
+ghost use Rattle.std.specs.Prelude.{◌≡◌, ◌≤◌, IfOk, vec_len};
 ghost use Rattle.beet_forms.specs.FaultLines.{fault_line_of};
 ghost use Rattle.beet_errand.specs.Texts.{read_fault_text};
 ghost use Rattle.beet_errand.specs.Errands.{Wants};
-ghost use Rattle.beet_errand.specs.Fetches.{Gives, Causes, Judges, Refuses};
+ghost use Rattle.beet_errand.specs.Fetches.{Reads, Judges, Refuses};
 
 use crate::answer::{Status, Stop};
 use beet_forms::{Place, ReadFault, fault_line};
@@ -49,10 +48,8 @@ pub fn fetch_file<S: Shelf>(
     name: &str,
     limit: u64,
 ) -> Result<Vec<u8>, Stop>
-    ensures later { S.faults shelf.old ≤ S.faults shelf.new }
-    ensures cause { IfErr result (λ stop. Causes (S.faults shelf.old) (S.faults shelf.new) stop) }
     ensures limited { IfOk result (λ bytes. vec_len bytes ≤ limit) }
-    ensures gives { Gives (λ bytes. bytes.items) (S.told shelf.old) (S.told shelf.new) (Wants name.now limit) result }
+    ensures reads { Reads (λ bytes. bytes.items) (S.seen shelf.old) (S.seen shelf.new) (Wants name.now limit) result }
 {
     match shelf.fetch(alloc, name, limit) {
         Ok(bytes) => Ok(bytes),

@@ -9,7 +9,9 @@ use Rattle.beet_field.specs.declared.point.Point.{Point}
 use Rattle.beet_field.specs.declared.point.Point.TheVariants.{One, Two, Three}
 use Rattle.beet_words.specs.Fields.{number_bytes, number_at, times, after_magic, ended}
 use Rattle.beet_words.proofs.FieldsAgain.{StandsAt, StandsAt-left, StandsAt-right, number_at-number, times-parts}
+use Rattle.beet_bids.specs.declared.grid.TheConstants.{LARGEST_BASE}
 use Rattle.beet_bids.specs.Grids.{Grid, IsGrid}
+use Rattle.beet_farmer.specs.declared.envelope.TheConstants.{BAD_MAGIC, WRONG_GRID, TRAILING, WRONG_SERVER}
 use Rattle.beet_farmer.specs.declared.envelope.Envelope.{Envelope}
 use Rattle.beet_farmer.specs.Envelopes.{magic, only, below_p, point_at, after_header, envelope_of, header_bytes, envelope_bytes}
 
@@ -24,23 +26,23 @@ points_at-points bytes points at below s =
     times-parts bytes (point_at bytes) number_bytes IsElement points at each below s
 
 -- a number is read where it is the one that is allowed
-only-number : (bytes : List ℕ) (at number reason : ℕ) → number ≤ 1000000000000 → StandsAt bytes at (number_bytes number) →
+only-number : (bytes : List ℕ) (at number reason : ℕ) → number ≤ LARGEST_BASE → StandsAt bytes at (number_bytes number) →
     number_at bytes (only number reason) at ≡ Ok (number, at + 8)
 only-number bytes at number reason small s =
     number_at-number bytes (only number reason) at number (omega arith) (omega arith) (omega arith) s
 
-small-point : (server : Point) → number_of server ≤ 1000000000000
+small-point : (server : Point) → number_of server ≤ LARGEST_BASE
 small-point One = omega arith
 small-point Two = omega arith
 small-point Three = omega arith
 
 -- a header whose fields are read one after another
 after_header-parts : (grid : Grid) (server : Point) (file : List ℕ) →
-    after_magic file magic 1 ≡ Ok 8 →
-    number_at file (only (number_of server) 6) 8 ≡ Ok (number_of server, 16) →
-    number_at file (only grid.base 2) 16 ≡ Ok (grid.base, 24) →
-    number_at file (only grid.tick 2) 24 ≡ Ok (grid.tick, 32) →
-    number_at file (only grid.prices 2) 32 ≡ Ok (grid.prices, 40) →
+    after_magic file magic BAD_MAGIC ≡ Ok 8 →
+    number_at file (only (number_of server) WRONG_SERVER) 8 ≡ Ok (number_of server, 16) →
+    number_at file (only grid.base WRONG_GRID) 16 ≡ Ok (grid.base, 24) →
+    number_at file (only grid.tick WRONG_GRID) 24 ≡ Ok (grid.tick, 32) →
+    number_at file (only grid.prices WRONG_GRID) 32 ≡ Ok (grid.prices, 40) →
     after_header grid server file ≡ Ok 40
 unfolding after_header
 after_header-parts grid server file a b c d e = rw (a, b, c, d, e) refl
@@ -49,7 +51,7 @@ after_header-parts grid server file a b c d e = rw (a, b, c, d, e) refl
 envelope_of-parts : (grid : Grid) (server : Point) (file points : List ℕ) (at : ℕ) →
     after_header grid server file ≡ Ok 40 →
     times (2 * grid.prices) (point_at file) 40 ≡ Ok (points, at) →
-    ended file 5 at ≡ Ok tt →
+    ended file TRAILING at ≡ Ok tt →
     envelope_of grid server file ≡ Ok (record { server = server; points = points })
 unfolding envelope_of
 envelope_of-parts grid server file points at a b c = rw (a, b, c) refl
@@ -69,10 +71,10 @@ after_header-bytes grid server rest limits =
     let at_tick = StandsAt-right file 16 (number_bytes grid.base) after_base at_base in
     let at_prices = StandsAt-right file 24 (number_bytes grid.tick) prices at_tick in
     after_header-parts grid server file refl
-    (only-number file 8 (number_of server) 6 (small-point server) (StandsAt-left file 8 (number_bytes (number_of server)) after_server at_server))
-    (only-number file 16 grid.base 2 limits.base_limit (StandsAt-left file 16 (number_bytes grid.base) after_base at_base))
-    (only-number file 24 grid.tick 2 (omega (arith, limits.tick_limit)) (StandsAt-left file 24 (number_bytes grid.tick) prices at_tick))
-    (only-number file 32 grid.prices 2 (omega (arith, limits.prices_limit)) at_prices)
+    (only-number file 8 (number_of server) WRONG_SERVER (small-point server) (StandsAt-left file 8 (number_bytes (number_of server)) after_server at_server))
+    (only-number file 16 grid.base WRONG_GRID limits.base_limit (StandsAt-left file 16 (number_bytes grid.base) after_base at_base))
+    (only-number file 24 grid.tick WRONG_GRID (omega (arith, limits.tick_limit)) (StandsAt-left file 24 (number_bytes grid.tick) prices at_tick))
+    (only-number file 32 grid.prices WRONG_GRID (omega (arith, limits.prices_limit)) at_prices)
 
 -- the bytes of an envelope are read as the envelope
 pub envelope_of-bytes : (grid : Grid) (envelope : Envelope) → IsGrid grid → length envelope.points ≡ 2 * grid.prices → All IsElement envelope.points →
@@ -86,7 +88,7 @@ envelope_of-bytes grid envelope limits long below =
     let read : times (2 * grid.prices) (point_at file) 40 ≡ Ok (envelope.points, 40 + length points) =
     subst (λ n. times n (point_at file) 40 ≡ Ok (envelope.points, 40 + length points)) long (points_at-points file envelope.points 40 below at_points) in
     let all : length file ≡ 40 + length points = length-append header points in
-    let end : ended file 5 (40 + length points) ≡ Ok tt = rw (le-ltb (40 + length points) (length file) (omega arith)) refl in
+    let end : ended file TRAILING (40 + length points) ≡ Ok tt = rw (le-ltb (40 + length points) (length file) (omega arith)) refl in
     envelope_of-parts grid envelope.server file envelope.points (40 + length points) (after_header-bytes grid envelope.server points limits) read end
 
 points-size : (points : List ℕ) → length (flat_map number_bytes points) ≡ 8 * length points

@@ -1,2 +1,1 @@
 pub mod EnvelopeAgain
-pub mod ListRows

@@ -8,6 +8,7 @@ use Rattle.beet_forms.specs.Faults.{Reading}
 use Rattle.beet_words.specs.declared.fields.Allowed.{Allowed}
 use Rattle.beet_words.specs.Fields.{◌>>=◌, Part, number_bytes, number_at, times, after_magic, ended}
 use Rattle.beet_bids.specs.Grids.{Grid}
+use Rattle.beet_farmer.specs.declared.envelope.TheConstants.{BAD_MAGIC, WRONG_GRID, TRUNCATED, BAD_NUMBER, TRAILING, WRONG_SERVER}
 use Rattle.beet_farmer.specs.declared.envelope.Envelope.{Envelope}
 
 -- the text that an envelope begins with
@@ -16,11 +17,11 @@ magic = codes "BEETENV1"
 
 -- the one number that a field may hold, and the reason against another one
 abbrev pub only : ℕ → ℕ → Allowed
-only number reason = record { low = number; high = number; truncated = 3; outside = reason }
+only number reason = record { low = number; high = number; truncated = TRUNCATED; outside = reason }
 
 -- the numbers of the field, and the reason against another one
 abbrev pub below_p : Allowed
-below_p = record { low = 0; high = p - 1; truncated = 3; outside = 4 }
+below_p = record { low = 0; high = p - 1; truncated = TRUNCATED; outside = BAD_NUMBER }
 
 -- a point
 abbrev pub point_at : List ℕ → Part ℕ
@@ -29,11 +30,11 @@ point_at bytes = number_at bytes below_p
 -- the offset after the fields that stand before the points: the server, and the base, the tick and the number of prices of the grid
 unfoldable pub after_header : Grid → Point → List ℕ → Reading ℕ
 after_header grid server bytes = do
-  start ← after_magic bytes magic 1
-  named ← number_at bytes (only (number_of server) 6) start
-  base ← number_at bytes (only grid.base 2) named.1
-  tick ← number_at bytes (only grid.tick 2) base.1
-  prices ← number_at bytes (only grid.prices 2) tick.1
+  start ← after_magic bytes magic BAD_MAGIC
+  named ← number_at bytes (only (number_of server) WRONG_SERVER) start
+  base ← number_at bytes (only grid.base WRONG_GRID) named.1
+  tick ← number_at bytes (only grid.tick WRONG_GRID) base.1
+  prices ← number_at bytes (only grid.prices WRONG_GRID) tick.1
   Ok prices.1
 
 -- what an envelope reads as, where this server and this grid are expected
@@ -41,7 +42,7 @@ unfoldable pub envelope_of : Grid → Point → List ℕ → Reading Envelope
 envelope_of grid server bytes = do
   start ← after_header grid server bytes
   points ← times (2 * grid.prices) (point_at bytes) start
-  done ← ended bytes 5 points.1
+  done ← ended bytes TRAILING points.1
   Ok (record { server = server; points = points.0 })
 
 -- the bytes before the points

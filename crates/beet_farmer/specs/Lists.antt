@@ -3,6 +3,7 @@ use Rattle.std.specs.Prelude.{ℕ, List, [], ◌∷◌, Option, Some, None, Resu
 use Rattle.beet_forms.specs.declared.row.Row.{Row}
 use Rattle.beet_forms.specs.Faults.{Reading}
 use Rattle.beet_forms.specs.Rows.{rows_of, four_of}
+use Rattle.beet_book.specs.declared.named_file.TheConstants.{BAD_ROW}
 use Rattle.beet_book.specs.Entries.{name_of}
 use Rattle.beet_book.specs.NamedRows.{named_file}
 use Rattle.beet_farmer.specs.declared.list_file.ListEntry.{ListEntry}
@@ -11,11 +12,11 @@ use Rattle.beet_farmer.specs.declared.list_file.ListEntry.{ListEntry}
 abbrev pub entry_of : Option (List ℕ) → Option (List ℕ) → Option (List ℕ) → Option (List ℕ) → Result ListEntry ℕ
 entry_of (Some name) (Some one) (Some two) (Some three) =
     Ok (record { name = name; envelopes = record { one = one; two = two; three = three } })
-entry_of _ _ _ _ = Err 2
+entry_of _ _ _ _ = Err BAD_ROW
 
 -- the entry of a row's four fields, or the reason against them; a row of another width has none
 abbrev pub entry_of_fields : Option (List ℕ × List ℕ × List ℕ × List ℕ) → Result ListEntry ℕ
-entry_of_fields None = Err 2
+entry_of_fields None = Err BAD_ROW
 entry_of_fields (Some (name, one, two, three)) = entry_of (name_of name) (name_of one) (name_of two) (name_of three)
 
 -- the entry of a row, or the reason against the row

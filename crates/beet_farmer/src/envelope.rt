@@ -4,14 +4,15 @@ ghost use Rattle.std.specs.Prelude.{◌≡◌, ◌≤◌, ◌+◌, ◌*◌, ◌+
 ghost use Rattle.std.specs.List.{flat_map};
 ghost use Rattle.beet_field.specs.Field.{IsElement};
 ghost use Rattle.beet_forms.specs.Faults.{Answers};
-ghost use Rattle.beet_words.specs.Fields.{number_bytes, times};
+ghost use Rattle.beet_forms.specs.declared.faults.TheConstants.{LONGEST_FILE};
+ghost use Rattle.beet_words.specs.Fields.{number_bytes};
 ghost use Rattle.beet_bids.specs.Grids.{IsGrid};
-ghost use Rattle.beet_farmer.specs.Envelopes.{only as only_number, below_p, point_at, after_header, envelope_of, header_bytes, envelope_bytes};
+ghost use Rattle.beet_farmer.specs.Envelopes.{only as only_number, below_p, after_header, envelope_of, header_bytes, envelope_bytes};
 
 use beet_bids::Grid;
 use beet_field::{Fe, P, Point};
 use beet_forms::ReadFault;
-use beet_words::{Allowed, FeList, push_number, read_end, read_magic, read_number, room};
+use beet_words::{Allowed, FeList, push_number, read_end, read_magic, read_number, read_points};
 use std::alloc::{AllocError, Global};
 
 /// The points of a bidder for one server.
@@ -22,6 +23,27 @@ pub struct Envelope {
     /// The points: buy at each place of the grid, and then sell at each place.
     pub points: FeList,
 }
+
+/// The most bytes of an envelope.
+pub const ENVELOPE_LIMIT: u64 = 131_072;
+
+/// The reason against another text at the front.
+const BAD_MAGIC: u32 = 1;
+
+/// The reason against a base, a tick or a number of prices that is not the grid's.
+const WRONG_GRID: u32 = 2;
+
+/// The reason against a field that is cut off.
+const TRUNCATED: u32 = 3;
+
+/// The reason against a point of 2^61 - 1 or more.
+const BAD_NUMBER: u32 = 4;
+
+/// The reason against bytes after the last point.
+const TRAILING: u32 = 5;
+
+/// The reason against another server.
+const WRONG_SERVER: u32 = 6;
 
 /// The text that an envelope begins with.
 const MAGIC: &[u8] = b"BEETENV1";
@@ -39,7 +61,7 @@ fn only(number: u64, reason: u32) -> Allowed
     Allowed {
         low: number,
         high: number,
-        truncated: 3,
+        truncated: TRUNCATED,
         outside: reason,
     }
 }
@@ -51,48 +73,9 @@ fn point() -> Allowed
     Allowed {
         low: 0,
         high: P - 1,
-        truncated: 3,
-        outside: 4,
+        truncated: TRUNCATED,
+        outside: BAD_NUMBER,
     }
-}
-
-/// A point.
-fn read_point(bytes: &[u8], at: usize) -> Result<(Fe, usize), ReadFault>
-    requires { at ≤ length bytes.now }
-    ensures point { Answers (λ read. read) (point_at bytes.now at) result }
-    ensures within { IfOk result (λ read. read.1 ≤ length bytes.now) }
-{
-    let (number, at) = read_number(bytes, point(), at)?;
-    let Some(point) = Fe::of(number) else {
-        unreachable!()
-    };
-    Ok((point, at))
-}
-
-/// So many points.
-fn read_points(
-    alloc: Global,
-    bytes: &[u8],
-    count: u32,
-    at: usize,
-) -> Result<(FeList, usize), ReadFault>
-    requires { at ≤ length bytes.now }
-    ensures points { Answers (λ read. read) (times count (point_at bytes.now) at) result }
-    ensures count { IfOk result (λ read. length read.0 ≡ count) }
-    ensures within { IfOk result (λ read. read.1 ≤ length bytes.now) }
-{
-    let Ok(mut points) = Vec::with_capacity(alloc, room(bytes, at, count as u64)) else {
-        return Err(ReadFault::OutOfMemory);
-    };
-    let mut next = at;
-    for _k in 0..count {
-        let (point, after) = read_point(bytes, next)?;
-        let Ok(()) = points.push(point) else {
-            return Err(ReadFault::OutOfMemory);
-        };
-        next = after;
-    }
-    Ok((FeList::of(points), next))
 }
 
 /// The offset after the fields before the points, which have to name this server and this grid.
@@ -101,21 +84,20 @@ fn read_header(grid: &Grid, server: Point, bytes: &[u8]) -> Result<usize, ReadFa
     ensures header { Answers (λ at. at) (after_header grid.now server bytes.now) result }
     ensures within { IfOk result (λ at. at ≤ length bytes.now) }
 {
-    let at = read_magic(bytes, MAGIC, 1)?;
-    let (_, at) = read_number(bytes, only(server.number(), 6), at)?;
-    let (_, at) = read_number(bytes, only(grid.base(), 2), at)?;
-    let (_, at) = read_number(bytes, only(grid.tick(), 2), at)?;
-    let (_, at) = read_number(bytes, only(grid.prices() as u64, 2), at)?;
+    let at = read_magic(bytes, MAGIC, BAD_MAGIC)?;
+    let (_, at) = read_number(bytes, only(server.number(), WRONG_SERVER), at)?;
+    let (_, at) = read_number(bytes, only(grid.base(), WRONG_GRID), at)?;
+    let (_, at) = read_number(bytes, only(grid.tick(), WRONG_GRID), at)?;
+    let (_, at) = read_number(bytes, only(grid.prices() as u64, WRONG_GRID), at)?;
     Ok(at)
 }
 
 /// The envelope for this server, of this grid.
 ///
-/// An envelope is refused at the first place from the left that breaks its format: for the reason 1 at 0 where it does not
-/// begin with `BEETENV1`; for the reason 3 at a field that is cut off; for the reason 6 at 8 where it is for another server;
-/// for the reason 2 at a base, a tick or a number of prices that is not the grid's; for the reason 4 at a point of 2^61 - 1
-/// or more; for the reason 5 at the first byte after the last point. The file is gone over once, and memory is taken for no
-/// more points than it can hold.
+/// The first place from the left that breaks the format is named: the front as [`BAD_MAGIC`]; a field that is cut off as
+/// [`TRUNCATED`]; the server as [`WRONG_SERVER`]; a base, a tick or a number of prices as [`WRONG_GRID`]; a point as
+/// [`BAD_NUMBER`]; the first byte after the last point as [`TRAILING`]. The file is gone over once, and memory is taken for
+/// no more points than it can hold.
 #[tactic(auto, unfolding(crate::specs::Envelopes::envelope_of))]
 pub fn read_envelope(
     alloc: Global,
@@ -123,13 +105,13 @@ pub fn read_envelope(
     server: Point,
     bytes: &[u8],
 ) -> Result<Envelope, ReadFault>
-    requires { length bytes.now ≤ 67108864 }
+    requires { length bytes.now ≤ LONGEST_FILE }
     ensures reads { Answers (λ envelope. envelope) (envelope_of grid.now server bytes.now) result }
     ensures lengths { IfOk result (λ envelope. length envelope.points ≡ 2 * grid.now.prices) }
 {
     let at = read_header(grid, server, bytes)?;
-    let (points, at) = read_points(alloc, bytes, 2 * grid.prices(), at)?;
-    read_end(bytes, 5, at)?;
+    let (points, at) = read_points(alloc, bytes, point(), 2 * grid.prices() as u64, at)?;
+    read_end(bytes, TRAILING, at)?;
     Ok(Envelope { server, points })
 }
 

@@ -5,8 +5,8 @@ mod envelope;
 mod list_file;
 mod sealing;
 
-pub use envelope::{Envelope, read_envelope, write_envelope};
-pub use list_file::{ListEntry, read_list};
+pub use envelope::{ENVELOPE_LIMIT, Envelope, read_envelope, write_envelope};
+pub use list_file::{LIST_LIMIT, ListEntry, read_list};
 pub use sealing::seal;
 
 #[cfg(test)]

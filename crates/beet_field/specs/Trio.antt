@@ -14,3 +14,11 @@ abbrev pub with_member : {T : Type 0} → Trio T → Point → T → Trio T
 with_member t One x = record t { one = x }
 with_member t Two x = record t { two = x }
 with_member t Three x = record t { three = x }
+
+-- f of each of three
+abbrev pub of_each : {A B : Type 0} → (A → B) → Trio A → Trio B
+of_each f t = record { one = f t.one; two = f t.two; three = f t.three }
+
+-- the value of a function at each of the three points
+abbrev pub trio_of : {A : Type 0} → (Point → A) → Trio A
+trio_of f = record { one = f One; two = f Two; three = f Three }

@@ -1,8 +1,8 @@
--- The records that csv reads in turn are the list `records` of the text.
-use Rattle.std.proofs.Common.{◌≡◌, ℕ, zero, suc, ◌+◌, ◌<◌, ◌≤◌, List, [], ◌∷◌, take, length, Bool, true, false, if◌then◌else◌, ◌==◌, ◌&&◌, Option, Some, None, subst, refl, arith, ap, ◌∙◌, min, length-take, ◌++◌}
-use Rattle.std.proofs.lemmas.List.{take_all}
+-- The records that are left of a text.
+use Rattle.std.proofs.Common.{◌≡◌, ℕ, zero, suc, ◌+◌, ◌<◌, ◌≤◌, List, [], ◌∷◌, length, Bool, true, false, if◌then◌else◌, ◌==◌, ◌&&◌, Option, Some, None, subst, refl, arith, ap, ◌++◌}
 use Rattle.csv.specs.Machine.{Read, next_record, step, is_end, ends_at_end, ends_with, after_end, is_byte, in_field, start_field, start_record, fields_after, field_after}
-use Rattle.csv.specs.Reading.{Reached, AreRecords, records, records_from, strip_bom, is_bom}
+use Rattle.csv.specs.Reading.{default_config, NextIs, records, records_from, records_next, strip_bom, is_bom}
+use Rattle.beet_forms.specs.RowReaders.{Gives}
 use Rattle.csv.specs.declared.parser.Config.{Config}
 use Rattle.csv.specs.declared.parser.State.{State}
 use Rattle.csv.specs.declared.parser.State.TheVariants as st
@@ -90,40 +90,6 @@ shorter cfg s fields field (c ∷ rest) p e =
     let small : spare t.0 ≤ 1 = spare-le t.0 in
     (i.0, omega (arith, i.1)))
 
--- no more records than the text has bytes
-few : (cfg : Config) (s s2 : State) (xs ys : List ℕ) (rows : List (List (List ℕ))) →
-    Reached cfg s xs rows s2 ys → length rows ≤ length xs + spare s
-unfolding Reached
-few cfg s s2 xs ys [] h = omega arith
-few cfg s s2 xs ys (r ∷ rs) (p, e, is, h) =
-    let left = shorter cfg s [] [] xs p e in
-    let more = few cfg p.1 s2 p.2 ys rs h in
-    let none : spare p.1 ≡ 0 = rw left.0 refl in
-    omega (arith, left.1, more, none)
-
-counted : (cfg : Config) (s s2 : State) (xs ys : List ℕ) (rows : List (List (List ℕ))) (n : ℕ) →
-    Reached cfg s xs rows s2 ys → next_record cfg s2 [] [] ys ≡ None → length rows < n → records_from cfg n s xs ≡ rows
-unfolding Reached records_from
-counted cfg s s2 xs ys rows zero h e small = absurd (omega arith)
-counted cfg s s2 xs ys [] (suc n) (same, rest) e small = rw (same, rest, e) refl
-counted cfg s s2 xs ys (r ∷ rs) (suc n) (p, f, is, h) e small =
-    let i = counted cfg p.1 s2 p.2 ys rs n h e (omega arith) in
-    rw (f, is, i) refl
-
--- these are all the records of a text
-pub records_is : (cfg : Config) (xs : List ℕ) (rows : List (List (List ℕ))) →
-    AreRecords cfg st.StartRecord xs rows → records cfg xs ≡ rows
-records_is cfg xs rows (s2, ys, h, e) =
-    let n = few cfg st.StartRecord s2 xs ys rows h in
-    counted cfg st.StartRecord s2 xs ys rows (length xs + 1) h e (omega (arith, n))
-
--- a record takes a byte of the text at least
-pub length-reached : (cfg : Config) (s2 : State) (xs ys : List ℕ) (rows : List (List (List ℕ))) →
-    Reached cfg st.StartRecord xs rows s2 ys → length rows ≤ length xs
-length-reached cfg s2 xs ys rows h =
-    let bound = few cfg st.StartRecord s2 xs ys rows h in
-    omega (arith, bound)
-
 length_if : (b : Bool) (n : ℕ) (xs ys : List ℕ) → length xs ≤ n → length ys ≤ n → length (if b then xs else ys) ≤ n
 length_if true n xs ys h k = h
 length_if false n xs ys h k = k
@@ -136,24 +102,57 @@ length-strip_bom (a ∷ []) = omega arith
 length-strip_bom (a ∷ b ∷ []) = omega arith
 length-strip_bom (a ∷ b ∷ c ∷ rest) = length_if (is_bom a b c) _ _ _ (omega arith) (omega arith)
 
-counted_front : (cfg : Config) (s s2 : State) (xs ys : List ℕ) (rows : List (List (List ℕ))) (n : ℕ) →
-    Reached cfg s xs rows s2 ys → length rows < n → take (length rows) (records_from cfg n s xs) ≡ rows
-unfolding Reached records_from
-counted_front cfg s s2 xs ys rows zero h small = absurd (omega arith)
-counted_front cfg s s2 xs ys [] (suc n) h small = refl
-counted_front cfg s s2 xs ys (r ∷ rs) (suc n) (p, f, is, h) small =
-    let i = counted_front cfg p.1 s2 p.2 ys rs n h (omega arith) in
-    rw (f, is, i) refl
+-- with enough turns all records of a text come, however many more turns there are
+pub enough_turns : (cfg : Config) (s : State) (xs : List ℕ) (m n : ℕ) → length xs + spare s < m → length xs + spare s < n →
+    records_from cfg m s xs ≡ records_from cfg n s xs
+unfolding records_from
+enough_turns cfg s xs zero n h k = absurd (omega arith)
+enough_turns cfg s xs (suc m) zero h k = absurd (omega arith)
+enough_turns cfg s xs (suc m) (suc n) h k =
+    from (next_record cfg s [] [] xs) refl (λ p e.
+    let left = shorter cfg s [] [] xs p e in
+    let none : spare p.1 ≡ 0 = rw left.0 refl in
+    enough_turns cfg p.1 p.2 m n (omega (arith, left.1, none)) (omega (arith, left.1, none)))
+  where
+    from : (o : Option Read) → next_record cfg s [] [] xs ≡ o →
+        ((p : Read) → next_record cfg s [] [] xs ≡ Some p → records_from cfg m p.1 p.2 ≡ records_from cfg n p.1 p.2) →
+        records_next (records_from cfg m) o ≡ records_next (records_from cfg n) o
+    from None e more = refl
+    from (Some p) e more = ap (λ rs. p.0 ∷ rs) (more p e)
 
--- the records reached so far are the first of a text
-pub records_front : (cfg : Config) (s2 : State) (xs ys : List ℕ) (rows : List (List (List ℕ))) →
-    Reached cfg st.StartRecord xs rows s2 ys → take (length rows) (records cfg xs) ≡ rows
-records_front cfg s2 xs ys rows h =
-    let n = few cfg st.StartRecord s2 xs ys rows h in
-    counted_front cfg st.StartRecord s2 xs ys rows (length xs + 1) h (omega (arith, n))
+-- a record that is read is the first of those that a text has left
+pub first_left : (cfg : Config) (s s2 : State) (xs ys : List ℕ) (o : Option Read) (found : Bool) (fields : List (List ℕ)) →
+    next_record cfg s [] [] xs ≡ o → NextIs o found fields s2 ys →
+    Gives found (records_from cfg (length xs + 2) s xs) fields (records_from cfg (length ys + 2) s2 ys)
+unfolding records_from
+first_left cfg s s2 xs ys None found fields e is =
+    let turn : length xs + 2 ≡ suc (length xs + 1) = omega arith in
+    rw (is, turn, e) refl
+first_left cfg s s2 xs ys (Some p) found fields e (is, same, state, rest) =
+    let left = shorter cfg s [] [] xs p e in
+    let none : spare p.1 ≡ 0 = rw left.0 refl in
+    let small : spare s ≤ 1 = spare-le s in
+    let turn : length xs + 2 ≡ suc (length xs + 1) = omega arith in
+    rw (is, same, state, rest, turn, e)
+    (ap (λ rs. p.0 ∷ rs) (enough_turns cfg p.1 p.2 (length xs + 1) (length p.2 + 2) (omega (arith, left.1, none, small)) (omega (arith, none))))
 
--- fewer rows than were asked for are all of them
-pub take-all_taken : (most : ℕ) (rows taken : List (List (List ℕ))) → taken ≡ take most rows → length taken < most → taken ≡ rows
-take-all_taken most rows taken e h =
-    let n : length taken ≡ min most (length rows) = ap length e ∙ length-take most rows in
-    e ∙ take_all most rows (omega arith)
+-- from its start, a text has all its records left
+pub all_left : (cfg : Config) (xs : List ℕ) → records_from cfg (length xs + 2) st.StartRecord xs ≡ records cfg xs
+all_left cfg xs = enough_turns cfg st.StartRecord xs (length xs + 2) (length xs + 1) (omega arith) (omega arith)
+
+-- however many turns there are, no more records come than the text has bytes
+turns_few : (cfg : Config) (s : State) (xs : List ℕ) (n : ℕ) → length (records_from cfg n s xs) ≤ length xs + spare s
+unfolding records_from
+turns_few cfg s xs zero = omega arith
+turns_few cfg s xs (suc n) = from (next_record cfg s [] [] xs) refl (λ p. turns_few cfg p.1 p.2 n) where
+  from : (o : Option Read) → next_record cfg s [] [] xs ≡ o → ((p : Read) → length (records_from cfg n p.1 p.2) ≤ length p.2 + spare p.1) →
+      length (records_next (records_from cfg n) o) ≤ length xs + spare s
+  from None e more = omega arith
+  from (Some p) e more =
+      let left = shorter cfg s [] [] xs p e in
+      let none : spare p.1 ≡ 0 = rw left.0 refl in
+      omega (arith, left.1, none, more p)
+
+-- a text has no more rows than bytes
+pub rows_few : (xs : List ℕ) → length (records default_config (strip_bom xs)) ≤ length xs
+rows_few xs = omega (arith, turns_few default_config st.StartRecord (strip_bom xs) (length (strip_bom xs) + 1), length-strip_bom xs)

@@ -1,4 +1,5 @@
 pub mod Rows
+pub mod RowReaders
 pub mod Numbers
 pub mod Names
 pub mod Faults

@@ -1,5 +1,5 @@
 -- The rows of a text file: csv's records, with comma, without a header row, of any lengths.
-use Rattle.std.specs.Prelude.{ℕ, ◌-◌, Bool, false, List, take, drop, [], ◌∷◌, Option, Some, None, nat_eq}
+use Rattle.std.specs.Prelude.{ℕ, Bool, false, List, [], ◌∷◌, Option, Some, None, nat_eq}
 use Rattle.std.specs.Cmp.Lexicographic.{pointwise}
 use Rattle.csv.specs.Reading.{default_config, strip_bom, records}
 use Rattle.beet_forms.specs.declared.row.Row.{Row}
@@ -20,10 +20,6 @@ same_row = pointwise same_bytes
 abbrev pub begins_with : List Row → Row → Bool
 begins_with [] header = false
 begins_with (row ∷ rows) header = same_row row header
-
--- the rows behind the first and before the one of this number, counted from 1
-abbrev pub rows_before : List Row → ℕ → List Row
-rows_before rows number = drop 1 (take (number - 1) rows)
 
 -- the fields of a row that has exactly two
 abbrev pub two_of : Row → Option (List ℕ × List ℕ)

@@ -2,11 +2,14 @@
 
 ghost use Rattle.std.specs.Prelude.{◌≡◌, IfOk};
 ghost use Rattle.beet_forms.specs.declared.faults.Place.TheVariants.{Row, At};
-ghost use Rattle.beet_forms.specs.declared.faults.ReadFault.TheVariants.{Bad};
+ghost use Rattle.beet_forms.specs.declared.faults.ReadFault.TheVariants.{Bad, OutOfMemory};
 ghost use Rattle.beet_forms.specs.FaultLines.{fault_line_of};
 
-use std::alloc::{AllocError, Global};
+use std::alloc::{AllocError, AllocFailed, Global};
 use thiserror::Error;
+
+/// The most bytes of a file of any format.
+pub const LONGEST_FILE: u64 = 67_108_864;
 
 /// Where a file breaks its format.
 #[derive(Clone, Copy, Debug, PartialEq, Eq)]
@@ -47,6 +50,22 @@ impl ReadFault {
             place: Place::At(offset),
             reason,
         }
+    }
+}
+
+impl From<AllocError> for ReadFault {
+    ghost from_gives = { λ _ fault. fault ≡ OutOfMemory };
+
+    fn from(_: AllocError) -> ReadFault {
+        ReadFault::OutOfMemory
+    }
+}
+
+impl<T: Drop> From<AllocFailed<T>> for ReadFault {
+    ghost from_gives = { λ _ fault. fault ≡ OutOfMemory };
+
+    fn from(_: AllocFailed<T>) -> ReadFault {
+        ReadFault::OutOfMemory
     }
 }
 

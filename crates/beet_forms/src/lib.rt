@@ -4,16 +4,16 @@
 mod decimals;
 mod faults;
 mod names;
+mod reader;
 mod row;
 mod shapes;
 
 pub use decimals::{NumberFault, number, push_decimal};
-pub use faults::{Place, ReadFault, fault_line};
+pub use faults::{LONGEST_FILE, Place, ReadFault, fault_line};
 pub use names::{Name, is_name};
-pub use row::{Row, first_rows, rows};
-pub use shapes::{
-    begins_with_header, five_fields, four_fields, is_header, three_fields, two_fields,
-};
+pub use reader::RowReader;
+pub use row::{Row, rows};
+pub use shapes::{five_fields, four_fields, is_header, three_fields, two_fields};
 
 #[cfg(test)]
 mod tests;

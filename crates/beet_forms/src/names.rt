@@ -10,7 +10,7 @@ use std::marker::Model;
 use std::str;
 
 /// The most bytes of a name.
-const LONGEST: usize = 200;
+const LONGEST_NAME: usize = 200;
 
 /// Whether no byte is a control byte.
 fn are_plain(bytes: &[u8]) -> bool
@@ -33,7 +33,7 @@ fn as_text(bytes: &[u8]) -> Option<&str>
 fn as_name(bytes: &[u8]) -> Option<&str>
     ensures { MatchOption result (is_name_of bytes.now ≡ false) (λ text. (text.now ≡ bytes.now) × (is_name_of bytes.now ≡ true)) }
 {
-    if bytes.is_empty() || bytes.len() > LONGEST || !are_plain(bytes) {
+    if bytes.is_empty() || bytes.len() > LONGEST_NAME || !are_plain(bytes) {
         return None;
     }
     as_text(bytes)

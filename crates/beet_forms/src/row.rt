@@ -1,17 +1,18 @@
 //! The rows of a text file.
 
-ghost use Rattle.std.specs.Prelude.{◌≡◌, ◌↔◌, ◌≤◌, [], IfOk, IsTrue, option_map, take, vec_len, length};
+ghost use Rattle.std.specs.Prelude.{◌≡◌, ◌↔◌, ◌≤◌, [], IfOk, IsTrue, option_map, vec_len, length};
 ghost use Rattle.beet_forms.specs.Rows.{rows_of};
 ghost use Rattle.csv.specs.Records.{field_at};
 
-use csv::{ByteRecord, ReaderBuilder};
+use crate::RowReader;
+use csv::ByteRecord;
 use std::alloc::{AllocError, Global};
 use std::marker::Model;
 
 /// One row: its fields, each a list of bytes.
 #[derive(Debug, Drop)]
 pub struct Row {
-    record: ByteRecord,
+    pub(crate) record: ByteRecord,
 }
 
 impl Model for Row {
@@ -24,6 +25,15 @@ impl Model for Row {
 }
 
 impl Row {
+    /// A row of no fields.
+    pub fn new(alloc: Global) -> Row
+        ensures { result ≡ [] }
+    {
+        Row {
+            record: ByteRecord::new(alloc),
+        }
+    }
+
     /// How many fields there are.
     pub fn len(&self) -> usize
         ensures { result ≡ length self.now }
@@ -46,34 +56,17 @@ impl Row {
     }
 }
 
-/// The rows of a text: the records of `csv` with comma, no header row and any lengths. A row takes a byte of the
-/// text at least. Want of memory is the only error.
+/// The rows of a text, all of them. A row takes a byte of the text at least. Want of memory is the only error.
 pub fn rows(alloc: Global, bytes: &[u8]) -> Result<Vec<Row>, AllocError>
     ensures records { IfOk result (λ v. v.items ≡ rows_of bytes.now) }
     ensures few { IfOk result (λ v. vec_len v ≤ length bytes.now) }
 {
-    first_rows(alloc, bytes, usize::MAX)
-}
-
-/// The first rows of a text, up to this many, so that a long text of short rows takes no more memory than they do.
-/// Want of memory is the only error.
-pub fn first_rows(alloc: Global, bytes: &[u8], most: usize) -> Result<Vec<Row>, AllocError>
-    ensures records { IfOk result (λ v. v.items ≡ take most (rows_of bytes.now)) }
-    ensures few { IfOk result (λ v. vec_len v ≤ length bytes.now) }
-{
-    let rdr = ReaderBuilder::new()
-        .has_headers(false)
-        .flexible(true)
-        .from_reader(alloc, bytes);
+    let mut reader = RowReader::new(alloc, bytes);
     let mut rows = Vec::new(alloc);
-    for row in rdr.into_byte_records() {
-        if rows.len() == most {
-            return Ok(rows);
-        }
-        match row {
-            Ok(record) => rows.push(Row { record })?,
-            Err(_) => return Err(AllocError),
-        }
+    let mut row = Row::new(alloc);
+    while reader.next(&mut row)? {
+        rows.push(row)?;
+        row = Row::new(alloc);
     }
     Ok(rows)
 }

@@ -1,7 +1,7 @@
 //! Rows of a known width.
 
 ghost use Rattle.std.specs.Prelude.{◌≡◌, ◌↔◌, ◌<◌, [], ◌∷◌, Some, None, IsTrue, MatchOption, length};
-ghost use Rattle.beet_forms.specs.Rows.{begins_with, same_row, two_of, three_of, four_of, five_of};
+ghost use Rattle.beet_forms.specs.Rows.{same_row, two_of, three_of, four_of, five_of};
 ghost use Rattle.csv.specs.Records.{field_at};
 
 use crate::Row;
@@ -77,16 +77,6 @@ pub fn is_header(row: &Row, kind: &[u8], version: &[u8]) -> bool
 {
     match two_fields(row) {
         Some((first, second)) => first == kind && second == version,
-        None => false,
-    }
-}
-
-/// Whether there is a first row, and it is these two fields, byte for byte.
-pub fn begins_with_header(rows: &[Row], kind: &[u8], version: &[u8]) -> bool
-    ensures { result ≡ begins_with rows.now (kind.now ∷ version.now ∷ []) }
-{
-    match rows.first() {
-        Some(row) => is_header(row, kind, version),
         None => false,
     }
 }

@@ -1,72 +1,63 @@
--- A lawful run on plain values, batch by batch.
-use Rattle.std.proofs.Common.{◌≡◌, ℕ, zero, suc, ◌+◌, inl, inr, ◌<◌, ◌≤◌, Bool, true, false, List, [], length, refl, sym, ◌∙◌, ap, arith, add-one, zero-add}
-use Rattle.std.proofs.lemmas.Bool.{cases_eq}
+-- Where a run on plain values ends.
+use Rattle.std.proofs.Common.{◌≡◌, ℕ, zero, suc, ◌+◌, inl, inr, ◌<◌, ◌≤◌, ◌⊎◌, Bool, true, false, List, [], length, get_or, refl, ◌∙◌, arith, add-one, zero-add}
+use Rattle.std.specs.List.{range_with_len}
+use Rattle.std.proofs.lemmas.List.FromFn.{get_or-range_with_len, length-range_with_len}
+use Rattle.std.proofs.lemmas.List.Sums.{position_or_len_is}
 use Rattle.beet_field.specs.declared.trio.Trio.{Trio}
 use Rattle.beet_gates.specs.declared.Batch.{Batch}
 use Rattle.beet_gates.specs.Deals.{deals_of}
-use Rattle.beet_gates.specs.Clear.{batch_on, is_end, clear_from, clear_rounds, clear_at, clear_act, clear_values, rounds_run, EndsAfter}
+use Rattle.beet_gates.specs.Clear.{is_end, clear_at, clear_act, rounds_run, EndsAfter}
 use Rattle.beet_gates.specs.Scripts.{Standing, LawFrom, start_of}
-use Rattle.beet_gates.proofs.ClearFacts.{Underway, begins, goes-on}
+use Rattle.beet_gates.proofs.ClearFacts.{Underway, begins, goes-on, ends-at-last}
 
--- a run that has done t batches comes to its end after `stop` of them, among the next n
-pub record Reaches (next : ℕ → List ℕ → Batch) (deals : ℕ → List ℕ) (inputs : List ℕ) (n t : ℕ) : Type 0 where
-  pub stop : ℕ
-  pub count : t + clear_rounds next deals n t (clear_at next deals inputs t) ≡ stop
-  pub values : clear_from next deals n t (clear_at next deals inputs t) ≡ clear_at next deals inputs (suc stop)
-  pub ends : is_end (clear_act next deals inputs stop) ≡ true
-  pub going : (k : ℕ) → t ≤ k → k < stop → is_end (clear_act next deals inputs k) ≡ false
-  pub few : stop ≤ t + n
+less-or : (r s : ℕ) → (r < s) ⊎ ((r ≡ s) ⊎ (s < r))
+less-or r s = grind arith
 
-module _ (next : ℕ → List ℕ → Batch) (words : Trio (List ℕ)) (bounds : Standing) (rounds : ℕ) (inputs : List ℕ) where
-  reaches : (n t : ℕ) → Underway next words bounds rounds inputs n t (clear_at next (deals_of words) inputs t) → Reaches next (deals_of words) inputs n t
-  reaches zero t u =
-      let now : next u.standing.done (clear_at next (deals_of words) inputs t).opened ≡ next t (clear_at next (deals_of words) inputs t).opened =
-      ap (λ k. next k (clear_at next (deals_of words) inputs t).opened) u.at in
-      let law = rw now at u.law in
-      record {
-        stop = t;
-        count = omega arith;
-        values = refl;
-        ends = ap is_end law.2;
-        going = λ k l m. absurd (omega arith);
-        few = omega arith;
-      }
-  reaches (suc n) t u = by_end (is_end (clear_act next (deals_of words) inputs t)) refl (λ w. reaches n (suc t) w) where
+module _ (next : ℕ → List ℕ → Batch) (deals : ℕ → List ℕ) (inputs : List ℕ) where
+  -- there is one first end
+  pub ends-once : (r s : ℕ) → EndsAfter next deals inputs r → EndsAfter next deals inputs s → r ≡ s
+  ends-once r s h k = elim (less-or r s) [
+    | inl less ↦ cc (h.0, k.1 r less)
+    | inr rest ↦ elim rest [
+      | inl same ↦ same
+      | inr more ↦ cc (k.0, h.1 s more)
+    ]
+  ]
+
+module _ (next : ℕ → List ℕ → Batch) (words : Trio (List ℕ)) (inputs : List ℕ) where
+  -- a run that ends after r batches has r rounds
+  pub rounds-are : (most r : ℕ) → EndsAfter next (deals_of words) inputs r → r ≤ most → rounds_run next most inputs words ≡ r
+  unfolding rounds_run
+  rounds-are most r h le =
+      let test : ℕ → Bool = λ t. is_end (clear_act next (deals_of words) inputs t) in
+      let at : (k : ℕ) → k < most → get_or (range_with_len 0 most) k 0 ≡ k = λ k l. get_or-range_with_len 0 most k 0 l ∙ zero-add k in
+      position_or_len_is test (range_with_len 0 most) r 0 (rw length-range_with_len le)
+      (λ k l. rw (at k (omega arith)) (h.1 k l))
+      (λ l. rw (at r (rw length-range_with_len at l)) h.0)
+
+  -- a run of which at most n batches are left comes to its end
+  reaches : (bounds : Standing) (n t : ℕ) → Underway next words bounds inputs n t (clear_at next (deals_of words) inputs t) →
+      (r : ℕ) × EndsAfter next (deals_of words) inputs r × (r ≤ t + n)
+  reaches bounds zero t u =
+      let v = clear_at next (deals_of words) inputs t in
+      (t, (ends-at-last next words bounds inputs t v (next t v.opened) refl u).ends, omega arith)
+  reaches bounds (suc n) t u = by_end (is_end (clear_act next (deals_of words) inputs t)) refl (λ w. reaches bounds n (suc t) w) where
     by_end : (e : Bool) → is_end (clear_act next (deals_of words) inputs t) ≡ e →
-        (Underway next words bounds rounds inputs n (suc t) (clear_at next (deals_of words) inputs (suc t)) → Reaches next (deals_of words) inputs n (suc t)) →
-        Reaches next (deals_of words) inputs (suc n) t
-    by_end true e more = record {
-      stop = t;
-      count = rw e (omega arith);
-      values = rw e refl;
-      ends = e;
-      going = λ k l m. absurd (omega arith);
-      few = omega arith;
-    }
+        (Underway next words bounds inputs n (suc t) (clear_at next (deals_of words) inputs (suc t)) →
+        (r : ℕ) × EndsAfter next (deals_of words) inputs r × (r ≤ suc t + n)) →
+        (r : ℕ) × EndsAfter next (deals_of words) inputs r × (r ≤ t + suc n)
+    by_end true e more = (t, (e, u.going), omega arith)
     by_end false e more =
         let v = clear_at next (deals_of words) inputs t in
-        let b = next t v.opened in
-        let u' : Underway next words bounds rounds inputs n (t + 1) (batch_on (deals_of words) b v) =
-        goes-on next words bounds rounds inputs n t v b u refl e in
-        let rest = more (rw add-one at u') in
-        record {
-          stop = rest.stop;
-          count = rw (e, add-one) (omega (arith, rest.count));
-          values = rw (e, add-one) rest.values;
-          ends = rest.ends;
-          going = λ k l m. elim (cases_eq k t) [
-            | inl same ↦ rw same e
-            | inr other ↦ rest.going k (omega (arith, other, l)) m
-          ];
-          few = omega (arith, rest.few);
-        }
+        let on = goes-on next words bounds inputs t v (next t v.opened) refl n u e in
+        let rest = more (rw add-one at on) in
+        (rest.0, rest.1, omega (arith, rest.2))
 
-  -- the rounds of a lawful run are the batches before the end, and its values those after that batch too
-  pub run-ends : LawFrom next bounds rounds (start_of (length inputs)) [] →
-      EndsAfter next (deals_of words) inputs (rounds_run next rounds inputs words)
-      × (rounds_run next rounds inputs words ≤ rounds)
-      × (clear_values next rounds inputs words ≡ clear_at next (deals_of words) inputs (suc (rounds_run next rounds inputs words)))
-  run-ends law =
-      let r = reaches rounds 0 (begins next words bounds rounds inputs law) in
-      let same : rounds_run next rounds inputs words ≡ r.stop = sym (zero-add _) ∙ r.count in
-      rw same ((r.ends, λ k l. r.going k (omega arith) l), omega (arith, r.few), r.values)
+-- the rounds of a lawful run are the batches before its end, and no more than the law allows
+pub run-ends : (next : ℕ → List ℕ → Batch) (words : Trio (List ℕ)) (bounds : Standing) (most : ℕ) (inputs : List ℕ) →
+    LawFrom next bounds most (start_of (length inputs)) [] →
+    EndsAfter next (deals_of words) inputs (rounds_run next most inputs words) × (rounds_run next most inputs words ≤ most)
+run-ends next words bounds most inputs law =
+    let r = reaches next words inputs bounds most 0 (begins next words bounds inputs most law) in
+    let le : r.0 ≤ most = omega (arith, r.2) in
+    rw (rounds-are next words inputs most r.0 r.1 le) (r.1, le)

@@ -1,7 +1,8 @@
 -- A lawful script on plain values.
-use Rattle.std.proofs.Common.{◌≡◌, ℕ, zero, suc, ◌+◌, true, false, List, [], ◌∷◌, ◌++◌, map, length, slice_index, refl, sym, ◌∙◌, ap, arith, length-append, append-nil, zero-add}
+use Rattle.std.proofs.Common.{◌≡◌, ℕ, suc, ◌+◌, ◌≤◌, true, false, List, [], ◌∷◌, ◌++◌, map, length, slice_index, refl, sym, ◌∙◌, ap, arith, length-append, append-nil, add-one, inl, inr, ◌<◌}
 use Rattle.std.specs.Int.{bit_at}
 use Rattle.std.proofs.lemmas.List.{length-map}
+use Rattle.std.proofs.lemmas.Bool.{cases_eq}
 use Rattle.beet_field.specs.declared.trio.Trio.{Trio}
 use Rattle.beet_gates.specs.declared.Act.{Act}
 use Rattle.beet_gates.specs.declared.Act.TheVariants.{Deal, Mul, Reveal, End}
@@ -9,10 +10,10 @@ use Rattle.beet_gates.specs.declared.Batch.{Batch}
 use Rattle.beet_gates.specs.declared.Linear.{Linear}
 use Rattle.beet_gates.specs.Each.{each}
 use Rattle.beet_gates.specs.Deals.{dealt_bits, deals_of}
-use Rattle.beet_gates.specs.Clear.{Values, with_lets, let_of, product_of, act_on, batch_on, is_end, clear_from, clear_rounds, start_values, clear_values, rounds_run}
-use Rattle.beet_gates.specs.Scripts.{Standing, LawFrom, after, acted, revealed, start_of}
+use Rattle.beet_gates.specs.Clear.{Values, with_lets, let_of, product_of, act_on, batch_on, is_end, start_values, clear_at, clear_act, EndsAfter}
+use Rattle.beet_gates.specs.Scripts.{Standing, LawFrom, after, acted, deals_in, revealed, start_of}
 use Rattle.beet_gates.proofs.EachFacts.{length-each}
-use Rattle.beet_gates.proofs.Laws.{law-next}
+use Rattle.beet_gates.proofs.Laws.{law-now, law-next, law-last}
 
 pub length-with_lets : (wires : List ℕ) (lets : List Linear) → length (with_lets wires lets) ≡ length wires + length lets
 length-with_lets wires [] = omega arith
@@ -34,6 +35,15 @@ length-dealt a b c =
 pub record Counts (s : Standing) (v : Values) : Type 0 where
   pub wires : s.wires ≡ length v.wires
   pub masks : s.masks ≡ v.dealt
+
+-- opened numbers are only appended, as many as the act opens
+pub opens-more : (deals : ℕ → List ℕ) (b : Batch) (v : Values) → (new : List ℕ) × (length new ≡ revealed b.act) × ((batch_on deals b v).opened ≡ v.opened ++ new)
+opens-more deals b v = by_act b.act (record v { wires = with_lets v.wires b.lets.items }) where
+  by_act : (a : Act) (w : Values) → (new : List ℕ) × (length new ≡ revealed a) × ((act_on deals a w).opened ≡ w.opened ++ new)
+  by_act Deal w = ([], refl, sym (append-nil w.opened))
+  by_act (Mul pairs) w = ([], refl, sym (append-nil w.opened))
+  by_act (Reveal shown) w = (map (slice_index w.wires) shown.items, length-map shown.items (slice_index w.wires), refl)
+  by_act End w = ([], refl, sym (append-nil w.opened))
 
 module _ (words : Trio (List ℕ)) where
   counts-act : (a : Act) (s : Standing) (v : Values) → Counts s v → Counts (acted s a) (act_on (deals_of words) a v)
@@ -59,14 +69,8 @@ module _ (words : Trio (List ℕ)) where
       counts-act b.act (record s { wires = s.wires + length b.lets.items }) (record v { wires = with_lets v.wires b.lets.items })
       (record { wires = omega (arith, f.wires, length-with_lets v.wires b.lets.items); masks = f.masks })
 
-  -- opened numbers are only appended, as many as the act opens
   pub opened-more : (b : Batch) (v : Values) → (new : List ℕ) × (length new ≡ revealed b.act) × ((batch_on (deals_of words) b v).opened ≡ v.opened ++ new)
-  opened-more b v = by_act b.act (record v { wires = with_lets v.wires b.lets.items }) where
-    by_act : (a : Act) (w : Values) → (new : List ℕ) × (length new ≡ revealed a) × ((act_on (deals_of words) a w).opened ≡ w.opened ++ new)
-    by_act Deal w = ([], refl, sym (append-nil w.opened))
-    by_act (Mul pairs) w = ([], refl, sym (append-nil w.opened))
-    by_act (Reveal shown) w = (map (slice_index w.wires) shown.items, length-map shown.items (slice_index w.wires), refl)
-    by_act End w = ([], refl, sym (append-nil w.opened))
+  opened-more = opens-more (deals_of words)
 
 done-after : (s : Standing) (b : Batch) → is_end b.act ≡ false → (after s b).done ≡ s.done + 1
 done-after s b h = by_act b.act h where
@@ -76,56 +80,88 @@ done-after s b h = by_act b.act h where
   by_act (Reveal shown) h = refl
   by_act End h = cc h
 
--- a run of a script of so many rounds that has done some batches, and has at most n before its end
-pub record Underway (next : ℕ → List ℕ → Batch) (words : Trio (List ℕ)) (bounds : Standing) (rounds : ℕ) (inputs : List ℕ) (n done : ℕ) (v : Values) : Type 0 where
+-- a batch with the end opens nothing
+pub end-opens : (deals : ℕ → List ℕ) (b : Batch) (v : Values) → is_end b.act ≡ true → (batch_on deals b v).opened ≡ v.opened
+end-opens deals b v e = by_act b.act (record v { wires = with_lets v.wires b.lets.items }) e where
+  by_act : (a : Act) (w : Values) → is_end a ≡ true → (act_on deals a w).opened ≡ w.opened
+  by_act Deal w h = refl
+  by_act (Mul pairs) w h = refl
+  by_act (Reveal shown) w h = cc h
+  by_act End w h = refl
+
+-- a run that has done some batches, none of which was the end, and has at most n before its end
+pub record Underway (next : ℕ → List ℕ → Batch) (words : Trio (List ℕ)) (bounds : Standing) (inputs : List ℕ) (n done : ℕ) (v : Values) : Type 0 where
   pub standing : Standing
   pub at : standing.done ≡ done
   pub counts : Counts standing v
   pub law : LawFrom next bounds n standing v.opened
-  pub rest : clear_from next (deals_of words) n done v ≡ clear_values next rounds inputs words
-  pub counted : done + clear_rounds next (deals_of words) n done v ≡ rounds_run next rounds inputs words
+  pub values : v ≡ clear_at next (deals_of words) inputs done
+  pub going : (k : ℕ) → k < done → is_end (clear_act next (deals_of words) inputs k) ≡ false
 
-module _ (next : ℕ → List ℕ → Batch) (words : Trio (List ℕ)) (bounds : Standing) (rounds : ℕ) (inputs : List ℕ) where
-  pub begins : LawFrom next bounds rounds (start_of (length inputs)) [] → Underway next words bounds rounds inputs rounds 0 (start_values inputs)
-  begins law = record {
+module _ (next : ℕ → List ℕ → Batch) (words : Trio (List ℕ)) (bounds : Standing) (inputs : List ℕ) where
+  pub begins : (rounds : ℕ) → LawFrom next bounds rounds (start_of (length inputs)) [] → Underway next words bounds inputs rounds 0 (start_values inputs)
+  begins rounds law = record {
     standing = start_of (length inputs);
     at = refl;
     counts = record { wires = refl; masks = refl };
     law = law;
-    rest = refl;
-    counted = zero-add _;
+    values = refl;
+    going = λ k l. absurd (omega arith);
   }
 
-  -- a batch that is not the end leads on
-  pub goes-on : (n done : ℕ) (v : Values) (b : Batch) → Underway next words bounds rounds inputs (suc n) done v → b ≡ next done v.opened → is_end b.act ≡ false →
-      Underway next words bounds rounds inputs n (done + 1) (batch_on (deals_of words) b v)
-  goes-on n done v b u e more =
-      let now : next u.standing.done v.opened ≡ b = ap (λ k. next k v.opened) u.at ∙ sym e in
-      let o = opened-more words b v in
-      let go : clear_from next (deals_of words) (suc n) done v ≡ clear_from next (deals_of words) n (done + 1) (batch_on (deals_of words) b v) = rw (← e, more) refl in
-      let count : clear_rounds next (deals_of words) (suc n) done v ≡ 1 + clear_rounds next (deals_of words) n (done + 1) (batch_on (deals_of words) b v) = rw (← e, more) refl in
-      record {
-        standing = after u.standing b;
-        at = done-after u.standing b more ∙ ap (λ m. m + 1) u.at;
-        counts = counts-batch words b u.standing v u.counts;
-        law = rw o.2 ((rw now at (law-next next bounds n u.standing v.opened u.law)) more o.0 o.1);
-        rest = sym go ∙ u.rest;
-        counted = omega (arith, count, u.counted);
-      }
+  module _ (done : ℕ) (v : Values) (b : Batch) (e : b ≡ next done v.opened) where
+    -- the batch that comes is that of the run
+    coming : v ≡ clear_at next (deals_of words) inputs done → b ≡ next done (clear_at next (deals_of words) inputs done).opened
+    coming is = e ∙ ap (λ (w : Values). next done w.opened) is
 
-  -- the end is the last batch
-  pub record Ended (done : ℕ) (v : Values) (b : Batch) : Type 0 where
-    pub values : batch_on (deals_of words) b v ≡ clear_values next rounds inputs words
-    pub count : done ≡ rounds_run next rounds inputs words
+    stepped : v ≡ clear_at next (deals_of words) inputs done → batch_on (deals_of words) b v ≡ clear_at next (deals_of words) inputs (suc done)
+    stepped is = λ i. batch_on (deals_of words) (coming is i) (is i)
 
-  pub ends-at-last : (done : ℕ) (v : Values) (b : Batch) → Underway next words bounds rounds inputs 0 done v → b ≡ next done v.opened → Ended done v b
-  ends-at-last done v b u e =
-      let end : clear_from next (deals_of words) 0 done v ≡ batch_on (deals_of words) b v = rw (← e) refl in
-      record { values = sym end ∙ u.rest; count = omega (arith, u.counted) }
+    -- the words that it takes are there
+    pub words-there : (n : ℕ) → Underway next words bounds inputs n done v → v.dealt + deals_in b.act ≤ bounds.masks
+    words-there n u =
+        let now : next u.standing.done v.opened ≡ b = ap (λ k. next k v.opened) u.at ∙ sym e in
+        let within = (rw now at (law-now next bounds n u.standing v.opened u.law)).1 in
+        by_act b.act within.1 where
+          by_act : (a : Act) → (acted (record u.standing { wires = u.standing.wires + length b.lets.items }) a).masks ≤ bounds.masks → v.dealt + deals_in a ≤ bounds.masks
+          by_act Deal h = omega (arith, h, u.counts.masks)
+          by_act (Mul pairs) h = omega (arith, h, u.counts.masks)
+          by_act (Reveal shown) h = omega (arith, h, u.counts.masks)
+          by_act End h = omega (arith, h, u.counts.masks)
 
-  pub ends : (n done : ℕ) (v : Values) (b : Batch) → Underway next words bounds rounds inputs n done v → b ≡ next done v.opened → is_end b.act ≡ true → Ended done v b
-  ends zero done v b u e last = ends-at-last done v b u e
-  ends (suc n) done v b u e last =
-      let end : clear_from next (deals_of words) (suc n) done v ≡ batch_on (deals_of words) b v = rw (← e, last) refl in
-      let none : clear_rounds next (deals_of words) (suc n) done v ≡ 0 = rw (← e, last) refl in
-      record { values = sym end ∙ u.rest; count = omega (arith, none, u.counted) }
+    -- a batch that is not the end leads on
+    pub goes-on : (n : ℕ) → Underway next words bounds inputs (suc n) done v → is_end b.act ≡ false →
+        Underway next words bounds inputs n (done + 1) (batch_on (deals_of words) b v)
+    goes-on n u more =
+        let now : next u.standing.done v.opened ≡ b = ap (λ k. next k v.opened) u.at ∙ sym e in
+        let o = opened-more words b v in
+        record {
+          standing = after u.standing b;
+          at = done-after u.standing b more ∙ ap (λ m. m + 1) u.at;
+          counts = counts-batch words b u.standing v u.counts;
+          law = rw o.2 ((rw now at (law-next next bounds n u.standing v.opened u.law)) more o.0 o.1);
+          values = rw add-one (stepped u.values);
+          going = λ k l. elim (cases_eq k done) [
+            | inl same ↦ rw same (ap (λ (c : Batch). is_end c.act) (sym (coming u.values)) ∙ more)
+            | inr other ↦ u.going k (omega (arith, other, l))
+          ];
+        }
+
+    -- the end is the last batch
+    pub record Ended : Type 0 where
+      pub ends : EndsAfter next (deals_of words) inputs done
+      pub values : batch_on (deals_of words) b v ≡ clear_at next (deals_of words) inputs (suc done)
+      pub opened : (batch_on (deals_of words) b v).opened ≡ (clear_at next (deals_of words) inputs done).opened
+
+    pub ends : (n : ℕ) → Underway next words bounds inputs n done v → is_end b.act ≡ true → Ended
+    ends n u last = record {
+      ends = (ap (λ (c : Batch). is_end c.act) (sym (coming u.values)) ∙ last, u.going);
+      values = stepped u.values;
+      opened = end-opens (deals_of words) b v last ∙ ap (λ (w : Values). w.opened) u.values;
+    }
+
+    -- where no more may come, it is the end
+    pub ends-at-last : Underway next words bounds inputs 0 done v → Ended
+    ends-at-last u =
+        let now : next u.standing.done v.opened ≡ b = ap (λ k. next k v.opened) u.at ∙ sym e in
+        ends 0 u (rw now at (law-last next bounds u.standing v.opened u.law))

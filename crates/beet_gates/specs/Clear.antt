@@ -1,5 +1,6 @@
 -- The run of a script on plain values.
-use Rattle.std.specs.Prelude.{◌≡◌, ◌<◌, ℕ, zero, suc, ◌+◌, ◌*◌, ◌%◌, List, [], ◌∷◌, ◌++◌, map, slice_index, Bool, true, false, if◌then◌else◌}
+use Rattle.std.specs.Prelude.{◌≡◌, ◌<◌, ℕ, zero, suc, ◌+◌, ◌*◌, ◌%◌, List, [], ◌∷◌, ◌++◌, map, slice_index, Bool, true, false}
+use Rattle.std.specs.List.{position_or_len, range_with_len}
 use Rattle.beet_field.specs.Field.{p, mul_of}
 use Rattle.beet_field.specs.declared.trio.Trio.{Trio}
 use Rattle.beet_gates.specs.Deals.{deals_of}
@@ -55,33 +56,11 @@ is_end (Mul pairs) = false
 is_end (Reveal shown) = false
 is_end End = true
 
--- the values at the end, which comes after at most n more batches; the lets of the end are appended too
-abbrev pub clear_from : (ℕ → List ℕ → Batch) → (ℕ → List ℕ) → ℕ → ℕ → Values → Values
-clear_from next deals zero done v = batch_on deals (next done v.opened) v
-clear_from next deals (suc n) done v =
-    let after = batch_on deals (next done v.opened) v in
-    if is_end (next done v.opened).act then after else clear_from next deals n (done + 1) after
-
--- the number of batches before the end, of at most n
-abbrev pub clear_rounds : (ℕ → List ℕ → Batch) → (ℕ → List ℕ) → ℕ → ℕ → Values → ℕ
-clear_rounds next deals zero done v = 0
-clear_rounds next deals (suc n) done v =
-    if is_end (next done v.opened).act then 0
-    else 1 + clear_rounds next deals n (done + 1) (batch_on deals (next done v.opened) v)
-
 -- the values at the start
 abbrev pub start_values : List ℕ → Values
 start_values inputs = record { wires = inputs; opened = []; dealt = 0 }
 
--- the values at the end of a script of at most so many rounds, run on inputs and mask words
-abbrev pub clear_values : (ℕ → List ℕ → Batch) → ℕ → List ℕ → Trio (List ℕ) → Values
-clear_values next rounds inputs masks = clear_from next (deals_of masks) rounds 0 (start_values inputs)
-
--- the rounds of this run: the batches before the end
-abbrev pub rounds_run : (ℕ → List ℕ → Batch) → ℕ → List ℕ → Trio (List ℕ) → ℕ
-rounds_run next rounds inputs masks = clear_rounds next (deals_of masks) rounds 0 (start_values inputs)
-
--- the values after t batches, none of which is the end
+-- the values after t batches; it is meant for batches before the end, and for the end, whose lets are appended too
 abbrev pub clear_at : (ℕ → List ℕ → Batch) → (ℕ → List ℕ) → List ℕ → ℕ → Values
 clear_at next deals inputs zero = start_values inputs
 clear_at next deals inputs (suc t) =
@@ -96,3 +75,11 @@ clear_act next deals inputs t = (next t (clear_at next deals inputs t).opened).a
 abbrev pub EndsAfter : (ℕ → List ℕ → Batch) → (ℕ → List ℕ) → List ℕ → ℕ → Type 0
 EndsAfter next deals inputs r =
     (is_end (clear_act next deals inputs r) ≡ true) × ((k : ℕ) → k < r → is_end (clear_act next deals inputs k) ≡ false)
+
+-- the rounds of the run of a script of at most so many, on inputs and mask words: the batches before the first end
+unfoldable pub rounds_run : (ℕ → List ℕ → Batch) → ℕ → List ℕ → Trio (List ℕ) → ℕ
+rounds_run next most inputs words = position_or_len (λ t. is_end (clear_act next (deals_of words) inputs t)) (range_with_len 0 most)
+
+-- the values at its end; the lets of the end are appended too
+abbrev pub clear_values : (ℕ → List ℕ → Batch) → ℕ → List ℕ → Trio (List ℕ) → Values
+clear_values next most inputs words = clear_at next (deals_of words) inputs (suc (rounds_run next most inputs words))

@@ -6,6 +6,7 @@ use Rattle.beet_gates.specs.declared.Act.{Act}
 use Rattle.beet_gates.specs.declared.Act.TheVariants.{Deal, Mul, Reveal, End}
 use Rattle.beet_gates.specs.declared.Batch.{Batch}
 use Rattle.beet_gates.specs.declared.Linear.{Linear}
+use Rattle.beet_gates.specs.declared.TheConstants.{MOST_LETS, MOST_NUMBERS}
 
 -- each wire that the terms name is below n; that of a term with factor 0 too
 abbrev pub TermsBelow : ℕ → List (ℕ × ℕ) → Type 0
@@ -41,9 +42,9 @@ size_of (Mul pairs) = length pairs.items
 size_of (Reveal wires) = length wires.items
 size_of End = 0
 
--- at most 128 lets, and at most 64 pairs or wires
+-- not too many lets, pairs or wires
 abbrev pub IsSmall : Batch → Type 0
-IsSmall b = (length b.lets.items ≤ 128) × (size_of b.act ≤ 64)
+IsSmall b = (length b.lets.items ≤ MOST_LETS) × (size_of b.act ≤ MOST_NUMBERS)
 
 -- how far a run has come: batches, wires, mask words and coefficients of each server, and opened numbers
 pub record Standing : Type 0 where

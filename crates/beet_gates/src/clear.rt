@@ -1,12 +1,12 @@
 //! Runs on plain values, with no shares in them.
 
-ghost use Rattle.std.specs.Prelude.{◌≡◌, ◌<◌, ◌≤◌, ◌+◌, ◌%◌, ◌^◌, ◌++◌, map, length, IfOk, OnOk, slice_index};
+ghost use Rattle.std.specs.Prelude.{suc, ◌≡◌, ◌<◌, ◌≤◌, ◌+◌, ◌%◌, ◌^◌, ◌++◌, map, length, IfOk, OnOk, slice_index};
 ghost use Rattle.std.specs.Int.{bit_at};
 ghost use Rattle.beet_field.specs.Field.{p};
 ghost use Rattle.beet_gates.specs.Each.{each};
 ghost use Rattle.beet_gates.specs.Deals.{dealt_bits, deals_of};
 ghost use Rattle.beet_gates.specs.Scripts.{TermsBelow, LetsBelow, PairsBelow, WiresBelow, ActBelow, deals_in, HasWords};
-ghost use Rattle.beet_gates.specs.Clear.{weighed, let_of, with_lets, product_of, is_end, batch_on, clear_values, rounds_run, start_values, EndsAfter};
+ghost use Rattle.beet_gates.specs.Clear.{weighed, let_of, with_lets, product_of, is_end, batch_on, clear_at, start_values, EndsAfter};
 
 use crate::{Act, Batch, Linear, Script};
 use beet_field::{Fe, Trio};
@@ -203,6 +203,7 @@ impl Run {
 }
 
 /// Runs the script on plain values: the inputs are the first wires, and the n-th `Deal` takes the n-th word of each list.
+/// The run goes to the first end, whose lets are appended too.
 pub fn clear_run<S: Script>(
     alloc: Global,
     script: &S,
@@ -211,27 +212,26 @@ pub fn clear_run<S: Script>(
 ) -> Result<ClearRun, AllocError>
     requires inputs { length inputs.now ≡ S.inputs_of script.now }
     requires masks { HasWords (S.masks_of script.now) masks.now }
-    ensures wires { IfOk result (λ run. run.wires ≡
-        (clear_values (S.batch_of script.now) (S.rounds_of script.now) inputs.now masks.now).wires) }
-    ensures opened { IfOk result (λ run. run.opened ≡
-        (clear_values (S.batch_of script.now) (S.rounds_of script.now) inputs.now masks.now).opened) }
-    ensures rounds { IfOk result (λ run. run.rounds ≡
-        rounds_run (S.batch_of script.now) (S.rounds_of script.now) inputs.now masks.now) }
     ensures end { IfOk result (λ run.
         EndsAfter (S.batch_of script.now) (deals_of masks.now) inputs.now run.rounds) }
+    ensures wires { IfOk result (λ run. run.wires ≡
+        (clear_at (S.batch_of script.now) (deals_of masks.now) inputs.now (suc run.rounds)).wires) }
+    ensures opened { IfOk result (λ run. run.opened ≡
+        (clear_at (S.batch_of script.now) (deals_of masks.now) inputs.now run.rounds).opened) }
 {
     let rounds = script.rounds();
     // The law bounds the deals by this number, so a u32 counts them.
     let _dealt_at_most = script.masks();
     let mut run = Run::start(alloc, inputs, script.wires())?;
+    let mut batch = Batch::end();
     for done in 0..rounds {
-        let batch = script.next(done, run.opened());
+        script.refill(done, run.opened(), &mut batch);
         run.step(&batch, masks)?;
         if is_last(&batch.act) {
             return Ok(run.finish(done));
         }
     }
-    let last = script.next(rounds, run.opened());
-    run.step(&last, masks)?;
+    script.refill(rounds, run.opened(), &mut batch);
+    run.step(&batch, masks)?;
     Ok(run.finish(rounds))
 }

@@ -11,12 +11,19 @@ ghost use Rattle.beet_gates.specs.declared.Batch.{Batch};
 ghost use Rattle.beet_gates.specs.Scripts.{LawFrom, start_of, bounds_of};
 
 mod clear;
+mod filling;
 mod product;
 
 use arrayvec::ArrayVec;
 use beet_field::Fe;
 pub use clear::{ClearRun, clear_run};
 pub use product::Product;
+
+/// The most numbers that a server sends another in one round: pairs that are multiplied, or wires that are opened.
+pub const MOST_NUMBERS: usize = 64;
+
+/// The most lets of one batch.
+pub const MOST_LETS: usize = 128;
 
 /// How the product of many bits, and a comparison, are built from products of two.
 #[derive(Clone, Copy, PartialEq, Eq, Debug)]
@@ -41,9 +48,9 @@ pub enum Act {
     /// Each server deals the 61 bits of its next mask word.
     Deal,
     /// The two wires of each pair are multiplied.
-    Mul(ArrayVec<(u32, u32), 64>),
+    Mul(ArrayVec<(u32, u32), MOST_NUMBERS>),
     /// The wires are opened.
-    Reveal(ArrayVec<u32, 64>),
+    Reveal(ArrayVec<u32, MOST_NUMBERS>),
     /// The run is over.
     End,
 }
@@ -51,7 +58,7 @@ pub enum Act {
 /// One batch of a script: the lets are appended, and then the act is done.
 #[derive(Drop)]
 pub struct Batch {
-    pub lets: ArrayVec<Linear, 128>,
+    pub lets: ArrayVec<Linear, MOST_LETS>,
     pub act: Act,
 }
 
@@ -93,6 +100,13 @@ pub trait Script: Copy {
     /// The batch that comes after `done` batches, where these numbers were opened so far.
     fn next(&self, done: u32, opened: &[Fe]) -> Batch
         ensures { result ≡ batch_of self.now done opened.now };
+
+    /// Puts what `next` answers in the place of another batch. A script that runs for many rounds does it in place.
+    fn refill(&self, done: u32, opened: &[Fe], batch: &mut Batch)
+        ensures { batch.new ≡ batch_of self.now done opened.now }
+    {
+        *batch = self.next(done, opened);
+    }
 
     /// Whatever numbers are opened, each batch names only wires that stand before it or earlier in its own lets, no
     /// product or opening is empty, no batch has more than 128 lets or 64 pairs or wires, the end comes after at most

@@ -9,7 +9,8 @@ use Rattle.beet_words.specs.TapeFiles.{tape_of}
 use Rattle.beet_field.specs.declared.trio.Trio.{Trio}
 use Rattle.beet_words.specs.Bundles.{Words}
 use Rattle.beet_bids.specs.Grids.{Grid}
-use Rattle.beet_load.specs.Servers.{ServerWords, IsCut, AreCut, masks_wanted, coefficients_kept, seeded, cut_servers}
+use Rattle.beet_plan.specs.Kept.{coefficients_kept}
+use Rattle.beet_load.specs.Servers.{ServerWords, IsCut, AreCut, masks_wanted, seeded, cut_servers}
 use Rattle.beet_errand.specs.Fetches.{Judges}
 use Rattle.beet_errand.specs.declared.answer.Stop.{Stop}
 
@@ -37,24 +38,3 @@ seeded_cut grid seed words e =
       masks = omega (arith, masks, length-map-range_with_len (seed_word seed 1) 0 (masks_wanted grid));
       coefficients = omega (arith, coefficients, length-map-range_with_len (seed_word seed 0) 0 (coefficients_kept grid));
     }
-
--- those of a bundle
-pub bundle_cut : (grid : Grid) (words : Words) (servers : Trio ServerWords) → servers ≡ cut_servers grid words → AreCut grid servers
-bundle_cut grid words servers e = rw e (record {
-  one = record { masks = take-few (masks_wanted grid) words.masks.one; coefficients = take-few (coefficients_kept grid) words.coefficients.one };
-  two = record { masks = take-few (masks_wanted grid) words.masks.two; coefficients = take-few (coefficients_kept grid) words.coefficients.two };
-  three = record { masks = take-few (masks_wanted grid) words.masks.three; coefficients = take-few (coefficients_kept grid) words.coefficients.three };
-})
-
--- the words of a tape file
-pub tape_cut : (bytes : List ℕ) (kept : ℕ) (read : Result Tape ReadFault) → Answers (λ tape. tape.words) (tape_of bytes kept) read →
-    IfOk read (λ tape. length tape.words ≤ kept)
-tape_cut bytes kept (Ok tape) a = read_few _ kept _ tape.words a
-tape_cut bytes kept (Err fault) a = tt
-
--- what holds of a value that was read holds of the value that is judged
-pub judged_keeps : {T : Type 0} (P : T → Type 0) (name : List ℕ) (read : Result T ReadFault) (result : Result T Stop) →
-    IfOk read P → Judges name read result → IfOk result P
-judged_keeps P name (Ok value) (Ok same) h j = let e : value ≡ same = cc in rw e at h
-judged_keeps P name (Err fault) (Ok same) h j = absurd cc
-judged_keeps P name read (Err stop) h j = tt

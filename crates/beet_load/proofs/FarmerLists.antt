@@ -1,7 +1,7 @@
 -- Bidders with their words, as one list and as two.
 use Rattle.std.proofs.Common.{◌≡◌, ℕ, List, [], ◌∷◌, ◌++◌, map, length, arith, refl, ap}
 use Rattle.beet_bids.specs.declared.book.Bidder.{Bidder}
-use Rattle.beet_auction.specs.Openings.{Farmer, farmers_of}
+use Rattle.beet_book.specs.Farmers.{Farmer, farmers_of}
 
 -- one bidder more
 pub farmers-push : (bidders : List Bidder) (words : List (List ℕ)) (bidder : Bidder) (list : List ℕ) → length words ≡ length bidders →

@@ -1,5 +1,5 @@
 -- The inputs of the servers are points of lines with the sums of the book.
-use Rattle.std.proofs.Common.{◌≡◌, ◌≤◌, ◌<◌, ℕ, ◌+◌, ◌*◌, ◌-◌, List, [], length, get_or, take, drop, Option, All, inl, inr, arith, refl, sym, ap, ◌∙◌, length-append, length-drop, subst}
+use Rattle.std.proofs.Common.{◌≡◌, ◌≤◌, ◌<◌, ℕ, ◌+◌, ◌*◌, ◌-◌, List, length, get_or, take, drop, All, inl, inr, arith, refl, sym, ap, ◌∙◌, length-append, length-drop, subst}
 use Rattle.std.specs.Prelude.{slice_index, sum_by}
 use Rattle.std.proofs.lemmas.List.FromFn.{length-map-range_with_len}
 use Rattle.std.proofs.lemmas.List.Elements.{All-map}
@@ -10,7 +10,6 @@ use Rattle.beet_field.specs.declared.point.Point.{Point}
 use Rattle.beet_field.specs.declared.point.Point.TheVariants.{One, Two, Three}
 use Rattle.beet_field.specs.declared.trio.Trio.{Trio}
 use Rattle.beet_shamir.specs.Line.{point_of}
-use Rattle.beet_store.specs.Files.{Told}
 use Rattle.beet_bids.specs.Books.{IsBook}
 use Rattle.beet_bids.specs.Curves.{Curve, quantity, IsCurve, IsOfGrid}
 use Rattle.beet_bids.specs.Grids.{Grid}
@@ -19,20 +18,18 @@ use Rattle.beet_book.specs.Totals.{Totals, supply_first, summed_quantities, wire
 use Rattle.beet_book.specs.declared.entries.Entry.{Entry}
 use Rattle.beet_book.proofs.Pairs.{length-pairwise, item-pairwise}
 use Rattle.beet_book.proofs.Sums.{item-supply, item-demand}
-use Rattle.beet_book.proofs.Summed.{supply-summed, demand-summed}
-use Rattle.beet_plan.specs.Runs.{sums_of}
-use Rattle.beet_plan.proofs.BookFacts.{length-sums, sums-supply, sums-demand}
-use Rattle.beet_load.specs.Collecting.{curves_of, Collected}
+use Rattle.beet_book.proofs.Summed.{supply-summed, demand-summed, length-summed}
+use Rattle.beet_bids.specs.Sums.{sums_of}
+use Rattle.beet_bids.proofs.BookSums.{length-sums, sums-supply, sums-demand}
+use Rattle.beet_load.specs.Collecting.{curves_of, AreCollected}
 use Rattle.beet_load.specs.Farmers.{bidders_of}
-use Rattle.beet_load.specs.Loading.{Loads, with_all_words}
-use Rattle.beet_auction.specs.Openings.{Farmer, book_of as book_with}
-use Rattle.beet_load.specs.Servers.{AllWords}
+use Rattle.beet_load.specs.Loading.{IsKeptOf}
+use Rattle.beet_book.specs.Farmers.{Farmer, book_of as book_with}
+use Rattle.beet_load.specs.Servers.{ServerWords}
 use Rattle.beet_load.proofs.Summing.{sum_of_bidders, map_length}
+use Rattle.beet_bids.specs.declared.book.TheConstants.{MOST_BIDDERS}
 
-length-summed : (prices : ℕ) (curves : List Curve) → length (summed_quantities prices curves) ≡ 2 * prices
-length-summed prices curves = length-map-range_with_len (λ n. sum_by (λ curve. quantity curve n) curves) 0 (2 * prices)
-
-length-first : (prices : ℕ) (xs : List ℕ) → length xs ≡ 2 * prices → length (supply_first prices xs) ≡ 2 * prices
+pub length-first : (prices : ℕ) (xs : List ℕ) → length xs ≡ 2 * prices → length (supply_first prices xs) ≡ 2 * prices
 length-first prices xs h =
     omega (arith, length-append (drop prices xs) (take prices xs), length-drop prices xs, length-take-le prices xs (omega arith), h)
 
@@ -125,20 +122,22 @@ each-bidder P farmers all = All-map (λ bidder. P bidder.curve) (λ farmer. farm
 
 -- bidders with curves of a grid make a book
 pub is-book : (grid : Grid) (farmers : List Farmer) → All IsCurve (curves_of farmers) → All (IsOfGrid grid) (curves_of farmers) →
-    length farmers ≤ 2000 → IsBook (book_with grid farmers)
+    length farmers ≤ MOST_BIDDERS → IsBook (book_with grid farmers)
 is-book grid farmers curves of_grid few = record {
   few = rw (map_length (λ farmer. farmer.bidder) farmers) few;
   curves = each-bidder IsCurve farmers curves;
   of_grid = each-bidder (IsOfGrid grid) farmers of_grid;
 }
 
--- all bidders are read, after all other words
-pub loads_all : (grid : Grid) (entries : List Entry) (words : AllWords) (old now : Option Told) (totals : Totals) (wires : Trio (List ℕ)) →
-    length entries ≤ 2000 → Collected grid words.bidders entries [] old now totals (length entries) → wires ≡ wires_of totals →
-    Loads old now (with_all_words grid entries words) (record { grid = grid; servers = words.servers; inputs = wires })
-loads_all grid entries words old now totals wires few (farmers, many, c) e = record {
-  farmers = farmers;
-  went = λ next. c.went (λ f. next (record { grid = grid; servers = words.servers; farmers = f }));
-  book = is-book grid farmers c.curves c.of_grid (rw many few);
-  shares = inputs-shares grid totals farmers wires c.shares c.prices c.of_grid e;
-}
+-- what is kept of an auction whose bidders are added up
+pub kept_of_all : (grid : Grid) (entries : List Entry) (servers : Trio ServerWords) (totals : Totals) (farmers : List Farmer) (wires : Trio (List ℕ)) →
+    length entries ≤ MOST_BIDDERS → AreCollected grid entries totals farmers → wires ≡ wires_of totals →
+    IsKeptOf (record { grid = grid; servers = servers; inputs = wires }) (record { grid = grid; servers = servers; farmers = farmers })
+kept_of_all grid entries servers totals farmers wires few c e =
+    let a = c.adds in
+    record {
+      grid = refl;
+      servers = refl;
+      book = is-book grid farmers a.curves a.of_grid (rw c.many few);
+      shares = inputs-shares grid totals farmers wires a.shares a.prices a.of_grid e;
+    }

@@ -1,9 +1,8 @@
 -- Bidders that are read and kept.
-use Rattle.std.proofs.Common.{◌≡◌, ◌≤◌, ◌<◌, ℕ, ◌+◌, ◌*◌, ◌-◌, List, [], ◌∷◌, ◌++◌, map, length, drop, get_or, Option, All, arith, refl, sym, ap, ◌∙◌, subst, length-append, length-drop}
+use Rattle.std.proofs.Common.{◌≡◌, ◌≤◌, ◌<◌, ℕ, ◌+◌, List, [], ◌∷◌, ◌++◌, map, length, drop, get_or, Option, All, Ok, Err, arith, refl, sym, ap, ◌∙◌, subst, length-append, length-drop}
 use Rattle.std.proofs.lemmas.List.{length-map}
-use Rattle.std.proofs.lemmas.List.Elements.{All-append, All-map, All-nil, All-cons, All-weaker}
-use Rattle.beet_field.specs.declared.trio.Trio.{Trio}
-use Rattle.beet_store.specs.Files.{Told}
+use Rattle.std.proofs.lemmas.List.Elements.{All-append, All-map, All-nil, All-cons}
+use Rattle.beet_store.specs.Files.{Seen}
 use Rattle.beet_words.specs.Bundles.{Words}
 use Rattle.beet_gates.specs.declared.Gates.TheVariants.{Chain}
 use Rattle.beet_bids.specs.Books.{Book}
@@ -12,142 +11,128 @@ use Rattle.beet_bids.specs.BidFiles.{bid_of}
 use Rattle.beet_bids.specs.Grids.{Grid}
 use Rattle.beet_bids.specs.declared.book.Bidder.{Bidder}
 use Rattle.beet_book.specs.declared.entries.Entry.{Entry}
-use Rattle.beet_auction.specs.Openings.{Farmer, farmers_of}
-use Rattle.beet_errand.specs.Errands.{Errand, reads}
-use Rattle.beet_errand.specs.Fetches.{Went, Stops}
+use Rattle.beet_book.specs.Farmers.{Farmer, farmers_of}
+use Rattle.beet_errand.specs.Errands.{reads}
+use Rattle.beet_errand.specs.Fetches.{ReadsFor, Reads, Reached}
 use Rattle.beet_errand.specs.declared.answer.Stop.{Stop}
-use Rattle.beet_errand.specs.declared.answer.Stop.TheVariants.{Refused, OutOfMemory}
-use Rattle.beet_errand.proofs.Steps.{went_none, went_on}
+use Rattle.beet_errand.proofs.Frame.{reached_none, reached_more, reached_last, stopped}
 use Rattle.beet_load.specs.Farmers.{list_at, farmer_errand, farmers_errand}
-use Rattle.beet_load.specs.Loading.{Loaded, with_all_words}
+use Rattle.beet_load.specs.Loading.{Loaded}
 use Rattle.beet_load.specs.Servers.{AllWords, HaveEnough, AreCut}
-use Rattle.beet_load.specs.Wholes.{CanDeal, CanRun, IsFarmer, Keeps, KeepsBids, KeepsFarmer, all_words, bids_errand, by_server}
-use Rattle.beet_load.proofs.Summing.{next_entry}
+use Rattle.beet_load.specs.Wholes.{AreKept, CanDeal, CanRun, IsFarmer, Keeps, KeepsBids, KeepsFarmer, all_words, bids_errand, by_server}
+use Rattle.beet_load.proofs.Summing.{next_entry, none_left}
+use Rattle.beet_bids.specs.declared.bid_file.TheConstants.{BID_LIMIT}
 
 -- no bidder is read yet
-pub keeps_none : (grid : Grid) (lists : Option (List (List ℕ))) (entries : List Entry) (told : Option Told) → Keeps grid lists entries entries told told []
-keeps_none grid lists entries told = record {
-  went = λ next. went_none told (farmers_errand grid lists [] entries next);
-  count = omega arith;
-  each = All-nil (IsFarmer grid);
-}
+pub keeps_none : (grid : Grid) (lists : Option (List (List ℕ))) (entries : List Entry) (seen : Seen) → Keeps grid lists entries entries seen seen []
+keeps_none grid lists entries seen = record { read = reached_none; count = omega arith; each = All-nil _ }
 
-module _ (grid : Grid) (lists : Option (List (List ℕ))) (entries : List Entry) where
-  -- one more bidder is read and kept, of those that are left
-  pub keeps_more : (rest : List Entry) (entry : Entry) (old middle now : Option Told) (before after : List Farmer) →
-      Keeps grid lists entries (entry ∷ rest) old middle before →
-      KeepsFarmer grid (list_at lists (length before)) (length before + 1) entry middle now before after →
-      Keeps grid lists entries rest old now after
-  keeps_more rest entry old middle now before after h k =
-      let long : length after ≡ length before + 1 = ap length k.kept ∙ length-append before (k.farmer ∷ []) in
-      record {
-        went = λ next. rw k.kept (went_on old middle now _ _ _ (h.went next) (k.went (λ f. farmers_errand grid lists (before ++ f ∷ []) rest next)));
-        count = let c = h.count in omega (arith, long, c);
-        each = rw k.kept (All-append (IsFarmer grid) before (k.farmer ∷ []) h.each (All-cons (IsFarmer grid) k.farmer [] k.is_farmer (All-nil (IsFarmer grid))));
-      }
+module _ (grid : Grid) (lists : Option (List (List ℕ))) (entries : List Entry) (i : ℕ) (entry : Entry) (given : Option (List ℕ)) (old middle now : Seen)
+    (before : List Farmer) (lt : i < length entries) (e : entry ≡ get_or entries i entry) (same : given ≡ list_at lists i)
+    (h : Keeps grid lists entries (drop i entries) old middle before) where
+  here : Keeps grid lists entries (entry ∷ drop (i + 1) entries) old middle before
+  here = rw (next_entry entries i entry lt e) at h
 
-  -- the next bidder stops the job
-  pub keeps_stops : (rest : List Entry) (entry : Entry) (old middle now : Option Told) (before : List Farmer) (stop : Stop) →
-      Keeps grid lists entries (entry ∷ rest) old middle before →
-      Stops middle now (farmer_errand grid (list_at lists (length before)) (length before + 1) entry) stop →
-      Stops old now (farmers_errand grid lists [] entries) stop
-  keeps_stops rest entry old middle now before (Refused status line) h s = λ next.
-      went_on old middle now _ _ _ (h.went next) (s (λ f. farmers_errand grid lists (before ++ f ∷ []) rest next))
-  keeps_stops rest entry old middle now before OutOfMemory h s = λ next.
-      let (last, went) = s (λ f. farmers_errand grid lists (before ++ f ∷ []) rest next) in
-      (last, went_on old middle now _ _ _ (h.went next) went)
-
-  count-at : (i : ℕ) (old now : Option Told) (farmers : List Farmer) → i ≤ length entries → Keeps grid lists entries (drop i entries) old now farmers → length farmers ≡ i
-  count-at i old now farmers le h = let c = h.count in omega (arith, c, length-drop i entries, le)
+  many : length before ≡ i
+  many = let c = h.count in omega (arith, c, length-drop i entries, lt)
 
   -- the bidder at a place is read and kept
-  pub keeps_at : (i : ℕ) (entry : Entry) (given : Option (List ℕ)) (old middle now : Option Told) (before after : List Farmer) → i < length entries →
-      entry ≡ get_or entries i entry → given ≡ list_at lists i → Keeps grid lists entries (drop i entries) old middle before →
-      KeepsFarmer grid given (i + 1) entry middle now before after → Keeps grid lists entries (drop (i + 1) entries) old now after
-  keeps_at i entry given old middle now before after lt e same h k =
-      let many : length before ≡ i = count-at i old middle before (omega arith) h in
-      keeps_more (drop (i + 1) entries) entry old middle now before after (rw (next_entry entries i entry lt e) at h)
-      (rw many (rw same at k))
+  pub keeps_at : (after : List Farmer) →
+      ReadsFor (λ (done : Unit {0}) farmer. KeepsFarmer grid before after farmer) middle now (farmer_errand grid given (i + 1) entry) (Ok tt) →
+      Keeps grid lists entries (drop (i + 1) entries) old now after
+  unfolding here many
+  keeps_at after r =
+      let r' = rw (sym many) at (rw same at r) in
+      let k = r'.gives.1 in
+      let farmer = r'.gives.0 in
+      let long : length after ≡ length before + 1 = ap length k.kept ∙ length-append before (farmer ∷ []) in
+      record {
+        read = rw k.kept (reached_more (λ f. farmers_errand grid lists (before ++ f ∷ []) (drop (i + 1) entries)) here.read r');
+        count = let c = here.count in omega (arith, long, c);
+        each = rw k.kept (All-append (IsFarmer grid) before (farmer ∷ []) here.each (All-cons (IsFarmer grid) farmer [] k.is_farmer (All-nil (IsFarmer grid))));
+      }
 
   -- the bidder at a place stops the job
-  pub keeps_stopped_at : (i : ℕ) (entry : Entry) (given : Option (List ℕ)) (old middle now : Option Told) (before : List Farmer) (stop : Stop) →
-      i < length entries → entry ≡ get_or entries i entry → given ≡ list_at lists i → Keeps grid lists entries (drop i entries) old middle before →
-      Stops middle now (farmer_errand grid given (i + 1) entry) stop → Stops old now (farmers_errand grid lists [] entries) stop
-  keeps_stopped_at i entry given old middle now before stop lt e same h s =
-      let many : length before ≡ i = count-at i old middle before (omega arith) h in
-      keeps_stops (drop (i + 1) entries) entry old middle now before stop (rw (next_entry entries i entry lt e) at h)
-      (rw many (rw same at s))
+  pub keeps_stopped_at : {T U : Type 0} {shows : T → Farmer → Type 0} {last : U → List Farmer → Type 0} (stop : Stop) →
+      ReadsFor shows middle now (farmer_errand grid given (i + 1) entry) (Err stop) →
+      ReadsFor last old now (farmers_errand grid lists [] entries) (Err stop)
+  unfolding here many
+  keeps_stopped_at stop r =
+      reached_last here.read (stopped {rest = λ f. farmers_errand grid lists (before ++ f ∷ []) (drop (i + 1) entries)} (rw (sym many) at (rw same at r)))
 
-  -- all bidders are kept
-  pub all-kept : (old now : Option Told) (farmers : List Farmer) → Keeps grid lists entries [] old now farmers → length farmers ≡ length entries
-  all-kept old now farmers h = let c = h.count in omega (arith, c)
+-- all bidders are read
+pub keeps_all : {grid : Grid} {lists : Option (List (List ℕ))} {entries : List Entry} {old now : Seen} {kept : List Farmer} (i : ℕ) → length entries ≤ i →
+    Keeps grid lists entries (drop i entries) old now kept → ReadsFor (AreKept grid entries) old now (farmers_errand grid lists [] entries) (Ok kept)
+keeps_all {entries = entries} {kept = kept} i ge k =
+    let h = rw (none_left entries i ge) at k in
+    let c = h.count in
+    record { gives = (kept, record { same = refl; count = omega arith; each = h.each }, h.read.went); cause = tt; later = h.read.later }
 
 -- the book of bidders that are kept, and their words
-module _ (grid : Grid) (lists : Option (List (List ℕ))) (entries : List Entry) (old now : Option Told) (farmers : List Farmer)
-    (h : Keeps grid lists entries [] old now farmers) (bidders : List Bidder) (is : bidders ≡ map (λ farmer. farmer.bidder) farmers) where
+module _ (grid : Grid) (entries : List Entry) (kept farmers : List Farmer) (h : AreKept grid entries kept farmers) (bidders : List Bidder)
+    (is : bidders ≡ map (λ farmer. farmer.bidder) kept) where
   pub kept-many : length bidders ≡ length entries
-  kept-many = ap length is ∙ length-map farmers (λ farmer. farmer.bidder) ∙ all-kept grid lists entries old now farmers h
+  kept-many = ap length is ∙ length-map kept (λ farmer. farmer.bidder) ∙ h.count
 
   pub kept-of-grid : All (λ bidder. IsOfGrid grid bidder.curve) bidders
   kept-of-grid =
       subst (All (λ bidder. IsOfGrid grid bidder.curve)) (sym is)
-      (All-map (λ bidder. IsOfGrid grid bidder.curve) (λ farmer. farmer.bidder) farmers (λ i d lt. (h.each i d lt).of_grid))
+      (All-map (λ bidder. IsOfGrid grid bidder.curve) (λ farmer. farmer.bidder) kept (λ i d lt. (h.each i d lt).of_grid))
 
-  pub kept-runs : (words : AllWords) (all : List (List ℕ)) (book : Book) (made : Words) → all ≡ map (λ farmer. farmer.words) farmers →
+  pub kept-runs : (words : AllWords) (all : List (List ℕ)) (book : Book) (made : Words) → all ≡ map (λ farmer. farmer.words) kept →
       book ≡ record { grid = grid; bidders = bidders } → made ≡ all_words words.servers all → grid.gates ≡ Chain →
       HaveEnough grid words.servers → AreCut grid words.servers → CanRun book made
   kept-runs words all book made these b m gates enough cut =
-      let many : length all ≡ length bidders = ap length these ∙ length-map farmers (λ farmer. farmer.words) ∙ sym (ap length is ∙ length-map farmers (λ farmer. farmer.bidder)) in
-      let each : All (CanDeal grid) all = subst (All (CanDeal grid)) (sym these) (All-map (CanDeal grid) (λ farmer. farmer.words) farmers (λ i d lt. (h.each i d lt).words)) in
+      let many : length all ≡ length bidders = ap length these ∙ length-map kept (λ farmer. farmer.words) ∙ sym (ap length is ∙ length-map kept (λ farmer. farmer.bidder)) in
+      let each : All (CanDeal grid) all = subst (All (CanDeal grid)) (sym these) (All-map (CanDeal grid) (λ farmer. farmer.words) kept (λ i d lt. (h.each i d lt).words)) in
       rw (b, m) (record { gates = gates; servers = enough; cut = cut; lists = many; bidders = each })
 
-pub kept-gives : (grid : Grid) (entries : List Entry) (words : AllWords) (old now : Option Told) (farmers : List Farmer) (bidders : List Bidder)
-    (all : List (List ℕ)) (book : Book) (made : Words) → Keeps grid words.bidders entries [] old now farmers → farmers_of bidders all ≡ farmers →
-    book ≡ record { grid = grid; bidders = bidders } → made ≡ all_words words.servers all → (next : Loaded → Errand) →
-    Went old now (with_all_words grid entries words next)
-    (next (record { grid = book.grid; servers = by_server made; farmers = farmers_of book.bidders made.bidders }))
-kept-gives grid entries words old now farmers bidders all book made h f b m next =
-    rw (b, m, f) (h.went (λ fs. next (record { grid = grid; servers = words.servers; farmers = fs })))
+abbrev loaded_with : Grid → AllWords → List Farmer → Loaded
+loaded_with grid words farmers = record { grid = grid; servers = words.servers; farmers = farmers }
+
+-- what is loaded, by what is kept of it
+pub kept-same : (grid : Grid) (words : AllWords) (farmers kept : List Farmer) (bidders : List Bidder) (all : List (List ℕ)) (book : Book) (made : Words) →
+    farmers ≡ kept → farmers_of bidders all ≡ kept → book ≡ record { grid = grid; bidders = bidders } → made ≡ all_words words.servers all →
+    loaded_with grid words farmers
+    ≡ record { grid = book.grid; servers = by_server made; farmers = farmers_of book.bidders made.bidders }
+kept-same grid words farmers kept bidders all book made same f b m = rw (same, b, m, f) refl
 
 -- no bid is read yet
-pub bids_none : (grid : Grid) (entries : List Entry) (told : Option Told) → KeepsBids grid entries entries told told []
-bids_none grid entries told = record {
-  went = λ next. went_none told (bids_errand grid [] entries next);
-  count = omega arith;
-  of_grid = All-nil (λ b. IsOfGrid grid b.curve);
-}
+pub bids_none : (grid : Grid) (entries : List Entry) (seen : Seen) → KeepsBids grid entries entries seen seen []
+bids_none grid entries seen = record { read = reached_none; count = omega arith; of_grid = All-nil _ }
 
-module _ (grid : Grid) (entries : List Entry) where
+module _ (grid : Grid) (entries : List Entry) (i : ℕ) (entry : Entry) (old middle now : Seen) (before : List Bidder) (lt : i < length entries)
+    (e : entry ≡ get_or entries i entry) (h : KeepsBids grid entries (drop i entries) old middle before) where
+  bids_here : KeepsBids grid entries (entry ∷ drop (i + 1) entries) old middle before
+  bids_here = rw (next_entry entries i entry lt e) at h
+
   -- the bid of the entry at a place is read and kept
-  pub bids_at : (i : ℕ) (entry : Entry) (curve : Curve) (old middle now : Option Told) (before after : List Bidder) → i < length entries →
-      entry ≡ get_or entries i entry → KeepsBids grid entries (drop i entries) old middle before → IsOfGrid grid curve →
-      ((next : Curve → Errand) → Went middle now (reads entry.bid 1048576 (bid_of grid) next) (next curve)) →
+  pub bids_at : (curve : Curve) (after : List Bidder) → IsOfGrid grid curve →
+      Reads (λ (curve : Curve). curve) middle now (reads entry.bid BID_LIMIT (bid_of grid)) (Ok curve) →
       after ≡ before ++ record { known = entry.known; curve = curve } ∷ [] → KeepsBids grid entries (drop (i + 1) entries) old now after
-  bids_at i entry curve old middle now before after lt e h of_grid read kept =
+  unfolding bids_here
+  bids_at curve after of_grid r kept =
       let bidder : Bidder = record { known = entry.known; curve = curve } in
-      let rest = drop (i + 1) entries in
-      let here : KeepsBids grid entries (entry ∷ rest) old middle before = rw (next_entry entries i entry lt e) at h in
       let long : length after ≡ length before + 1 = ap length kept ∙ length-append before (bidder ∷ []) in
       record {
-        went = λ next. rw kept (went_on old middle now _ _ _ (here.went next)
-            (read (λ c. bids_errand grid (before ++ record { known = entry.known; curve = c } ∷ []) rest next)));
-        count = let c = here.count in omega (arith, long, c);
-        of_grid = rw kept (All-append (λ b. IsOfGrid grid b.curve) before (bidder ∷ []) here.of_grid (All-cons (λ b. IsOfGrid grid b.curve) bidder [] of_grid (All-nil (λ b. IsOfGrid grid b.curve))));
+        read = rw kept (subst (λ (c : Curve). Reached old now (bids_errand grid [] entries) (bids_errand grid (before ++ record { known = entry.known; curve = c } ∷ []) (drop (i + 1) entries)))
+            r.gives.1 (reached_more _ bids_here.read r));
+        count = let c = bids_here.count in omega (arith, long, c);
+        of_grid = let P = λ (b : Bidder). IsOfGrid grid b.curve in rw kept (All-append P before (bidder ∷ []) bids_here.of_grid (All-cons P bidder [] of_grid (All-nil P)));
       }
 
   -- that bid stops the job
-  pub bids_stopped_at : (i : ℕ) (entry : Entry) (old middle now : Option Told) (before : List Bidder) (stop : Stop) → i < length entries →
-      entry ≡ get_or entries i entry → KeepsBids grid entries (drop i entries) old middle before →
-      Stops middle now (reads entry.bid 1048576 (bid_of grid)) stop → Stops old now (bids_errand grid [] entries) stop
-  bids_stopped_at i entry old middle now before (Refused status line) lt e h s = λ next.
-      let rest = drop (i + 1) entries in
-      let here : KeepsBids grid entries (entry ∷ rest) old middle before = rw (next_entry entries i entry lt e) at h in
-      went_on old middle now _ _ _ (here.went next) (s (λ c. bids_errand grid (before ++ record { known = entry.known; curve = c } ∷ []) rest next))
-  bids_stopped_at i entry old middle now before OutOfMemory lt e h s = λ next.
-      let rest = drop (i + 1) entries in
-      let here : KeepsBids grid entries (entry ∷ rest) old middle before = rw (next_entry entries i entry lt e) at h in
-      let (last, went) = s (λ c. bids_errand grid (before ++ record { known = entry.known; curve = c } ∷ []) rest next) in
-      (last, went_on old middle now _ _ _ (here.went next) went)
+  pub bids_stopped_at : {T U : Type 0} {shows : T → Curve → Type 0} {last : U → List Bidder → Type 0} (stop : Stop) →
+      ReadsFor shows middle now (reads entry.bid BID_LIMIT (bid_of grid)) (Err stop) → ReadsFor last old now (bids_errand grid [] entries) (Err stop)
+  unfolding bids_here
+  bids_stopped_at stop r = reached_last bids_here.read (stopped r)
+
+-- all bids are read
+pub bids_all : {grid : Grid} {entries : List Entry} {old now : Seen} {T : Type 0} {bidders : List Bidder} (i : ℕ) (view : T → List Bidder) (kept : T) →
+    view kept ≡ bidders → length entries ≤ i → KeepsBids grid entries (drop i entries) old now bidders → Reads view old now (bids_errand grid [] entries) (Ok kept)
+bids_all {entries = entries} i view kept e ge k =
+    let h = rw (none_left entries i ge, sym e) at k in
+    record { gives = (view kept, refl, h.read.went); cause = tt; later = h.read.later }
 
 -- a bidder is kept with a copy of its words
 pub kept-copy : (before after : List Farmer) (bidder : Bidder) (made list : List ℕ) → after ≡ before ++ record { bidder = bidder; words = made } ∷ [] →

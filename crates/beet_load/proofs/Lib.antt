@@ -3,9 +3,7 @@ pub mod Summing
 pub mod FewBidders
 pub mod ServerSteps
 pub mod Inputs
-pub mod LoadSteps
 pub mod ChainGates
 pub mod FarmerLists
 pub mod Cuts
-pub mod WholeSteps
 pub mod KeptFarmers

@@ -1,38 +1,43 @@
 -- The points of all bidders, added up; those at an auction of one price, opened.
-use Rattle.std.proofs.Common.{◌≡◌, ◌≤◌, ◌<◌, ℕ, ◌+◌, ◌*◌, ◌%◌, List, [], ◌∷◌, ◌++◌, length, map, drop, get_or, Option, All, arith, refl, sym, ap, ◌∙◌, length-append}
+use Rattle.std.proofs.Common.{◌≡◌, ◌≤◌, ◌<◌, ℕ, ◌+◌, ◌*◌, ◌%◌, List, [], ◌∷◌, ◌++◌, length, map, drop, get_or, Option, All, Ok, Err, arith, refl, sym, ap, ◌∙◌, length-append}
 use Rattle.std.proofs.lemmas.List.{map-append, drop_more}
+use Rattle.std.proofs.lemmas.Grind.{common_steps}
 use Rattle.std.proofs.lemmas.List.Elements.{All-append}
 use Rattle.std.specs.Prelude.{sum_by, slice_index}
 use Rattle.std.proofs.lemmas.List.Sums.{sum_by-append, sum_by-le}
 use Rattle.beet_field.specs.Field.{p}
 use Rattle.beet_field.specs.declared.trio.Trio.{Trio}
 use Rattle.beet_shamir.specs.Line.{recombined}
-use Rattle.beet_store.specs.Files.{Told}
+use Rattle.beet_store.specs.Files.{Seen}
 use Rattle.beet_bids.specs.Grids.{Grid}
-use Rattle.beet_bids.specs.Curves.{Curve, IsCurve, IsOfGrid, largest_quantity}
+use Rattle.beet_bids.specs.Curves.{Curve, IsCurve, IsOfGrid}
+use Rattle.beet_bids.specs.declared.curve.TheConstants.{LARGEST_QUANTITY}
 use Rattle.beet_bids.specs.Sums.{supply_at, demand_at}
 use Rattle.beet_book.specs.declared.entries.Entry.{Entry}
-use Rattle.beet_book.specs.Dealing.{quantities, AreShares}
-use Rattle.beet_book.specs.Totals.{Totals, none_of, points_on, AddsValues, CarriesValues}
+use Rattle.beet_book.specs.Dealing.{quantities}
+use Rattle.beet_book.specs.Totals.{Totals, none_of, points_on, CarriesValues}
 use Rattle.beet_book.proofs.Summed.{shares-none, shares-more, supply-recombined, demand-recombined}
-use Rattle.beet_load.specs.Collecting.{curves_of, Collects, Collected, ReadsFarmer}
-use Rattle.beet_errand.specs.Errands.{Errand}
+use Rattle.beet_load.specs.Collecting.{curves_of, AddsFarmer, AddsUp, AreCollected, Collects}
 use Rattle.beet_load.specs.Farmers.{list_at, farmer_errand, farmers_errand, bidders_of}
-use Rattle.beet_auction.specs.Openings.{Farmer}
-use Rattle.beet_errand.specs.Fetches.{Went, Stops}
+use Rattle.beet_book.specs.Farmers.{Farmer}
+use Rattle.beet_errand.specs.Fetches.{ReadsFor}
 use Rattle.beet_errand.specs.declared.answer.Stop.{Stop}
-use Rattle.beet_errand.specs.declared.answer.Stop.TheVariants.{Refused, OutOfMemory}
-use Rattle.beet_errand.proofs.Steps.{went_none, went_on}
+use Rattle.beet_errand.proofs.Frame.{reached_none, reached_more, reached_last, stopped}
+use Rattle.beet_bids.specs.declared.book.TheConstants.{MOST_BIDDERS}
 
 -- no bidder is read yet
-pub collects_none : (grid : Grid) (lists : Option (List (List ℕ))) (entries : List Entry) (told : Option Told) →
-    Collects grid lists entries entries told told (none_of grid.prices) []
-collects_none grid lists entries told = record {
-  went = λ next. went_none told (farmers_errand grid lists [] entries next);
-  shares = shares-none grid.prices;
-  prices = refl;
-  curves = λ i d h. absurd (omega arith);
-  of_grid = λ i d h. absurd (omega arith);
+pub collects_none : (grid : Grid) (lists : Option (List (List ℕ))) (entries : List Entry) (seen : Seen) →
+    Collects grid lists entries entries seen seen (none_of grid.prices) 0
+collects_none grid lists entries seen = record {
+  farmers = [];
+  read = reached_none;
+  many = refl;
+  adds = record {
+    shares = shares-none grid.prices;
+    prices = refl;
+    curves = λ i d h. absurd (omega arith);
+    of_grid = λ i d h. absurd (omega arith);
+  };
 }
 
 -- a list of one curve
@@ -42,72 +47,69 @@ one_curve P curve h = λ i d lt. let zero_only : i ≡ 0 = omega (arith, lt) in 
 curves_more : (farmers : List Farmer) (farmer : Farmer) → curves_of (farmers ++ farmer ∷ []) ≡ curves_of farmers ++ farmer.bidder.curve ∷ []
 curves_more farmers farmer = map-append (λ f. f.bidder.curve) farmers (farmer ∷ [])
 
--- one more bidder is read, dealt and added
-pub collects_more : (grid : Grid) (lists : Option (List (List ℕ))) (entries rest : List Entry) (entry : Entry) (old middle now : Option Told)
-    (before after : Totals) (farmers : List Farmer) (farmer : Farmer) (dealt : Trio (List ℕ)) →
-    IsOfGrid grid farmer.bidder.curve → IsCurve farmer.bidder.curve →
-    Collects grid lists entries (entry ∷ rest) old middle before farmers →
-    ((next : Farmer → Errand) →
-    Went middle now (farmer_errand grid (list_at lists (length farmers)) (length farmers + 1) entry next) (next farmer)) →
-    AreShares (quantities farmer.bidder.curve) dealt → AddsValues before.points dealt after.points → after.prices ≡ before.prices →
-    Collects grid lists entries rest old now after (farmers ++ farmer ∷ [])
-collects_more grid lists entries rest entry old middle now before after farmers farmer dealt of_grid curve c read shares adds same =
+-- one more bidder is dealt and added
+adds_more : (grid : Grid) (before after : Totals) (farmers : List Farmer) (farmer : Farmer) → AddsUp grid before farmers → AddsFarmer grid before after farmer →
+    AddsUp grid after (farmers ++ farmer ∷ [])
+adds_more grid before after farmers farmer c a =
     let c' = farmer.bidder.curve in
     let long : length (quantities c') ≡ length c'.buy + length c'.sell = length-append c'.buy c'.sell in
     let more = curves_more farmers farmer in
     record {
-      went = λ next. went_on old middle now _ _ _ (c.went next) (read (λ f. farmers_errand grid lists (farmers ++ f ∷ []) rest next));
-      shares = rw more (shares-more grid.prices (curves_of farmers) c' before.points dealt after.points
-          (omega (arith, long, of_grid.buy_length, of_grid.sell_length)) c.shares shares adds);
-      prices = same ∙ c.prices;
-      curves = rw more (All-append IsCurve (curves_of farmers) (c' ∷ []) c.curves (one_curve IsCurve c' curve));
-      of_grid = rw more (All-append (IsOfGrid grid) (curves_of farmers) (c' ∷ []) c.of_grid (one_curve (IsOfGrid grid) c' of_grid));
+      shares = rw more (shares-more grid.prices (curves_of farmers) c' before.points a.dealt after.points
+          (omega (arith, long, a.of_grid.buy_length, a.of_grid.sell_length)) c.shares a.shares a.values);
+      prices = a.prices ∙ c.prices;
+      curves = rw more (All-append IsCurve (curves_of farmers) (c' ∷ []) c.curves (one_curve IsCurve c' a.curve));
+      of_grid = rw more (All-append (IsOfGrid grid) (curves_of farmers) (c' ∷ []) c.of_grid (one_curve (IsOfGrid grid) c' a.of_grid));
     }
 
--- one more bidder is read, of those that are left
-pub collected_more : (grid : Grid) (lists : Option (List (List ℕ))) (entries rest : List Entry) (entry : Entry) (old middle now : Option Told)
-    (before after : Totals) (count : ℕ) → Collected grid lists entries (entry ∷ rest) old middle before count →
-    ReadsFarmer grid (list_at lists count) (count + 1) entry middle now before after →
-    Collected grid lists entries rest old now after (count + 1)
-collected_more grid lists entries rest entry old middle now before after count (farmers, many, c) r = (
-  farmers ++ r.farmer ∷ [],
-  length-append farmers (r.farmer ∷ []) ∙ ap (λ n. n + 1) many,
-  collects_more grid lists entries rest entry old middle now before after farmers r.farmer r.dealt r.of_grid r.curve c
-      (rw (sym many) at r.went) r.shares r.values r.prices,
-)
-
--- the next bidder stops the job
-pub collected_stops : (grid : Grid) (lists : Option (List (List ℕ))) (entries rest : List Entry) (entry : Entry) (old middle now : Option Told)
-    (totals : Totals) (count : ℕ) (stop : Stop) → Collected grid lists entries (entry ∷ rest) old middle totals count →
-    Stops middle now (farmer_errand grid (list_at lists count) (count + 1) entry) stop → Stops old now (farmers_errand grid lists [] entries) stop
-collected_stops grid lists entries rest entry old middle now totals count (Refused status line) (farmers, many, c) s = λ next.
-    went_on old middle now _ _ _ (c.went next) ((rw (sym many) at s) (λ f. farmers_errand grid lists (farmers ++ f ∷ []) rest next))
-collected_stops grid lists entries rest entry old middle now totals count OutOfMemory (farmers, many, c) s = λ next.
-    let (last, went) = (rw (sym many) at s) (λ f. farmers_errand grid lists (farmers ++ f ∷ []) rest next) in
-    (last, went_on old middle now _ _ _ (c.went next) went)
+-- past the end no entry is left
+pub none_left : (entries : List Entry) (i : ℕ) → length entries ≤ i → drop i entries ≡ []
+none_left entries i h = grind (arith, common_steps)
 
 -- the entry at a place, before the rest
 pub next_entry : (entries : List Entry) (i : ℕ) (entry : Entry) → i < length entries → entry ≡ get_or entries i entry →
     drop i entries ≡ entry ∷ drop (i + 1) entries
 next_entry entries i entry h e = drop_more entries i entry h ∙ ap (λ x. x ∷ drop (i + 1) entries) (sym e)
 
--- the bidder at a place is read
-pub collected_at : (grid : Grid) (lists : Option (List (List ℕ))) (entries : List Entry) (i : ℕ) (entry : Entry) (given : Option (List ℕ))
-    (old middle now : Option Told) (before after : Totals) → i < length entries → entry ≡ get_or entries i entry → given ≡ list_at lists i →
-    Collected grid lists entries (drop i entries) old middle before i → ReadsFarmer grid given (i + 1) entry middle now before after →
-    Collected grid lists entries (drop (i + 1) entries) old now after (i + 1)
-collected_at grid lists entries i entry given old middle now before after h e same c r =
-    collected_more grid lists entries (drop (i + 1) entries) entry old middle now before after i (rw (next_entry entries i entry h e) at c)
-    (rw same at r)
+module _ (grid : Grid) (lists : Option (List (List ℕ))) (entries : List Entry) (i : ℕ) (entry : Entry) (given : Option (List ℕ)) (old middle now : Seen)
+    (before : Totals) (lt : i < length entries) (e : entry ≡ get_or entries i entry) (same : given ≡ list_at lists i)
+    (h : Collects grid lists entries (drop i entries) old middle before i) where
+  collects_here : Collects grid lists entries (entry ∷ drop (i + 1) entries) old middle before i
+  collects_here = rw (next_entry entries i entry lt e) at h
 
--- the bidder at a place stops the job
-pub stopped_at : (grid : Grid) (lists : Option (List (List ℕ))) (entries : List Entry) (i : ℕ) (entry : Entry) (given : Option (List ℕ))
-    (old middle now : Option Told) (totals : Totals) (stop : Stop) →
-    i < length entries → entry ≡ get_or entries i entry → given ≡ list_at lists i → Collected grid lists entries (drop i entries) old middle totals i →
-    Stops middle now (farmer_errand grid given (i + 1) entry) stop → Stops old now (farmers_errand grid lists [] entries) stop
-stopped_at grid lists entries i entry given old middle now totals stop h e same c s =
-    collected_stops grid lists entries (drop (i + 1) entries) entry old middle now totals i stop (rw (next_entry entries i entry h e) at c)
-    (rw same at s)
+  -- the bidder at a place is read and added
+  pub collected_at : (after : Totals) →
+      ReadsFor (λ (done : Unit {0}) farmer. AddsFarmer grid before after farmer) middle now (farmer_errand grid given (i + 1) entry) (Ok tt) →
+      Collects grid lists entries (drop (i + 1) entries) old now after (i + 1)
+  collected_at after r =
+      let here = collects_here in
+      let r' = rw (sym here.many) at (rw same at r) in
+      let farmer = r'.gives.0 in
+      let rest = λ (f : Farmer). farmers_errand grid lists (here.farmers ++ f ∷ []) (drop (i + 1) entries) in
+      record {
+        farmers = here.farmers ++ farmer ∷ [];
+        read = reached_more rest here.read r';
+        many = length-append here.farmers (farmer ∷ []) ∙ ap (λ n. n + 1) here.many;
+        adds = adds_more grid before after here.farmers farmer here.adds r'.gives.1;
+      }
+
+  -- the bidder at a place stops the job
+  pub stopped_at : {T U : Type 0} {shows : T → Farmer → Type 0} {last : U → List Farmer → Type 0} (stop : Stop) →
+      ReadsFor shows middle now (farmer_errand grid given (i + 1) entry) (Err stop) →
+      ReadsFor last old now (farmers_errand grid lists [] entries) (Err stop)
+  stopped_at stop r =
+      let here = collects_here in
+      let rest = λ (f : Farmer). farmers_errand grid lists (here.farmers ++ f ∷ []) (drop (i + 1) entries) in
+      reached_last here.read (stopped {rest = rest} (rw (sym here.many) at (rw same at r)))
+
+-- all bidders are read and added
+pub all_collected : {grid : Grid} {lists : Option (List (List ℕ))} {entries : List Entry} {old now : Seen} {totals : Totals} (i : ℕ) →
+    i ≤ length entries → length entries ≤ i → Collects grid lists entries (drop i entries) old now totals i →
+    ReadsFor (AreCollected grid entries) old now (farmers_errand grid lists [] entries) (Ok totals)
+all_collected {entries = entries} i le ge c =
+    let h = rw (none_left entries i ge) at c in
+    let many = h.many in
+    record { gives = (h.farmers, record { many = omega arith; adds = h.adds }, h.read.went); cause = tt; later = h.read.later }
 
 -- a sum over what a function gives
 pub sum_map : {A B : Type 0} (f : B → ℕ) (g : A → B) (xs : List A) → sum_by f (map g xs) ≡ sum_by (λ x. f (g x)) xs
@@ -126,20 +128,19 @@ pub map_length : {A B : Type 0} (f : A → B) (xs : List A) → length (map f xs
 map_length f [] = refl
 map_length f (x ∷ xs) = omega (arith, map_length f xs)
 
-few_below : (f : Curve → ℕ) (farmers : List Farmer) → All (λ curve. f curve ≤ largest_quantity) (curves_of farmers) → length farmers ≤ 2000 →
+few_below : (f : Curve → ℕ) (farmers : List Farmer) → All (λ curve. f curve ≤ LARGEST_QUANTITY) (curves_of farmers) → length farmers ≤ MOST_BIDDERS →
     sum_by f (curves_of farmers) % p ≡ sum_by f (curves_of farmers)
 few_below f farmers h few =
-    let below = sum_by-le f largest_quantity (curves_of farmers) h in
+    let below = sum_by-le f LARGEST_QUANTITY (curves_of farmers) h in
     let many : length (curves_of farmers) ≡ length farmers = map_length (λ farmer. farmer.bidder.curve) farmers in
     below_p (sum_by f (curves_of farmers)) (length farmers) (rw many at below) few where
-      below_p : (n count : ℕ) → n ≤ count * largest_quantity → count ≤ 2000 → n % p ≡ n
+      below_p : (n count : ℕ) → n ≤ count * LARGEST_QUANTITY → count ≤ MOST_BIDDERS → n % p ≡ n
       below_p n count h k = omega arith
 
 -- the sum of supply is opened at the first wire
-pub opens_supply : (grid : Grid) (lists : Option (List (List ℕ))) (entries : List Entry) (old now : Option Told) (totals : Totals) (farmers : List Farmer)
-    (wires : Trio (List ℕ)) → grid.prices ≡ 1 → Collects grid lists entries [] old now totals farmers → length farmers ≤ 2000 → CarriesValues totals wires →
+pub opens_supply : (grid : Grid) (totals : Totals) (farmers : List Farmer) (wires : Trio (List ℕ)) → grid.prices ≡ 1 → AddsUp grid totals farmers → length farmers ≤ MOST_BIDDERS → CarriesValues totals wires →
     recombined (points_on wires 0) ≡ supply_at (bidders_of farmers) 0
-opens_supply grid lists entries old now totals farmers wires one c few carries =
+opens_supply grid totals farmers wires one c few carries =
     let prices = c.prices in
     supply-recombined totals wires 0 (curves_of farmers) carries (rw (← prices) at c.shares) (omega (arith, prices, one))
     (λ i d h. (c.of_grid i d h).buy_length ∙ sym prices)
@@ -147,10 +148,9 @@ opens_supply grid lists entries old now totals farmers wires one c few carries =
     ∙ sum_of_bidders (λ curve. slice_index curve.sell 0) farmers
 
 -- and that of demand at the second
-pub opens_demand : (grid : Grid) (lists : Option (List (List ℕ))) (entries : List Entry) (old now : Option Told) (totals : Totals) (farmers : List Farmer)
-    (wires : Trio (List ℕ)) → grid.prices ≡ 1 → Collects grid lists entries [] old now totals farmers → length farmers ≤ 2000 → CarriesValues totals wires →
+pub opens_demand : (grid : Grid) (totals : Totals) (farmers : List Farmer) (wires : Trio (List ℕ)) → grid.prices ≡ 1 → AddsUp grid totals farmers → length farmers ≤ MOST_BIDDERS → CarriesValues totals wires →
     recombined (points_on wires 1) ≡ demand_at (bidders_of farmers) 0
-opens_demand grid lists entries old now totals farmers wires one c few carries =
+opens_demand grid totals farmers wires one c few carries =
     let prices = c.prices in
     ap (λ n. recombined (points_on wires n)) (omega (arith, prices, one))
     ∙ demand-recombined totals wires 0 (curves_of farmers) carries (rw (← prices) at c.shares) (omega (arith, prices, one))

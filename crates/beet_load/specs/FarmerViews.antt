@@ -1,6 +1,6 @@
 -- What the program keeps of a bidder.
 use Rattle.beet_book.specs.declared.entries.Entry.{Entry}
-use Rattle.beet_auction.specs.Openings.{Farmer}
+use Rattle.beet_book.specs.Farmers.{Farmer}
 use Rattle.beet_load.specs.declared.farmers.Farmer.{Farmer as Kept}
 
 -- the bidder of an entry, by what the program keeps of it

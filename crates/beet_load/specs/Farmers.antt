@@ -4,34 +4,32 @@ use Rattle.beet_words.specs.Words.{accepted}
 use Rattle.beet_words.specs.Seeds.{seed_words}
 use Rattle.beet_words.specs.TapeFiles.{tape_of}
 use Rattle.beet_bids.specs.Grids.{Grid}
-use Rattle.beet_bids.specs.Curves.{Curve}
 use Rattle.beet_bids.specs.BidFiles.{bid_of}
 use Rattle.beet_bids.specs.declared.book.Bidder.{Bidder}
-use Rattle.beet_auction.specs.Openings.{Farmer}
+use Rattle.beet_book.specs.Farmers.{Farmer}
 use Rattle.beet_book.specs.declared.entries.Entry.{Entry}
 use Rattle.beet_book.specs.declared.entries.BidderSource.{BidderSource}
 use Rattle.beet_book.specs.declared.entries.BidderSource.TheVariants.{Seed, Tape}
-use Rattle.beet_errand.specs.Errands.{Errand, answers, reads}
+use Rattle.beet_errand.specs.Errands.{Errand, Step, ◌>>=◌, ◌>>◌, answers, gives, reads}
 use Rattle.beet_load.specs.WordTexts.{too_few_text}
 use Rattle.beet_errand.specs.declared.answer.Status.TheVariants.{TooFewWords}
+use Rattle.beet_words.specs.declared.tape_file.TheConstants.{TAPE_LIMIT}
+use Rattle.beet_bids.specs.declared.bid_file.TheConstants.{BID_LIMIT}
+use Rattle.beet_plan.specs.Kept.{words_kept}
 
 -- a bidder draws a number for each quantity, two at each price
 abbrev pub words_wanted : Grid → ℕ
 words_wanted grid = 2 * grid.prices
-
--- a tape is the first words of its file, eight more than are wanted; a seed gives as many
-abbrev pub words_kept : Grid → ℕ
-words_kept grid = words_wanted grid + 8
 
 -- the list of the bidder at a place, where lists are given
 abbrev pub list_at : Option (List (List ℕ)) → ℕ → Option (List ℕ)
 list_at lists i = option_and_then (λ all. slice_get all i) lists
 
 -- the words of a bidder, cut to so many: those that are given, or else those of its source
-abbrev pub words_errand : Option (List ℕ) → BidderSource → ℕ → (List ℕ → Errand) → Errand
-words_errand (Some words) source kept next = next (take kept words)
-words_errand None (Seed seed) kept next = next (seed_words seed 0 kept)
-words_errand None (Tape name) kept next = reads name 1048576 (λ bytes. tape_of bytes kept) next
+abbrev pub words_errand : Option (List ℕ) → BidderSource → ℕ → Step (List ℕ)
+words_errand (Some words) source kept = gives (take kept words)
+words_errand None (Seed seed) kept = gives (seed_words seed 0 kept)
+words_errand None (Tape name) kept = reads name TAPE_LIMIT (λ bytes. tape_of bytes kept)
 
 -- of these words enough are accepted, or the bidder with this number has too few
 abbrev pub enough_words : ℕ → ℕ → List ℕ → Errand → Errand
@@ -39,28 +37,20 @@ enough_words number wanted words next =
     if nat_lt (length (accepted words)) wanted then answers TooFewWords (too_few_text number (length (accepted words)) wanted)
     else next
 
--- the bidder of an entry, with this number, once its curve and its words are read
-abbrev pub with_words : Grid → ℕ → Entry → Curve → List ℕ → (Farmer → Errand) → Errand
-with_words grid number entry curve words next =
-    enough_words number (words_wanted grid) words
-    (next (record { bidder = record { known = entry.known; curve = curve }; words = words }))
-
--- the same, once its curve is read: its words are next
-abbrev pub with_curve : Grid → Option (List ℕ) → ℕ → Entry → Curve → (Farmer → Errand) → Errand
-with_curve grid given number entry curve next =
-    words_errand given entry.source (words_kept grid) (λ words. with_words grid number entry curve words next)
-
 -- the bidder of an entry, with this number: first its bid, then its words, unless they are given
-abbrev pub farmer_errand : Grid → Option (List ℕ) → ℕ → Entry → (Farmer → Errand) → Errand
-farmer_errand grid given number entry next =
-    reads entry.bid 1048576 (bid_of grid) (λ curve. with_curve grid given number entry curve next)
+abbrev pub farmer_errand : Grid → Option (List ℕ) → ℕ → Entry → Step Farmer
+farmer_errand grid given number entry = do
+  curve ← reads entry.bid BID_LIMIT (bid_of grid)
+  words ← words_errand given entry.source (words_kept grid.prices)
+  enough_words number (words_wanted grid) words
+  gives (record { bidder = record { known = entry.known; curve = curve }; words = words })
 
 -- the bidders of a book in order, after those that are read, with the lists of words that are given; they are numbered from 1
-abbrev pub farmers_errand : Grid → Option (List (List ℕ)) → List Farmer → List Entry → (List Farmer → Errand) → Errand
-farmers_errand grid lists read [] next = next read
-farmers_errand grid lists read (entry ∷ entries) next =
-    farmer_errand grid (list_at lists (length read)) (length read + 1) entry
-    (λ farmer. farmers_errand grid lists (read ++ farmer ∷ []) entries next)
+abbrev pub farmers_errand : Grid → Option (List (List ℕ)) → List Farmer → List Entry → Step (List Farmer)
+farmers_errand grid lists read [] = gives read
+farmers_errand grid lists read (entry ∷ entries) = do
+  farmer ← farmer_errand grid (list_at lists (length read)) (length read + 1) entry
+  farmers_errand grid lists (read ++ farmer ∷ []) entries
 
 -- the bidders alone
 abbrev pub bidders_of : List Farmer → List Bidder

@@ -3,15 +3,12 @@ use Rattle.std.specs.Prelude.{ℕ, ◌*◌, List, nat_lt, if◌then◌else◌}
 use Rattle.beet_forms.specs.Faults.{Fault, at_row}
 use Rattle.beet_bids.specs.Grids.{Grid}
 use Rattle.beet_errand.specs.Errands.{Errand, bad_file}
-
--- the most bidders, where each is counted once for each price
-abbrev pub most_product : ℕ
-most_product = 500000
+use Rattle.beet_book.specs.declared.book_file.TheConstants.{MOST_PRODUCT, OVER_PRODUCT}
 
 -- what stands for a book that is above the limit
 abbrev pub over_product : Fault
-over_product = at_row 0 6
+over_product = at_row 0 OVER_PRODUCT
 
 -- a book of so many bidders is within the limit, or it is refused
 abbrev pub within_product : List ℕ → Grid → ℕ → Errand → Errand
-within_product book grid count next = if nat_lt most_product (count * grid.prices) then bad_file book over_product else next
+within_product book grid count next = if nat_lt MOST_PRODUCT (count * grid.prices) then bad_file book over_product else next

@@ -7,14 +7,18 @@ use Rattle.beet_words.specs.Words.{accepted}
 use Rattle.beet_words.specs.Seeds.{seed_words}
 use Rattle.beet_words.specs.TapeFiles.{tape_of}
 use Rattle.beet_words.specs.Bundles.{Words, bundle_of}
-use Rattle.beet_bids.specs.Grids.{Grid, comparisons_of}
+use Rattle.beet_bids.specs.Grids.{Grid}
+use Rattle.beet_plan.specs.Auction.{most_masks, most_coefficients, auction_over}
 use Rattle.beet_book.specs.declared.sources.ServerSource.{ServerSource}
 use Rattle.beet_book.specs.declared.sources.ServerSource.TheVariants.{Seed, Tapes}
 use Rattle.beet_book.specs.declared.sources.Servers.{Servers}
 use Rattle.beet_book.specs.declared.sources.Servers.TheVariants.{Three, Bundle}
-use Rattle.beet_errand.specs.Errands.{Errand, answers, reads}
+use Rattle.beet_errand.specs.Errands.{Errand, Step, ◌>>=◌, ◌>>◌, answers, gives, reads}
 use Rattle.beet_load.specs.WordTexts.{server_short_text}
 use Rattle.beet_errand.specs.declared.answer.Status.TheVariants.{TooFewWords}
+use Rattle.beet_words.specs.declared.tape_file.TheConstants.{TAPE_LIMIT}
+use Rattle.beet_words.specs.declared.bundle.TheConstants.{BUNDLE_LIMIT, WRONG_COUNT}
+use Rattle.beet_plan.specs.Kept.{coefficients_kept}
 
 -- the words of one server: for its masks, and for the numbers that it draws
 pub record ServerWords : Type 0 where
@@ -38,17 +42,13 @@ coefficients_of servers = record {
   three = servers.three.coefficients;
 }
 
--- a server deals a mask for each comparison, and two more that may be rejected
+-- a server deals as many masks as the auction over the grid may ask for
 abbrev pub masks_wanted : Grid → ℕ
-masks_wanted grid = comparisons_of grid.prices + 2
+masks_wanted grid = most_masks (auction_over grid)
 
--- so many numbers suffice for them
+-- and it draws as many numbers
 abbrev pub coefficients_wanted : Grid → ℕ
-coefficients_wanted grid = 512 * (comparisons_of grid.prices + 2)
-
--- a list for drawn numbers is kept with eight words more than are wanted, one of masks with none
-abbrev pub coefficients_kept : Grid → ℕ
-coefficients_kept grid = coefficients_wanted grid + 8
+coefficients_wanted grid = most_coefficients (auction_over grid)
 
 -- a server has enough words for an auction over the grid
 pub record HasEnough (grid : Grid) (words : ServerWords) : Type 0 where
@@ -80,12 +80,12 @@ seeded grid seed = record {
 }
 
 -- the words of a source: of two tapes the one for numbers is read first
-abbrev pub source_errand : Grid → ServerSource → (ServerWords → Errand) → Errand
-source_errand grid (Seed seed) next = next (seeded grid seed)
-source_errand grid (Tapes coefficients masks) next =
-    reads coefficients 1048576 (λ bytes. tape_of bytes (coefficients_kept grid))
-    (λ numbers. reads masks 1048576 (λ bytes. tape_of bytes (masks_wanted grid))
-    (λ words. next (record { masks = words; coefficients = numbers })))
+abbrev pub source_errand : Grid → ServerSource → Step ServerWords
+source_errand grid (Seed seed) = gives (seeded grid seed)
+source_errand grid (Tapes coefficients masks) = do
+  numbers ← reads coefficients TAPE_LIMIT (λ bytes. tape_of bytes (coefficients_kept grid))
+  words ← reads masks TAPE_LIMIT (λ bytes. tape_of bytes (masks_wanted grid))
+  gives (record { masks = words; coefficients = numbers })
 
 -- so many words are held of this kind, and they are enough, or the server with this number has too few
 abbrev pub enough_held : ℕ → List ℕ → ℕ → ℕ → Errand → Errand
@@ -99,20 +99,23 @@ enough_of grid server words next =
     (enough_held server (codes "masks") (length words.masks) (masks_wanted grid) next)
 
 -- the words of the server with this number
-abbrev pub server_errand : Grid → ℕ → ServerSource → (ServerWords → Errand) → Errand
-server_errand grid server source next = source_errand grid source (λ words. enough_of grid server words (next words))
+abbrev pub server_errand : Grid → ℕ → ServerSource → Step ServerWords
+server_errand grid server source = do
+  words ← source_errand grid source
+  enough_of grid server words
+  gives words
 
 -- the words of the three servers, each from its own source
-abbrev pub three_errand : Grid → Trio ServerSource → (Trio ServerWords → Errand) → Errand
-three_errand grid sources next =
-    server_errand grid 1 sources.one
-    (λ one. server_errand grid 2 sources.two
-    (λ two. server_errand grid 3 sources.three
-    (λ three. next (record { one = one; two = two; three = three }))))
+abbrev pub three_errand : Grid → Trio ServerSource → Step (Trio ServerWords)
+three_errand grid sources = do
+  one ← server_errand grid 1 sources.one
+  two ← server_errand grid 2 sources.two
+  three ← server_errand grid 3 sources.three
+  gives (record { one = one; two = two; three = three })
 
 -- what stands for a bundle of another number of bidders
 abbrev pub wrong_count : Fault
-wrong_count = record { place = At 8; reason = 5 }
+wrong_count = record { place = At 8; reason = WRONG_COUNT }
 
 -- the words of a bundle, which has so many bidders where a number is given
 abbrev pub counted : Option ℕ → Reading Words → Reading Words
@@ -140,14 +143,12 @@ abbrev pub enough_of_all : Grid → Trio ServerWords → Errand → Errand
 enough_of_all grid servers next =
     enough_of grid 1 servers.one (enough_of grid 2 servers.two (enough_of grid 3 servers.three next))
 
--- how it goes on once a bundle is read
-abbrev pub with_bundle : Grid → Words → (AllWords → Errand) → Errand
-with_bundle grid words next =
-    enough_of_all grid (cut_servers grid words) (next (record { servers = cut_servers grid words; bidders = Some words.bidders }))
-
 -- all words, for so many bidders where their number is given
-abbrev pub all_words_errand : Grid → Option ℕ → Servers → (AllWords → Errand) → Errand
-all_words_errand grid count (Three sources) next =
-    three_errand grid sources (λ servers. next (record { servers = servers; bidders = None }))
-all_words_errand grid count (Bundle name) next =
-    reads name 67108864 (λ bytes. counted count (bundle_of bytes)) (λ words. with_bundle grid words next)
+abbrev pub all_words_errand : Grid → Option ℕ → Servers → Step AllWords
+all_words_errand grid count (Three sources) = do
+  servers ← three_errand grid sources
+  gives (record { servers = servers; bidders = None })
+all_words_errand grid count (Bundle name) = do
+  words ← reads name BUNDLE_LIMIT (λ bytes. counted count (bundle_of bytes))
+  enough_of_all grid (cut_servers grid words)
+  gives (record { servers = cut_servers grid words; bidders = Some words.bidders })

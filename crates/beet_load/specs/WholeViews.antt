@@ -1,5 +1,5 @@
 -- What the program keeps of an auction that is read whole.
-use Rattle.beet_auction.specs.Openings.{farmers_of}
+use Rattle.beet_book.specs.Farmers.{farmers_of}
 use Rattle.beet_load.specs.Loading.{Loaded}
 use Rattle.beet_load.specs.Wholes.{by_server}
 use Rattle.beet_load.specs.declared.whole.Whole.{Whole}

@@ -1,7 +1,7 @@
 -- Reading an auction, its servers and its book, where the whole book is kept.
-use Rattle.std.specs.Prelude.{◌≡◌, ◌≤◌, ◌+◌, ℕ, List, [], ◌∷◌, ◌++◌, length, All, Option, Result, Ok, Err}
+use Rattle.std.specs.Prelude.{◌≡◌, ◌≤◌, ◌+◌, ℕ, List, [], ◌∷◌, ◌++◌, length, All, Option, Some}
 use Rattle.beet_field.specs.declared.trio.Trio.{Trio}
-use Rattle.beet_store.specs.Files.{Told}
+use Rattle.beet_store.specs.Files.{Seen}
 use Rattle.beet_words.specs.Words.{accepted}
 use Rattle.beet_words.specs.Bundles.{Words}
 use Rattle.beet_gates.specs.declared.Gates.TheVariants.{Chain}
@@ -14,44 +14,43 @@ use Rattle.beet_bids.specs.declared.book.Bidder.{Bidder}
 use Rattle.beet_book.specs.BookFiles.{book_of}
 use Rattle.beet_book.specs.ServerFiles.{servers_of}
 use Rattle.beet_book.specs.declared.entries.Entry.{Entry}
-use Rattle.beet_book.specs.declared.sources.Servers.{Servers}
-use Rattle.beet_auction.specs.Openings.{Farmer}
-use Rattle.beet_errand.specs.Errands.{Errand, reads}
-use Rattle.beet_errand.specs.Fetches.{Went, Stops}
-use Rattle.beet_errand.specs.declared.answer.Stop.{Stop}
-use Rattle.beet_load.specs.Farmers.{words_wanted, words_kept, farmer_errand, farmers_errand}
+use Rattle.beet_book.specs.Farmers.{Farmer}
+use Rattle.beet_errand.specs.Errands.{Step, ◌>>=◌, ◌>>◌, gives, reads}
+use Rattle.beet_errand.specs.Fetches.{Reached}
+use Rattle.beet_plan.specs.Kept.{words_kept}
+use Rattle.beet_load.specs.Farmers.{words_wanted, farmers_errand}
 use Rattle.beet_load.specs.Limits.{within_product}
-use Rattle.beet_load.specs.Loading.{Loaded, with_entries}
-use Rattle.beet_load.specs.Servers.{ServerWords, HaveEnough, AreCut, masks_of, coefficients_of}
+use Rattle.beet_load.specs.Loading.{Loaded}
+use Rattle.beet_load.specs.Servers.{ServerWords, HaveEnough, AreCut, all_words_errand, masks_of, coefficients_of}
+use Rattle.beet_bids.specs.declared.auction_file.TheConstants.{AUCTION_LIMIT}
+use Rattle.beet_book.specs.declared.server_file.TheConstants.{SERVERS_LIMIT}
+use Rattle.beet_book.specs.declared.book_file.TheConstants.{BOOK_LIMIT}
+use Rattle.beet_bids.specs.declared.bid_file.TheConstants.{BID_LIMIT}
 
--- the limit is tested right after the book
-abbrev pub limited_entries : List ℕ → Grid → Servers → List Entry → (Loaded → Errand) → Errand
-limited_entries book grid sources entries next =
-    within_product book grid (length entries) (with_entries grid sources entries next)
-
--- the book comes after the servers
-abbrev pub limited_sources : List ℕ → Grid → Servers → (Loaded → Errand) → Errand
-limited_sources book grid sources next = reads book 4194304 book_of (λ entries. limited_entries book grid sources entries next)
-
--- the servers come after the auction
-abbrev pub limited_grid : List ℕ → List ℕ → Grid → (Loaded → Errand) → Errand
-limited_grid servers book grid next = reads servers 4096 servers_of (λ sources. limited_sources book grid sources next)
-
--- an auction, its servers and its book, which is within the limit
-abbrev pub limited_errand : List ℕ → List ℕ → List ℕ → (Loaded → Errand) → Errand
-limited_errand auction servers book next = reads auction 4096 auction_of (λ grid. limited_grid servers book grid next)
+-- an auction, its servers and its book, of which the limit is tested right after it is read
+unfoldable pub limited_errand : List ℕ → List ℕ → List ℕ → Step Loaded
+limited_errand auction servers book = do
+  grid ← reads auction AUCTION_LIMIT auction_of
+  sources ← reads servers SERVERS_LIMIT servers_of
+  entries ← reads book BOOK_LIMIT book_of
+  within_product book grid (length entries)
+  words ← all_words_errand grid (Some (length entries)) sources
+  farmers ← farmers_errand grid words.bidders [] entries
+  gives (record { grid = grid; servers = words.servers; farmers = farmers })
 
 -- the bidders of entries in order, after those that are read: of each its bid alone
-abbrev pub bids_errand : Grid → List Bidder → List Entry → (List Bidder → Errand) → Errand
-bids_errand grid read [] next = next read
-bids_errand grid read (entry ∷ entries) next =
-    reads entry.bid 1048576 (bid_of grid)
-    (λ curve. bids_errand grid (read ++ record { known = entry.known; curve = curve } ∷ []) entries next)
+abbrev pub bids_errand : Grid → List Bidder → List Entry → Step (List Bidder)
+bids_errand grid read [] = gives read
+bids_errand grid read (entry ∷ entries) = do
+  curve ← reads entry.bid BID_LIMIT (bid_of grid)
+  bids_errand grid (read ++ record { known = entry.known; curve = curve } ∷ []) entries
 
 -- the bidders of a book that is within the limit, without their words
-abbrev pub curves_errand : List ℕ → Grid → (List Bidder → Errand) → Errand
-curves_errand book grid next =
-    reads book 4194304 book_of (λ entries. within_product book grid (length entries) (bids_errand grid [] entries next))
+abbrev pub curves_errand : List ℕ → Grid → Step (List Bidder)
+curves_errand book grid = do
+  entries ← reads book BOOK_LIMIT book_of
+  within_product book grid (length entries)
+  bids_errand grid [] entries
 
 -- the words of the servers, server by server
 abbrev pub by_server : Words → Trio ServerWords
@@ -68,7 +67,7 @@ all_words servers lists = record { masks = masks_of servers; coefficients = coef
 -- the words of a bidder are enough, and no more than are kept
 pub record CanDeal (grid : Grid) (words : List ℕ) : Type 0 where
   pub enough : words_wanted grid ≤ length (accepted words)
-  pub kept : length words ≤ words_kept grid
+  pub kept : length words ≤ words_kept grid.prices
 
 -- three servers can run the auction of a book with these words
 pub record CanRun (book : Book) (words : Words) : Type 0 where
@@ -84,35 +83,25 @@ pub record IsFarmer (grid : Grid) (farmer : Farmer) : Type 0 where
   pub of_grid : IsOfGrid grid farmer.bidder.curve
   pub words : CanDeal grid farmer.words
 
--- these bidders are read and kept
-pub record Keeps (grid : Grid) (lists : Option (List (List ℕ))) (entries rest : List Entry) (old now : Option Told)
-    (farmers : List Farmer) : Type 0 where
-  pub went : (next : List Farmer → Errand) →
-      Went old now (farmers_errand grid lists [] entries next) (farmers_errand grid lists farmers rest next)
+-- these bidders are read and kept, and the others of the entries are left
+pub record Keeps (grid : Grid) (lists : Option (List (List ℕ))) (entries rest : List Entry) (old now : Seen) (farmers : List Farmer) : Type 0 where
+  pub read : Reached old now (farmers_errand grid lists [] entries) (farmers_errand grid lists farmers rest)
   pub count : length farmers + length rest ≡ length entries
   pub each : All (IsFarmer grid) farmers
 
--- all bidders are read and kept, or the job stops
-abbrev pub GivesFarmers : Grid → Option (List (List ℕ)) → List Entry → Option Told → Option Told → Result (List Farmer) Stop → Type 0
-GivesFarmers grid lists entries old now (Ok farmers) = Keeps grid lists entries [] old now farmers
-GivesFarmers grid lists entries old now (Err stop) = Stops old now (farmers_errand grid lists [] entries) stop
+-- what is kept of all bidders of the entries
+pub record AreKept (grid : Grid) (entries : List Entry) (kept farmers : List Farmer) : Type 0 where
+  pub same : farmers ≡ kept
+  pub count : length kept ≡ length entries
+  pub each : All (IsFarmer grid) kept
 
--- one bidder is read, and kept after the others
-pub record KeepsFarmer (grid : Grid) (given : Option (List ℕ)) (number : ℕ) (entry : Entry) (old now : Option Told)
-    (before after : List Farmer) : Type 0 where
-  pub farmer : Farmer
-  pub went : (next : Farmer → Errand) → Went old now (farmer_errand grid given number entry next) (next farmer)
+-- one bidder is kept after the others
+pub record KeepsFarmer (grid : Grid) (before after : List Farmer) (farmer : Farmer) : Type 0 where
   pub is_farmer : IsFarmer grid farmer
   pub kept : after ≡ before ++ farmer ∷ []
 
--- one bidder is read and kept, or the job stops at it
-abbrev pub GivesFarmer : Grid → Option (List ℕ) → ℕ → Entry → Option Told → Option Told → List Farmer → List Farmer →
-    Result (Unit {0}) Stop → Type 0
-GivesFarmer grid given number entry old now before after (Ok done) = KeepsFarmer grid given number entry old now before after
-GivesFarmer grid given number entry old now before after (Err stop) = Stops old now (farmer_errand grid given number entry) stop
-
 -- the bidders of the first entries are read without their words, and kept
-pub record KeepsBids (grid : Grid) (entries rest : List Entry) (old now : Option Told) (bidders : List Bidder) : Type 0 where
-  pub went : (next : List Bidder → Errand) → Went old now (bids_errand grid [] entries next) (bids_errand grid bidders rest next)
+pub record KeepsBids (grid : Grid) (entries rest : List Entry) (old now : Seen) (bidders : List Bidder) : Type 0 where
+  pub read : Reached old now (bids_errand grid [] entries) (bids_errand grid bidders rest)
   pub count : length bidders + length rest ≡ length entries
   pub of_grid : All (λ bidder. IsOfGrid grid bidder.curve) bidders

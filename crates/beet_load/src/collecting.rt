@@ -1,9 +1,10 @@
 //! Adding up the points of all bidders.
 
-ghost use Rattle.std.specs.Prelude.{◌≡◌, ◌≤◌, IfErr, length, option_map};
-ghost use Rattle.beet_load.specs.Collecting.{GivesTotals, AddsFarmer};
-ghost use Rattle.beet_load.specs.Farmers.{list_at};
-ghost use Rattle.beet_errand.specs.Fetches.{Causes};
+ghost use Rattle.std.specs.Prelude.{◌≡◌, ◌≤◌, [], length, option_map};
+ghost use Rattle.beet_load.specs.Collecting.{AddsFarmer, AreCollected};
+ghost use Rattle.beet_load.specs.Farmers.{farmer_errand, farmers_errand, list_at};
+ghost use Rattle.beet_errand.specs.Fetches.{ReadsFor};
+ghost use Rattle.beet_bids.specs.declared.book.TheConstants.{MOST_BIDDERS};
 
 use crate::farmers::read_farmer;
 use beet_bids::Grid;
@@ -24,10 +25,8 @@ fn add_farmer<S: Shelf>(
     totals: &mut Totals,
 ) -> Result<(), Stop>
     requires { totals.old.prices ≡ grid.now.prices }
-    ensures later { S.faults shelf.old ≤ S.faults shelf.new }
-    ensures cause { IfErr result (λ stop. Causes (S.faults shelf.old) (S.faults shelf.new) stop) }
-    ensures gives { AddsFarmer grid.now (option_map (λ words. words.now) given.entry) number entry.now (S.told shelf.old) (S.told shelf.new)
-        totals.old totals.new result }
+    ensures { ReadsFor (λ done farmer. AddsFarmer grid.now totals.old totals.new farmer) (S.seen shelf.old) (S.seen shelf.new)
+        (farmer_errand grid.now (option_map (λ words. words.now) given.entry) number entry.now) result }
 {
     let mut farmer = read_farmer(alloc, shelf, grid, given, number, entry)?;
     let dealt = deal_bidder(alloc, grid, &farmer.curve, &mut farmer.tape)?;
@@ -53,11 +52,9 @@ pub fn add_farmers<S: Shelf>(
     lists: Option<&[WordList]>,
     entries: &[Entry],
 ) -> Result<Totals, Stop>
-    requires few { length entries.now ≤ 2000 }
-    ensures later { S.faults shelf.old ≤ S.faults shelf.new }
-    ensures cause { IfErr result (λ stop. Causes (S.faults shelf.old) (S.faults shelf.new) stop) }
-    ensures gives { GivesTotals grid.now (option_map (λ all. all.now) lists.entry) entries.now
-        (S.told shelf.old) (S.told shelf.new) result }
+    requires few { length entries.now ≤ MOST_BIDDERS }
+    ensures { ReadsFor (AreCollected grid.now entries.now) (S.seen shelf.old) (S.seen shelf.new)
+        (farmers_errand grid.now (option_map (λ all. all.now) lists.entry) [] entries.now) result }
 {
     let mut totals = Totals::new(alloc, grid)?;
     for (i, entry) in entries.iter().enumerate() {

@@ -1,6 +1,6 @@
 //! Reading the bidders of a book.
 
-ghost use Rattle.std.specs.Prelude.{◌≡◌, ◌≤◌, ◌<◌, ◌^◌, ◌+◌, ◌*◌, ℕ, IfErr, IfOk, OnOk, length, take, decimal, option_map, None};
+ghost use Rattle.std.specs.Prelude.{◌≡◌, ◌≤◌, ◌<◌, ◌^◌, ◌+◌, ◌*◌, IfOk, OnOk, length, take, decimal, option_map, None};
 ghost use Rattle.beet_forms.specs.Faults.{Answers};
 ghost use Rattle.beet_words.specs.Words.{accepted};
 ghost use Rattle.beet_words.specs.TapeFiles.{tape_of};
@@ -9,30 +9,26 @@ ghost use Rattle.beet_bids.specs.Curves.{IsOfGrid, IsCurve, Curve};
 ghost use Rattle.beet_bids.specs.BidFiles.{bid_of};
 ghost use Rattle.beet_load.specs.WordTexts.{too_few_text};
 ghost use Rattle.beet_errand.specs.Errands.{reads};
-ghost use Rattle.beet_load.specs.Farmers.{words_errand, words_wanted, words_kept as kept_of, farmer_errand, enough_words};
+ghost use Rattle.beet_plan.specs.Kept.{words_kept as kept_of};
+ghost use Rattle.beet_load.specs.Farmers.{words_errand, words_wanted, farmer_errand, enough_words};
 ghost use Rattle.beet_load.specs.FarmerViews.{farmer_of};
-ghost use Rattle.beet_errand.specs.Fetches.{Gives, Causes, Passes, Refuses};
+ghost use Rattle.beet_errand.specs.Fetches.{Reads, Refuses, Tests};
+ghost use Rattle.beet_bids.specs.declared.bid_file.TheConstants.{BID_LIMIT};
+ghost use Rattle.beet_forms.specs.declared.faults.TheConstants.{LONGEST_FILE};
+ghost use Rattle.beet_words.specs.declared.tape_file.TheConstants.{TAPE_LIMIT};
 
-use beet_bids::{Curve, Grid, read_bid};
+use beet_bids::{BID_LIMIT, Curve, Grid, read_bid};
 use beet_book::{BidderSource, Entry};
 use beet_errand::{Status, Stop, fetch_file, judge};
 use beet_forms::ReadFault;
+use beet_plan::SPARE_WORDS;
 use beet_store::Shelf;
-use beet_words::{Tape, WordList, read_tape};
+use beet_words::{TAPE_LIMIT, Tape, WordList, read_tape};
 use std::alloc::{AllocError, Global};
 
-/// The limit of a bid file in bytes.
-const BID_LIMIT: u64 = 1_048_576;
-
-/// The limit of a tape file in bytes.
-const TAPE_LIMIT: u64 = 1_048_576;
-
-/// Words that are kept for numbers beyond those that are wanted, for words that are passed over.
-pub(crate) const SPARE_WORDS: u32 = 8;
-
-/// How many words are kept of a bidder's source: two for each price, and eight more.
+/// How many words are kept of a bidder's source: two for each price, and the spare words.
 pub fn words_kept(grid: &Grid) -> u32
-    ensures { result ≡ kept_of grid.now }
+    ensures { result ≡ kept_of grid.now.prices }
 {
     2 * grid.prices() + SPARE_WORDS
 }
@@ -45,11 +41,9 @@ pub fn read_curve<S: Shelf>(
     grid: &Grid,
     name: &str,
 ) -> Result<Curve, Stop>
-    ensures later { S.faults shelf.old ≤ S.faults shelf.new }
-    ensures cause { IfErr result (λ stop. Causes (S.faults shelf.old) (S.faults shelf.new) stop) }
     ensures of_grid { IfOk result (λ curve. IsOfGrid grid.now curve) }
-    ensures gives { Gives (λ curve. curve) (S.told shelf.old) (S.told shelf.new)
-        (reads name.now 1048576 (bid_of grid.now)) result }
+    ensures reads { Reads (λ curve. curve) (S.seen shelf.old) (S.seen shelf.new)
+        (reads name.now BID_LIMIT (bid_of grid.now)) result }
 {
     let bytes = fetch_file(alloc, shelf, name, BID_LIMIT)?;
     judge(alloc, name, read_bid(alloc, grid, bytes.as_slice()))
@@ -57,7 +51,7 @@ pub fn read_curve<S: Shelf>(
 
 /// The tape that a file reads as, cut to the words that are kept.
 fn tape_in(alloc: Global, bytes: &[u8], kept: u32) -> Result<Tape, ReadFault>
-    requires { length bytes.now ≤ 67108864 }
+    requires { length bytes.now ≤ LONGEST_FILE }
     ensures fresh { IfOk result (λ tape. tape.passed ≡ 0) }
     ensures cut { IfOk result (λ tape. length tape.words ≤ kept) }
     ensures answers { Answers (λ tape. tape.words) (tape_of bytes.now kept) result }
@@ -75,12 +69,10 @@ pub fn read_tape_file<S: Shelf>(
     name: &str,
     kept: u32,
 ) -> Result<Tape, Stop>
-    ensures later { S.faults shelf.old ≤ S.faults shelf.new }
-    ensures cause { IfErr result (λ stop. Causes (S.faults shelf.old) (S.faults shelf.new) stop) }
     ensures fresh { IfOk result (λ tape. tape.passed ≡ 0) }
     ensures cut { IfOk result (λ tape. length tape.words ≤ kept) }
-    ensures gives { Gives (λ tape. tape.words) (S.told shelf.old) (S.told shelf.new)
-        (reads name.now 1048576 (λ bytes. tape_of bytes kept)) result }
+    ensures reads { Reads (λ tape. tape.words) (S.seen shelf.old) (S.seen shelf.new)
+        (reads name.now TAPE_LIMIT (λ bytes. tape_of bytes kept)) result }
 {
     let bytes = fetch_file(alloc, shelf, name, TAPE_LIMIT)?;
     judge(alloc, name, tape_in(alloc, bytes.as_slice(), kept))
@@ -103,11 +95,9 @@ fn source_tape<S: Shelf>(
     source: &BidderSource,
     kept: u32,
 ) -> Result<Tape, Stop>
-    ensures later { S.faults shelf.old ≤ S.faults shelf.new }
-    ensures cause { IfErr result (λ stop. Causes (S.faults shelf.old) (S.faults shelf.new) stop) }
     ensures fresh { IfOk result (λ tape. tape.passed ≡ 0) }
     ensures cut { IfOk result (λ tape. length tape.words ≤ kept) }
-    ensures gives { Gives (λ tape. tape.words) (S.told shelf.old) (S.told shelf.new)
+    ensures reads { Reads (λ tape. tape.words) (S.seen shelf.old) (S.seen shelf.new)
         (words_errand None source.now kept) result }
 {
     match source {
@@ -124,11 +114,9 @@ fn bidder_tape<S: Shelf>(
     source: &BidderSource,
     kept: u32,
 ) -> Result<Tape, Stop>
-    ensures later { S.faults shelf.old ≤ S.faults shelf.new }
-    ensures cause { IfErr result (λ stop. Causes (S.faults shelf.old) (S.faults shelf.new) stop) }
     ensures fresh { IfOk result (λ tape. tape.passed ≡ 0) }
     ensures cut { IfOk result (λ tape. length tape.words ≤ kept) }
-    ensures gives { Gives (λ tape. tape.words) (S.told shelf.old) (S.told shelf.new)
+    ensures reads { Reads (λ tape. tape.words) (S.seen shelf.old) (S.seen shelf.new)
         (words_errand (option_map (λ words. words.now) given.entry) source.now kept) result }
 {
     match given {
@@ -158,8 +146,7 @@ pub fn too_few_words(alloc: Global, number: u32, held: u32, wanted: u32) -> Stop
 /// line `too few words: bidder N H of W`. Want of memory is the only other error.
 pub fn check_words(alloc: Global, grid: &Grid, number: u32, tape: &Tape) -> Result<(), Stop>
     requires { tape.now.passed ≡ 0 }
-    ensures cause { (before now : ℕ) → IfErr result (λ stop. Causes before now stop) }
-    ensures passes { Passes (enough_words number (words_wanted grid.now) tape.now.words) result }
+    ensures tests { Tests (enough_words number (words_wanted grid.now) tape.now.words) result }
     ensures enough { OnOk result (words_wanted grid.now ≤ length (accepted tape.now.words)) }
 {
     let wanted = 2 * grid.prices();
@@ -186,14 +173,12 @@ pub fn read_farmer<S: Shelf>(
     number: u32,
     entry: &Entry,
 ) -> Result<Farmer, Stop>
-    ensures later { S.faults shelf.old ≤ S.faults shelf.new }
-    ensures cause { IfErr result (λ stop. Causes (S.faults shelf.old) (S.faults shelf.new) stop) }
     ensures of_grid { IfOk result (λ farmer. IsOfGrid grid.now farmer.curve) }
     ensures curve { IfOk result (λ farmer. IsCurve farmer.curve) }
     ensures fresh { IfOk result (λ farmer. farmer.tape.passed ≡ 0) }
     ensures enough { IfOk result (λ farmer. words_wanted grid.now ≤ length (accepted farmer.tape.words)) }
-    ensures cut { IfOk result (λ farmer. length farmer.tape.words ≤ kept_of grid.now) }
-    ensures gives { Gives (farmer_of entry.now) (S.told shelf.old) (S.told shelf.new)
+    ensures cut { IfOk result (λ farmer. length farmer.tape.words ≤ kept_of grid.now.prices) }
+    ensures reads { Reads (farmer_of entry.now) (S.seen shelf.old) (S.seen shelf.new)
         (farmer_errand grid.now (option_map (λ words. words.now) given.entry) number entry.now) result }
 {
     let curve = read_curve(alloc, shelf, grid, entry.bid.as_str())?;

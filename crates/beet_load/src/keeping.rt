@@ -1,8 +1,10 @@
 //! Keeping the bidders of a book with their words.
 
-ghost use Rattle.std.specs.Prelude.{◌≡◌, ◌≤◌, ◌++◌, ◌∷◌, [], IfErr, OnOk, length, map, option_map};
-ghost use Rattle.beet_errand.specs.Fetches.{Causes};
-ghost use Rattle.beet_load.specs.Wholes.{GivesFarmer, GivesFarmers};
+ghost use Rattle.std.specs.Prelude.{◌≡◌, ◌≤◌, ◌++◌, ◌∷◌, [], OnOk, length, map, option_map};
+ghost use Rattle.beet_errand.specs.Fetches.{ReadsFor};
+ghost use Rattle.beet_load.specs.Farmers.{farmer_errand, farmers_errand};
+ghost use Rattle.beet_load.specs.Wholes.{AreKept, KeepsFarmer};
+ghost use Rattle.beet_bids.specs.declared.book.TheConstants.{MOST_BIDDERS};
 
 use crate::collecting::list_of;
 use crate::farmers::read_farmer;
@@ -23,7 +25,7 @@ pub(crate) struct Farmers {
 
 impl Model for Farmers {
     ghost use Rattle.std.specs.Prelude.{◌≡◌, List, length};
-    ghost use Rattle.beet_auction.specs.Openings.{Farmer as Shown, farmers_of};
+    ghost use Rattle.beet_book.specs.Farmers.{Farmer as Shown, farmers_of};
 
     ghost Value = { List Shown };
 
@@ -33,7 +35,7 @@ impl Model for Farmers {
 }
 
 impl Farmers {
-    ghost use Rattle.beet_auction.specs.Openings.{farmers_of};
+    ghost use Rattle.beet_book.specs.Farmers.{farmers_of};
 
     /// No bidder yet.
     fn new(alloc: Global) -> Farmers
@@ -76,10 +78,8 @@ fn keep_farmer<S: Shelf>(
     entry: &Entry,
     farmers: &mut Farmers,
 ) -> Result<(), Stop>
-    ensures later { S.faults shelf.old ≤ S.faults shelf.new }
-    ensures cause { IfErr result (λ stop. Causes (S.faults shelf.old) (S.faults shelf.new) stop) }
-    ensures gives { GivesFarmer grid.now (option_map (λ words. words.now) given.entry) number entry.now
-        (S.told shelf.old) (S.told shelf.new) farmers.old farmers.new result }
+    ensures { ReadsFor (λ done farmer. KeepsFarmer grid.now farmers.old farmers.new farmer) (S.seen shelf.old) (S.seen shelf.new)
+        (farmer_errand grid.now (option_map (λ words. words.now) given.entry) number entry.now) result }
 {
     let farmer = read_farmer(alloc, shelf, grid, given, number, entry)?;
     let bidder = Bidder {
@@ -98,11 +98,9 @@ pub(crate) fn read_farmers<S: Shelf>(
     lists: Option<&[WordList]>,
     entries: &[Entry],
 ) -> Result<Farmers, Stop>
-    requires few { length entries.now ≤ 2000 }
-    ensures later { S.faults shelf.old ≤ S.faults shelf.new }
-    ensures cause { IfErr result (λ stop. Causes (S.faults shelf.old) (S.faults shelf.new) stop) }
-    ensures gives { GivesFarmers grid.now (option_map (λ all. all.now) lists.entry) entries.now
-        (S.told shelf.old) (S.told shelf.new) result }
+    requires few { length entries.now ≤ MOST_BIDDERS }
+    ensures { ReadsFor (AreKept grid.now entries.now) (S.seen shelf.old) (S.seen shelf.new)
+        (farmers_errand grid.now (option_map (λ all. all.now) lists.entry) [] entries.now) result }
 {
     let mut farmers = Farmers::new(alloc);
     for (i, entry) in entries.iter().enumerate() {

@@ -10,6 +10,7 @@ mod limits;
 mod loading;
 mod servers;
 mod whole;
+mod whole_loading;
 
 pub use books::{read_entries, read_grid};
 pub use collecting::add_farmers;
@@ -22,4 +23,5 @@ pub use loading::{Loaded, load};
 pub use servers::{
     AllWords, ServerWords, check_three, cut_three, read_sources, read_words, seed_words,
 };
-pub use whole::{Whole, load_whole};
+pub use whole::Whole;
+pub use whole_loading::load_whole;

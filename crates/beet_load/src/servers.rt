@@ -1,37 +1,34 @@
 //! Reading the words of the servers.
 
-ghost use Rattle.std.specs.Prelude.{◌≡◌, ◌≤◌, ◌+◌, ℕ, IfErr, IfOk, length, take, Option, Some, None, option_map, codes};
+ghost use Rattle.std.specs.Prelude.{◌≡◌, ◌≤◌, ◌*◌, IfOk, length, take, Option, Some, None, option_map, codes};
 ghost use Rattle.beet_forms.specs.Faults.{Answers};
 ghost use Rattle.beet_words.specs.Bundles.{bundle_of};
 ghost use Rattle.beet_bids.specs.Grids.{IsGrid};
 ghost use Rattle.beet_book.specs.ServerFiles.{servers_of};
 ghost use Rattle.beet_errand.specs.Errands.{reads};
-ghost use Rattle.beet_errand.specs.Fetches.{Gives, Causes, Passes, Refuses};
-ghost use Rattle.beet_load.specs.Servers.{masks_wanted, coefficients_kept, seeded, source_errand, enough_of, enough_of_all, HasEnough, HaveEnough, IsCut, AreCut, server_errand, three_errand, counted, cut_server, cut_servers, all_words_errand, with_bundle};
+ghost use Rattle.beet_errand.specs.Fetches.{Reads, Refuses, Tests};
+ghost use Rattle.beet_plan.specs.Kept.{coefficients_kept};
+ghost use Rattle.beet_load.specs.Servers.{masks_wanted, coefficients_wanted, seeded, source_errand, enough_of, enough_of_all, HasEnough, HaveEnough, IsCut, AreCut, server_errand, three_errand, counted, cut_server, cut_servers, all_words_errand};
 ghost use Rattle.beet_load.specs.WordTexts.{server_short_text};
+ghost use Rattle.beet_forms.specs.declared.faults.TheConstants.{LONGEST_FILE};
+ghost use Rattle.beet_words.specs.declared.bundle.TheConstants.{BUNDLE_LIMIT};
+ghost use Rattle.beet_book.specs.declared.server_file.TheConstants.{SERVERS_LIMIT};
+ghost use Rattle.beet_plan.specs.declared.TheConstants.{MASK_COEFFICIENTS};
 
-use crate::farmers::{SPARE_WORDS, front, read_tape_file};
+use crate::farmers::{front, read_tape_file};
 use beet_bids::Grid;
-use beet_book::{ServerSource, Servers, read_servers};
+use beet_book::{SERVERS_LIMIT, ServerSource, Servers, read_servers};
 use beet_errand::{Status, Stop, fetch_file, judge};
 use beet_field::Trio;
 use beet_forms::{Name, ReadFault};
+use beet_plan::{MASK_COEFFICIENTS, SPARE_WORDS};
 use beet_store::Shelf;
-use beet_words::{Tape, WordList, Words, read_bundle};
+use beet_words::{BUNDLE_LIMIT, Tape, WRONG_COUNT, WordList, Words, read_bundle};
 use std::alloc::{AllocError, Global};
 use std::marker::Model;
 
-/// The limit of a servers file in bytes.
-const SERVERS_LIMIT: u64 = 4096;
-
-/// The limit of a bundle in bytes.
-const BUNDLE_LIMIT: u64 = 67_108_864;
-
 /// Masks that may be rejected beside those that are used.
 const SPARE_MASKS: u32 = 2;
-
-/// Numbers that a server draws at most for a mask and a comparison with it.
-const NUMBERS: u32 = 512;
 
 /// The two tapes of a server, at their first words.
 #[derive(Drop)]
@@ -79,10 +76,18 @@ fn wanted_masks(grid: &Grid) -> u32
 /// How many numbers a server has to be able to draw.
 fn wanted_coefficients(grid: &Grid) -> u32
     requires { IsGrid grid.now }
-    ensures value { result + 8 ≡ coefficients_kept grid.now }
-    ensures few { result ≤ 7680 }
+    ensures value { result ≡ coefficients_wanted grid.now }
+    ensures few { result ≤ 15 * MASK_COEFFICIENTS }
 {
-    NUMBERS * wanted_masks(grid)
+    MASK_COEFFICIENTS * wanted_masks(grid)
+}
+
+/// How many words for these numbers are kept.
+fn kept_coefficients(grid: &Grid) -> u32
+    requires { IsGrid grid.now }
+    ensures { result ≡ coefficients_kept grid.now }
+{
+    wanted_coefficients(grid) + SPARE_WORDS
 }
 
 /// The words of a seed.
@@ -90,10 +95,9 @@ pub fn seed_words(alloc: Global, grid: &Grid, seed: &[u8; 32]) -> Result<ServerW
     requires { IsGrid grid.now }
     ensures { IfOk result (λ words. words ≡ seeded grid.now seed.now) }
 {
-    let kept = wanted_coefficients(grid) + SPARE_WORDS;
     Ok(ServerWords {
         masks: Tape::of_seed(alloc, seed, 1, wanted_masks(grid))?,
-        coefficients: Tape::of_seed(alloc, seed, 0, kept)?,
+        coefficients: Tape::of_seed(alloc, seed, 0, kept_coefficients(grid))?,
     })
 }
 
@@ -106,14 +110,11 @@ fn read_tapes<S: Shelf>(
     masks: &str,
 ) -> Result<ServerWords, Stop>
     requires { IsGrid grid.now }
-    ensures later { S.faults shelf.old ≤ S.faults shelf.new }
-    ensures cause { IfErr result (λ stop. Causes (S.faults shelf.old) (S.faults shelf.new) stop) }
     ensures cut { IfOk result (IsCut grid.now) }
-    ensures gives { Gives (λ words. words) (S.told shelf.old) (S.told shelf.new)
+    ensures reads { Reads (λ words. words) (S.seen shelf.old) (S.seen shelf.new)
         (source_errand grid.now (ServerSource.Tapes coefficients.now masks.now)) result }
 {
-    let kept = wanted_coefficients(grid) + SPARE_WORDS;
-    let coefficients = read_tape_file(alloc, shelf, coefficients, kept)?;
+    let coefficients = read_tape_file(alloc, shelf, coefficients, kept_coefficients(grid))?;
     let masks = read_tape_file(alloc, shelf, masks, wanted_masks(grid))?;
     Ok(ServerWords {
         masks,
@@ -129,10 +130,8 @@ fn read_source<S: Shelf>(
     source: &ServerSource,
 ) -> Result<ServerWords, Stop>
     requires { IsGrid grid.now }
-    ensures later { S.faults shelf.old ≤ S.faults shelf.new }
-    ensures cause { IfErr result (λ stop. Causes (S.faults shelf.old) (S.faults shelf.new) stop) }
     ensures cut { IfOk result (IsCut grid.now) }
-    ensures gives { Gives (λ words. words) (S.told shelf.old) (S.told shelf.new)
+    ensures reads { Reads (λ words. words) (S.seen shelf.old) (S.seen shelf.new)
         (source_errand grid.now source.now) result }
 {
     match source {
@@ -174,8 +173,7 @@ fn too_few_words(alloc: Global, server: u32, kind: &str, held: u32, wanted: u32)
 /// Refuses the server of this number where it has too few words, of which those for numbers are counted first.
 fn check_counts(alloc: Global, grid: &Grid, server: u32, words: &ServerWords) -> Result<(), Stop>
     requires { IsGrid grid.now }
-    ensures cause { (before now : ℕ) → IfErr result (λ stop. Causes before now stop) }
-    ensures passes { Passes (enough_of grid.now server words.now) result }
+    ensures tests { Tests (enough_of grid.now server words.now) result }
     ensures enough { IfOk result (λ done. HasEnough grid.now words.now) }
 {
     let wanted = wanted_coefficients(grid);
@@ -200,11 +198,9 @@ fn read_server<S: Shelf>(
     source: &ServerSource,
 ) -> Result<ServerWords, Stop>
     requires { IsGrid grid.now }
-    ensures later { S.faults shelf.old ≤ S.faults shelf.new }
-    ensures cause { IfErr result (λ stop. Causes (S.faults shelf.old) (S.faults shelf.new) stop) }
     ensures enough { IfOk result (HasEnough grid.now) }
     ensures cut { IfOk result (IsCut grid.now) }
-    ensures gives { Gives (λ words. words) (S.told shelf.old) (S.told shelf.new)
+    ensures reads { Reads (λ words. words) (S.seen shelf.old) (S.seen shelf.new)
         (server_errand grid.now server source.now) result }
 {
     let words = read_source(alloc, shelf, grid, source)?;
@@ -220,11 +216,9 @@ fn read_three<S: Shelf>(
     sources: &Trio<ServerSource>,
 ) -> Result<Trio<ServerWords>, Stop>
     requires { IsGrid grid.now }
-    ensures later { S.faults shelf.old ≤ S.faults shelf.new }
-    ensures cause { IfErr result (λ stop. Causes (S.faults shelf.old) (S.faults shelf.new) stop) }
     ensures enough { IfOk result (HaveEnough grid.now) }
     ensures cut { IfOk result (AreCut grid.now) }
-    ensures gives { Gives (λ servers. servers) (S.told shelf.old) (S.told shelf.new)
+    ensures reads { Reads (λ servers. servers) (S.seen shelf.old) (S.seen shelf.new)
         (three_errand grid.now sources.now) result }
 {
     let one = read_server(alloc, shelf, grid, 1, &sources.one)?;
@@ -235,12 +229,12 @@ fn read_three<S: Shelf>(
 
 /// The words of a bundle, which has so many bidders where a number is given.
 fn counted_bundle(alloc: Global, bytes: &[u8], count: Option<usize>) -> Result<Words, ReadFault>
-    requires { length bytes.now ≤ 67108864 }
+    requires { length bytes.now ≤ LONGEST_FILE }
     ensures { Answers (λ words. words) (counted count (bundle_of bytes.now)) result }
 {
     let words = read_bundle(alloc, bytes)?;
     match count {
-        Some(count) if words.bidders.len() != count => Err(ReadFault::at_offset(8, 5)),
+        Some(count) if words.bidders.len() != count => Err(ReadFault::at_offset(8, WRONG_COUNT)),
         _ => Ok(words),
     }
 }
@@ -252,10 +246,8 @@ fn fetch_bundle<S: Shelf>(
     name: &str,
     count: Option<usize>,
 ) -> Result<Words, Stop>
-    ensures later { S.faults shelf.old ≤ S.faults shelf.new }
-    ensures cause { IfErr result (λ stop. Causes (S.faults shelf.old) (S.faults shelf.new) stop) }
-    ensures gives { Gives (λ words. words) (S.told shelf.old) (S.told shelf.new)
-        (reads name.now 67108864 (λ bytes. counted count (bundle_of bytes))) result }
+    ensures { Reads (λ words. words) (S.seen shelf.old) (S.seen shelf.new)
+        (reads name.now BUNDLE_LIMIT (λ bytes. counted count (bundle_of bytes))) result }
 {
     let bytes = fetch_file(alloc, shelf, name, BUNDLE_LIMIT)?;
     judge(alloc, name, counted_bundle(alloc, bytes.as_slice(), count))
@@ -273,7 +265,7 @@ fn cut(
 {
     Ok(ServerWords {
         masks: front(alloc, masks, wanted_masks(grid))?,
-        coefficients: front(alloc, coefficients, wanted_coefficients(grid) + SPARE_WORDS)?,
+        coefficients: front(alloc, coefficients, kept_coefficients(grid))?,
     })
 }
 
@@ -292,13 +284,26 @@ pub fn cut_three(alloc: Global, grid: &Grid, words: &Words) -> Result<Trio<Serve
 /// Refuses the first server that has too few words.
 pub fn check_three(alloc: Global, grid: &Grid, servers: &Trio<ServerWords>) -> Result<(), Stop>
     requires { IsGrid grid.now }
-    ensures cause { (before now : ℕ) → IfErr result (λ stop. Causes before now stop) }
-    ensures passes { Passes (enough_of_all grid.now servers.now) result }
+    ensures tests { Tests (enough_of_all grid.now servers.now) result }
     ensures enough { IfOk result (λ done. HaveEnough grid.now servers.now) }
 {
     check_counts(alloc, grid, 1, &servers.one)?;
     check_counts(alloc, grid, 2, &servers.two)?;
     check_counts(alloc, grid, 3, &servers.three)
+}
+
+/// The words of a bundle: those of the servers, cut as those of tape files are, and those of the bidders.
+fn cut_bundle(
+    alloc: Global,
+    grid: &Grid,
+    words: Words,
+) -> Result<(Trio<ServerWords>, Vec<WordList>), AllocError>
+    requires { IsGrid grid.now }
+    ensures servers { IfOk result (λ cut. cut.0 ≡ cut_servers grid.now words) }
+    ensures bidders { IfOk result (λ cut. cut.1.items ≡ words.bidders) }
+{
+    let servers = cut_three(alloc, grid, &words)?;
+    Ok((servers, words.bidders))
 }
 
 /// All words, from a bundle.
@@ -310,19 +315,17 @@ fn read_bundled<S: Shelf>(
     count: Option<usize>,
 ) -> Result<AllWords, Stop>
     requires { IsGrid grid.now }
-    ensures later { S.faults shelf.old ≤ S.faults shelf.new }
-    ensures cause { IfErr result (λ stop. Causes (S.faults shelf.old) (S.faults shelf.new) stop) }
     ensures enough { IfOk result (λ words. HaveEnough grid.now words.servers) }
     ensures cut { IfOk result (λ words. AreCut grid.now words.servers) }
-    ensures gives { Gives (λ words. words) (S.told shelf.old) (S.told shelf.new)
+    ensures reads { Reads (λ words. words) (S.seen shelf.old) (S.seen shelf.new)
         (all_words_errand grid.now count (Servers.Bundle name.now)) result }
 {
     let words = fetch_bundle(alloc, shelf, name.as_str(), count)?;
-    let servers = cut_three(alloc, grid, &words)?;
+    let (servers, bidders) = cut_bundle(alloc, grid, words)?;
     check_three(alloc, grid, &servers)?;
     Ok(AllWords {
         servers,
-        bidders: Some(words.bidders),
+        bidders: Some(bidders),
     })
 }
 
@@ -335,11 +338,9 @@ pub fn read_words<S: Shelf>(
     count: Option<usize>,
 ) -> Result<AllWords, Stop>
     requires { IsGrid grid.now }
-    ensures later { S.faults shelf.old ≤ S.faults shelf.new }
-    ensures cause { IfErr result (λ stop. Causes (S.faults shelf.old) (S.faults shelf.new) stop) }
     ensures enough { IfOk result (λ words. HaveEnough grid.now words.servers) }
     ensures cut { IfOk result (λ words. AreCut grid.now words.servers) }
-    ensures gives { Gives (λ words. words) (S.told shelf.old) (S.told shelf.new)
+    ensures reads { Reads (λ words. words) (S.seen shelf.old) (S.seen shelf.new)
         (all_words_errand grid.now count servers.now) result }
 {
     match servers {
@@ -356,10 +357,8 @@ pub fn read_words<S: Shelf>(
 
 /// Where the words of the servers come from, of a servers file.
 pub fn read_sources<S: Shelf>(alloc: Global, shelf: &mut S, name: &str) -> Result<Servers, Stop>
-    ensures later { S.faults shelf.old ≤ S.faults shelf.new }
-    ensures cause { IfErr result (λ stop. Causes (S.faults shelf.old) (S.faults shelf.new) stop) }
-    ensures gives { Gives (λ servers. servers) (S.told shelf.old) (S.told shelf.new)
-        (reads name.now 4096 servers_of) result }
+    ensures { Reads (λ servers. servers) (S.seen shelf.old) (S.seen shelf.new)
+        (reads name.now SERVERS_LIMIT servers_of) result }
 {
     let bytes = fetch_file(alloc, shelf, name, SERVERS_LIMIT)?;
     judge(alloc, name, read_servers(alloc, bytes.as_slice()))

@@ -2,7 +2,7 @@
 use Rattle.std.proofs.Common.{◌≡◌, ◌≢◌, ◌≤◌, ◌<◌, ◌+◌, ℕ, zero, suc, List, [], ◌∷◌, ◌++◌, length, slice_index, map, sym, refl, ap, subst, ◌∙◌, ⊎_elim, arith, append-nil}
 use Rattle.std.specs.Int.{bit_at}
 use Rattle.std.proofs.lemmas.List.{append_cancel_left}
-use Rattle.beet_field.specs.Trio.{member}
+use Rattle.beet_field.specs.Trio.{member, of_each, trio_of}
 use Rattle.beet_field.specs.declared.point.Point.{Point}
 use Rattle.beet_field.specs.declared.point.Point.TheVariants.{One, Two, Three}
 use Rattle.beet_field.specs.declared.trio.Trio.{Trio}
@@ -17,7 +17,7 @@ use Rattle.beet_gates.specs.declared.Batch.{Batch}
 use Rattle.beet_gates.proofs.EachFacts.{each-same}
 use Rattle.beet_server.proofs.LinesLaw.{at-one}
 use Rattle.beet_server.specs.Lines.{OnLines, IsAtOne, slopes_at}
-use Rattle.beet_server.specs.Runs.{Opening, Shared, act_among, coming, draws_in, gained, hidden_at, message, number_drawn, of_each, pair_at, product_at, secret_hidden, sent_for, shared_at, standing_at, trio_of, with_batch_lets}
+use Rattle.beet_server.specs.Runs.{Opening, Shared, act_among, coming, draws_in, gained, hidden_at, message, number_drawn, pair_at, product_at, secret_hidden, sent_for, shared_at, standing_at, with_batch_lets}
 use Rattle.beet_map.specs.Worlds.{World, begin_in, shares_of, slopes_of, values_of}
 use Rattle.beet_map.specs.Mapped.{GateMapped, moved_of, number_at, secret_at}
 use Rattle.beet_map.proofs.Moves.{moved_same, reshared_point, same_or, secret_small, slope_same}

@@ -1,7 +1,7 @@
 -- What an act does, from the lines of the wires that it gives.
 use Rattle.std.proofs.Common.{◌≡◌, ◌+◌, ℕ, List, ◌++◌, length, slice_index, refl, ◌∙◌}
 use Rattle.std.proofs.lemmas.List.{map-append}
-use Rattle.beet_field.specs.Trio.{member}
+use Rattle.beet_field.specs.Trio.{member, trio_of}
 use Rattle.beet_field.specs.declared.point.Point.{Point}
 use Rattle.beet_field.specs.declared.point.Point.TheVariants.{One, Two, Three}
 use Rattle.beet_field.specs.declared.trio.Trio.{Trio}
@@ -12,7 +12,7 @@ use Rattle.beet_gates.specs.Scripts.{deals_in}
 use Rattle.beet_gates.specs.declared.Act.{Act}
 use Rattle.beet_gates.specs.declared.Act.TheVariants.{Deal, Mul, Reveal, End}
 use Rattle.beet_gates.proofs.EachFacts.{map-each}
-use Rattle.beet_server.specs.Runs.{Shared, act_among, draws_in, gained, opened_by, trio_of}
+use Rattle.beet_server.specs.Runs.{Shared, act_among, draws_in, gained, opened_by}
 use Rattle.beet_map.specs.Steps.{dealing, hidden_line, lines_gained, product_line}
 use Rattle.beet_map.specs.Worlds.{shares_of}
 

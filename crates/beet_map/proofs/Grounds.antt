@@ -2,7 +2,7 @@
 use Rattle.std.proofs.Common.{◌≡◌, ◌≤◌, ◌<◌, ◌+◌, ℕ, zero, suc, List, [], ◌∷◌, length, slice_index, take, sym, refl, ap, subst, ◌∙◌, arith}
 use Rattle.std.proofs.lemmas.List.{length-map}
 use Rattle.beet_field.specs.Field.{IsElement}
-use Rattle.beet_field.specs.Trio.{member}
+use Rattle.beet_field.specs.Trio.{member, trio_of}
 use Rattle.beet_field.specs.declared.point.Point.{Point}
 use Rattle.beet_field.specs.declared.point.Point.TheVariants.{One, Two, Three}
 use Rattle.beet_field.specs.declared.trio.Trio.{Trio}
@@ -12,9 +12,9 @@ use Rattle.beet_gates.specs.Clear.{EndsAfter, rounds_run}
 use Rattle.beet_gates.specs.Deals.{deals_of}
 use Rattle.beet_gates.specs.Scripts.{HasWords, LawFrom, bounds_of, deals_in, start_of}
 use Rattle.beet_gates.specs.declared.Batch.{Batch}
-use Rattle.beet_gates.proofs.ClearAt.{run-ends}
+use Rattle.beet_gates.proofs.ClearAt.{ends-once, run-ends}
 use Rattle.beet_server.specs.Lines.{OnLines}
-use Rattle.beet_server.specs.Runs.{HasRounds, Opening, coming, shared_at, trio_of}
+use Rattle.beet_server.specs.Runs.{HasRounds, Opening, coming, shared_at}
 use Rattle.beet_server.proofs.LinesLaw.{at-one, same-act, same-rounds}
 use Rattle.beet_server.proofs.Walk.{Walks, deals-fit, draws-fit, walks}
 use Rattle.beet_map.specs.Worlds.{World, begin_in, shares_of, slopes_of, values_of}
@@ -74,8 +74,11 @@ module _ (next : ℕ → List ℕ → Batch) (most inputs masks wires coefficien
     pub opened_is : opened_in next most w ≡ (clear_of next w (rounds_run next most (values_of w.inputs) w.masks)).opened
     opened_is =
         let r : ℕ = rounds_run next most (values_of w.inputs) w.masks in
-        ap (λ v. v.opened) (run-ends next w.masks (bounds_of wires masks coefficients) most (values_of w.inputs) law_here).2
-        ∙ opened_at_end (deals_of w.masks) (next r (clear_of next w r).opened).act (standing_of next w r) ends_there.0
+        opened_at_end (deals_of w.masks) (next r (clear_of next w r).opened).act (standing_of next w r) ends_there.0
+
+    -- a run that ends after so many batches has these rounds
+    pub rounds_are : (r : ℕ) → EndsAfter next (deals_of w.masks) (values_of w.inputs) r → r ≡ rounds_run next most (values_of w.inputs) w.masks
+    rounds_are r h = ends-once next (deals_of w.masks) (values_of w.inputs) r (rounds_run next most (values_of w.inputs) w.masks) h ends_there
 
   module _ (me : Point) (w w' : World) (has : HasSecrets inputs masks w) (has' : HasSecrets inputs masks w') (few : (k : ℕ) → IsElement (slice_index (values_of w.inputs) k))
       (few' : (k : ℕ) → IsElement (slice_index (values_of w'.inputs) k)) (same : LookSame next most masks me w w')

@@ -4,7 +4,6 @@ pub mod Unique
 pub mod Extending
 pub mod Symmetry
 pub mod Openings
-pub mod Rounds
 pub mod Gained
 pub mod Turning
 pub mod Places

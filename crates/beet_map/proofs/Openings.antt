@@ -43,7 +43,7 @@ module _ (next : ℕ → List ℕ → Batch) (w : World) where
       let s : (u - t) + t ≡ u = omega arith in
       subst (λ x. Grows (clear_of next w t).opened (clear_of next w x).opened) s (grows_by t (u - t))
 
-fronts : (xs ys m n : List ℕ) → length ys ≡ length xs → ys ++ n ≡ xs ++ m → ys ≡ xs
+pub fronts : (xs ys m n : List ℕ) → length ys ≡ length xs → ys ++ n ≡ xs ++ m → ys ≡ xs
 fronts xs ys m n len e = sym (take-append_seam ys n) ∙ (λ i. take (len i) (e i)) ∙ take-append_seam xs m
 
 module _ (next : ℕ → List ℕ → Batch) (w w' : World) (r r' : ℕ) (all : (clear_of next w' r').opened ≡ (clear_of next w r).opened) where

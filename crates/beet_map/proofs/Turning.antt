@@ -1,5 +1,5 @@
 -- One batch of the walk through both worlds.
-use Rattle.std.proofs.Common.{◌≡◌, ◌≢◌, ◌≤◌, ◌<◌, ◌+◌, ℕ, suc, List, length, slice_index, sym, refl, ap, subst, ◌∙◌, ⊎_elim, arith}
+use Rattle.std.proofs.Common.{◌≡◌, ◌≢◌, ◌≤◌, ◌<◌, ◌+◌, ℕ, suc, List, length, slice_index, sym, ap, subst, ◌∙◌, ⊎_elim, arith}
 use Rattle.beet_field.specs.Trio.{member}
 use Rattle.beet_field.specs.declared.point.Point.{Point}
 use Rattle.beet_field.specs.declared.point.Point.TheVariants.{One, Two, Three}
@@ -14,15 +14,6 @@ use Rattle.beet_map.specs.Steps.{HasEnough, MovesBatch, dealing}
 use Rattle.beet_map.proofs.Moves.{same_or}
 use Rattle.beet_map.proofs.Alike.{Alike}
 use Rattle.beet_map.proofs.Extending.{Extends, stands_alike, stays_at, extended}
-
--- before the first batch nothing is moved
-pub none_moved : (next : ℕ → List ℕ → Batch) (me : Point) (w w' : World) (d : Trio (List ℕ)) → GateMapped me 0 (begin_in next w d) (begin_in next w' d)
-none_moved next me w w' d = record {
-  own = refl;
-  lengths = λ j. refl;
-  moves = λ j ne t k lt below. absurd (omega arith);
-  rest = λ j ne n le. refl;
-}
 
 module _ (next : ℕ → List ℕ → Batch) (me : Point) (rounds : ℕ) (w w' : World) (may : MayMap next me rounds w w') (drawn numbers : Trio (List ℕ)) (t : ℕ) (lt : t < rounds)
     (room : HasRoom rounds (begin_in next w drawn) w') (mapped : GateMapped me t (begin_in next w drawn) (begin_in next w' numbers)) (here there : Shared)

@@ -1,7 +1,7 @@
 -- The moved numbers are the only ones.
 use Rattle.std.proofs.Common.{◌≡◌, ◌≢◌, ◌≤◌, ◌<◌, ◌+◌, ◌-◌, ℕ, zero, suc, List, ◌++◌, length, slice_index, sym, refl, ap, subst, ◌∙◌, ◌⊎◌, ⊎_elim, arith}
 use Rattle.std.proofs.lemmas.List.{ext_get_or}
-use Rattle.beet_field.specs.Trio.{member}
+use Rattle.beet_field.specs.Trio.{member, trio_of}
 use Rattle.beet_field.specs.declared.point.Point.{Point}
 use Rattle.beet_field.specs.declared.point.Point.TheVariants.{One, Two, Three}
 use Rattle.beet_field.specs.declared.trio.Trio.{Trio}
@@ -12,7 +12,7 @@ use Rattle.beet_gates.specs.declared.Act.{Act}
 use Rattle.beet_gates.specs.declared.Act.TheVariants.{Deal, Mul, Reveal, End}
 use Rattle.beet_gates.specs.declared.Batch.{Batch}
 use Rattle.beet_gates.proofs.EachFacts.{each-same}
-use Rattle.beet_server.specs.Runs.{Opening, Shared, act_among, coming, draws_in, gained, hidden_at, opened_by, product_at, secret_hidden, shared_at, standing_at, trio_of, with_batch_lets}
+use Rattle.beet_server.specs.Runs.{Opening, Shared, act_among, coming, draws_in, gained, hidden_at, opened_by, product_at, secret_hidden, shared_at, standing_at, with_batch_lets}
 use Rattle.beet_map.specs.Worlds.{World, begin_in}
 use Rattle.beet_map.specs.Mapped.{GateMapped, moved_of, number_at, secret_at}
 use Rattle.beet_map.proofs.Moves.{same_or}

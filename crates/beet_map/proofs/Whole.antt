@@ -11,11 +11,11 @@ use Rattle.beet_gates.specs.Deals.{deals_of}
 use Rattle.beet_gates.specs.declared.Batch.{Batch}
 use Rattle.beet_server.specs.Runs.{HasRounds, Opening, coming, numbers_of, rounds_among}
 use Rattle.beet_server.proofs.LinesLaw.{same-rounds}
+use Rattle.beet_server.proofs.Rounds.{among-rounds}
 use Rattle.beet_map.specs.Worlds.{World, begin_in, slopes_of, values_of}
 use Rattle.beet_map.specs.Mapped.{AreWords, GateMapped, IsOnlyImage, IsOnlySource, LooksAlike, WordsLookAlike, WordsMapped, ones_in}
 use Rattle.beet_map.specs.Premise.{FitBack, MayMap, SamePlaces}
 use Rattle.beet_map.proofs.Alike.{alike_at, messages_at, same_batch, standing_alike_at}
-use Rattle.beet_map.proofs.Rounds.{rounds_are}
 use Rattle.beet_map.proofs.Symmetry.{AreElements, only_one_back}
 use Rattle.beet_map.proofs.Unique.{only_one}
 use Rattle.beet_map.proofs.WordLists.{accepted_small, words_same}
@@ -53,7 +53,7 @@ module _ (next : ℕ → List ℕ → Batch) (most : ℕ) (me : Point) (rounds :
   has_rounds numbers = (same-rounds (begin_in next w numbers) (values_of w.inputs) (slopes_of w.inputs) a.may.lines rounds).1 a.ends
 
   rounds_of : (numbers : Trio (List ℕ)) → rounds_among (begin_in next w numbers) most ≡ rounds
-  rounds_of numbers = rounds_are (begin_in next w numbers) most rounds (has_rounds numbers) a.few
+  rounds_of numbers = among-rounds (begin_in next w numbers) rounds most (has_rounds numbers) a.few
 
   mapped_over : (c d : Trio (List ℕ)) → WordsMapped next most me w w' c d → GateMapped me rounds (begin_in next w (numbers_of c)) (begin_in next w' (numbers_of d))
   mapped_over c d m = subst (λ r. GateMapped me r (begin_in next w (numbers_of c)) (begin_in next w' (numbers_of d))) (rounds_of (numbers_of c)) m.numbers

@@ -1,6 +1,6 @@
 -- Two worlds between which a server cannot tell by its inputs, its words and what is opened.
 use Rattle.std.specs.Prelude.{◌≡◌, ◌<◌, ◌≤◌, ◌+◌, ℕ, List, length, slice_index}
-use Rattle.beet_field.specs.Trio.{member}
+use Rattle.beet_field.specs.Trio.{member, trio_of}
 use Rattle.beet_field.specs.declared.point.Point.{Point}
 use Rattle.beet_field.specs.declared.trio.Trio.{Trio}
 use Rattle.beet_words.specs.Words.{accepted}
@@ -9,7 +9,7 @@ use Rattle.beet_gates.specs.Deals.{deals_of}
 use Rattle.beet_gates.specs.Scripts.{deals_in}
 use Rattle.beet_gates.specs.declared.Batch.{Batch}
 use Rattle.beet_server.specs.Lines.{OnLines}
-use Rattle.beet_server.specs.Runs.{Opening, coming, draws_in, shared_at, trio_of}
+use Rattle.beet_server.specs.Runs.{Opening, coming, draws_in, shared_at}
 use Rattle.beet_map.specs.Mapped.{ones_in}
 use Rattle.beet_map.specs.Worlds.{World, shares_of, slopes_of, values_of}
 

@@ -1,6 +1,6 @@
 -- What the walk through two worlds does in one batch.
 use Rattle.std.specs.Prelude.{◌≡◌, ◌≢◌, ◌<◌, ◌≤◌, ◌+◌, ℕ, List, [], ◌++◌, length, slice_index}
-use Rattle.beet_field.specs.Trio.{member}
+use Rattle.beet_field.specs.Trio.{member, trio_of}
 use Rattle.beet_field.specs.declared.point.Point.{Point}
 use Rattle.beet_field.specs.declared.trio.Trio.{Trio}
 use Rattle.beet_shamir.specs.Line.{reshared}
@@ -11,7 +11,7 @@ use Rattle.beet_gates.specs.Each.{each}
 use Rattle.beet_gates.specs.Scripts.{deals_in}
 use Rattle.beet_gates.specs.declared.Act.{Act}
 use Rattle.beet_gates.specs.declared.Act.TheVariants.{Deal, Mul, Reveal, End}
-use Rattle.beet_server.specs.Runs.{Opening, Shared, draws_in, pair_at, secret_of, trio_of}
+use Rattle.beet_server.specs.Runs.{Opening, Shared, draws_in, pair_at, secret_of}
 use Rattle.beet_map.specs.Mapped.{moved_of}
 use Rattle.beet_map.specs.Worlds.{World}
 

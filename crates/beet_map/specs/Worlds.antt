@@ -5,7 +5,8 @@ use Rattle.beet_field.specs.declared.trio.Trio.{Trio}
 use Rattle.beet_shamir.specs.Line.{point_of}
 use Rattle.beet_shamir.specs.declared.Line.{Line}
 use Rattle.beet_gates.specs.declared.Batch.{Batch}
-use Rattle.beet_server.specs.Runs.{Opening, trio_of}
+use Rattle.beet_server.specs.Runs.{Opening}
+use Rattle.beet_field.specs.Trio.{trio_of}
 
 -- the lines of the inputs, and the words that each server deals
 pub record World : Type 0 where

@@ -1,9 +1,9 @@
 //! A run on the points of all three servers, batch by batch.
 
 ghost use Rattle.std.specs.Prelude.{◌≡◌, ◌≤◌, ◌<◌, ◌+◌, ◌++◌, [], IfOk, OnOk, length, map};
-ghost use Rattle.beet_field.specs.Trio.{member};
+ghost use Rattle.beet_field.specs.Trio.{member, trio_of};
 ghost use Rattle.beet_gates.specs.Scripts.{deals_in};
-ghost use Rattle.beet_server.specs.Runs.{act_among, draws_in, opened_at, opened_by, trio_of, with_batch_lets};
+ghost use Rattle.beet_server.specs.Runs.{act_among, draws_in, opened_at, opened_by, with_batch_lets};
 ghost use Rattle.beet_map.specs.Steps.{dealing, lines_gained, HasEnough};
 ghost use Rattle.beet_map.specs.Worlds.{shares_of};
 

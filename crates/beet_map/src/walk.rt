@@ -13,7 +13,7 @@ use crate::numbers::Numbers;
 use crate::secrets::Secrets;
 use crate::stage::Stage;
 use beet_field::Point;
-use beet_gates::{Act, Script};
+use beet_gates::{Act, Batch, Script};
 use std::alloc::{AllocError, Global};
 
 /// Moves the numbers that server 1 draws for an act.
@@ -148,8 +148,9 @@ pub(crate) fn map_numbers<S: Script>(
     let mut numbers = drawn.copy(alloc)?;
     let mut here = Stage::begin(alloc, first.inputs.as_slice())?;
     let mut there = Stage::begin(alloc, second.inputs.as_slice())?;
+    let mut batch = Batch::end();
     for t in 0..rounds {
-        let batch = script.next(t, here.opened.as_slice());
+        script.refill(t, here.opened.as_slice(), &mut batch);
         here.add_lets(&batch)?;
         there.add_lets(&batch)?;
         move_batch(me, &batch.act, first, &here, second, &there, &mut numbers);

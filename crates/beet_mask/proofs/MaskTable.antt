@@ -1,9 +1,11 @@
 -- The batch at each step of the block of a mask.
-use Rattle.std.proofs.Common.{◌≡◌, ◌↔◌, ℕ, zero, suc, ◌+◌, ◌-◌, ◌≤◌, List, [], ◌∷◌, length, slice_get, Some, None, refl, ap, ◌∙◌, arith, length-append}
+use Rattle.std.proofs.Common.{◌≡◌, ◌↔◌, ℕ, zero, suc, ◌+◌, ◌-◌, ◌<◌, ◌≤◌, List, [], ◌∷◌, length, slice_get, Some, None, refl, ap, ◌∙◌, arith, length-append}
 use Rattle.std.specs.Prelude.{IsNone}
 use Rattle.beet_gates.specs.Batches.{mul_batch, reveal_batch}
 use Rattle.beet_gates.specs.Each.{each}
 use Rattle.beet_gates.proofs.EachFacts.{length-each, get-front, get-back, get-past}
+use Rattle.beet_gates.specs.Plans.{batch_at}
+use Rattle.beet_gates.proofs.PlanFacts.{batch-there}
 use Rattle.beet_mask.specs.Mask.{mask_batches}
 
 pub length-mask_batches : (first : ℕ) → length (mask_batches first) ≡ 64
@@ -38,3 +40,6 @@ mask-none first step =
 
 pub mask-past : (first step : ℕ) → 64 ≤ step → slice_get (mask_batches first) step ≡ None
 mask-past first step h = get-past (mask_batches first) step (omega (arith, length-mask_batches first))
+
+pub mask-there : (first step : ℕ) → step < 64 → Some (batch_at (mask_batches first) step) ≡ slice_get (mask_batches first) step
+mask-there first step h = batch-there (mask_batches first) step (omega (arith, length-mask_batches first))

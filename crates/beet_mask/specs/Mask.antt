@@ -6,6 +6,7 @@ use Rattle.beet_gates.specs.declared.Batch.{Batch}
 use Rattle.beet_gates.specs.declared.Gates.{Gates}
 use Rattle.beet_gates.specs.declared.Gates.TheVariants.{Chain, Tree}
 use Rattle.beet_gates.specs.declared.Linear.{Linear}
+use Rattle.beet_mask.specs.declared.TheConstants.{CHAIN_ROUNDS, TREE_ROUNDS, WIRES, WIRES_BEFORE_BITS}
 use Rattle.beet_gates.specs.Batches.{deal_batch, mul_batch, reveal_batch}
 use Rattle.beet_gates.specs.Clear.{Values}
 use Rattle.beet_gates.specs.Each.{each}
@@ -13,8 +14,20 @@ use Rattle.beet_gates.specs.Linears.{three_terms}
 
 -- how many rounds a block takes
 abbrev pub mask_rounds_of : Gates → ℕ
-mask_rounds_of Chain = 64
-mask_rounds_of Tree = 10
+mask_rounds_of Chain = CHAIN_ROUNDS
+mask_rounds_of Tree = TREE_ROUNDS
+
+-- how many wires it appends
+abbrev pub mask_wires_of : Gates → ℕ
+mask_wires_of gates = WIRES
+
+-- how many numbers each server draws in it: one for each bit that it deals, and for each product
+abbrev pub mask_draws_of : Gates → ℕ
+mask_draws_of gates = 61 + (61 + 61 + 60)
+
+-- the wire of bit k of the mask whose block begins at a wire
+abbrev pub bit_wire_of : ℕ → ℕ → ℕ
+bit_wire_of first k = first + WIRES_BEFORE_BITS + k
 
 -- The wires of a block, from its first one: the 61 bits x, y and z of three words (0, 61, 122), the products u of x and y (183),
 -- their exclusive or w (244), the products v of w and z (305), the bits r of the mask (366), and the products t of the first bits (427).
@@ -41,7 +54,7 @@ mask_of a b c = bit_xor (bit_xor a b) c
 pub record AfterMask (first r : ℕ) (before after : Values) : Type 0 where
   pub more : List ℕ
   pub wires : after.wires ≡ before.wires ++ more
-  pub len : length after.wires ≡ first + 487
-  pub bits : (k : ℕ) → k < 61 → slice_index after.wires (first + 366 + k) ≡ bit_at r k
+  pub len : length after.wires ≡ first + WIRES
+  pub bits : (k : ℕ) → k < 61 → slice_index after.wires (bit_wire_of first k) ≡ bit_at r k
   pub opened : after.opened ≡ before.opened ++ (if r == p then 1 else 0) ∷ []
   pub dealt : after.dealt ≡ before.dealt + 1

@@ -5,11 +5,12 @@
 
 ghost use Rattle.std.specs.Prelude.{◌≡◌, ◌<◌, ◌≤◌, ◌+◌, ◌-◌, ◌^◌, ◌↔◌, ℕ, List, [], ◌∷◌, length, slice_get, IsNone};
 ghost use Rattle.beet_field.specs.Field.{p};
-ghost use Rattle.beet_gates.specs.Batches.{deal_batch, mul_batch, reveal_batch};
+ghost use Rattle.beet_gates.specs.Batches.{mul_batch};
+ghost use Rattle.beet_gates.specs.Plans.{batch_at};
 ghost use Rattle.beet_gates.specs.Clear.{Values, batches_on};
 ghost use Rattle.beet_gates.specs.Deals.{dealt_bits};
 ghost use Rattle.beet_gates.specs.Each.{each};
-ghost use Rattle.beet_mask.specs.Mask.{mask_rounds_of, mask_batches, mask_of, xor_let, AfterMask};
+ghost use Rattle.beet_mask.specs.Mask.{bit_wire_of, mask_rounds_of, mask_wires_of, mask_batches, mask_of, xor_let, AfterMask};
 
 use arrayvec::ArrayVec;
 use beet_field::Fe;
@@ -18,32 +19,44 @@ use beet_gates::{Act, Batch, Gates, Linear};
 /// 2 less than the modulus.
 const MINUS_TWO: u128 = 2_305_843_009_213_693_949;
 
+/// The rounds of a block with chain gates: the deal, three products of words, one for each bit from the third on, and the opening.
+const CHAIN_ROUNDS: u32 = 64;
+
+/// The rounds of a block with tree gates.
+const TREE_ROUNDS: u32 = 10;
+
+/// The wires of a block.
+const WIRES: u32 = 487;
+
+/// The wires of a block that stand before the bits of its mask.
+const WIRES_BEFORE_BITS: u32 = 366;
+
 /// How many rounds a block takes.
 pub fn mask_rounds(gates: Gates) -> u32
     ensures { result ≡ mask_rounds_of gates }
 {
     match gates {
-        Gates::Chain => 64,
-        Gates::Tree => 10,
+        Gates::Chain => CHAIN_ROUNDS,
+        Gates::Tree => TREE_ROUNDS,
     }
 }
 
 /// How many wires a block appends.
 pub fn mask_wires(gates: Gates) -> u32
-    ensures { result ≡ 487 }
+    ensures { result ≡ mask_wires_of gates }
 {
     match gates {
-        Gates::Chain | Gates::Tree => 487,
+        Gates::Chain | Gates::Tree => WIRES,
     }
 }
 
 /// The wire of bit `k` of the mask whose block begins at the wire `first`.
 pub fn bit_wire(first: u32, k: u32) -> u32
-    requires first { first + 487 < 2 ^ 32 }
+    requires first { first + WIRES < 2 ^ 32 }
     requires bit { k < 61 }
-    ensures { result ≡ first + 366 + k }
+    ensures { result ≡ bit_wire_of first k }
 {
-    first + 366 + k
+    first + WIRES_BEFORE_BITS + k
 }
 
 /// The bits of two words in pairs.
@@ -75,100 +88,78 @@ fn exclusive_or(minus_two: Fe, left: u32, right: u32, product: u32) -> Linear
     }
 }
 
-/// The exclusive or of two words, bit by bit, from the products of their bits.
+/// Appends the exclusive or of two words, bit by bit, from the products of their bits.
 #[tactic(auto, using(beet_gates::proofs::EachFacts::each_steps))]
-fn bit_sums(left: u32, right: u32, product: u32) -> ArrayVec<Linear, 128>
+fn add_bit_sums(left: u32, right: u32, product: u32, lets: &mut ArrayVec<Linear, 128>)
+    requires none { lets.old.items ≡ [] }
     requires left { left + 61 < 2 ^ 32 }
     requires right { right + 61 < 2 ^ 32 }
     requires product { product + 61 < 2 ^ 32 }
-    ensures { result.items ≡ each (λ k. xor_let (left + k) (right + k) (product + k)) 61 }
+    ensures { lets.new.items ≡ each (λ k. xor_let (left + k) (right + k) (product + k)) 61 }
 {
     let minus_two = Fe::reduce(MINUS_TWO);
-    let mut lets = ArrayVec::new();
     for k in 0..61 {
         lets.push(exclusive_or(minus_two, left + k, right + k, product + k));
     }
-    lets
 }
 
-/// The batch that multiplies two words bit by bit.
-fn words_product(lets: ArrayVec<Linear, 128>, left: u32, right: u32) -> Batch
+/// Multiplies two words bit by bit, after the same lets.
+fn set_words_product(batch: &mut Batch, left: u32, right: u32)
     requires left { left + 61 < 2 ^ 32 }
     requires right { right + 61 < 2 ^ 32 }
-    ensures { result ≡ mul_batch lets.items (each (λ k. (left + k, right + k)) 61) }
+    ensures { batch.new ≡ mul_batch batch.old.lets.items (each (λ k. (left + k, right + k)) 61) }
 {
-    Batch {
-        lets,
-        act: Act::Mul(bit_pairs(left, right)),
-    }
+    batch.act = Act::Mul(bit_pairs(left, right));
 }
 
-/// The batch that multiplies two wires.
-fn product(lets: ArrayVec<Linear, 128>, left: u32, right: u32) -> Batch
-    ensures { result ≡ mul_batch lets.items ((left, right) ∷ []) }
+/// Makes a batch the one at this step of a block with chain gates, or the end past it.
+fn refill_chain(step: u32, first: u32, batch: &mut Batch)
+    requires { first + mask_wires_of Gates.Chain < 2 ^ 32 }
+    ensures { batch.new ≡ batch_at (mask_batches first) step }
 {
-    let mut pairs = ArrayVec::new();
-    pairs.push((left, right));
-    Batch {
-        lets,
-        act: Act::Mul(pairs),
-    }
-}
-
-/// The batch that opens one wire.
-fn reveal(wire: u32) -> Batch
-    ensures { result ≡ reveal_batch [] (wire ∷ []) }
-{
-    let mut shown = ArrayVec::new();
-    shown.push(wire);
-    Batch {
-        lets: ArrayVec::new(),
-        act: Act::Reveal(shown),
-    }
-}
-
-/// The batch at this step of a block with chain gates.
-fn chain_batch(step: u32, first: u32) -> Option<Batch>
-    requires { first + 487 < 2 ^ 32 }
-    ensures { result ≡ slice_get (mask_batches first) step }
-{
+    batch.lets.clear();
     match step {
-        0 => Some(Batch {
-            lets: ArrayVec::new(),
-            act: Act::Deal,
-        }),
-        1 => Some(words_product(ArrayVec::new(), first, first + 61)),
-        2 => Some(words_product(
-            bit_sums(first, first + 61, first + 183),
-            first + 244,
-            first + 122,
-        )),
-        3 => Some(product(
-            bit_sums(first + 244, first + 122, first + 305),
-            bit_wire(first, 0),
-            bit_wire(first, 1),
-        )),
-        4..=62 => Some(product(
-            ArrayVec::new(),
-            first + 423 + step,
-            bit_wire(first, step - 2),
-        )),
-        63 => Some(reveal(first + 486)),
-        _ => None,
+        0 => batch.set_deal(),
+        1 => set_words_product(batch, first, first + 61),
+        2 => {
+            add_bit_sums(first, first + 61, first + 183, &mut batch.lets);
+            set_words_product(batch, first + 244, first + 122);
+        }
+        3 => {
+            add_bit_sums(first + 244, first + 122, first + 305, &mut batch.lets);
+            batch.set_product(bit_wire(first, 0), bit_wire(first, 1));
+        }
+        4..=62 => batch.set_product(first + 423 + step, bit_wire(first, step - 2)),
+        63 => batch.set_opening(first + 486),
+        _ => batch.set_end(),
+    }
+}
+
+/// Makes a batch the one at this step of a block whose first wire is `first`, or the end past it. The gates are to be a chain.
+pub fn refill_mask(gates: Gates, step: u32, first: u32, batch: &mut Batch)
+    requires chain { gates ≡ Gates.Chain }
+    requires first { first + mask_wires_of gates < 2 ^ 32 }
+    ensures { batch.new ≡ batch_at (mask_batches first) step }
+{
+    match gates {
+        Gates::Chain => refill_chain(step, first, batch),
+        Gates::Tree => unreachable!(),
     }
 }
 
 /// The batch at this step of a block whose first wire is `first`, or none past its end. The gates are to be a chain.
 pub fn mask_batch(gates: Gates, step: u32, first: u32) -> Option<Batch>
     requires chain { gates ≡ Gates.Chain }
-    requires first { first + 487 < 2 ^ 32 }
+    requires first { first + mask_wires_of gates < 2 ^ 32 }
     ensures batch { result ≡ slice_get (mask_batches first) step }
     ensures past { IsNone result ↔ (mask_rounds_of gates ≤ step) }
 {
-    match gates {
-        Gates::Chain => chain_batch(step, first),
-        Gates::Tree => unreachable!(),
+    if step >= mask_rounds(gates) {
+        return None;
     }
+    let mut batch = Batch::end();
+    refill_mask(gates, step, first, &mut batch);
+    Some(batch)
 }
 
 /// What a block does on plain values, wherever it stands and whatever was opened before it: where three words are dealt, the

@@ -1,15 +1,17 @@
 -- How the auction's run on plain values ends.
 use Rattle.std.proofs.Common.{◌≡◌, ◌≢◌, ℕ, zero, suc, ◌+◌, ◌-◌, ◌*◌, ◌/◌, ◌^◌, ◌<◌, ◌≤◌, inl, inr, Bool, true, false, List, [], ◌∷◌, length, slice_index, refl, ap, ◌∙◌, arith, eq-eqb, ne_eqb, pow-suc}
 use Rattle.std.specs.Prelude.{nat_lt, if◌then◌else◌, ◌==◌}
+use Rattle.std.proofs.Math.Seq.{drop-append_seam}
 use Rattle.std.proofs.lemmas.Bool.{cases_eq, cases_lt, cases_Bool}
 use Rattle.std.proofs.lemmas.Bool.Decides.{nat_tests}
 use Rattle.beet_gates.specs.declared.Batch.{Batch}
 use Rattle.beet_gates.specs.Batches.{reveal_batch}
-use Rattle.beet_gates.specs.Clear.{Values, batches_on}
-use Rattle.beet_gates.specs.Plans.{Plan, Ended, Block, opened_by, plan_end}
+use Rattle.beet_gates.specs.Clear.{Values, batch_on, batches_on}
+use Rattle.beet_gates.specs.Plans.{Plan, Ended, Block, all_opened_by, opened_by, plan_end}
 use Rattle.beet_field.specs.Field.{p}
-use Rattle.beet_mask.specs.Mask.{mask_batches}
-use Rattle.beet_compare.specs.Compare.{masked_batch, borrow_batches, is_doubled_even}
+use Rattle.beet_compare.specs.Compare.{is_doubled_even}
+use Rattle.beet_plan.specs.Blocks.{Blocks, after_mask, after_both}
+use Rattle.beet_plan.proofs.BlockLaws.{AreBlocks}
 use Rattle.beet_plan.specs.Auction.{search_plan, compare_plan, end_plan, after_answer, after_product}
 use Rattle.beet_plan.specs.Search.{tested, place_between}
 use Rattle.beet_plan.specs.Runs.{found}
@@ -17,7 +19,7 @@ use Rattle.beet_plan.proofs.Counts.{all_ones_among, spent_from}
 use Rattle.beet_plan.proofs.Searches.{tested-none, tested-open, place-none, place-open}
 use Rattle.beet_plan.specs.declared.Finish.{Finish}
 use Rattle.beet_plan.specs.declared.Finish.TheVariants.{MasksSpent}
-use Rattle.beet_plan.proofs.BlockSteps.{Stands, Deals, AreElements, mask-step, compare-step, after_masked, opened-new}
+use Rattle.beet_plan.proofs.BlockSteps.{Stands, Deals, AreElements, mask-step, compare-step, after_masked}
 
 -- the end, where the search ends at z
 end-at : (deals : ℕ → List ℕ) (prices : ℕ) (supply demand : ℕ → ℕ) (first i z : ℕ) (v : Values) → Stands prices supply demand first i v →
@@ -27,8 +29,8 @@ end-at deals prices supply demand first i z v s = elim (cases_lt z prices) [
   | inl h ↦
       let t : nat_lt z prices ≡ true = grind (arith, nat_tests) in
       let e : slice_index v.wires (prices + z) ≡ demand z = s.demands.at z h in
-      let o : opened_by v (batches_on deals (reveal_batch [] ((prices + z) ∷ []) ∷ []) v) ≡ slice_index v.wires (prices + z) =
-      opened-new v (batches_on deals (reveal_batch [] ((prices + z) ∷ []) ∷ []) v) (slice_index v.wires (prices + z)) refl in
+      let o : all_opened_by v (batch_on deals (reveal_batch [] ((prices + z) ∷ [])) v) ≡ slice_index v.wires (prices + z) ∷ [] =
+      drop-append_seam v.opened (slice_index v.wires (prices + z) ∷ []) in
       rw (t, o, e) refl
   | inr h ↦
       let t : nat_lt z prices ≡ false = grind (arith, nat_tests) in
@@ -78,14 +80,14 @@ spent-none masks i rej h =
     let b = among-le masks i (2 - rej) in
     rw e (grind (arith, nat_tests))
 
-pub search_plan-open : (prices n lo hi first rej : ℕ) → nat_lt lo hi ≡ true →
-    search_plan prices (suc n) lo hi first rej ≡ Block (mask_batches first) (after_product prices n lo hi first rej)
+pub search_plan-open : (g : Blocks) (prices n lo hi first rej : ℕ) → nat_lt lo hi ≡ true →
+    search_plan g prices (suc n) lo hi first rej ≡ Block (g.mask first) (after_product g prices n lo hi first rej)
 unfolding search_plan
-search_plan-open prices n lo hi first rej t = rw t refl
+search_plan-open g prices n lo hi first rej t = rw t refl
 
-pub search_plan-done : (prices n lo hi first rej : ℕ) → nat_lt lo hi ≡ false → search_plan prices (suc n) lo hi first rej ≡ end_plan prices lo
+pub search_plan-done : (g : Blocks) (prices n lo hi first rej : ℕ) → nat_lt lo hi ≡ false → search_plan g prices (suc n) lo hi first rej ≡ end_plan prices lo
 unfolding search_plan
-search_plan-done prices n lo hi first rej t = rw t refl
+search_plan-done g prices n lo hi first rej t = rw t refl
 
 module _ (deals : ℕ → List ℕ) (v : Values) where
   end-block : (bs : List Batch) (next : ℕ → Plan Finish) →
@@ -110,39 +112,39 @@ opened-rejected x mask e = elim (cases_eq mask p) [
   | inr some ↦ rw (e, ne_eqb mask p some) refl
 ]
 
-module _ (deals : ℕ → List ℕ) (masks : ℕ → ℕ) (prices : ℕ) (supply demand : ℕ → ℕ) (test : ℕ → Bool)
+module _ (g : Blocks) (are : AreBlocks g) (deals : ℕ → List ℕ) (masks : ℕ → ℕ) (prices : ℕ) (supply demand : ℕ → ℕ) (test : ℕ → Bool)
     (d : Deals deals masks) (elements : AreElements prices supply demand)
     (reached : (k : ℕ) → k < prices → is_doubled_even (supply k) (demand k) ≡ test k) where
   pub search-end : (n m lo hi first i rej : ℕ) (v : Values) → Stands prices supply demand first i v →
       lo ≤ hi → hi ≤ prices → hi < lo + 2 ^ m → m + 3 ≤ n + rej → rej < 3 →
-      plan_end deals (search_plan prices n lo hi first rej) v
+      plan_end deals (search_plan g prices n lo hi first rej) v
       ≡ (if spent_from masks i rej (length (tested test m lo hi)) then MasksSpent else found prices demand (place_between test m lo hi))
   search-end zero m lo hi first i rej v s hl hp hm hn hr = absurd (omega arith)
   search-end (suc n) zero lo hi first i rej v s hl hp hm hn hr =
       let h : hi ≤ lo = omega arith in
       let t : nat_lt lo hi ≡ false = grind (arith, nat_tests) in
-      ap (λ (q : Plan Finish). plan_end deals q v) (search_plan-done prices n lo hi first rej t)
+      ap (λ (q : Plan Finish). plan_end deals q v) (search_plan-done g prices n lo hi first rej t)
       ∙ rw (tested-none test zero lo hi h, place-none test zero lo hi h, spent-none masks i rej hr) (end-at deals prices supply demand first i lo v s)
   search-end (suc n) (suc m) lo hi first i rej v s hl hp hm hn hr = elim (cases_lt lo hi) [
     | inr h ↦
         let t : nat_lt lo hi ≡ false = grind (arith, nat_tests) in
-        ap (λ (q : Plan Finish). plan_end deals q v) (search_plan-done prices n lo hi first rej t)
+        ap (λ (q : Plan Finish). plan_end deals q v) (search_plan-done g prices n lo hi first rej t)
         ∙ rw (tested-none test (suc m) lo hi h, place-none test (suc m) lo hi h, spent-none masks i rej hr) (end-at deals prices supply demand first i lo v s)
     | inl h ↦
         let t : nat_lt lo hi ≡ true = grind (arith, nat_tests) in
         let mid = (lo + hi) / 2 in
-        let after = batches_on deals (mask_batches first) v in
+        let after = batches_on deals (g.mask first) v in
         let x = opened_by v after in
         let rest = if test mid then tested test m lo mid else tested test m (mid + 1) hi in
         let len : length (tested test (suc m) lo hi) ≡ suc (length rest) = ap length (tested-open test m lo hi t) in
         let end = place-open test m lo hi t in
-        let a = mask-step deals masks prices supply demand first i v d s in
+        let a = mask-step g are deals masks prices supply demand first i v d s in
         let o : (x == 1) ≡ (masks i == p) = opened-rejected x (masks i) a.opened in
-        let begun : plan_end deals (search_plan prices (suc n) lo hi first rej) v ≡ plan_end deals (after_product prices n lo hi first rej x) after =
-        ap (λ (q : Plan Finish). plan_end deals q v) (search_plan-open prices n lo hi first rej t)
-        ∙ end-block deals v (mask_batches first) (after_product prices n lo hi first rej) in
-        let no = search_plan prices n lo hi (first + 487) (rej + 1) in
-        let yes = compare_plan prices (first + 487) first mid (after_answer prices n lo hi first rej) in
+        let begun : plan_end deals (search_plan g prices (suc n) lo hi first rej) v ≡ plan_end deals (after_product g prices n lo hi first rej x) after =
+        ap (λ (q : Plan Finish). plan_end deals q v) (search_plan-open g prices n lo hi first rej t)
+        ∙ end-block deals v (g.mask first) (after_product g prices n lo hi first rej) in
+        let no = search_plan g prices n lo hi (after_mask g first) (rej + 1) in
+        let yes = compare_plan g prices (after_mask g first) first mid (after_answer g prices n lo hi first rej) in
         begun ∙ elim (cases_eq (masks i) p) [
           | inl all ↦
               let o' : (x == 1) ≡ true = o ∙ eq-eqb (masks i) p all in
@@ -152,37 +154,37 @@ module _ (deals : ℕ → List ℕ) (masks : ℕ → ℕ) (prices : ℕ) (supply
                     ∙ end-ended deals after MasksSpent ∙ rw (len, spent-last masks i rej (length rest) all two) refl
                 | inr other ↦
                     end-false deals after (rej == 2) (Ended MasksSpent) no (ne_eqb rej 2 other)
-                    ∙ search-end n (suc m) lo hi (first + 487) (i + 1) (rej + 1) after a.stands hl hp hm (omega arith) (omega arith)
+                    ∙ search-end n (suc m) lo hi (after_mask g first) (i + 1) (rej + 1) after a.stands hl hp hm (omega arith) (omega arith)
                     ∙ rw (len, spent-more masks i rej (length rest) all (omega arith)) refl
               ]
           | inr some ↦
               let o' : (x == 1) ≡ false = o ∙ ne_eqb (masks i) p some in
               let r : masks i < p = omega (arith, d.small i) in
               let within : mid < prices = omega arith in
-              let middle = after_masked deals (first + 487) first mid (prices + mid) after in
+              let middle = after_masked g deals (after_mask g first) first mid (prices + mid) after in
               let c = opened_by after middle in
-              let late = batches_on deals (borrow_batches (first + 487) first c) middle in
+              let late = batches_on deals (g.answer (after_mask g first) first c) middle in
               let y = opened_by middle late in
-              let b = compare-step deals prices supply demand (first + 487) first (masks i) (i + 1) mid after elements a.stands a.bits r within in
-              let place : first + 487 + 245 ≡ first + 732 = omega arith in
-              let stands : Stands prices supply demand (first + 732) (i + 1) late = rw place at b.stands in
-              let p : plan_end deals yes after ≡ plan_end deals (after_answer prices n lo hi first rej y) late =
-              end-block deals after (masked_batch (first + 487) first mid (prices + mid) ∷ []) (λ (c : ℕ). Block (borrow_batches (first + 487) first c) (after_answer prices n lo hi first rej))
-              ∙ end-block deals middle (borrow_batches (first + 487) first c) (after_answer prices n lo hi first rej) in
+              let b = compare-step g are deals prices supply demand (after_mask g first) first (masks i) (i + 1) mid after elements a.stands (omega arith) a.bits r within in
+              let place : after_mask g first + g.compare_wires ≡ after_both g first = omega arith in
+              let stands : Stands prices supply demand (after_both g first) (i + 1) late = rw place at b.stands in
+              let p : plan_end deals yes after ≡ plan_end deals (after_answer g prices n lo hi first rej y) late =
+              end-block deals after (g.masked (after_mask g first) first mid (prices + mid) ∷ []) (λ (c : ℕ). Block (g.answer (after_mask g first) first c) (after_answer g prices n lo hi first rej))
+              ∙ end-block deals middle (g.answer (after_mask g first) first c) (after_answer g prices n lo hi first rej) in
               let answer : y ≡ (if test mid then 1 else 0) = rw (reached mid within) at b.opened in
-              let low = search_plan prices n lo mid (first + 732) rej in
-              let high = search_plan prices n (mid + 1) hi (first + 732) rej in
+              let low = search_plan g prices n lo mid (after_both g first) rej in
+              let high = search_plan g prices n (mid + 1) hi (after_both g first) rej in
               let power : 2 ^ suc m ≡ 2 ^ m * 2 = pow-suc 2 m in
               end-false deals after (x == 1) (if rej == 2 then Ended MasksSpent else no) yes o' ∙ p ∙ elim (cases_Bool (test mid)) [
                 | inr above ↦
                     let e : (y == 1) ≡ false = ap (λ n. n == 1) (rw above at answer) in
                     end-false deals late (y == 1) low high e
-                    ∙ search-end n m (mid + 1) hi (first + 732) (i + 1) rej late stands (omega arith) hp (omega arith) (omega arith) hr
+                    ∙ search-end n m (mid + 1) hi (after_both g first) (i + 1) rej late stands (omega arith) hp (omega arith) (omega arith) hr
                     ∙ rw (len, end, above, spent-kept masks i rej (length (tested test m (mid + 1) hi)) some hr) refl
                 | inl below ↦
                     let e : (y == 1) ≡ true = ap (λ n. n == 1) (rw below at answer) in
                     end-true deals late (y == 1) low high e
-                    ∙ search-end n m lo mid (first + 732) (i + 1) rej late stands (omega arith) (omega arith) (omega arith) (omega arith) hr
+                    ∙ search-end n m lo mid (after_both g first) (i + 1) rej late stands (omega arith) (omega arith) (omega arith) (omega arith) hr
                     ∙ rw (len, end, below, spent-kept masks i rej (length (tested test m lo mid)) some hr) refl
               ]
         ]

@@ -1,5 +1,5 @@
 -- How the auction's run on any inputs ends, and after how many rounds.
-use Rattle.std.proofs.Common.{◌≡◌, ℕ, ◌+◌, ◌-◌, ◌*◌, ◌^◌, ◌<◌, inl, inr, Bool, List, length, slice_index, Some, refl, ap, ◌∙◌, arith, zero-add}
+use Rattle.std.proofs.Common.{◌≡◌, ℕ, ◌+◌, ◌-◌, ◌*◌, ◌^◌, ◌<◌, inl, inr, Bool, List, length, slice_index, Some, refl, ap, ◌∙◌, arith, mul-add, zero-add}
 use Rattle.std.specs.Prelude.{All, if◌then◌else◌}
 use Rattle.std.proofs.lemmas.Bool.{cases_lt, cases_Bool}
 use Rattle.std.proofs.lemmas.List.{get_or_past}
@@ -12,11 +12,13 @@ use Rattle.beet_gates.specs.Clear.{Values, start_values}
 use Rattle.beet_gates.specs.Deals.{deals_of}
 use Rattle.beet_gates.specs.Plans.{plan_finish}
 use Rattle.beet_gates.specs.Scripts.{bounds_of, start_of}
-use Rattle.beet_gates.proofs.PlanFacts.{plan-clear, plan-clear-rounds, plan-ends}
+use Rattle.beet_gates.proofs.PlanFacts.{plan-runs, plan-ends}
 use Rattle.beet_bids.specs.Grids.{comparisons_of}
 use Rattle.beet_compare.specs.Compare.{is_doubled_even}
+use Rattle.beet_plan.specs.Blocks.{blocks_of}
+use Rattle.beet_plan.proofs.BlockLaws.{are-blocks}
 use Rattle.beet_plan.specs.Auction.{Auction, auction_plan, auction_batch, most_rounds, most_masks, most_coefficients, most_wires}
-use Rattle.beet_plan.specs.Search.{tested, path, place_found, mask_at, is_spent}
+use Rattle.beet_plan.specs.Search.{tested, path, place_found, mask_at, is_spent, dealt_until_spent}
 use Rattle.beet_plan.specs.Runs.{AreMasks, RunEnds, found, run_rounds, place_of_inputs}
 use Rattle.beet_plan.specs.declared.Finish.{Finish}
 use Rattle.beet_plan.specs.declared.Finish.TheVariants.{MasksSpent}
@@ -24,7 +26,7 @@ use Rattle.beet_plan.proofs.AuctionEnd.{search-end}
 use Rattle.beet_plan.proofs.AuctionLaw.{below_comparisons, auction-stands, follows-itself}
 use Rattle.beet_plan.proofs.AuctionRounds.{Rounds, search-rounds, volume_round}
 use Rattle.beet_plan.proofs.BlockSteps.{Stands, Deals, AreElements}
-use Rattle.beet_plan.proofs.Counts.{spent_from, dealt_until_rejected, dealt_until_accepted, spent-start, dealt-spent, dealt-three, dealt-found}
+use Rattle.beet_plan.proofs.Counts.{spent_from, dealt_until_accepted, spent-start, dealt-spent, dealt-three, dealt-found}
 use Rattle.beet_plan.proofs.Searches.{tested-path}
 
 -- a word at any place, past the end too, where it is read as 0
@@ -35,19 +37,25 @@ word-small words all i = elim (cases_lt i (length words)) [
 ]
 
 -- the rounds of a run from the first mask on, by the places of the rejected and the accepted masks
-rounds-whole : (masks : ℕ → ℕ) (prices z rounds : ℕ) → Rounds masks 0 0 (length (path prices z)) (volume_round prices z) rounds →
-    rounds ≡ run_rounds prices masks z
-rounds-whole masks prices z rounds r =
+rounds-whole : (a : Auction) (masks : ℕ → ℕ) (z rounds : ℕ) →
+    Rounds (blocks_of a.gates) masks 0 0 (length (path a.prices z)) (volume_round a.prices z) rounds → rounds ≡ run_rounds a masks z
+rounds-whole a masks z rounds r =
+    let g = blocks_of a.gates in
+    let prices = a.prices in
     let c = length (path prices z) in
     let start = spent-start masks c in
     let n : c + 2 - 0 ≡ c + 2 = omega arith in
     elim (cases_Bool (is_spent masks c)) [
       | inl t ↦
-          let e : rounds + 63 * 3 ≡ 127 * dealt_until_rejected masks 0 3 (c + 2) = rw n at (r.spent (start ∙ t)) in
-          rw t (omega (arith, e, dealt-spent masks c t, dealt-three masks c t))
+          let e : rounds + g.compare_rounds * 3 ≡ g.mask_rounds * dealt_until_spent masks c + g.compare_rounds * dealt_until_spent masks c =
+          rw (dealt-spent masks c t) at (rw n at (r.spent (start ∙ t))) in
+          let three : dealt_until_spent masks c ≡ dealt_until_spent masks c - 3 + 3 = omega (arith, dealt-spent masks c t, dealt-three masks c t) in
+          let split : g.compare_rounds * dealt_until_spent masks c ≡ g.compare_rounds * (dealt_until_spent masks c - 3) + g.compare_rounds * 3 =
+          ap (λ (k : ℕ). g.compare_rounds * k) three ∙ mul-add g.compare_rounds (dealt_until_spent masks c - 3) 3 in
+          rw t (omega (arith, e, split))
       | inr f ↦
-          let e : rounds ≡ 64 * dealt_until_accepted masks 0 c (c + 2) + 63 * c + volume_round prices z = rw n at (r.found (start ∙ f)) in
-          rw f (omega (arith, e, dealt-found masks c f))
+          let e : rounds ≡ g.mask_rounds * dealt_until_accepted masks 0 c (c + 2) + g.compare_rounds * c + volume_round prices z = rw n at (r.found (start ∙ f)) in
+          rw f (rw (dealt-found masks c f) at e)
     ]
 
 module _ (a : Auction) (inputs : List ℕ) (words : Trio (List ℕ)) where
@@ -93,17 +101,16 @@ module _ (a : Auction) (inputs : List ℕ) (words : Trio (List ℕ)) where
       let few : prices < 0 + 2 ^ l = omega (arith, below_comparisons prices) in
       let same : tested test l 0 prices ≡ path prices z = tested-path test l 0 prices z refl in
       let e = plan-ends deals bounds plan (start_of (2 * prices)) (most_rounds a) start stands in
-      let run = plan-clear (auction_batch a) deals bounds plan (start_of (2 * prices)) (most_rounds a) 0 start stands (follows-itself a) in
-      let counted = plan-clear-rounds (auction_batch a) deals bounds plan (start_of (2 * prices)) (most_rounds a) 0 start stands (follows-itself a) in
-      let end = search-end deals masks prices supply demand test d elements (λ k h. refl)
+      let run = plan-runs (auction_batch a) words inputs bounds plan (start_of (2 * prices)) (most_rounds a) stands (follows-itself a) in
+      let end = search-end (blocks_of a.gates) (are-blocks a.gates) deals masks prices supply demand test d elements (λ k h. refl)
       (l + 3) l 0 prices (2 * prices) 0 0 start s (omega arith) (omega arith) few (omega arith) (omega arith) in
-      let rounds = search-rounds deals masks prices supply demand test d elements (λ k h. refl)
+      let rounds = search-rounds (blocks_of a.gates) (are-blocks a.gates) deals masks prices supply demand test d elements (λ k h. refl)
       (l + 3) l 0 prices (2 * prices) 0 0 start s (omega arith) (omega arith) few (omega arith) (omega arith) in
       let spent : spent_from masks 0 0 (length (tested test l 0 prices)) ≡ is_spent masks (length (path prices z)) =
       ap (λ (t : List ℕ). spent_from masks 0 0 (length t)) same ∙ spent-start masks (length (path prices z)) in
       record {
         ends =
-            ap (λ (v : Values). plan_finish plan v.opened) run ∙ ap (plan_finish plan) e.1 ∙ e.2
+            ap (λ (v : Values). plan_finish plan v.opened) run.values ∙ ap (plan_finish plan) e.1 ∙ e.2
             ∙ ap (λ (f : Finish). Some f) (end ∙ ap (λ (b : Bool). if b then MasksSpent else found prices demand z) spent);
-        rounds = counted ∙ rounds-whole masks prices z _ (rw same at rounds);
+        rounds = run.rounds ∙ rounds-whole a masks z _ (rw same at rounds);
       }

@@ -6,16 +6,17 @@ use Rattle.std.proofs.lemmas.Bool.Decides.{nat_tests}
 use Rattle.beet_field.specs.declared.trio.Trio.{Trio}
 use Rattle.beet_bids.specs.Grids.{comparisons_of}
 use Rattle.beet_bids.specs.Books.{Book, IsBook}
-use Rattle.beet_bids.specs.Sums.{supply_at, demand_at}
+use Rattle.beet_bids.specs.Sums.{supply_at, demand_at, sums_of}
 use Rattle.beet_bids.specs.Outcomes.{clearing_place, outcome_of}
 use Rattle.beet_compare.specs.Compare.{is_doubled_even}
 use Rattle.beet_compare.proofs.Parity.{doubled_even-≤}
-use Rattle.beet_plan.specs.Auction.{Auction}
+use Rattle.beet_plan.specs.Auction.{auction_over}
 use Rattle.beet_plan.specs.Search.{place_found}
-use Rattle.beet_plan.specs.Runs.{AreMasks, RunEnds, found, sums_of, finish_of}
+use Rattle.beet_plan.specs.Runs.{AreMasks, RunEnds, found, finish_of}
 use Rattle.beet_plan.proofs.AuctionLaw.{below_comparisons}
 use Rattle.beet_plan.proofs.AuctionRuns.{auction-run}
-use Rattle.beet_plan.proofs.BookFacts.{book-turn, clearing-within, found-outcome, length-sums, sums-supply, sums-demand, sums-elements, small}
+use Rattle.beet_plan.proofs.BookFacts.{found-outcome}
+use Rattle.beet_bids.proofs.BookSums.{book-turn, clearing-within, length-sums, sums-supply, sums-demand, sums-elements, small}
 use Rattle.beet_plan.proofs.Searches.{place-turn}
 
 -- two tests agree where both say the same
@@ -26,10 +27,10 @@ same_test b s d e = elim (cases_Bool b) [
 ]
 
 pub book-run : (book : Book) (words : Trio (List ℕ)) → IsBook book → AreMasks words →
-    RunEnds (record { prices = book.grid.prices }) (sums_of book) words (clearing_place book) (finish_of (outcome_of book))
+    RunEnds (auction_over book.grid) (sums_of book) words (clearing_place book) (finish_of (outcome_of book))
 book-run book words b m =
     let prices = book.grid.prices in
-    let a : Auction = record { prices = prices } in
+    let a = auction_over book.grid in
     let inputs = sums_of book in
     let demand = λ (k : ℕ). slice_index inputs (prices + k) in
     let test = λ (k : ℕ). is_doubled_even (slice_index inputs k) (demand k) in

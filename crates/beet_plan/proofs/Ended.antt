@@ -1,14 +1,14 @@
 -- A script that follows a plan has ended exactly where the plan has.
-use Rattle.std.proofs.Common.{◌≡◌, ◌≢◌, ◌↔◌, ℕ, zero, suc, ◌+◌, ◌-◌, false, List, [], ◌∷◌, ◌++◌, length, refl, ap, sym, ◌∙◌, arith, append-nil, append_assoc, add-one}
+use Rattle.std.proofs.Common.{◌≡◌, ◌≢◌, ◌↔◌, ℕ, zero, suc, ◌+◌, ◌-◌, ◌≤◌, false, List, [], ◌∷◌, ◌++◌, length, Some, refl, ap, sym, ◌∙◌, arith, append-nil, append_assoc, add-one}
 use Rattle.std.specs.Prelude.{IsSome}
 use Rattle.beet_gates.specs.declared.Act.{Act}
 use Rattle.beet_gates.specs.declared.Act.TheVariants.{Deal, Mul, Reveal, End}
 use Rattle.beet_gates.specs.declared.Batch.{Batch}
 use Rattle.beet_gates.specs.Batches.{end_batch}
 use Rattle.beet_gates.specs.Clear.{is_end}
-use Rattle.beet_gates.specs.Plans.{Plan, Ended, Block, plan_batch, plan_finish, BlockStands, PlanStands, after_all}
+use Rattle.beet_gates.specs.Plans.{Plan, Ended, Block, Last, plan_batch, plan_finish, BlockStands, PlanStands, after_all}
 use Rattle.beet_gates.specs.Scripts.{Standing, after, revealed}
-use Rattle.beet_gates.proofs.PlanFacts.{Follows, follows-now, follows-tail, follows-next}
+use Rattle.beet_gates.proofs.PlanFacts.{Follows, finish-last, follows-last, opens-some, follows-now, follows-tail, follows-next}
 use Rattle.beet_plan.specs.Ends.{ComesTo, TellsEnd}
 
 -- each block has batches, of which the last and no other opens a number, whatever numbers are opened
@@ -20,6 +20,7 @@ Opens (b ∷ c ∷ bs) = (is_end b.act ≡ false) × (revealed b.act ≡ 0) × O
 unfoldable AllOpen : {F : Type 0} → Plan F → Type 0
 AllOpen (Ended f) = Unit {0}
 AllOpen (Block bs next) = Opens bs × ((x : ℕ) → AllOpen (next x))
+AllOpen (Last b n named) = (revealed b.act ≡ n) × (1 ≤ n)
 
 opens-stands : (s : Standing) (bs : List Batch) → BlockStands s bs → Opens bs
 unfolding BlockStands Opens
@@ -30,6 +31,7 @@ opens-stands s (b ∷ c ∷ bs) h = (h.1, h.2, opens-stands (after s b) (c ∷ b
 open-stands : {F : Type 0} (bounds : Standing) (n : ℕ) (s : Standing) (plan : Plan F) → PlanStands bounds n s plan → AllOpen plan
 unfolding PlanStands AllOpen
 open-stands bounds n s (Ended f) h = tt
+open-stands bounds n s (Last b k named) h = (h.2, h.3)
 open-stands bounds n s (Block bs next) h = (opens-stands s bs h.0, λ x. open-stands bounds (n - length bs) (after_all s bs) (next x) (h.3 x))
 
 module _ {F : Type 0} (next : ℕ → List ℕ → Batch) (whole : Plan F) where
@@ -44,12 +46,6 @@ module _ {F : Type 0} (next : ℕ → List ℕ → Batch) (whole : Plan F) where
   not_end (Mul pairs) h = λ e. cc e
   not_end (Reveal shown) h = λ e. cc e
   not_end End h = cc h
-
-  opens_one : (a : Act) → revealed a ≡ 1 → is_end a ≡ false
-  opens_one Deal h = absurd (omega arith)
-  opens_one (Mul pairs) h = absurd (omega arith)
-  opens_one (Reveal shown) h = refl
-  opens_one End h = absurd (omega arith)
 
   none : (xs : List ℕ) → length xs ≡ 0 → xs ≡ []
   none [] h = refl
@@ -68,6 +64,14 @@ module _ {F : Type 0} (next : ℕ → List ℕ → Batch) (whole : Plan F) where
   unfolding plan_batch
   now-ended f = refl
 
+  now-last : (b : Batch) (n : ℕ) (named : List ℕ → F) → plan_batch (Last b n named) 0 [] ≡ b
+  unfolding plan_batch
+  now-last b n named = refl
+
+  finish-ended : (f : F) (more : List ℕ) → plan_finish (Ended f) more ≡ Some f
+  unfolding plan_finish
+  finish-ended f more = refl
+
   finish-next : (b : Batch) (k : ℕ → Plan F) (x : ℕ) (more : List ℕ) → plan_finish (Block (b ∷ []) k) (x ∷ more) ≡ plan_finish (k x) more
   unfolding plan_finish
   finish-next b k x more = refl
@@ -85,6 +89,18 @@ module _ {F : Type 0} (next : ℕ → List ℕ → Batch) (whole : Plan F) where
   left-step done opened new (Ended f) l more len =
       let now : next done opened ≡ end_batch = follows-now next done opened (Ended f) l.follows ∙ now-ended f in
       absurd (more (ap (λ (b : Batch). b.act) now))
+  left-step done opened new (Last b k named) l more len =
+      let now : next done opened ≡ b = follows-now next done opened (Last b k named) l.follows ∙ now-last b k named in
+      let count : length new ≡ k = len ∙ ap (λ (b : Batch). revealed b.act) now ∙ l.opens.0 in (
+        Ended (named new),
+        record {
+          follows = follows-last next done opened new b k named l.follows;
+          opens = tt;
+          finish = λ xs.
+              let all : plan_finish (Last b k named) (new ++ xs) ≡ Some (named new) = rw (← count) (finish-last b named new xs) in
+              rw (append_assoc opened new xs) (l.finish (new ++ xs) ∙ all ∙ sym (finish-ended (named new) xs));
+        },
+      )
   left-step done opened new (Block [] k) l more len = absurd l.opens.0
   left-step done opened new (Block (b ∷ []) k) l more len =
       let now : next done opened ≡ b = follows-now next done opened (Block (b ∷ []) k) l.follows ∙ now-block b [] k in
@@ -124,9 +140,12 @@ module _ {F : Type 0} (next : ℕ → List ℕ → Batch) (whole : Plan F) where
       rw (e, follows-now next done opened plan l.follows) (by_plan plan l.opens) where
         by_plan : (q : Plan F) → AllOpen q → IsSome (plan_finish q []) ↔ ((plan_batch q 0 []).act ≡ End)
         by_plan (Ended f) o = (λ h. ap (λ (b : Batch). b.act) (now-ended f), λ h. refl)
+        by_plan (Last b zero named) o = absurd (omega (arith, o.1))
+        by_plan (Last b (suc n) named) o =
+            (λ h. cc h, λ h. absurd (not_end b.act (opens-some b.act (omega (arith, o.0))) (ap (λ (b : Batch). b.act) (sym (now-last b (suc n) named)) ∙ h)))
         by_plan (Block [] k) o = absurd o.0
         by_plan (Block (b ∷ []) k) o =
-            (λ h. cc h, λ h. absurd (not_end b.act (opens_one b.act o.0) (ap (λ (b : Batch). b.act) (sym (now-block b [] k)) ∙ h)))
+            (λ h. cc h, λ h. absurd (not_end b.act (opens-some b.act (omega (arith, o.0))) (ap (λ (b : Batch). b.act) (sym (now-block b [] k)) ∙ h)))
         by_plan (Block (b ∷ c ∷ bs) k) o =
             (λ h. cc h, λ h. absurd (not_end b.act o.0.0 (ap (λ (b : Batch). b.act) (sym (now-block b (c ∷ bs) k)) ∙ h)))
 

@@ -1,5 +1,6 @@
 pub mod Counts
 pub mod Searches
+pub mod BlockLaws
 pub mod BlockSteps
 pub mod AuctionEnd
 pub mod AuctionStands

@@ -4,14 +4,13 @@ use Rattle.beet_field.specs.declared.trio.Trio.{Trio}
 use Rattle.beet_words.specs.Words.{IsWord}
 use Rattle.beet_gates.specs.Clear.{clear_values, rounds_run}
 use Rattle.beet_gates.specs.Plans.{plan_finish}
-use Rattle.beet_gates.specs.declared.Gates.TheVariants.{Chain}
 use Rattle.beet_bids.specs.Books.{Book}
 use Rattle.beet_bids.specs.Grids.{places_of}
 use Rattle.beet_bids.specs.Sums.{supply_at, demand_at}
 use Rattle.beet_bids.specs.declared.outcomes.Outcome.{Outcome}
 use Rattle.beet_bids.specs.declared.outcomes.Outcome.TheVariants.{Price as OutcomePrice, No}
-use Rattle.beet_mask.specs.Mask.{mask_rounds_of}
-use Rattle.beet_compare.specs.Compare.{compare_rounds_of, is_doubled_even}
+use Rattle.beet_compare.specs.Compare.{is_doubled_even}
+use Rattle.beet_plan.specs.Blocks.{blocks_of}
 use Rattle.beet_plan.specs.Auction.{Auction, auction_plan, auction_batch, most_rounds}
 use Rattle.beet_plan.specs.Search.{path, place_found, mask_at, is_spent, dealt_until_spent, dealt_for}
 use Rattle.beet_plan.specs.declared.Finish.{Finish}
@@ -19,12 +18,13 @@ use Rattle.beet_plan.specs.declared.Finish.TheVariants.{Price, NoPrice, MasksSpe
 
 -- the number of rounds of a run whose search ends at z: of the masks that are dealt, of the comparisons with the accepted ones, and
 -- one that opens the volume
-abbrev pub run_rounds : ℕ → (ℕ → ℕ) → ℕ → ℕ
-run_rounds prices masks z =
-    let c = length (path prices z) in
+abbrev pub run_rounds : Auction → (ℕ → ℕ) → ℕ → ℕ
+run_rounds a masks z =
+    let blocks = blocks_of a.gates in
+    let c = length (path a.prices z) in
     if is_spent masks c then
-    mask_rounds_of Chain * dealt_until_spent masks c + compare_rounds_of Chain * (dealt_until_spent masks c - 3)
-    else mask_rounds_of Chain * dealt_for masks c + compare_rounds_of Chain * c + (if nat_lt z prices then 1 else 0)
+    blocks.mask_rounds * dealt_until_spent masks c + blocks.compare_rounds * (dealt_until_spent masks c - 3)
+    else blocks.mask_rounds * dealt_for masks c + blocks.compare_rounds * c + (if nat_lt z a.prices then 1 else 0)
 
 -- the finish of a run whose search ends at z, where it is not spent
 abbrev pub found : ℕ → (ℕ → ℕ) → ℕ → Finish
@@ -50,15 +50,11 @@ rounds_of_run a inputs words = rounds_run (auction_batch a) (most_rounds a) inpu
 -- the run on these inputs and mask words ends with this finish, unless it is spent, and has the rounds of a search that ends at z
 pub record RunEnds (a : Auction) (inputs : List ℕ) (words : Trio (List ℕ)) (z : ℕ) (finish : Finish) : Type 0 where
   pub ends : finish_run a inputs words ≡ Some (run_finish a.prices (mask_at words) z finish)
-  pub rounds : rounds_of_run a inputs words ≡ run_rounds a.prices (mask_at words) z
+  pub rounds : rounds_of_run a inputs words ≡ run_rounds a (mask_at words) z
 
 -- the place at which a search over any inputs ends: a comparison answers whether twice the difference there is even
 abbrev pub place_of_inputs : Auction → List ℕ → ℕ
 place_of_inputs a inputs = place_found a.prices (λ k. is_doubled_even (slice_index inputs k) (slice_index inputs (a.prices + k)))
-
--- what a book puts in: the supply at each place, and then the demand at each place
-abbrev pub sums_of : Book → List ℕ
-sums_of book = map (supply_at book.bidders) (places_of book.grid) ++ map (demand_at book.bidders) (places_of book.grid)
 
 -- the finish that tells an outcome
 abbrev pub finish_of : Outcome → Finish

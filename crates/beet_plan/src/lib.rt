@@ -3,6 +3,12 @@
 
 use beet_field::Fe;
 
+/// The most numbers that each server draws for a mask and the comparison with it, whatever the gates.
+pub const MASK_COEFFICIENTS: u32 = 512;
+
+/// Words that are kept of a tape beyond the numbers that are wanted of it, for words that are passed over.
+pub const SPARE_WORDS: u32 = 8;
+
 /// How a run ends.
 #[derive(Clone, Copy, PartialEq, Eq, Debug)]
 pub enum Finish {

@@ -14,14 +14,16 @@ use Rattle.beet_gates.proofs.EachFacts.{length-each, get-each}
 use Rattle.beet_gates.specs.Each.{each}
 use Rattle.beet_gates.specs.Scripts.{Standing, LawFrom, bounds_of, start_of}
 use Rattle.beet_gates.specs.declared.Act.{Act}
+use Rattle.beet_gates.specs.declared.Gates.TheVariants.{Chain}
 use Rattle.beet_gates.specs.declared.Act.TheVariants.{Deal, Mul, Reveal, End}
 use Rattle.beet_bids.specs.Books.{Book, IsBook}
 use Rattle.beet_bids.specs.Curves.{Curve, IsCurve}
 use Rattle.beet_bids.specs.Grids.{Grid, IsGrid}
 use Rattle.beet_bids.specs.declared.book.Bidder.{Bidder}
+use Rattle.beet_bids.specs.declared.grid.TheConstants.{MOST_PRICES}
 use Rattle.beet_bids.proofs.GridFacts.{comparisons-le}
-use Rattle.beet_plan.specs.Auction.{Auction, most_rounds, most_wires, most_masks as most_dealt, most_coefficients as most_drawn}
-use Rattle.beet_plan.specs.Runs.{sums_of}
+use Rattle.beet_plan.specs.Auction.{Auction, most_rounds, most_wires, most_masks as most_dealt, most_coefficients as most_drawn, auction_over}
+use Rattle.beet_bids.specs.Sums.{sums_of}
 use Rattle.beet_plan.proofs.AuctionLaw.{auction-law}
 use Rattle.beet_round.specs.Sides.{peer}
 use Rattle.beet_round.specs.declared.sides.Side.TheVariants.{Low, High}
@@ -29,19 +31,23 @@ use Rattle.beet_server.proofs.LinesLaw.{at-one, lets-on-lines}
 use Rattle.beet_server.proofs.Rounds.{lawful-rounds, rounds-within}
 use Rattle.beet_server.specs.Rounds.{HasInputs}
 use Rattle.beet_server.specs.Runs.{Opening, Shared, coming, hidden_at, message, sent_for, shared_at, standing_at}
-use Rattle.beet_auction.specs.Openings.{Farmer, auction_over, book_of, farmers_of, point_for}
+use Rattle.beet_book.specs.Farmers.{Farmer, book_of, farmers_of, point_for}
 use Rattle.beet_auction.proofs.BookLines.{book-lines, slopes_of}
 use Rattle.beet_load.specs.Wholes.{CanRun}
 use Rattle.beet_load.proofs.FarmerLists.{farmers-bidders}
-use Rattle.beet_view.specs.BookViews.{names, seen_at}
+use Rattle.beet_view.specs.BookViews.{names, seen_at, view_for}
 use Rattle.beet_view.specs.RunViews.{round_seen}
-use Rattle.beet_view.specs.Transcripts.{most_words, most_masks, most_coefficients, IsMessage, FitsFile, HasNumbers, HasElements, AreNumbers, view_bytes, view_in}
+use Rattle.beet_plan.specs.Kept.{words_kept, masks_kept, coefficients_kept}
+use Rattle.beet_view.specs.declared.reading.TheConstants.{MOST_ROUNDS}
+use Rattle.beet_view.specs.Transcripts.{IsMessage, FitsFile, HasNumbers, HasElements, AreNumbers, view_bytes, view_in}
 use Rattle.beet_view.specs.Views.{IsView}
 use Rattle.beet_view.proofs.ViewAgain.{view_in-view}
 use Rattle.beet_view.proofs.ViewLength.{view_bytes-short}
 use Rattle.beet_view.specs.declared.view.Seen.{Seen}
-use Rattle.beet_record.specs.BookRuns.{opening_for, rounds_for, view_for}
+use Rattle.beet_auction.specs.Openings.{opening_for, rounds_for}
 use Rattle.beet_record.proofs.HasRuns.{is-book, inputs-long, seen-all}
+use Rattle.beet_book.specs.declared.book_file.TheConstants.{MOST_PRODUCT}
+use Rattle.beet_forms.specs.declared.faults.TheConstants.{LONGEST_FILE}
 
 -- what holds at each place holds of all items
 each-all : {A : Type 0} (P : A → Type 0) (f : ℕ → A) (n : ℕ) → ((k : ℕ) → k < n → P (f k)) → All P (each f n)
@@ -81,6 +87,12 @@ sent-elements o s (Mul pairs) from to small = each-all IsElement (hidden_at o s 
 sent-elements o s (Reveal shown) from to small = All-map IsElement (slice_index (member s.wires from)) shown.items (λ k d lt. small _)
 sent-elements o s End from to small = All-nil IsElement
 
+-- an auction with chains of gates has no more rounds than a transcript holds
+rounds-few : (a : Auction) → a.gates ≡ Chain → a.prices ≤ MOST_PRICES → most_rounds a ≤ MOST_ROUNDS
+rounds-few a chain few =
+    let comparisons = comparisons-le a.prices 13 (omega (arith, few)) in
+    rw chain (omega (arith, comparisons))
+
 module _ (book : Book) (words : Words) (g : IsGrid book.grid) (b : IsBook book) (can : CanRun book words) where
   abbrev auction : Auction
   auction = auction_over book.grid
@@ -97,11 +109,11 @@ module _ (book : Book) (words : Words) (g : IsGrid book.grid) (b : IsBook book) 
   inputs : HasInputs (opening_for book words) (2 * book.grid.prices)
   inputs = inputs-long book words b can (opening_for book words).inputs refl
 
-  few-rounds : rounds_for book words ≤ 4096
+  few-rounds : rounds_for book words ≤ MOST_ROUNDS
   few-rounds =
       let most = (lawful-rounds (opening_for book words) bounds (most_rounds auction) (2 * book.grid.prices) law).1 in
-      let comparisons = comparisons-le book.grid.prices 13 (omega (arith, g.prices_limit)) in
-      omega (arith, most, comparisons)
+      let few = rounds-few auction can.gates (omega (arith, g.prices_limit)) in
+      omega (arith, most, few)
 
   message-fits : (from to : Point) (t : ℕ) → t < rounds_for book words → IsMessage (message (opening_for book words) from to t)
   message-fits from to t lt =
@@ -109,18 +121,18 @@ module _ (book : Book) (words : Words) (g : IsGrid book.grid) (b : IsBook book) 
       let many = round.numbers from to in
       (omega (arith, many, round.some), omega (arith, many, round.few))
 
-  few-words : (s : Point) → All (λ (seen : Seen). IfSome seen.own (λ own. length own.1 ≤ most_words book.grid.prices)) (map (seen_at book.grid s) farmers)
+  few-words : (s : Point) → All (λ (seen : Seen). IfSome seen.own (λ own. length own.1 ≤ words_kept book.grid.prices)) (map (seen_at book.grid s) farmers)
   few-words s =
-      let kept = farmers-all (λ bidder. IsCurve bidder.curve) (λ list. length list ≤ most_words book.grid.prices) book.bidders words.bidders b.curves (λ k d lt. (can.bidders k d lt).kept) in
-      All-map (λ (seen : Seen). IfSome seen.own (λ own. length own.1 ≤ most_words book.grid.prices)) (seen_at book.grid s) farmers
-      (λ k d lt. own-kept (λ own. length own.1 ≤ most_words book.grid.prices) (names _ s) _ (kept k d lt).1)
+      let kept = farmers-all (λ bidder. IsCurve bidder.curve) (λ list. length list ≤ words_kept book.grid.prices) book.bidders words.bidders b.curves (λ k d lt. (can.bidders k d lt).kept) in
+      All-map (λ (seen : Seen). IfSome seen.own (λ own. length own.1 ≤ words_kept book.grid.prices)) (seen_at book.grid s) farmers
+      (λ k d lt. own-kept (λ own. length own.1 ≤ words_kept book.grid.prices) (names _ s) _ (kept k d lt).1)
 
-  few-masks : (s : Point) → length (member words.masks s) ≤ most_masks book.grid.prices
+  few-masks : (s : Point) → length (member words.masks s) ≤ masks_kept book.grid
   few-masks One = can.cut.one.masks
   few-masks Two = can.cut.two.masks
   few-masks Three = can.cut.three.masks
 
-  few-coefficients : (s : Point) → length (member words.coefficients s) ≤ most_coefficients book.grid.prices
+  few-coefficients : (s : Point) → length (member words.coefficients s) ≤ coefficients_kept book.grid
   few-coefficients One = can.cut.one.coefficients
   few-coefficients Two = can.cut.two.coefficients
   few-coefficients Three = can.cut.three.coefficients
@@ -130,12 +142,12 @@ module _ (book : Book) (words : Words) (g : IsGrid book.grid) (b : IsBook book) 
       ap length (farmers-bidders book.bidders words.bidders can.lists) ∙ length-map farmers (λ (farmer : Farmer). farmer.bidder)
       ∙ sym (length-map farmers (seen_at book.grid s))
 
-  pub view-fits : length book.bidders * book.grid.prices ≤ 500000 → (s : Point) → FitsFile (view_for book words s)
+  pub view-fits : length book.bidders * book.grid.prices ≤ MOST_PRODUCT → (s : Point) → FitsFile (view_for book words s)
   view-fits product s =
       let o = opening_for book words in
       let many = length-each (round_seen o s) (rounds_for book words) in
       record {
-        product = subst (λ n. n * book.grid.prices ≤ 500000) (same-count s) product;
+        product = subst (λ n. n * book.grid.prices ≤ MOST_PRODUCT) (same-count s) product;
         words = few-words s;
         masks = few-masks s;
         coefficients = few-coefficients s;
@@ -153,7 +165,7 @@ module _ (book : Book) (words : Words) (g : IsGrid book.grid) (b : IsBook book) 
         rounds = omega (arith, many, few-rounds);
       }
 
-  pub view-short : length book.bidders * book.grid.prices ≤ 500000 → (s : Point) → length (view_bytes (view_for book words s)) ≤ 67108864
+  pub view-short : length book.bidders * book.grid.prices ≤ MOST_PRODUCT → (s : Point) → length (view_bytes (view_for book words s)) ≤ LONGEST_FILE
   view-short product s = view_bytes-short (view_for book words s) g (view-is s) (view-fits product s)
 
   -- the points of all servers are numbers of the field
@@ -197,5 +209,5 @@ module _ (book : Book) (words : Words) (g : IsGrid book.grid) (b : IsBook book) 
     }
 
     -- so its transcript is read as the view
-    pub view-again : length book.bidders * book.grid.prices ≤ 500000 → (s : Point) → view_in (view_bytes (view_for book words s)) ≡ Ok (view_for book words s)
+    pub view-again : length book.bidders * book.grid.prices ≤ MOST_PRODUCT → (s : Point) → view_in (view_bytes (view_for book words s)) ≡ Ok (view_for book words s)
     view-again product s = view_in-view (view_for book words s) (view-is s) (view-fits product s) (numbers-of s)

@@ -15,10 +15,10 @@ use Rattle.beet_bids.specs.Books.{Book, IsBook}
 use Rattle.beet_bids.specs.Curves.{Curve, IsOfGrid}
 use Rattle.beet_bids.specs.Grids.{Grid}
 use Rattle.beet_bids.specs.declared.book.Bidder.{Bidder}
-use Rattle.beet_plan.specs.Auction.{Auction, auction_batch, auction_plan, most_rounds}
+use Rattle.beet_plan.specs.Auction.{Auction, auction_batch, auction_plan, most_rounds, auction_over}
 use Rattle.beet_plan.specs.Runs.{AreMasks}
 use Rattle.beet_plan.specs.declared.Finish.{Finish}
-use Rattle.beet_plan.proofs.BookFacts.{length-sums}
+use Rattle.beet_bids.proofs.BookSums.{length-sums}
 use Rattle.beet_server.proofs.EventFacts.{same_is, not_same}
 use Rattle.beet_server.specs.Cores.{Core, has_ended, opening_of}
 use Rattle.beet_server.specs.Events.{Delivered, same}
@@ -26,21 +26,22 @@ use Rattle.beet_server.specs.Fits.{Fits}
 use Rattle.beet_server.specs.Runs.{Opening, rounds_among}
 use Rattle.beet_world.specs.Lockstep.{HaveEnded, IsAtRound}
 use Rattle.beet_auction.specs.Endings.{AuctionEnds, book_finish, book_rounds}
-use Rattle.beet_auction.specs.Openings.{Farmer, auction_over, book_inputs, book_of, farmers_of, point_for}
+use Rattle.beet_book.specs.Farmers.{Farmer, book_inputs, book_of, farmers_of, point_for}
+use Rattle.beet_auction.specs.Openings.{inputs_of, opening_for, rounds_for}
 use Rattle.beet_auction.proofs.BookLines.{book-lines, slopes_of}
 use Rattle.beet_auction.proofs.Ends.{book-ends}
 use Rattle.beet_load.specs.Servers.{ServerWords, AreCut, HaveEnough, masks_of, cut_servers}
 use Rattle.beet_load.specs.Wholes.{CanRun, by_server}
 use Rattle.beet_load.proofs.FarmerLists.{farmers-bidders}
-use Rattle.beet_run.specs.Runs.{EndsAuction, Starts, inputs_of, opening_with}
+use Rattle.beet_run.specs.Runs.{EndsAuction, Starts, opening_with}
 use Rattle.beet_run.proofs.BookRuns.{one-end}
 use Rattle.beet_run.proofs.Ending.{ends-auction}
-use Rattle.beet_view.specs.BookViews.{names, seen_at}
+use Rattle.beet_view.specs.BookViews.{names, seen_at, view_for}
 use Rattle.beet_view.specs.RunViews.{view_of_run}
 use Rattle.beet_view.specs.Transcripts.{view_bytes}
 use Rattle.beet_view.specs.Views.{IsSeenAt, Viewed}
 use Rattle.beet_view.specs.declared.view.Seen.{Seen}
-use Rattle.beet_record.specs.BookRuns.{CanShow, HasRun, Ran, opening_for, rounds_for, view_for}
+use Rattle.beet_record.specs.BookRuns.{CanShow, HasRun, Ran}
 
 -- words that are cut already are those of the tapes
 pub cut-same : (grid : Grid) (words : Words) → AreCut grid (by_server words) → cut_servers grid words ≡ by_server words

@@ -1,55 +1,30 @@
 -- How the job `record` ends.
-use Rattle.std.proofs.Common.{◌≡◌, ℕ, List, Option, Result, Ok, Err, IfOk, IfErr, inl, inr, refl, [], ◌∷◌, length, sym, ap, ◌∙◌, Vec, Global}
+use Rattle.std.proofs.Common.{◌≡◌, ℕ, List, Result, Ok, Err, IfOk, inl, inr, refl, [], ◌∷◌, length, sym, ap, ◌∙◌, Vec, Global}
 use Rattle.beet_field.specs.Trio.{member}
 use Rattle.beet_field.specs.declared.point.Point.{Point}
 use Rattle.beet_field.specs.declared.point.Point.TheVariants.{One, Two, Three}
 use Rattle.beet_field.specs.declared.trio.Trio.{Trio}
 use Rattle.beet_bids.specs.Books.{Book}
 use Rattle.beet_bids.specs.Grids.{Grid}
-use Rattle.beet_store.specs.Files.{File, Told}
-use Rattle.beet_errand.specs.Errands.{Answer, Errand, Ends}
-use Rattle.beet_errand.specs.Fetches.{Went, Stops, Finishes, IsDone}
+use Rattle.beet_store.specs.Files.{File}
+use Rattle.beet_errand.specs.Errands.{Answer}
+use Rattle.beet_errand.specs.Fetches.{IsDone}
 use Rattle.beet_errand.specs.declared.answer.Stop.{Stop}
-use Rattle.beet_errand.specs.declared.answer.Stop.TheVariants.{Refused, OutOfMemory}
 use Rattle.beet_auction.specs.Endings.{book_finish, book_rounds}
-use Rattle.beet_auction.specs.Openings.{book_of as book_with, farmers_of}
+use Rattle.beet_book.specs.Farmers.{book_of as book_with, farmers_of}
 use Rattle.beet_plan.specs.declared.Finish.{Finish}
 use Rattle.beet_plan.specs.declared.Finish.TheVariants.{Price, NoPrice, MasksSpent}
 use Rattle.beet_load.specs.Loading.{Loaded}
 use Rattle.beet_load.specs.Servers.{masks_of}
-use Rattle.beet_load.specs.Wholes.{limited_errand}
 use Rattle.beet_load.specs.WholeViews.{loaded_of}
 use Rattle.beet_load.specs.declared.whole.Whole.{Whole}
 use Rattle.beet_run.specs.Outcomes.{outcome_answer, status_of}
 use Rattle.beet_view.specs.Transcripts.{view_bytes}
-use Rattle.beet_record.specs.BookRuns.{HasRun, Ran, view_for}
+use Rattle.beet_record.specs.BookRuns.{HasRun, Ran}
+use Rattle.beet_view.specs.BookViews.{view_for}
 use Rattle.beet_record.proofs.HasRuns.{same-book}
-use Rattle.beet_record.specs.Records.{file_for, record_errand, recorded_answer, transcript_file}
-
--- memory ran out after the auction was read
-pub record_runs_out : (old now : Option Told) (auction servers book out : List ℕ) (loaded : Loaded) →
-    ((next : Loaded → Errand) → Went old now (limited_errand auction servers book next) (next loaded)) →
-    Finishes old now (record_errand auction servers book out) (Err OutOfMemory)
-record_runs_out old now auction servers book out loaded w = (Ends (recorded_answer out loaded), w (λ l. Ends (recorded_answer out l)))
-
--- the auction could not be read
-pub record_stops : (old now : Option Told) (auction servers book out : List ℕ) (stop : Stop) →
-    Stops old now (limited_errand auction servers book) stop → Finishes old now (record_errand auction servers book out) (Err stop)
-record_stops old now auction servers book out (Refused status line) s = s (λ l. Ends (recorded_answer out l))
-record_stops old now auction servers book out OutOfMemory s = s (λ l. Ends (recorded_answer out l))
-
--- the reply of an auction that is read ends the job
-pub record_ends : (old now : Option Told) (auction servers book out : List ℕ) (loaded : Loaded) (result : Result Answer Stop) →
-    ((next : Loaded → Errand) → Went old now (limited_errand auction servers book next) (next loaded)) →
-    IfOk result (λ answer. answer ≡ recorded_answer out loaded) → IfErr result (λ stop. stop ≡ OutOfMemory) →
-    Finishes old now (record_errand auction servers book out) result
-record_ends old now auction servers book out loaded (Ok answer) w made memory = rw made (w (λ l. Ends (recorded_answer out l)))
-record_ends old now auction servers book out loaded (Err stop) w made memory = rw memory (record_runs_out old now auction servers book out loaded w)
-
-status-done : (finish : Finish) → IsDone (status_of finish)
-status-done (Price place volume) = inl refl
-status-done NoPrice = inl refl
-status-done MasksSpent = inr refl
+use Rattle.beet_record.specs.Records.{file_for, recorded_answer, transcript_file}
+use Rattle.beet_run.proofs.StatusFacts.{status-done}
 
 -- and its status is that of a job that is done
 pub record_done : (out : List ℕ) (loaded : Loaded) (result : Result Answer Stop) → IfOk result (λ answer. answer ≡ recorded_answer out loaded) →

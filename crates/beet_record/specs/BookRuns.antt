@@ -6,15 +6,16 @@ use Rattle.beet_field.specs.declared.trio.Trio.{Trio}
 use Rattle.beet_words.specs.Bundles.{Words}
 use Rattle.beet_bids.specs.Books.{Book}
 use Rattle.beet_bids.specs.Grids.{Grid}
-use Rattle.beet_plan.specs.Auction.{Auction, auction_batch, most_rounds}
+use Rattle.beet_plan.specs.Auction.{Auction, auction_batch}
 use Rattle.beet_plan.specs.declared.Finish.{Finish}
 use Rattle.beet_server.specs.Cores.{Core, has_ended}
-use Rattle.beet_server.specs.Runs.{Opening, rounds_among}
 use Rattle.beet_world.specs.Lockstep.{IsAtRound}
 use Rattle.beet_auction.specs.Endings.{book_finish, book_rounds}
-use Rattle.beet_auction.specs.Openings.{auction_over, book_opening, farmers_of}
-use Rattle.beet_view.specs.BookViews.{seen_at, view_of_book}
-use Rattle.beet_view.specs.Views.{IsSeenAt, Viewed}
+use Rattle.beet_auction.specs.Openings.{opening_for, rounds_for}
+use Rattle.beet_book.specs.Farmers.{farmers_of}
+use Rattle.beet_view.specs.BookViews.{seen_at}
+use Rattle.beet_view.specs.Views.{IsSeenAt}
+use Rattle.beet_bids.specs.declared.book.TheConstants.{MOST_BIDDERS}
 use Rattle.beet_view.specs.declared.view.Seen.{Seen}
 
 -- three servers that have ended: the grid of their auction, the bidders as each sees them, how the run ended, and after how many rounds
@@ -27,22 +28,10 @@ pub record Ran : Type 0 where
 
 -- the view of each server can be shown
 pub record CanShow (ran : Ran) : Type 0 where
-  pub few : (s : Point) → length (member ran.seen s) ≤ 2000
+  pub few : (s : Point) → length (member ran.seen s) ≤ MOST_BIDDERS
   pub seen : (s : Point) → All (IsSeenAt s ran.grid) (member ran.seen s)
   pub name : (s : Point) → (member ran.cores s).me ≡ s
   pub ended : (s : Point) → has_ended auction_batch (member ran.cores s) ≡ true
-
--- the opening of the auction of a book with these words
-abbrev pub opening_for : Book → Words → Opening
-opening_for book words = book_opening book.grid (farmers_of book.bidders words.bidders) words.masks words.coefficients
-
--- what a server sees of it
-abbrev pub view_for : Book → Words → Point → Viewed
-view_for book words s = view_of_book book.grid (farmers_of book.bidders words.bidders) words.masks words.coefficients s
-
--- the rounds of its run
-abbrev pub rounds_for : Book → Words → ℕ
-rounds_for book words = rounds_among (opening_for book words) (most_rounds (auction_over book.grid))
 
 -- three servers have run the auction of this book with these words to its end
 pub record HasRun (book : Book) (words : Words) (ran : Ran) : Type 0 where

@@ -6,7 +6,7 @@ use Rattle.beet_field.specs.declared.trio.Trio.{Trio}
 use Rattle.beet_bids.specs.Curves.{Curve}
 use Rattle.beet_bids.specs.Grids.{Grid}
 use Rattle.beet_book.specs.Totals.{Totals}
-use Rattle.beet_auction.specs.Openings.{Farmer, summed_points}
+use Rattle.beet_book.specs.Farmers.{Farmer, summed_points}
 use Rattle.beet_view.specs.BookViews.{names, seen_at}
 use Rattle.beet_view.specs.declared.view.Seen.{Seen}
 

@@ -5,8 +5,8 @@ use Rattle.beet_field.specs.declared.point.Point.{Point}
 use Rattle.beet_field.specs.declared.point.Point.TheVariants.{One, Two, Three}
 use Rattle.beet_store.specs.Files.{File}
 use Rattle.beet_auction.specs.Endings.{book_finish, book_rounds}
-use Rattle.beet_auction.specs.Openings.{book_of as book_with}
-use Rattle.beet_errand.specs.Errands.{Answer, Errand, Ends}
+use Rattle.beet_book.specs.Farmers.{book_of as book_with}
+use Rattle.beet_errand.specs.Errands.{Answer, Errand, Ends, Step, gives, ◌>>=◌}
 use Rattle.beet_load.specs.Loading.{Loaded}
 use Rattle.beet_load.specs.Servers.{masks_of, coefficients_of}
 use Rattle.beet_load.specs.Wholes.{limited_errand}
@@ -32,5 +32,11 @@ recorded_answer out loaded =
     }
 
 -- the whole job
+abbrev pub record_job : List ℕ → List ℕ → List ℕ → List ℕ → Step Answer
+record_job auction servers book out = do
+  loaded ← limited_errand auction servers book
+  gives (recorded_answer out loaded)
+
+-- what it does outside
 abbrev pub record_errand : List ℕ → List ℕ → List ℕ → List ℕ → Errand
-record_errand auction servers book out = limited_errand auction servers book (λ loaded. Ends (recorded_answer out loaded))
+record_errand auction servers book out = record_job auction servers book out Ends

@@ -4,7 +4,7 @@ ghost use Rattle.std.specs.Prelude.{◌≡◌, ◌≤◌, ◌*◌, ◌++◌, ◌
 ghost use Rattle.beet_field.specs.Trio.{member};
 ghost use Rattle.beet_field.specs.declared.point.Point.{Point as Server};
 ghost use Rattle.beet_bids.specs.Curves.{IsOfGrid};
-ghost use Rattle.beet_auction.specs.Openings.{Farmer, book_inputs, farmers_of};
+ghost use Rattle.beet_book.specs.Farmers.{Farmer, book_inputs, farmers_of};
 ghost use Rattle.beet_load.specs.Wholes.{CanDeal};
 ghost use Rattle.beet_view.specs.BookViews.{seen_at};
 ghost use Rattle.beet_record.specs.DealtBooks.{HasDealt, own_at, seen_with};

@@ -1,11 +1,10 @@
 //! The job `record`.
 
-ghost use Rattle.std.specs.Prelude.{◌≡◌, ◌≤◌, ◌∷◌, [], IfErr, IfOk, string_bytes};
+ghost use Rattle.std.specs.Prelude.{◌≡◌, ◌∷◌, [], IfErr, IfOk, string_bytes};
 ghost use Rattle.beet_field.specs.declared.point.Point.TheVariants.{One, Two, Three};
-ghost use Rattle.beet_errand.specs.Fetches.{Causes, Finishes, IsDone};
-ghost use Rattle.beet_load.specs.Wholes.{CanRun};
+ghost use Rattle.beet_errand.specs.Fetches.{IsDone, Reads};
 ghost use Rattle.beet_load.specs.WholeViews.{loaded_of};
-ghost use Rattle.beet_record.specs.Records.{file_for, record_errand, recorded_answer};
+ghost use Rattle.beet_record.specs.Records.{file_for, record_job, recorded_answer};
 
 use crate::running::run_whole;
 use beet_errand::{NewFile, Reply, Stop};
@@ -58,7 +57,6 @@ fn transcript_files(
 
 /// The reply for an auction that is read. What was read is dropped after the run.
 fn reply_for(alloc: Global, whole: Whole, out: &str) -> Result<Reply, Stop>
-    requires { CanRun whole.book whole.words }
     ensures memory { IfErr result (λ stop. stop ≡ Stop.OutOfMemory) }
     ensures reply { IfOk result (λ reply. reply ≡ recorded_answer out.now (loaded_of whole)) }
 {
@@ -84,11 +82,9 @@ pub fn record<S: Shelf>(
     book: &str,
     out: &str,
 ) -> Result<Reply, Stop>
-    ensures later { S.faults shelf.old ≤ S.faults shelf.new }
-    ensures cause { IfErr result (λ stop. Causes (S.faults shelf.old) (S.faults shelf.new) stop) }
     ensures done { IfOk result (λ reply. IsDone reply.status) }
-    ensures finishes { Finishes (S.told shelf.old) (S.told shelf.new)
-        (record_errand auction.now servers.now book.now out.now) result }
+    ensures reads { Reads (λ reply. reply) (S.seen shelf.old) (S.seen shelf.new)
+        (record_job auction.now servers.now book.now out.now) result }
 {
     let whole = load_whole(alloc, shelf, auction, servers, book)?;
     reply_for(alloc, whole, out)

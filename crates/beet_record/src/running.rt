@@ -15,7 +15,9 @@ ghost use Rattle.beet_load.specs.Wholes.{CanRun};
 ghost use Rattle.beet_view.specs.RunViews.{view_of_run};
 ghost use Rattle.beet_view.specs.Transcripts.{view_bytes};
 ghost use Rattle.beet_view.specs.Views.{IsSeenAt};
-ghost use Rattle.beet_record.specs.BookRuns.{HasRun, view_for};
+ghost use Rattle.beet_record.specs.BookRuns.{HasRun};
+ghost use Rattle.beet_view.specs.BookViews.{view_for};
+ghost use Rattle.beet_bids.specs.declared.book.TheConstants.{MOST_BIDDERS};
 
 use crate::dealing::{SeenByAll, deal_book};
 use beet_bids::{Book, Grid};
@@ -55,7 +57,8 @@ impl Model for Ran {
 }
 
 impl Ran {
-    ghost use Rattle.beet_record.specs.BookRuns.{HasRun, view_for};
+    ghost use Rattle.beet_record.specs.BookRuns.{HasRun};
+    ghost use Rattle.beet_view.specs.BookViews.{view_for};
 
     /// The grid of the auction.
     pub fn grid(&self) -> &Grid
@@ -109,7 +112,7 @@ fn transcript_of(
     bidders: Vec<Seen>,
 ) -> Result<Vec<u8>, AllocError>
     requires ended { has_ended auction_batch core.now ≡ true }
-    requires few { length bidders.items ≤ 2000 }
+    requires few { length bidders.items ≤ MOST_BIDDERS }
     requires seen { All (IsSeenAt core.now.me grid.now) bidders.items }
     ensures { (o : Opening) (x : Delivered) → Fits auction_batch o x core.now
         → IfOk result (λ file. file.items ≡ view_bytes (view_of_run o core.now.me core.now.round grid.now

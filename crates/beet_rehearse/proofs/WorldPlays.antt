@@ -3,17 +3,18 @@ use Rattle.std.proofs.Common.{◌≡◌, ℕ, List, refl, sym, ◌∙◌, ap, su
 use Rattle.beet_field.specs.declared.point.Point.TheVariants.{One, Two, Three}
 use Rattle.beet_field.specs.declared.trio.Trio.{Trio}
 use Rattle.beet_auction.specs.Endings.{AuctionEnds}
-use Rattle.beet_auction.specs.Openings.{auction_over}
+use Rattle.beet_plan.specs.Auction.{auction_over, Auction, auction_batch, most_rounds}
+use Rattle.beet_auction.specs.Openings.{inputs_of}
+use Rattle.beet_auction.specs.WorldEnds.{auction_in}
 use Rattle.beet_bids.specs.Grids.{Grid}
 use Rattle.beet_load.specs.Servers.{ServerWords}
-use Rattle.beet_plan.specs.Auction.{Auction, auction_batch, most_rounds}
 use Rattle.beet_plan.specs.declared.Finish.{Finish}
-use Rattle.beet_run.specs.Runs.{Starts, inputs_of, opening_with}
+use Rattle.beet_run.specs.Runs.{Starts, opening_with}
 use Rattle.beet_server.specs.Cores.{Core, opening_of}
 use Rattle.beet_server.specs.Events.{Triple, after, after_from, nothing, undelivered}
 use Rattle.beet_server.specs.Runs.{rounds_among}
 use Rattle.beet_world.specs.Marks.{unmarked}
-use Rattle.beet_world.specs.Worlds.{World, delivered_in, opening_in, rounds_in}
+use Rattle.beet_world.specs.Worlds.{World, delivered_in, rounds_in}
 use Rattle.beet_world.proofs.MarkFacts.{set-unmarked}
 use Rattle.beet_rehearse.specs.Rehearsing.{Rehearses}
 use Rattle.beet_rehearse.specs.Standings.{standing_of}
@@ -23,7 +24,7 @@ use Rattle.beet_field.specs.declared.point.Point.{Point}
 -- how a server in a world stands is told, once it is known how its run ends
 abbrev pub Tells : World Auction → Point → Standing → Type 0
 Tells w s standing = (rounds : ℕ) (finish : Finish) →
-    AuctionEnds w.start.one.script (opening_in auction_batch inputs_of most_rounds w) rounds finish →
+    AuctionEnds w.start.one.script (auction_in w) rounds finish →
     standing ≡ standing_of finish rounds (delivered_in w) s
 
 module _ (grid : Grid) (inputs : Trio (List ℕ)) (words : Trio ServerWords) (cores : Trio (Core Auction)) (s : Starts grid inputs words cores)
@@ -37,14 +38,14 @@ module _ (grid : Grid) (inputs : Trio (List ℕ)) (words : Trio ServerWords) (co
   script_is : new.start.one.script ≡ auction_over grid
   script_is = ap (λ t. t.one.script) started ∙ s.script One
 
-  opening_is : opening_in auction_batch inputs_of most_rounds new ≡ opening_with grid inputs words
+  opening_is : auction_in new ≡ opening_with grid inputs words
   opening_is = ap (opening_of auction_batch inputs_of) started ∙ s.opening
 
   module _ (rounds : ℕ) (finish : Finish) (e : AuctionEnds (auction_over grid) (opening_with grid inputs words) rounds finish) where
     -- the run of the world ends so
-    ends-so : AuctionEnds new.start.one.script (opening_in auction_batch inputs_of most_rounds new) rounds finish
+    ends-so : AuctionEnds new.start.one.script (auction_in new) rounds finish
     ends-so =
-        subst (λ a. AuctionEnds a (opening_in auction_batch inputs_of most_rounds new) rounds finish) (sym script_is)
+        subst (λ a. AuctionEnds a (auction_in new) rounds finish) (sym script_is)
         (subst (λ o. AuctionEnds (auction_over grid) o rounds finish) (sym opening_is) e)
 
     rounds-new : rounds_in auction_batch inputs_of most_rounds new ≡ rounds

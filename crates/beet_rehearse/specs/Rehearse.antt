@@ -1,9 +1,9 @@
 -- The job `rehearse`: how three servers stand in the auction of a book once the messages of a schedule are delivered.
 use Rattle.std.specs.Prelude.{ℕ, List, ◌||◌, if◌then◌else◌, Bool, true, false}
 use Rattle.beet_auction.specs.Endings.{book_finish, book_rounds}
-use Rattle.beet_auction.specs.Openings.{book_of as book_with}
+use Rattle.beet_book.specs.Farmers.{book_of as book_with}
 use Rattle.beet_bids.specs.Grids.{Grid}
-use Rattle.beet_errand.specs.Errands.{Answer, Errand, Ends, reads, text_answer}
+use Rattle.beet_errand.specs.Errands.{Answer, Errand, Ends, Step, ◌>>=◌, gives, reads, text_answer}
 use Rattle.beet_errand.specs.declared.answer.Status.{Status}
 use Rattle.beet_errand.specs.declared.answer.Status.TheVariants.{Done, MasksSpent as Spent}
 use Rattle.beet_load.specs.Loading.{Loaded, loaded_errand}
@@ -18,6 +18,7 @@ use Rattle.beet_rehearse.specs.StandingTexts.{rehearsal_text}
 use Rattle.beet_rehearse.specs.declared.standing.Standing.{Standing}
 use Rattle.beet_rehearse.specs.declared.standing.Standing.TheVariants.{Waiting, Ended}
 use Rattle.beet_rehearse.specs.declared.standing.Rehearsal.{Rehearsal}
+use Rattle.beet_world.specs.declared.schedule.TheConstants.{SCHEDULE_LIMIT}
 
 -- whether a server has ended with the third rejected mask
 abbrev pub is_spent : Standing → Bool
@@ -37,14 +38,20 @@ rehearsal_answer grid rehearsal = text_answer (rehearsal_status rehearsal) (rehe
 
 -- the answer for an auction and a schedule that are read: a server that has passed all rounds has ended with the book's outcome, or spent,
 -- whatever the order, the repeats and the delays of the messages
-abbrev pub rehearsed : Loaded → List Delivery → Errand
+abbrev pub rehearsed : Loaded → List Delivery → Answer
 rehearsed loaded schedule =
     let book = book_with loaded.grid loaded.farmers in
     let masks = masks_of loaded.servers in
     let rounds = book_rounds book masks in
-    Ends (rehearsal_answer loaded.grid (rehearsal_of (book_finish book masks) rounds (after rounds (named_in schedule))))
+    rehearsal_answer loaded.grid (rehearsal_of (book_finish book masks) rounds (after rounds (named_in schedule)))
 
 -- the schedule comes after the auction, its servers and its book
+abbrev pub rehearse_job : List ℕ → List ℕ → List ℕ → List ℕ → Step Answer
+rehearse_job auction servers book schedule = do
+  loaded ← loaded_errand auction servers book
+  deliveries ← reads schedule SCHEDULE_LIMIT schedule_of
+  gives (rehearsed loaded deliveries)
+
+-- what it does outside
 abbrev pub rehearse_errand : List ℕ → List ℕ → List ℕ → List ℕ → Errand
-rehearse_errand auction servers book schedule =
-    loaded_errand auction servers book (λ loaded. reads schedule 16777216 schedule_of (rehearsed loaded))
+rehearse_errand auction servers book schedule = rehearse_job auction servers book schedule Ends

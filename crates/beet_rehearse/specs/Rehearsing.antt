@@ -2,7 +2,7 @@
 use Rattle.std.specs.Prelude.{◌≡◌, ℕ, List}
 use Rattle.beet_field.specs.declared.trio.Trio.{Trio}
 use Rattle.beet_auction.specs.Endings.{AuctionEnds}
-use Rattle.beet_auction.specs.Openings.{auction_over}
+use Rattle.beet_plan.specs.Auction.{auction_over}
 use Rattle.beet_bids.specs.Grids.{Grid}
 use Rattle.beet_load.specs.Servers.{ServerWords, masks_of}
 use Rattle.beet_plan.specs.Runs.{AreMasks}

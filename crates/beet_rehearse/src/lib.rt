@@ -9,6 +9,3 @@ mod telling;
 
 pub use laws::nothing_undelivered_tells_the_end;
 pub use rehearsing::rehearse;
-
-#[cfg(test)]
-mod tests;

@@ -1,16 +1,17 @@
 //! The job `rehearse`.
 
-ghost use Rattle.std.specs.Prelude.{◌≡◌, ◌≤◌, ◌*◌, IfErr, IfOk, length};
+ghost use Rattle.std.specs.Prelude.{◌≡◌, ◌*◌, IfErr, IfOk, length};
 ghost use Rattle.beet_errand.specs.Errands.{reads};
-ghost use Rattle.beet_errand.specs.Fetches.{Causes, Finishes, Gives, IsDone};
+ghost use Rattle.beet_errand.specs.Fetches.{IsDone, Reads};
 ghost use Rattle.beet_field.specs.Trio.{member};
 ghost use Rattle.beet_field.specs.declared.point.Point.{Point as Server};
 ghost use Rattle.beet_gates.specs.declared.Gates.TheVariants.{Chain};
 ghost use Rattle.beet_load.specs.Servers.{HaveEnough};
 ghost use Rattle.beet_world.specs.Schedules.{schedule_of};
 ghost use Rattle.beet_world.specs.Worlds.{named_in};
-ghost use Rattle.beet_rehearse.specs.Rehearse.{rehearse_errand};
+ghost use Rattle.beet_rehearse.specs.Rehearse.{rehearse_job};
 ghost use Rattle.beet_rehearse.specs.Rehearsing.{Rehearses};
+ghost use Rattle.beet_world.specs.declared.schedule.TheConstants.{SCHEDULE_LIMIT};
 
 use crate::standing::{Rehearsal, standing_in};
 use crate::telling::rehearsal_reply;
@@ -21,11 +22,8 @@ use beet_load::{ServerWords, load};
 use beet_run::start_servers;
 use beet_store::Shelf;
 use beet_words::FeList;
-use beet_world::{Delivery, World, read_schedule};
+use beet_world::{Delivery, SCHEDULE_LIMIT, World, read_schedule};
 use std::alloc::Global;
-
-/// The limit of a schedule file in bytes.
-const SCHEDULE_LIMIT: u64 = 16_777_216;
 
 /// The deliveries of a schedule file.
 fn read_deliveries<S: Shelf>(
@@ -33,10 +31,8 @@ fn read_deliveries<S: Shelf>(
     shelf: &mut S,
     name: &str,
 ) -> Result<Vec<Delivery>, Stop>
-    ensures later { S.faults shelf.old ≤ S.faults shelf.new }
-    ensures cause { IfErr result (λ stop. Causes (S.faults shelf.old) (S.faults shelf.new) stop) }
-    ensures gives { Gives (λ deliveries. deliveries.items) (S.told shelf.old) (S.told shelf.new)
-        (reads name.now 16777216 schedule_of) result }
+    ensures { Reads (λ deliveries. deliveries.items) (S.seen shelf.old) (S.seen shelf.new)
+        (reads name.now SCHEDULE_LIMIT schedule_of) result }
 {
     let bytes = fetch_file(alloc, shelf, name, SCHEDULE_LIMIT)?;
     judge(alloc, name, read_schedule(alloc, bytes.as_slice()))
@@ -81,11 +77,9 @@ pub fn rehearse<S: Shelf>(
     book: &str,
     schedule: &str,
 ) -> Result<Reply, Stop>
-    ensures later { S.faults shelf.old ≤ S.faults shelf.new }
-    ensures cause { IfErr result (λ stop. Causes (S.faults shelf.old) (S.faults shelf.new) stop) }
     ensures done { IfOk result (λ reply. IsDone reply.status) }
-    ensures finishes { Finishes (S.told shelf.old) (S.told shelf.new)
-        (rehearse_errand auction.now servers.now book.now schedule.now) result }
+    ensures reads { Reads (λ reply. reply) (S.seen shelf.old) (S.seen shelf.new)
+        (rehearse_job auction.now servers.now book.now schedule.now) result }
 {
     let loaded = load(alloc, shelf, auction, servers, book)?;
     let deliveries = read_deliveries(alloc, shelf, schedule)?;

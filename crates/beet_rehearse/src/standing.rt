@@ -2,10 +2,9 @@
 
 ghost use Rattle.std.specs.Prelude.{◌≡◌, ℕ};
 ghost use Rattle.beet_auction.specs.Endings.{AuctionEnds};
-ghost use Rattle.beet_plan.specs.Auction.{auction_batch, most_rounds};
+ghost use Rattle.beet_auction.specs.WorldEnds.{auction_in};
 ghost use Rattle.beet_plan.specs.declared.Finish.{Finish as End};
-ghost use Rattle.beet_run.specs.Runs.{inputs_of};
-ghost use Rattle.beet_world.specs.Worlds.{delivered_in, opening_in};
+ghost use Rattle.beet_world.specs.Worlds.{delivered_in};
 ghost use Rattle.beet_rehearse.specs.Standings.{standing_of};
 
 use beet_field::{Point, Trio};
@@ -33,7 +32,7 @@ pub struct Rehearsal {
 /// How a server stands in a world.
 pub fn standing_in(world: &World<AuctionScript>, at: Point) -> Standing
     ensures { (rounds : ℕ) (finish : End)
-        → AuctionEnds world.now.start.one.script (opening_in auction_batch inputs_of most_rounds world.now) rounds finish
+        → AuctionEnds world.now.start.one.script (auction_in world.now) rounds finish
         → result ≡ standing_of finish rounds (delivered_in world.now) at }
 {
     let core = world.core(at);

@@ -5,7 +5,7 @@ ghost use Rattle.beet_round.specs.Sides.{peer};
 ghost use Rattle.beet_round.specs.Boxes.{fresh_box, HasBoth, numbers_at, Judged, JudgedFrom, IsDue, turned, AreHandedOut};
 
 use crate::message::RoundMessage;
-use crate::places::{Places, of_length};
+use crate::places::{Places, advance};
 use crate::sides::Side;
 use beet_field::{Fe, Point};
 use std::marker::Model;
@@ -158,11 +158,14 @@ impl RoundBox {
         ensures moved { self.new ≡ turned self.old want }
         ensures out { AreHandedOut self.old result }
     {
-        let (Some(low), Some(high)) = (self.current.low.take(), self.current.high.take()) else {
+        let Some(low) = self.current.low.take() else {
             unreachable!()
         };
-        self.current.low = of_length(self.early.low.take(), want);
-        self.current.high = of_length(self.early.high.take(), want);
+        let Some(high) = self.current.high.take() else {
+            unreachable!()
+        };
+        advance(&mut self.early.low, &mut self.current.low, want);
+        advance(&mut self.early.high, &mut self.current.high, want);
         self.want = want;
         self.round += 1;
         [low, high]

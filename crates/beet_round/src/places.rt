@@ -54,7 +54,7 @@ impl Places {
 }
 
 /// The message, if it has so many numbers.
-pub fn of_length(place: Option<RoundMessage>, want: u32) -> Option<RoundMessage>
+fn of_length(place: Option<RoundMessage>, want: u32) -> Option<RoundMessage>
     ensures value { result ≡ kept want place }
     ensures length { IfSome result (λ m. array_vec_len m.numbers ≡ want) }
 {
@@ -65,5 +65,17 @@ pub fn of_length(place: Option<RoundMessage>, want: u32) -> Option<RoundMessage>
             None
         },
         None => None,
+    }
+}
+
+/// Moves the message to an empty place, if it has so many numbers; else it is dropped. No message is copied where there is none.
+pub fn advance(from: &mut Option<RoundMessage>, to: &mut Option<RoundMessage>, want: u32)
+    requires { to.old ≡ None }
+    ensures from { from.new ≡ None }
+    ensures to { to.new ≡ kept want from.old }
+    ensures length { IfSome to.new (λ m. array_vec_len m.numbers ≡ want) }
+{
+    if from.is_some() {
+        *to = of_length(from.take(), want);
     }
 }

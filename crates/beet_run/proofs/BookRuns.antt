@@ -7,14 +7,15 @@ use Rattle.beet_gates.specs.Plans.{plan_finish}
 use Rattle.beet_bids.specs.Books.{Book, IsBook}
 use Rattle.beet_bids.specs.Grids.{Grid}
 use Rattle.beet_book.specs.Dealing.{AreShares}
-use Rattle.beet_plan.specs.Auction.{Auction, auction_plan}
-use Rattle.beet_plan.specs.Runs.{sums_of}
+use Rattle.beet_plan.specs.Auction.{Auction, auction_plan, auction_over}
+use Rattle.beet_bids.specs.Sums.{sums_of}
 use Rattle.beet_plan.specs.declared.Finish.{Finish}
-use Rattle.beet_plan.proofs.BookFacts.{length-sums}
+use Rattle.beet_bids.proofs.BookSums.{length-sums}
 use Rattle.beet_server.specs.Runs.{Opening, shared_at}
 use Rattle.beet_auction.specs.Endings.{AuctionEnds, book_finish, book_rounds}
-use Rattle.beet_auction.specs.Openings.{auction_over}
 use Rattle.beet_auction.proofs.Ends.{book-ends}
+use Rattle.beet_book.specs.Farmers.{book_of as book_with}
+use Rattle.beet_load.specs.Loading.{IsKeptOf, Kept, Loaded}
 use Rattle.beet_load.specs.Servers.{ServerWords, masks_of}
 use Rattle.beet_run.specs.Runs.{EndsAuction, opening_with}
 use Rattle.beet_run.proofs.ShareLines.{shares-lines}
@@ -23,6 +24,10 @@ use Rattle.beet_run.proofs.ShareLines.{shares-lines}
 pub inputs-many : (book : Book) (inputs : Trio (List ℕ)) → IsBook book → AreShares (sums_of book) inputs → (i : Point) →
     length (member inputs i) ≡ 2 * book.grid.prices
 inputs-many book inputs b x i = (shares-lines book inputs b x).lengths i ∙ length-sums book
+
+-- so are the points that are kept of an auction that is read
+pub kept-many : (kept : Kept) (loaded : Loaded) → IsKeptOf kept loaded → (i : Point) → length (member kept.inputs i) ≡ 2 * kept.grid.prices
+kept-many kept loaded k i = inputs-many (book_with kept.grid loaded.farmers) kept.inputs k.book k.shares i
 
 -- a run of an auction ends in one way
 pub one-end : (a : Auction) (o : Opening) (r r' : ℕ) (f f' : Finish) → AuctionEnds a o r f → AuctionEnds a o r' f' → (f ≡ f') × (r ≡ r')

@@ -11,7 +11,7 @@ use Rattle.beet_gates.specs.declared.Act.{Act}
 use Rattle.beet_gates.specs.declared.Act.TheVariants.{Deal, Mul, Reveal, End}
 use Rattle.beet_gates.specs.declared.Batch.{Batch}
 use Rattle.beet_bids.specs.Grids.{Grid}
-use Rattle.beet_plan.specs.Auction.{Auction, auction_batch, auction_plan, most_rounds}
+use Rattle.beet_plan.specs.Auction.{Auction, auction_batch, auction_plan, most_rounds, auction_over}
 use Rattle.beet_plan.specs.Ends.{ComesTo, TellsEnd}
 use Rattle.beet_plan.specs.declared.Finish.{Finish}
 use Rattle.beet_server.specs.Cores.{Core, opening_of, has_ended}
@@ -20,16 +20,10 @@ use Rattle.beet_server.specs.Fits.{Fits}
 use Rattle.beet_server.specs.Runs.{Opening, Shared, HasRounds, coming, opened_at, opened_by, rounds_among, shared_at, with_batch_lets}
 use Rattle.beet_world.specs.Lockstep.{HaveEnded}
 use Rattle.beet_auction.specs.Endings.{AuctionEnds}
-use Rattle.beet_auction.specs.Openings.{auction_over}
 use Rattle.beet_load.specs.Servers.{ServerWords}
-use Rattle.beet_run.specs.Runs.{EndsAuction, HasEndedRun, Starts, inputs_of, opening_with}
-
--- an act opens as many numbers as it shows wires
-opened-many : (s : Shared) (a : Act) → length (opened_by s a) ≡ revealed a
-opened-many s Deal = refl
-opened-many s (Mul pairs) = refl
-opened-many s (Reveal shown) = length-map shown.items (opened_at s.wires)
-opened-many s End = refl
+use Rattle.beet_run.specs.Runs.{EndsAuction, HasEndedRun, Starts, opening_with}
+use Rattle.beet_server.proofs.Walk.{length-opened_by}
+use Rattle.beet_auction.specs.Openings.{inputs_of}
 
 not-end : (a : Act) → is_end a ≡ false → a ≢ End
 not-end a h = λ e. absurd (true≢false (ap is_end (sym e) ∙ h))
@@ -44,7 +38,7 @@ comes-to o (suc t) goes =
       opened_by (with_batch_lets b s) b.act,
       comes-to o t (λ k h. goes k (omega (arith, h))),
       not-end b.act (goes t (omega arith)),
-      opened-many (with_batch_lets b s) b.act,
+      length-opened_by (with_batch_lets b s) b.act,
       refl,
     )
 

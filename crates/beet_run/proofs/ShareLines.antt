@@ -11,20 +11,18 @@ use Rattle.beet_field.specs.declared.point.Point.TheVariants.{One, Two, Three}
 use Rattle.beet_field.specs.declared.trio.Trio.{Trio}
 use Rattle.beet_shamir.specs.Line.{point_of}
 use Rattle.beet_bids.specs.Books.{Book, IsBook}
-use Rattle.beet_plan.specs.Runs.{sums_of}
-use Rattle.beet_plan.proofs.BookFacts.{sums-elements}
+use Rattle.beet_bids.specs.Sums.{sums_of}
+use Rattle.beet_bids.proofs.BookSums.{sums-elements}
 use Rattle.beet_book.specs.Dealing.{AreShares, points_at, shares_of}
 use Rattle.beet_book.proofs.Pairs.{length-pairwise, item-pairwise}
 use Rattle.beet_server.specs.Lines.{OnLines}
+use Rattle.beet_book.proofs.Sums.{length-points}
 
 past : (xs : List ℕ) (w : ℕ) → length xs ≤ w → slice_index xs w ≡ 0
 past xs w h = get_or-eq_default xs 0 (omega (arith, h))
 
 zero-point : (i : ℕ) → 0 ≡ (0 + (0 * i) % p) % p
 zero-point i = omega arith
-
-length-points : (vs ss : List ℕ) (i : Point) → length ss ≡ length vs → length (points_at vs ss i) ≡ length vs
-length-points vs ss i e = omega (arith, length-pairwise (λ v s. point_of v s i) vs ss, e)
 
 on-line : (vs ss : List ℕ) (i : Point) (w : ℕ) → length ss ≡ length vs →
     slice_index (points_at vs ss i) w ≡ point_of (slice_index vs w) (slice_index ss w) i

@@ -9,13 +9,13 @@ use Rattle.beet_words.specs.Tapes.{Tape, left_of}
 use Rattle.beet_gates.specs.Clear.{with_lets}
 use Rattle.beet_gates.specs.declared.Linear.{Linear}
 use Rattle.beet_bids.specs.Grids.{Grid}
-use Rattle.beet_plan.specs.Auction.{Auction, auction_batch, most_masks, most_coefficients}
+use Rattle.beet_plan.specs.Auction.{Auction, auction_batch, most_masks, most_coefficients, auction_over}
 use Rattle.beet_server.specs.Cores.{Core, AreFresh, IsFresh, fresh, opening_of}
 use Rattle.beet_server.specs.Runs.{Opening, numbers_of}
 use Rattle.beet_server.proofs.Starting.{first-wires}
-use Rattle.beet_auction.specs.Openings.{auction_over}
+use Rattle.beet_auction.specs.Openings.{inputs_of}
 use Rattle.beet_load.specs.Servers.{ServerWords, masks_of, coefficients_of}
-use Rattle.beet_run.specs.Runs.{Starts, inputs_of, opening_with}
+use Rattle.beet_run.specs.Runs.{Starts, opening_with}
 
 -- a server that begins with its points and words
 abbrev pub StartsAt : Auction → Point → List ℕ → ServerWords → Core Auction → Type 0
@@ -30,11 +30,11 @@ pub record Begin (grid : Grid) (inputs : Trio (List ℕ)) (words : Trio ServerWo
 
 -- the script is that of the grid
 pub starts : (script : Auction) (grid : Grid) (me : Point) (inputs : List ℕ) (words : ServerWords) (core : Core Auction) →
-    script ≡ record { prices = grid.prices } → StartsAt script me inputs words core → StartsAt (auction_over grid) me inputs words core
+    script ≡ auction_over grid → StartsAt script me inputs words core → StartsAt (auction_over grid) me inputs words core
 starts script grid me inputs words core e h = subst (λ s. StartsAt s me inputs words core) e h
 
 -- and so the inputs are as many as it wants
-pub inputs-wanted : (script : Auction) (grid : Grid) (n : ℕ) → script ≡ record { prices = grid.prices } → n ≡ 2 * grid.prices → n ≡ 2 * script.prices
+pub inputs-wanted : (script : Auction) (grid : Grid) (n : ℕ) → script ≡ auction_over grid → n ≡ 2 * grid.prices → n ≡ 2 * script.prices
 inputs-wanted script grid n e h = h ∙ ap (λ (s : Auction). 2 * s.prices) (sym e)
 
 -- words that are enough are not too few

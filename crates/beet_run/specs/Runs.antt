@@ -1,10 +1,10 @@
 -- Three servers that run the auction over a grid.
-use Rattle.std.specs.Prelude.{◌≡◌, ℕ, ◌*◌, List, true}
+use Rattle.std.specs.Prelude.{◌≡◌, ℕ, List, true}
 use Rattle.beet_field.specs.Trio.{member}
 use Rattle.beet_field.specs.declared.point.Point.{Point}
 use Rattle.beet_field.specs.declared.trio.Trio.{Trio}
 use Rattle.beet_bids.specs.Grids.{Grid}
-use Rattle.beet_plan.specs.Auction.{Auction, auction_batch}
+use Rattle.beet_plan.specs.Auction.{Auction, auction_batch, auction_over}
 use Rattle.beet_plan.specs.Runs.{AreMasks}
 use Rattle.beet_plan.specs.declared.Finish.{Finish}
 use Rattle.beet_server.specs.Cores.{Core, AreFresh, has_ended, opening_of}
@@ -12,12 +12,8 @@ use Rattle.beet_server.specs.Events.{Delivered}
 use Rattle.beet_server.specs.Fits.{Fits}
 use Rattle.beet_server.specs.Runs.{Opening}
 use Rattle.beet_auction.specs.Endings.{AuctionEnds}
-use Rattle.beet_auction.specs.Openings.{auction_opening, auction_over}
+use Rattle.beet_auction.specs.Openings.{auction_opening, inputs_of}
 use Rattle.beet_load.specs.Servers.{ServerWords, masks_of, coefficients_of}
-
--- a script has two inputs for each price
-abbrev pub inputs_of : Auction → ℕ
-inputs_of a = 2 * a.prices
 
 -- the opening of an auction over a grid, with these points of the inputs and these words of the servers
 abbrev pub opening_with : Grid → Trio (List ℕ) → Trio ServerWords → Opening

@@ -6,7 +6,7 @@ ghost use Rattle.beet_field.specs.declared.point.Point.{Point as Server};
 ghost use Rattle.beet_words.specs.Words.{IsWord, accepted};
 ghost use Rattle.beet_gates.specs.Plans.{plan_finish};
 ghost use Rattle.beet_gates.specs.declared.Gates.TheVariants.{Chain};
-ghost use Rattle.beet_plan.specs.Auction.{auction_batch, auction_plan, most_coefficients, most_masks};
+ghost use Rattle.beet_plan.specs.Auction.{auction_batch, auction_over, auction_plan, most_coefficients, most_masks};
 ghost use Rattle.beet_server.specs.Cores.{IsFresh, fresh};
 ghost use Rattle.beet_load.specs.Servers.{HaveEnough};
 ghost use Rattle.beet_run.specs.Runs.{EndsAuction, HasEndedRun, Starts};
@@ -25,7 +25,7 @@ use std::alloc::Global;
 /// The script of an auction over the grid.
 fn script_over(grid: &Grid) -> AuctionScript
     requires { grid.now.gates ≡ Chain }
-    ensures { result ≡ record { prices = grid.now.prices } }
+    ensures { result ≡ auction_over grid.now }
 {
     match AuctionScript::new(grid.prices(), grid.gates()) {
         Some(script) => script,

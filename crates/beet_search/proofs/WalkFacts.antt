@@ -1,16 +1,18 @@
 -- The plan that is left at a place of the script.
-use Rattle.std.proofs.Common.{◌≡◌, ◌↔◌, ℕ, zero, suc, ◌+◌, ◌-◌, ◌/◌, ◌<◌, ◌≤◌, ◌⊎◌, inl, inr, Bool, true, false, List, [], ◌∷◌, length, Option, Some, None, refl, ap, ◌∙◌, arith}
+use Rattle.std.proofs.Common.{◌≡◌, ◌↔◌, ℕ, zero, suc, ◌+◌, ◌-◌, ◌/◌, ◌<◌, ◌≤◌, ◌⊎◌, inl, inr, Bool, true, false, List, slice_index, [], ◌∷◌, Option, Some, None, refl, ap, ◌∙◌, arith}
 use Rattle.std.specs.Prelude.{nat_lt, IsTrue, unwrap_or}
 use Rattle.std.proofs.lemmas.Bool.{cases_lt, iff_false}
 use Rattle.std.proofs.lemmas.Bool.Decides.{nat_tests}
 use Rattle.beet_gates.specs.declared.Batch.{Batch}
 use Rattle.beet_gates.specs.Batches.{reveal_batch, end_batch}
-use Rattle.beet_gates.specs.Plans.{Plan, Ended, Block, plan_batch, plan_length, plan_after, plan_finish, batch_at}
+use Rattle.beet_gates.specs.Plans.{Plan, Ended, Block, Last, plan_batch, plan_length, plan_after, plan_finish, batch_at}
 use Rattle.beet_gates.proofs.EachFacts.{get-past}
-use Rattle.beet_mask.specs.Mask.{mask_batches}
-use Rattle.beet_mask.proofs.MaskTable.{length-mask_batches}
-use Rattle.beet_compare.specs.Compare.{masked_batch, borrow_batches}
-use Rattle.beet_compare.proofs.CompareTable.{length-compare_batches}
+use Rattle.beet_gates.specs.declared.Gates.{Gates}
+use Rattle.beet_gates.specs.declared.Gates.TheVariants.{Chain}
+use Rattle.beet_mask.specs.Mask.{mask_rounds_of}
+use Rattle.beet_compare.specs.Compare.{compare_rounds_of}
+use Rattle.beet_plan.specs.Blocks.{Blocks, blocks_of, chain_blocks, after_mask}
+use Rattle.beet_plan.proofs.BlockLaws.{are-blocks}
 use Rattle.beet_plan.specs.Auction.{search_plan, end_plan, after_product}
 use Rattle.beet_plan.specs.declared.Finish.{Finish}
 use Rattle.beet_plan.specs.declared.Finish.TheVariants.{Price, NoPrice}
@@ -24,27 +26,41 @@ use Rattle.beet_plan.proofs.AuctionEnd.{search_plan-open, search_plan-done}
 pub record IsOpen (b : Bool) (n lo hi : ℕ) : Type 0 where
   pub says : IsTrue b ↔ ((0 < n) × (lo < hi))
 
-module _ (prices n lo hi first rej : ℕ) where
-  pub open-plan : 0 < n → lo < hi → search_plan prices n lo hi first rej ≡ Block (mask_batches first) (after_product prices (n - 1) lo hi first rej)
+-- where the gates are a chain, so are the blocks
+pub chain-is : (gates : Gates) → gates ≡ Chain → blocks_of gates ≡ chain_blocks
+chain-is gates e = ap blocks_of e
+
+pub mask-rounds : (gates : Gates) → gates ≡ Chain → mask_rounds_of gates ≡ (blocks_of gates).mask_rounds
+mask-rounds gates e = rw e refl
+
+pub compare-rounds : (gates : Gates) → gates ≡ Chain → compare_rounds_of gates ≡ (blocks_of gates).compare_rounds
+compare-rounds gates e = rw e refl
+
+module _ (g : Blocks) (prices n lo hi first rej : ℕ) where
+  pub open-plan : 0 < n → lo < hi → search_plan g prices n lo hi first rej ≡ Block (g.mask first) (after_product g prices (n - 1) lo hi first rej)
   open-plan hn h =
       let e : n ≡ suc (n - 1) = omega arith in
       let t : nat_lt lo hi ≡ true = grind (arith, nat_tests) in
-      ap (λ (k : ℕ). search_plan prices k lo hi first rej) e ∙ search_plan-open prices (n - 1) lo hi first rej t
+      ap (λ (k : ℕ). search_plan g prices k lo hi first rej) e ∙ search_plan-open g prices (n - 1) lo hi first rej t
 
-  pub closed-plan : (n ≡ 0) ⊎ (hi ≤ lo) → search_plan prices n lo hi first rej ≡ end_plan prices lo
+  pub closed-plan : (n ≡ 0) ⊎ (hi ≤ lo) → search_plan g prices n lo hi first rej ≡ end_plan prices lo
   unfolding search_plan
   closed-plan (inl e) = rw e refl
   closed-plan (inr h) = elim (cases_lt 0 n) [
     | inl some ↦
         let e : n ≡ suc (n - 1) = omega arith in
         let t : nat_lt lo hi ≡ false = grind (arith, nat_tests) in
-        ap (λ (k : ℕ). search_plan prices k lo hi first rej) e ∙ search_plan-done prices (n - 1) lo hi first rej t
+        ap (λ (k : ℕ). search_plan g prices k lo hi first rej) e ∙ search_plan-done g prices (n - 1) lo hi first rej t
     | inr none ↦ let e : n ≡ 0 = omega arith in rw e refl
   ]
 
 pub block-batch : {F : Type 0} (bs : List Batch) (next : ℕ → Plan F) (step : ℕ) → plan_batch (Block bs next) step [] ≡ batch_at bs step
 unfolding plan_batch
 block-batch bs next step = refl
+
+pub last-batch : {F : Type 0} (b : Batch) (n : ℕ) (named : List ℕ → F) (step : ℕ) → plan_batch (Last b n named) step [] ≡ batch_at (b ∷ []) step
+unfolding plan_batch
+last-batch b n named step = refl
 
 pub ended-batch : {F : Type 0} (f : F) (step : ℕ) → plan_batch (Ended f) step [] ≡ end_batch
 unfolding plan_batch
@@ -64,24 +80,24 @@ module _ (w : Walk) where
   stage-is s e = ap (λ (t : Stage). stage_plan t w) e
 
   open-at : w.stage ≡ Search → (b : Bool) → (IsTrue b ↔ ((0 < w.left) × (w.lo < w.hi))) → b ≡ true →
-      plan_at w ≡ Block (mask_batches w.first) (after_product w.prices (w.left - 1) w.lo w.hi w.first w.rejected)
+      plan_at w ≡ Block ((blocks_of w.gates).mask w.first) (after_product (blocks_of w.gates) w.prices (w.left - 1) w.lo w.hi w.first w.rejected)
   open-at e b says t =
       let o = open-from b w.left w.lo w.hi says t in
-      stage-is Search e ∙ open-plan w.prices w.left w.lo w.hi w.first w.rejected o.0 o.1
+      stage-is Search e ∙ open-plan (blocks_of w.gates) w.prices w.left w.lo w.hi w.first w.rejected o.0 o.1
 
   closed-at : w.stage ≡ Search → (b : Bool) → (IsTrue b ↔ ((0 < w.left) × (w.lo < w.hi))) → b ≡ false → plan_at w ≡ end_plan w.prices w.lo
-  closed-at e b says t = stage-is Search e ∙ closed-plan w.prices w.left w.lo w.hi w.first w.rejected (closed-from b w.left w.lo w.hi says t)
+  closed-at e b says t = stage-is Search e ∙ closed-plan (blocks_of w.gates) w.prices w.left w.lo w.hi w.first w.rejected (closed-from b w.left w.lo w.hi says t)
 
   volume-at : w.stage ≡ Search → (b : Bool) → (IsTrue b ↔ ((0 < w.left) × (w.lo < w.hi))) → b ≡ false → w.lo < w.prices →
-      plan_at w ≡ Block (reveal_batch [] ((w.prices + w.lo) ∷ []) ∷ []) (λ volume. Ended (Price w.lo volume))
+      plan_at w ≡ Last (reveal_batch [] ((w.prices + w.lo) ∷ [])) 1 (λ opened. Price w.lo (slice_index opened 0))
   volume-at e b says t h = closed-at e b says t ∙ (let u : nat_lt w.lo w.prices ≡ true = grind (arith, nat_tests) in rw u refl)
 
   none-at : w.stage ≡ Search → (b : Bool) → (IsTrue b ↔ ((0 < w.left) × (w.lo < w.hi))) → b ≡ false → w.prices ≤ w.lo → plan_at w ≡ Ended NoPrice
   none-at e b says t h = closed-at e b says t ∙ (let u : nat_lt w.lo w.prices ≡ false = grind (arith, nat_tests) in rw u refl)
 
   -- lengths
-  pub length-open : w.stage ≡ Search → (b : Bool) → (IsTrue b ↔ ((0 < w.left) × (w.lo < w.hi))) → b ≡ true → plan_length (plan_at w) ≡ 64
-  length-open e b says t = ap plan_length (open-at e b says t) ∙ length-mask_batches w.first
+  pub length-open : w.stage ≡ Search → (b : Bool) → (IsTrue b ↔ ((0 < w.left) × (w.lo < w.hi))) → b ≡ true → plan_length (plan_at w) ≡ (blocks_of w.gates).mask_rounds
+  length-open e b says t = ap plan_length (open-at e b says t) ∙ (are-blocks w.gates).masks.rounds w.first
 
   pub length-volume : w.stage ≡ Search → (b : Bool) → (IsTrue b ↔ ((0 < w.left) × (w.lo < w.hi))) → b ≡ false → w.lo < w.prices → plan_length (plan_at w) ≡ 1
   length-volume e b says t h = ap plan_length (volume-at e b says t h)
@@ -89,41 +105,41 @@ module _ (w : Walk) where
   pub length-none : w.stage ≡ Search → (b : Bool) → (IsTrue b ↔ ((0 < w.left) × (w.lo < w.hi))) → b ≡ false → w.prices ≤ w.lo → plan_length (plan_at w) ≡ 0
   length-none e b says t h = ap plan_length (none-at e b says t h)
 
-  pub length-borrow : (c : ℕ) → w.stage ≡ Borrow c → plan_length (plan_at w) ≡ 62
-  length-borrow c e = ap plan_length (stage-is (Borrow c) e) ∙ omega (arith, length-compare_batches (w.first + 487) w.first 0 0 c)
+  pub length-borrow : (c : ℕ) → w.stage ≡ Borrow c → plan_length (plan_at w) ≡ (blocks_of w.gates).compare_rounds - 1
+  length-borrow c e = ap plan_length (stage-is (Borrow c) e) ∙ omega (arith, (are-blocks w.gates).comparisons.rounds (after_mask (blocks_of w.gates) w.first) w.first c)
 
   -- batches
   pub batch-open : w.stage ≡ Search → (b : Bool) → (IsTrue b ↔ ((0 < w.left) × (w.lo < w.hi))) → b ≡ true → (step : ℕ) →
-      plan_batch (plan_at w) step [] ≡ batch_at (mask_batches w.first) step
+      plan_batch (plan_at w) step [] ≡ batch_at ((blocks_of w.gates).mask w.first) step
   batch-open e b says t step = ap (λ (p : Plan Finish). plan_batch p step []) (open-at e b says t) ∙ block-batch _ _ step
 
   pub batch-volume : w.stage ≡ Search → (b : Bool) → (IsTrue b ↔ ((0 < w.left) × (w.lo < w.hi))) → b ≡ false → w.lo < w.prices → (step : ℕ) →
       plan_batch (plan_at w) step [] ≡ batch_at (reveal_batch [] ((w.prices + w.lo) ∷ []) ∷ []) step
-  batch-volume e b says t h step = ap (λ (p : Plan Finish). plan_batch p step []) (volume-at e b says t h) ∙ block-batch _ _ step
+  batch-volume e b says t h step = ap (λ (p : Plan Finish). plan_batch p step []) (volume-at e b says t h) ∙ last-batch _ _ _ step
 
   pub batch-none : w.stage ≡ Search → (b : Bool) → (IsTrue b ↔ ((0 < w.left) × (w.lo < w.hi))) → b ≡ false → w.prices ≤ w.lo → (step : ℕ) →
       plan_batch (plan_at w) step [] ≡ end_batch
   batch-none e b says t h step = ap (λ (p : Plan Finish). plan_batch p step []) (none-at e b says t h) ∙ ended-batch NoPrice step
 
   pub batch-masked : w.stage ≡ Masked → (step : ℕ) →
-      plan_batch (plan_at w) step [] ≡ batch_at (masked_batch (w.first + 487) w.first ((w.lo + w.hi) / 2) (w.prices + (w.lo + w.hi) / 2) ∷ []) step
+      plan_batch (plan_at w) step [] ≡ batch_at ((blocks_of w.gates).masked (after_mask (blocks_of w.gates) w.first) w.first ((w.lo + w.hi) / 2) (w.prices + (w.lo + w.hi) / 2) ∷ []) step
   batch-masked e step = ap (λ (p : Plan Finish). plan_batch p step []) (stage-is Masked e) ∙ block-batch _ _ step
 
-  pub batch-borrow : (c : ℕ) → w.stage ≡ Borrow c → (step : ℕ) → plan_batch (plan_at w) step [] ≡ batch_at (borrow_batches (w.first + 487) w.first c) step
+  pub batch-borrow : (c : ℕ) → w.stage ≡ Borrow c → (step : ℕ) → plan_batch (plan_at w) step [] ≡ batch_at ((blocks_of w.gates).answer (after_mask (blocks_of w.gates) w.first) w.first c) step
   batch-borrow c e step = ap (λ (p : Plan Finish). plan_batch p step []) (stage-is (Borrow c) e) ∙ block-batch _ _ step
 
   pub batch-ended : (f : Finish) → w.stage ≡ StageEnded f → (step : ℕ) → plan_batch (plan_at w) step [] ≡ end_batch
   batch-ended f e step = ap (λ (p : Plan Finish). plan_batch p step []) (stage-is (StageEnded f) e) ∙ ended-batch f step
 
   -- a batch past the end of a short block
-  pub past-borrow : (c : ℕ) → w.stage ≡ Borrow c → (step : ℕ) → 62 ≤ step → plan_batch (plan_at w) step [] ≡ end_batch
+  pub past-borrow : (c : ℕ) → w.stage ≡ Borrow c → (step : ℕ) → (blocks_of w.gates).compare_rounds ≤ step + 1 → plan_batch (plan_at w) step [] ≡ end_batch
   past-borrow c e step h =
-      let l : length (borrow_batches (w.first + 487) w.first c) ≡ 62 = omega (arith, length-compare_batches (w.first + 487) w.first 0 0 c) in
-      batch-borrow c e step ∙ ap (λ (o : Option Batch). unwrap_or o end_batch) (get-past (borrow_batches (w.first + 487) w.first c) step (omega arith))
+      let l = (are-blocks w.gates).comparisons.rounds (after_mask (blocks_of w.gates) w.first) w.first c in
+      batch-borrow c e step ∙ ap (λ (o : Option Batch). unwrap_or o end_batch) (get-past ((blocks_of w.gates).answer (after_mask (blocks_of w.gates) w.first) w.first c) step (omega (arith, l)))
 
   -- the plan after a number
   pub after-open : w.stage ≡ Search → (b : Bool) → (IsTrue b ↔ ((0 < w.left) × (w.lo < w.hi))) → b ≡ true → (x : ℕ) →
-      plan_after (plan_at w) x ≡ after_product w.prices (w.left - 1) w.lo w.hi w.first w.rejected x
+      plan_after (plan_at w) x ≡ after_product (blocks_of w.gates) w.prices (w.left - 1) w.lo w.hi w.first w.rejected x
   after-open e b says t x = ap (λ (p : Plan Finish). plan_after p x) (open-at e b says t)
 
   pub after-volume : w.stage ≡ Search → (b : Bool) → (IsTrue b ↔ ((0 < w.left) × (w.lo < w.hi))) → b ≡ false → w.lo < w.prices → (x : ℕ) →
@@ -142,6 +158,10 @@ block-finish : {F : Type 0} (bs : List Batch) (next : ℕ → Plan F) → plan_f
 unfolding plan_finish
 block-finish bs next = refl
 
+last-finish : {F : Type 0} (b : Batch) (n : ℕ) (named : List ℕ → F) → plan_finish (Last b (suc n) named) [] ≡ None
+unfolding plan_finish
+last-finish b n named = refl
+
 ended-finish : {F : Type 0} (f : F) → plan_finish (Ended f) [] ≡ Some f
 unfolding plan_finish
 ended-finish f = refl
@@ -151,7 +171,7 @@ module _ (w : Walk) where
   finish-open e b says t = ap (λ (p : Plan Finish). plan_finish p []) (open-at w e b says t) ∙ block-finish _ _
 
   pub finish-volume : w.stage ≡ Search → (b : Bool) → (IsTrue b ↔ ((0 < w.left) × (w.lo < w.hi))) → b ≡ false → w.lo < w.prices → plan_finish (plan_at w) [] ≡ None
-  finish-volume e b says t h = ap (λ (p : Plan Finish). plan_finish p []) (volume-at w e b says t h) ∙ block-finish _ _
+  finish-volume e b says t h = ap (λ (p : Plan Finish). plan_finish p []) (volume-at w e b says t h) ∙ last-finish _ 0 _
 
   pub finish-none : w.stage ≡ Search → (b : Bool) → (IsTrue b ↔ ((0 < w.left) × (w.lo < w.hi))) → b ≡ false → w.prices ≤ w.lo → plan_finish (plan_at w) [] ≡ Some NoPrice
   finish-none e b says t h = ap (λ (p : Plan Finish). plan_finish p []) (none-at w e b says t h) ∙ ended-finish NoPrice

@@ -1,7 +1,11 @@
 -- A place in the auction's script, and the plan that is left from there.
-use Rattle.std.specs.Prelude.{◌≤◌, ◌<◌, ℕ, ◌+◌, ◌*◌, ◌/◌}
+use Rattle.std.specs.Prelude.{◌≡◌, ◌^◌, ◌≤◌, ◌<◌, ℕ, ◌+◌, ◌*◌, ◌/◌}
 use Rattle.beet_gates.specs.Plans.{Plan, Ended, Block}
-use Rattle.beet_compare.specs.Compare.{borrow_batches}
+use Rattle.beet_gates.specs.declared.Gates.{Gates}
+use Rattle.beet_gates.specs.declared.Gates.TheVariants.{Chain, Tree}
+use Rattle.beet_mask.specs.Mask.{mask_wires_of}
+use Rattle.beet_compare.specs.Compare.{compare_wires_of}
+use Rattle.beet_plan.specs.Blocks.{blocks_of, after_mask}
 use Rattle.beet_plan.specs.Auction.{search_plan, compare_plan, after_answer}
 use Rattle.beet_plan.specs.declared.Finish.{Finish}
 use Rattle.beet_search.specs.declared.walk.Stage.{Stage}
@@ -9,9 +13,13 @@ use Rattle.beet_search.specs.declared.walk.Stage.TheVariants.{Search, Masked, Bo
 use Rattle.beet_search.specs.declared.walk.Walk.{Walk}
 
 abbrev pub stage_plan : Stage → Walk → Plan Finish
-stage_plan Search w = search_plan w.prices w.left w.lo w.hi w.first w.rejected
-stage_plan Masked w = compare_plan w.prices (w.first + 487) w.first ((w.lo + w.hi) / 2) (after_answer w.prices w.left w.lo w.hi w.first w.rejected)
-stage_plan (Borrow c) w = Block (borrow_batches (w.first + 487) w.first c) (after_answer w.prices w.left w.lo w.hi w.first w.rejected)
+stage_plan Search w = search_plan (blocks_of w.gates) w.prices w.left w.lo w.hi w.first w.rejected
+stage_plan Masked w =
+    let blocks = blocks_of w.gates in
+    compare_plan blocks w.prices (after_mask blocks w.first) w.first ((w.lo + w.hi) / 2) (after_answer blocks w.prices w.left w.lo w.hi w.first w.rejected)
+stage_plan (Borrow c) w =
+    let blocks = blocks_of w.gates in
+    Block (blocks.answer (after_mask blocks w.first) w.first c) (after_answer blocks w.prices w.left w.lo w.hi w.first w.rejected)
 stage_plan (StageEnded f) w = Ended f
 
 -- the plan that is left
@@ -32,10 +40,15 @@ busy Masked = 1
 busy (Borrow c) = 1
 busy (StageEnded f) = 0
 
--- the walk stays within the script's places and wires
+-- the most wires of a mask and the comparison with it, whatever the gates
+abbrev pub widest : Gates → ℕ
+widest gates = mask_wires_of gates + compare_wires_of Tree
+
+-- the walk stays within the script's places and wires; the gates are a chain
 pub record Fits (w : Walk) : Type 0 where
   pub in_order : w.lo + busy w.stage ≤ w.hi
   pub in_grid : w.hi ≤ w.prices
   pub small : w.prices ≤ 4096
   pub few : w.rejected < 3
-  pub wires : w.first + 732 * blocks_left w.stage w.left ≤ 30000
+  pub wires : w.first + widest w.gates * blocks_left w.stage w.left < 2 ^ 32
+  pub chain : w.gates ≡ Chain

@@ -5,8 +5,9 @@ ghost use Rattle.beet_field.specs.Field.{IsElement};
 ghost use Rattle.beet_field.specs.declared.trio.Trio.{Trio};
 ghost use Rattle.beet_bids.specs.Books.{Book, IsBook};
 ghost use Rattle.beet_bids.specs.Outcomes.{clearing_place, outcome_of};
-ghost use Rattle.beet_plan.specs.Auction.{Auction};
-ghost use Rattle.beet_plan.specs.Runs.{AreMasks, RunEnds, found, sums_of, finish_of, place_of_inputs};
+ghost use Rattle.beet_plan.specs.Auction.{Auction, auction_over};
+ghost use Rattle.beet_plan.specs.Runs.{AreMasks, RunEnds, found, finish_of, place_of_inputs};
+ghost use Rattle.beet_bids.specs.Sums.{sums_of};
 
 /// A run on any inputs ends at the place where the search ends whose tests answer whether twice the difference of supply and demand is
 /// even, with the demand there, or spent exactly where the third rejected mask comes first. Its rounds are counted by the path to that
@@ -22,5 +23,5 @@ pub fn auction_law()
 /// want are rejected. Its rounds are counted by the path to the clearing place and the masks.
 pub fn book_law()
     ensures { (book : Book) (words : Trio (List ℕ)) → IsBook book → AreMasks words →
-        RunEnds (record { prices = book.grid.prices }) (sums_of book) words (clearing_place book) (finish_of (outcome_of book)) }
+        RunEnds (auction_over book.grid) (sums_of book) words (clearing_place book) (finish_of (outcome_of book)) }
 {}

@@ -7,32 +7,33 @@ ghost use Rattle.beet_plan.specs.Auction.{auction_plan, IsGridSize};
 ghost use Rattle.beet_search.specs.Walk.{plan_at, Fits};
 
 use crate::walk::{Stage, Walk};
-use beet_compare::compare_rounds;
+use beet_compare::{compare_rounds, compare_wires};
 use beet_field::Fe;
 use beet_gates::{Batch, Gates, Script};
-use beet_mask::mask_rounds;
-use beet_plan::Finish;
+use beet_mask::{mask_rounds, mask_wires};
+use beet_plan::{Finish, MASK_COEFFICIENTS};
 use std::marker::Model;
 
 /// The largest number of prices.
 const MOST_PRICES: u32 = 4_096;
 
-/// The script of an auction with so many prices. With P prices, input k is the supply at place k, and input P + k the demand there.
+/// The script of an auction with so many prices and this kind of gates. With P prices, input k is the supply at place k, and input P + k the demand there.
 #[derive(Clone, Copy, PartialEq, Eq, Debug)]
 pub struct AuctionScript {
     prices: u32,
+    gates: Gates,
 }
 
 impl Model for AuctionScript {
-    ghost use Rattle.beet_plan.specs.Auction.{Auction, IsGridSize};
+    ghost use Rattle.beet_plan.specs.Auction.{Auction, IsAuction};
 
     ghost Value = { Auction };
 
-    ghost view = { λ a. record { prices = a.prices } };
+    ghost view = { λ a. record { prices = a.prices; gates = a.gates } };
 
-    ghost invariant = { λ a. IsGridSize a.prices };
+    ghost invariant = { λ a. IsAuction (record { prices = a.prices; gates = a.gates }) };
 
-    ghost inverse = { λ v. record { prices = v.prices } };
+    ghost inverse = { λ v. record { prices = v.prices; gates = v.gates } };
 }
 
 /// How many comparisons a search among so many places makes at most.
@@ -58,10 +59,13 @@ impl AuctionScript {
     pub fn new(prices: u32, gates: Gates) -> Option<AuctionScript>
         requires chain { gates ≡ Gates.Chain }
         ensures accepted { IsSome result ↔ IsGridSize prices }
-        ensures value { IfSome result (λ script. script ≡ record { prices = prices }) }
+        ensures value { IfSome result (λ script. script ≡ record { prices = prices; gates = gates }) }
     {
         match gates {
-            Gates::Chain if prices >= 1 && prices <= MOST_PRICES => Some(AuctionScript { prices }),
+            Gates::Chain if prices >= 1 && prices <= MOST_PRICES => Some(AuctionScript {
+                prices,
+                gates,
+            }),
             Gates::Chain => None,
             Gates::Tree => unreachable!(),
         }
@@ -74,6 +78,7 @@ impl AuctionScript {
     {
         Walk {
             stage: Stage::Search,
+            gates: self.gates,
             prices: self.prices,
             lo: 0,
             hi: self.prices,
@@ -120,8 +125,8 @@ impl Script for AuctionScript {
     }
 
     fn rounds(&self) -> u32 {
-        let mask = mask_rounds(Gates::Chain);
-        comparisons(self.prices) * (mask + compare_rounds(Gates::Chain)) + 2 * mask + 1
+        let mask = mask_rounds(self.gates);
+        comparisons(self.prices) * (mask + compare_rounds(self.gates)) + 2 * mask + 1
     }
 
     fn masks(&self) -> u32 {
@@ -129,25 +134,34 @@ impl Script for AuctionScript {
     }
 
     fn coefficients(&self) -> u32 {
-        512 * (comparisons(self.prices) + 2)
+        MASK_COEFFICIENTS * (comparisons(self.prices) + 2)
     }
 
     fn wires(&self) -> u32 {
         let comparisons = comparisons(self.prices);
-        2 * self.prices + 487 * (comparisons + 2) + 366 * comparisons
+        self.inputs()
+            + mask_wires(self.gates) * self.masks()
+            + compare_wires(Gates::Tree) * comparisons
     }
 
     fn next(&self, done: u32, opened: &[Fe]) -> Batch {
+        let mut batch = Batch::end();
+        self.refill(done, opened, &mut batch);
+        batch
+    }
+
+    fn refill(&self, done: u32, opened: &[Fe], batch: &mut Batch) {
         let mut walk = self.start();
         let mut step = done;
         for number in opened {
             let length = walk.length();
             if step < length {
-                return walk.batch(step);
+                walk.refill(step, batch);
+                return;
             }
             step -= length;
             walk = walk.after(*number);
         }
-        walk.batch(step)
+        walk.refill(step, batch);
     }
 }

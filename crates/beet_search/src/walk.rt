@@ -1,17 +1,17 @@
 //! A place in the auction's script.
 
-ghost use Rattle.std.specs.Prelude.{◌≡◌, ◌↔◌, ◌<◌, ◌≤◌, ◌+◌, ◌-◌, ◌*◌, ◌/◌, IsTrue, [], ◌∷◌, unwrap_or, slice_get};
-ghost use Rattle.beet_gates.specs.Batches.{end_batch, reveal_batch};
+ghost use Rattle.std.specs.Prelude.{◌≡◌, ◌↔◌, ◌<◌, ◌≤◌, ◌+◌, ◌-◌, ◌*◌, ◌/◌, ◌^◌, IsTrue, []};
 ghost use Rattle.beet_gates.specs.Plans.{plan_length, plan_after, plan_batch, plan_finish, batch_at};
 ghost use Rattle.beet_plan.specs.Auction.{search_plan, end_plan, after_answer, after_product};
+ghost use Rattle.beet_plan.specs.Blocks.{blocks_of};
+ghost use Rattle.beet_mask.specs.Mask.{mask_wires_of};
 ghost use Rattle.beet_compare.specs.Compare.{compare_batches};
-ghost use Rattle.beet_search.specs.Walk.{plan_at, busy, Fits};
+ghost use Rattle.beet_search.specs.Walk.{plan_at, busy, widest, Fits};
 
-use arrayvec::ArrayVec;
-use beet_compare::{compare_batch, compare_rounds, compare_wires};
+use beet_compare::{compare_rounds, compare_wires, refill_compare};
 use beet_field::Fe;
-use beet_gates::{Act, Batch, Gates};
-use beet_mask::{mask_batch, mask_rounds, mask_wires};
+use beet_gates::{Batch, Gates};
+use beet_mask::{mask_rounds, mask_wires, refill_mask};
 use beet_plan::Finish;
 
 /// The block that comes next.
@@ -31,6 +31,7 @@ pub enum Stage {
 #[derive(Clone, Copy)]
 pub struct Walk {
     pub stage: Stage,
+    pub gates: Gates,
     pub prices: u32,
     pub lo: u32,
     pub hi: u32,
@@ -39,31 +40,6 @@ pub struct Walk {
     pub rejected: u32,
     /// How many masks may still be dealt.
     pub left: u32,
-}
-
-/// The batch, or the end where there is none.
-fn or_end(batch: Option<Batch>) -> Batch
-    ensures { result ≡ unwrap_or batch end_batch }
-{
-    match batch {
-        Some(batch) => batch,
-        None => Batch {
-            lets: ArrayVec::new(),
-            act: Act::End,
-        },
-    }
-}
-
-/// The batch that opens one wire.
-fn reveal(wire: u32) -> Batch
-    ensures { result ≡ reveal_batch [] (wire ∷ []) }
-{
-    let mut shown = ArrayVec::new();
-    shown.push(wire);
-    Batch {
-        lets: ArrayVec::new(),
-        act: Act::Reveal(shown),
-    }
 }
 
 impl Walk {
@@ -76,12 +52,13 @@ impl Walk {
 
     /// How many batches the next block has.
     pub fn length(&self) -> u32
+        requires { Fits self.now }
         ensures { result ≡ plan_length (plan_at self.now) }
     {
         match self.stage {
             Stage::Search => {
                 if self.is_open() {
-                    mask_rounds(Gates::Chain)
+                    mask_rounds(self.gates)
                 } else if self.lo < self.prices {
                     1
                 } else {
@@ -89,61 +66,63 @@ impl Walk {
                 }
             }
             Stage::Masked => 1,
-            Stage::Borrow(_) => compare_rounds(Gates::Chain) - 1,
+            Stage::Borrow(_) => compare_rounds(self.gates) - 1,
             Stage::Ended(_) => 0,
         }
     }
 
-    /// The batch of the comparison at the middle place at this step, with the mask that is in use.
-    fn comparison(&self, step: u32, c: Fe) -> Option<Batch>
+    /// Makes a batch that of the comparison at the middle place at this step, with the mask that is in use.
+    fn refill_comparison(&self, step: u32, c: Fe, batch: &mut Batch)
         requires fits { Fits self.now }
         requires busy { busy self.now.stage ≡ 1 }
-        ensures { result ≡ slice_get (compare_batches (self.now.first + 487) self.now.first ((self.now.lo + self.now.hi) / 2)
+        ensures { batch.new ≡ batch_at (compare_batches (self.now.first + mask_wires_of self.now.gates) self.now.first ((self.now.lo + self.now.hi) / 2)
             (self.now.prices + (self.now.lo + self.now.hi) / 2) c) step }
     {
         let mid = (self.lo + self.hi) / 2;
         let (supply, demand) = (mid, self.prices + mid);
-        compare_batch(
-            Gates::Chain,
+        refill_compare(
+            self.gates,
             step,
-            self.first + mask_wires(Gates::Chain),
+            self.first + mask_wires(self.gates),
             self.first,
             supply,
             demand,
             c,
-        )
+            batch,
+        );
     }
 
-    /// The batch of the next block at this step.
-    pub fn batch(&self, step: u32) -> Batch
+    /// Makes a batch that of the next block at this step.
+    pub fn refill(&self, step: u32, batch: &mut Batch)
         requires { Fits self.now }
-        ensures { result ≡ plan_batch (plan_at self.now) step [] }
+        ensures { batch.new ≡ plan_batch (plan_at self.now) step [] }
     {
         match self.stage {
             Stage::Search => {
                 if self.is_open() {
-                    or_end(mask_batch(Gates::Chain, step, self.first))
+                    refill_mask(self.gates, step, self.first, batch);
                 } else if self.lo < self.prices && step == 0 {
-                    reveal(self.prices + self.lo)
+                    batch.lets.clear();
+                    batch.set_opening(self.prices + self.lo);
                 } else {
-                    or_end(None)
+                    batch.set_end();
                 }
             }
             Stage::Masked => {
                 if step == 0 {
-                    or_end(self.comparison(0, Fe::reduce(0)))
+                    self.refill_comparison(0, Fe::reduce(0), batch);
                 } else {
-                    or_end(None)
+                    batch.set_end();
                 }
             }
             Stage::Borrow(c) => {
-                if step < compare_rounds(Gates::Chain) - 1 {
-                    or_end(self.comparison(step + 1, c))
+                if step < compare_rounds(self.gates) - 1 {
+                    self.refill_comparison(step + 1, c, batch);
                 } else {
-                    or_end(None)
+                    batch.set_end();
                 }
             }
-            Stage::Ended(_) => or_end(None),
+            Stage::Ended(_) => batch.set_end(),
         }
     }
 
@@ -153,7 +132,7 @@ impl Walk {
         requires open { (0 < self.left) × (self.lo < self.hi) }
         requires search { self.stage ≡ Stage.Search }
         ensures fits { Fits result }
-        ensures plan { plan_at result ≡ after_product self.prices (self.left - 1) self.lo self.hi self.first self.rejected product }
+        ensures plan { plan_at result ≡ after_product (blocks_of self.gates) self.prices (self.left - 1) self.lo self.hi self.first self.rejected product }
     {
         let mut walk = self;
         walk.left = self.left - 1;
@@ -162,7 +141,7 @@ impl Walk {
         } else if self.rejected == 2 {
             walk.stage = Stage::Ended(Finish::MasksSpent);
         } else {
-            walk.first = self.first + mask_wires(Gates::Chain);
+            walk.first = self.first + mask_wires(self.gates);
             walk.rejected = self.rejected + 1;
         }
         walk
@@ -171,14 +150,14 @@ impl Walk {
     /// The place after an answer.
     fn after_answer(self, answer: Fe) -> Walk
         requires fits { Fits self }
-        requires busy { (self.lo < self.hi) × (self.first + 732 * (self.left + 1) ≤ 30000) }
+        requires busy { (self.lo < self.hi) × (self.first + widest self.gates * (self.left + 1) < 2 ^ 32) }
         ensures fits { Fits result }
-        ensures plan { plan_at result ≡ after_answer self.prices self.left self.lo self.hi self.first self.rejected answer }
+        ensures plan { plan_at result ≡ after_answer (blocks_of self.gates) self.prices self.left self.lo self.hi self.first self.rejected answer }
     {
         let mid = (self.lo + self.hi) / 2;
         let mut walk = self;
         walk.stage = Stage::Search;
-        walk.first = self.first + mask_wires(Gates::Chain) + compare_wires(Gates::Chain);
+        walk.first = self.first + mask_wires(self.gates) + compare_wires(self.gates);
         if answer.value() == 1 {
             walk.hi = mid;
         } else {

@@ -1,13 +1,13 @@
 -- A core that fits a run goes on fitting it.
-use Rattle.std.proofs.Common.{◌≡◌, ◌≢◌, ◌≤◌, ◌<◌, ◌+◌, ◌==◌, ◌&&◌, ◌||◌, if◌then◌else◌, ℕ, suc, Bool, true, false, true≢false, Some, None, is_some, List, [], ◌∷◌, ◌++◌, drop, sym, refl, ap, subst, ◌∙◌, ◌⊎◌, inl, inr, ⊎_elim, arith, add-one}
+use Rattle.std.proofs.Common.{◌≡◌, ◌≢◌, ◌≤◌, ◌<◌, ◌+◌, ◌==◌, ◌&&◌, ◌||◌, if◌then◌else◌, ℕ, suc, Bool, true, false, true≢false, Some, None, is_some, List, [], ◌++◌, drop, sym, refl, ap, subst, ◌∙◌, ◌⊎◌, inl, inr, ⊎_elim, arith, add-one}
 use Rattle.std.proofs.lemmas.Bool.{eq-eqb, le-ltb, lt-ltb}
 use Rattle.std.proofs.lemmas.Bool.Decides.{nat_tests}
-use Rattle.std.proofs.lemmas.List.{drop-drop}
 use Rattle.arrayvec.specs.ArrayVec.{array_vec_len}
 use Rattle.beet_field.specs.Trio.{member}
 use Rattle.beet_field.specs.declared.point.Point.{Point}
 use Rattle.beet_field.specs.declared.point.Point.TheVariants.{One, Two, Three}
-use Rattle.beet_words.specs.Tapes.{Tape, left_of}
+use Rattle.beet_words.specs.Tapes.{left_of, words_passed}
+use Rattle.beet_words.proofs.DrawnFrom.{left-passed, passed-again}
 use Rattle.beet_words.specs.Words.{accepted}
 use Rattle.beet_gates.specs.Clear.{with_lets, is_end}
 use Rattle.beet_gates.specs.Each.{each}
@@ -18,7 +18,7 @@ use Rattle.beet_gates.proofs.EachFacts.{each-more}
 use Rattle.beet_round.specs.Boxes.{Mailbox, place_at, with_place, numbers_of, numbers_at, HasBoth, Judged, JudgedFrom, kept, turned}
 use Rattle.beet_round.specs.Sides.{peer}
 use Rattle.beet_round.proofs.BoxFacts.{judged-from}
-use Rattle.beet_round.proofs.SideFacts.{peer-apart}
+use Rattle.beet_round.proofs.SideFacts.{peer-apart, peer-one}
 use Rattle.beet_round.specs.declared.message.RoundMessage.{RoundMessage}
 use Rattle.beet_round.specs.declared.places.Places.{Places}
 use Rattle.beet_round.specs.declared.mailbox.Verdict.{Verdict}
@@ -27,10 +27,10 @@ use Rattle.beet_round.specs.declared.sides.Side.{Side}
 use Rattle.beet_round.specs.declared.sides.Side.TheVariants.{Low, High}
 use Rattle.beet_server.specs.Runs.{Opening, Shared, coming, message, sent_for, shared_at, standing_at, draws_in, gained}
 use Rattle.beet_server.specs.Events.{Delivered, same, both_in, with_triple}
-use Rattle.beet_server.specs.Answers.{IsLateVerdict, other_side, verdict_on}
+use Rattle.beet_server.specs.Answers.{HandsOut, IsLateVerdict, Moves, other_side, verdict_on}
 use Rattle.beet_server.specs.Cores.{Core, coming_at, has_ended}
 use Rattle.beet_server.specs.Fits.{Fits, IsRound, message_of, messages_to, messages_from, some_if, taken}
-use Rattle.beet_server.specs.Steps.{Work, work_of, core_of, batch_of, sends, handing, came_from, wires_given, moved_on, points_given, numbers_opened}
+use Rattle.beet_server.specs.Steps.{work_of, came_from, handed_out, messages_out, moved_on, numbers_opened, points_given, sends, wires_given}
 use Rattle.beet_server.proofs.RunSteps.{by-sender, length-sent_for, sends-run, gains-run, opens-run, member-of_each}
 use Rattle.beet_server.proofs.Soundness.{member-trio_of}
 
@@ -44,7 +44,7 @@ pub record Almost {S : Type 0} (next : S → ℕ → List ℕ → Batch) (o : Op
   pub opened : c.opened ≡ (shared_at o c.round).opened
   pub received : c.received ≡ each (messages_to o c.me) c.round
   pub dealt : c.masks.passed ≡ (shared_at o (taken c.round c.handed)).dealt
-  pub drawn : left_of c.coefficients ≡ drop (shared_at o (taken c.round c.handed)).drawn (member o.numbers c.me)
+  pub drawn : c.coefficients.passed ≡ words_passed c.coefficients.words (shared_at o (taken c.round c.handed)).drawn
   pub own : c.own ≡ (if c.handed then message o c.me c.me c.round else [])
   pub now : (s : Side) → place_at c.mail.now s ≡ some_if (x (peer c.me s) c.me c.round) (message_of o (peer c.me s) c.me c.round)
   pub early : (s : Side) →
@@ -127,31 +127,35 @@ module _ {S : Type 0} (next : S → ℕ → List ℕ → Batch) (o : Opening) (x
   pub coming-is : coming_at next c ≡ coming o c.round
   coming-is = λ i. sym fits.script i c.round (fits.opened i)
 
+  -- the numbers that are left are those that the run has not drawn
+  left-is : left_of c.coefficients ≡ drop (shared_at o (taken c.round c.handed)).drawn (member o.numbers c.me)
+  left-is =
+      let count = (shared_at o (taken c.round c.handed)).drawn in
+      ap (λ n. accepted (drop n c.coefficients.words)) fits.drawn ∙ left-passed c.coefficients.words count ∙ ap (drop count) fits.numbers
+
   -- what is handed out is what the run says
   pub sends-is : c.handed ≡ false → (to : Point) → sends next (work_of c) to ≡ message o c.me to c.round
   sends-is h to =
       let dealt = rw h at fits.dealt in
-      let drawn = rw h at fits.drawn in
+      let drawn = rw h at left-is in
       let there : Shared = standing_at o c.round in
       rw (coming-is, fits.wires, fits.words, dealt, drawn) (sends-run o there (coming o c.round).act c.me to)
 
   -- the messages of the round are handed out
-  pub hands-out : (rest : Tape) → c.handed ≡ false → has_ended next c ≡ false → rest.words ≡ c.coefficients.words →
-      left_of rest ≡ drop (draws_in (coming_at next c).act) (left_of c.coefficients) →
-      Almost next o x (core_of (handing next (work_of c) rest) c.received c.mail)
-  hands-out rest h goes words left =
+  pub hands-out : c.handed ≡ false → Almost next o x (handed_out next c)
+  hands-out h =
       let dealt = rw h at fits.dealt in
       let drawn = rw h at fits.drawn in
       record {
         script = fits.script;
         words = fits.words;
-        numbers = ap accepted words ∙ fits.numbers;
+        numbers = fits.numbers;
         rounds = fits.rounds;
         wires = fits.wires;
         opened = fits.opened;
         received = fits.received;
         dealt = rw (coming-is, dealt) refl;
-        drawn = left ∙ rw (coming-is, drawn) (drop-drop (draws_in (coming o c.round).act) (shared_at o c.round).drawn (member o.numbers c.me));
+        drawn = rw (coming-is, drawn) (sym (passed-again c.coefficients.words (shared_at o c.round).drawn (draws_in (coming o c.round).act)));
         own = sends-is h c.me;
         now = fits.now;
         early = fits.early;
@@ -274,20 +278,6 @@ same-is Three One e = cc e
 same-is Three Two e = cc e
 same-is Three Three e = refl
 
-peers-one : (me : Point) (s t : Side) → peer me s ≡ peer me t → s ≡ t
-peers-one One Low Low e = refl
-peers-one One Low High e = cc e
-peers-one One High Low e = cc e
-peers-one One High High e = refl
-peers-one Two Low Low e = refl
-peers-one Two Low High e = cc e
-peers-one Two High Low e = cc e
-peers-one Two High High e = refl
-peers-one Three Low Low e = refl
-peers-one Three Low High e = cc e
-peers-one Three High Low e = cc e
-peers-one Three High High e = refl
-
 eq-itself : (n : ℕ) → (n == n) ≡ true
 eq-itself n = grind (arith, nat_tests)
 
@@ -335,7 +325,7 @@ module _ (x : Delivered) (me : Point) (side : Side) (t : ℕ) where
 
   new-other : (s : Side) (r : ℕ) → s ≢ side → new_set (peer me s) me r ≡ x (peer me s) me r
   new-other s r other =
-      or-false _ _ (not-true _ (λ e. let b = (and-cases _ _ e).0 in other (peers-one me s side (same-is (peer me s) (peer me side) (and-cases _ _ b).0))))
+      or-false _ _ (not-true _ (λ e. let b = (and-cases _ _ e).0 in other (peer-one me s side (same-is (peer me s) (peer me side) (and-cases _ _ b).0))))
 
   new-kept : (s : Side) (r : ℕ) → x (peer me s) me r ≡ true → new_set (peer me s) me r ≡ true
   new-kept s r e = or-left _ _ e
@@ -597,30 +587,22 @@ module _ {S : Type 0} (next : S → ℕ → List ℕ → Batch) (c : Core S) whe
       (put-now next o x c fits s t is_round near handed box (j.0.0 ∙ at) j.3) handed goes j.2
 
   -- the messages are handed out, and the round is passed where both messages to the server are in
-  module _ (w : Work S) (handed : c.handed ≡ false) (goes : has_ended next c ≡ false) (work : w ≡ handing next (work_of c) w.coefficients)
-      (left : left_of w.coefficients ≡ drop (draws_in (coming_at next c).act) (left_of c.coefficients))
-      (words : w.coefficients.words ≡ c.coefficients.words) where
-    after-handing : (o : Opening) (x : Delivered) → Fits next o x c → Almost next o x (core_of w c.received c.mail)
-    after-handing o x fits =
-        subst (λ (v : Work S). Almost next o x (core_of v c.received c.mail)) (sym work)
-        (hands-out next o x c (almost next o x c fits) w.coefficients handed goes words left)
+  pub after-out : (d : Core S) (o : Opening) (x : Delivered) → c.handed ≡ false → has_ended next c ≡ false → HandsOut next c d → Fits next o x c → Fits next o x d
+  after-out d o x handed goes leaves fits =
+      let a = hands-out next o x c (almost next o x c fits) handed in
+      ⊎_elim
+      (λ b. rw b.1 (moves-on next o x (handed_out next c) a refl goes b.0))
+      (λ b. rw b.1 (wholly next o x (handed_out next c) a (λ _. still-waits next o x (handed_out next c) a b.0)))
+      leaves
 
-    pub after-out : (o : Opening) (x : Delivered) → Fits next o x c → (HasBoth c.mail.now → ⊥) → Fits next o x (core_of w c.received c.mail)
-    after-out o x fits not =
-        let a = after-handing o x fits in
-        wholly next o x (core_of w c.received c.mail) a (λ _. still-waits next o x (core_of w c.received c.mail) a not)
-
-    pub after-pass : (o : Opening) (x : Delivered) → Fits next o x c → HasBoth c.mail.now → Fits next o x (moved_on next (core_of w c.received c.mail))
-    after-pass o x fits both =
-        let goes' = ap (λ (v : Work S). is_end (batch_of next v).act) work ∙ goes in
-        moves-on next o x (core_of w c.received c.mail) (after-handing o x fits) (ap (λ (v : Work S). v.handed) work) goes' both
+  -- so far is the core then
+  pub moves-after : (d : Core S) → HandsOut next c d → Moves c d
+  moves-after d leaves =
+      ⊎_elim (λ b. inl (b.0, ap (λ k. k.round) b.1, ap (λ k. k.handed) b.1)) (λ b. inr (b.0, ap (λ k. k.round) b.1, ap (λ k. k.handed) b.1)) leaves
 
   -- the two messages that are handed out
-  pub handed-messages : (o : Opening) (x : Delivered) → Fits next o x c → c.handed ≡ false → (low high : RoundMessage) →
-      low ≡ record { from = c.me; to = peer c.me Low; round = c.round; numbers = record { items = sends next (work_of c) (peer c.me Low) } } →
-      high ≡ record { from = c.me; to = peer c.me High; round = c.round; numbers = record { items = sends next (work_of c) (peer c.me High) } } →
-      low ∷ high ∷ [] ≡ messages_from o c.me c.round
-  handed-messages o x fits handed low high e f =
+  pub handed-messages : (o : Opening) (x : Delivered) → Fits next o x c → c.handed ≡ false → messages_out next c ≡ messages_from o c.me c.round
+  handed-messages o x fits handed =
       let is : (s : Side) → sends next (work_of c) (peer c.me s) ≡ message o c.me (peer c.me s) c.round =
       λ s. sends-is next o x c (almost next o x c fits) handed (peer c.me s) in
-      rw (e, f, is Low, is High) refl
+      rw (is Low, is High) refl

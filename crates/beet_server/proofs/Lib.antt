@@ -15,3 +15,5 @@ pub mod RunSteps
 pub mod Starting
 pub mod Receiving
 pub mod Delivering
+pub mod RowFacts
+pub mod KeptFacts

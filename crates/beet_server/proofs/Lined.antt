@@ -5,7 +5,7 @@ use Rattle.std.proofs.Math.Seq.{get_or-append_right}
 use Rattle.beet_field.specs.Field.{p, IsElement, add_of, mul_of, sub_of}
 use Rattle.beet_field.proofs.Modular.{mul_same}
 use Rattle.beet_field.specs.Point.{number_of}
-use Rattle.beet_field.specs.Trio.{member}
+use Rattle.beet_field.specs.Trio.{member, trio_of, of_each}
 use Rattle.beet_field.specs.declared.point.Point.{Point}
 use Rattle.beet_field.specs.declared.point.Point.TheVariants.{One, Two, Three}
 use Rattle.beet_field.specs.declared.trio.Trio.{Trio}
@@ -14,7 +14,6 @@ use Rattle.beet_gates.specs.Clear.{weighed, let_of, with_lets, product_of}
 use Rattle.beet_gates.specs.Each.{each}
 use Rattle.beet_gates.specs.declared.Linear.{Linear}
 use Rattle.beet_gates.proofs.EachFacts.{length-each, item-each, each-zero, each-cons}
-use Rattle.beet_server.specs.Runs.{trio_of, of_each}
 use Rattle.beet_server.specs.Lines.{OnLines, slope_of, with_slopes}
 
 -- the three points of each wire are those of the line with its value and its slope

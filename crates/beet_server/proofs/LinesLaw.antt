@@ -2,7 +2,7 @@
 use Rattle.std.proofs.Common.{◌≡◌, ℕ, zero, suc, ◌+◌, List, [], ◌++◌, map, length, slice_index, refl, sym, ◌∙◌, ap, subst, arith, append-nil, add-zero}
 use Rattle.std.specs.Int.{bit_at}
 use Rattle.beet_field.specs.Field.{IsElement, mul_of}
-use Rattle.beet_field.specs.Trio.{member}
+use Rattle.beet_field.specs.Trio.{member, trio_of}
 use Rattle.beet_field.specs.declared.point.Point.{Point}
 use Rattle.beet_field.specs.declared.point.Point.TheVariants.{One, Two, Three}
 use Rattle.beet_shamir.specs.Line.{point_of, reshared}
@@ -12,7 +12,7 @@ use Rattle.beet_gates.specs.Each.{each}
 use Rattle.beet_gates.specs.declared.Act.{Act}
 use Rattle.beet_gates.specs.declared.Act.TheVariants.{Deal, Mul, Reveal, End}
 use Rattle.beet_gates.specs.declared.Batch.{Batch}
-use Rattle.beet_server.specs.Runs.{Opening, Shared, act_among, batch_among, coming, gained, hidden_at, number_drawn, opened_at, pair_at, product_at, shared_at, trio_of, with_batch_lets}
+use Rattle.beet_server.specs.Runs.{Opening, Shared, act_among, batch_among, coming, gained, hidden_at, number_drawn, opened_at, pair_at, product_at, shared_at, with_batch_lets}
 use Rattle.beet_server.specs.Lines.{OnLines, IsAtOne, HaveSameRounds, slopes_at, slopes_gained, with_slopes}
 use Rattle.beet_server.proofs.Lined.{Lined, lined, on-lines, lined-same, lined-nil, lined-append, lined-each, lined-lets, member-trio, member-each, products-together, opened-line, map-places, map-same}
 

@@ -1,5 +1,5 @@
 -- How many rounds a run has.
-use Rattle.std.proofs.Common.{◌≡◌, ℕ, zero, suc, ◌+◌, ◌<◌, ◌≤◌, ◌⊎◌, inl, inr, true, false, Bool, List, [], length, refl, sym, ◌∙◌, ap, subst, arith}
+use Rattle.std.proofs.Common.{◌≡◌, ℕ, zero, suc, ◌+◌, ◌<◌, ◌≤◌, inl, inr, true, false, Bool, List, [], length, refl, sym, ◌∙◌, ap, subst, arith}
 use Rattle.std.proofs.lemmas.Bool.{cases_eq}
 use Rattle.beet_gates.specs.Clear.{Values, act_on, batch_on, clear_at, clear_values, is_end, rounds_run, with_lets}
 use Rattle.beet_gates.specs.Deals.{deals_of}
@@ -8,25 +8,12 @@ use Rattle.beet_gates.specs.declared.Act.{Act}
 use Rattle.beet_gates.specs.declared.Act.TheVariants.{Deal, Mul, Reveal, End}
 use Rattle.beet_gates.specs.declared.Batch.{Batch}
 use Rattle.beet_gates.proofs.ClearAt.{run-ends}
+use Rattle.beet_gates.proofs.ClearFacts.{end-opens}
 use Rattle.beet_server.specs.Runs.{Opening, HasRounds, coming, end_from, rounds_among, shared_at, standing_at}
 use Rattle.beet_server.specs.Lines.{OnLines, slopes_at, slopes_standing}
 use Rattle.beet_server.proofs.LinesLaw.{at-one, lets-on-lines, same-rounds}
-use Rattle.beet_server.specs.Fits.{IsRound}
 use Rattle.beet_server.specs.Rounds.{HasInputs, RoundIsWithin}
 use Rattle.beet_server.proofs.Walk.{Goes, Lawful, Walks, deals-fit, draws-fit, lawful-last, lawful-next, lawful-start, message-length, size-small, size-some, walks, wires-fit}
-
-less-or : (r s : ℕ) → (r < s) ⊎ ((r ≡ s) ⊎ (s < r))
-less-or r s = grind arith
-
--- the first end is one
-pub rounds-unique : (o : Opening) (r s : ℕ) → HasRounds o r → HasRounds o s → r ≡ s
-rounds-unique o r s h k = elim (less-or r s) [
-  | inl less ↦ cc (h.ends, k.goes r less)
-  | inr rest ↦ elim rest [
-    | inl same ↦ same
-    | inr more ↦ cc (k.ends, h.goes s more)
-  ]
-]
 
 -- the end that the search from t on finds among n batches is the first
 record Found (o : Opening) (n t : ℕ) : Type 0 where
@@ -82,15 +69,6 @@ found-among o r (suc n) t h le few = by_end (is_end (coming o t).act) refl (λ b
 pub among-rounds : (o : Opening) (r most : ℕ) → HasRounds o r → r ≤ most → rounds_among o most ≡ r
 among-rounds o r most h le = found-among o r most 0 h (omega arith) (omega (arith, le))
 
--- a batch with the end opens nothing
-end-opens : (deals : ℕ → List ℕ) (b : Batch) (v : Values) → is_end b.act ≡ true → (batch_on deals b v).opened ≡ v.opened
-end-opens deals b v e = by_act b.act (record v { wires = with_lets v.wires b.lets.items }) e where
-  by_act : (a : Act) (w : Values) → is_end a ≡ true → (act_on deals a w).opened ≡ w.opened
-  by_act Deal w h = refl
-  by_act (Mul pairs) w h = refl
-  by_act (Reveal shown) w h = cc h
-  by_act End w h = refl
-
 -- a lawful run on lines has the clear run's rounds, and opens its numbers
 pub ends-alike : (o : Opening) (bounds : Standing) (most : ℕ) (values slopes : List ℕ) → LawFrom o.next bounds most (start_of (length values)) [] →
     OnLines values slopes o.inputs →
@@ -104,7 +82,7 @@ ends-alike o bounds most values slopes law lines =
     let v = clear_at o.next deals values r in (
       same,
       ap (λ k. (shared_at o k).opened) same ∙ (at-one o values slopes lines r).opened
-          ∙ sym (end-opens deals (o.next r v.opened) v clear.0.0) ∙ sym (ap (λ x. x.opened) clear.2),
+          ∙ sym (end-opens deals (o.next r v.opened) v clear.0.0),
     )
 
 -- and only appends its lets
@@ -128,26 +106,13 @@ wires-alike o bounds most values slopes law lines =
     let v = clear_at o.next deals values r in
     let at = at-one o values slopes lines r in
     let are : with_lets v.wires (coming o r).lets.items ≡ (clear_values o.next most values o.masks).wires =
-    ap (λ x. with_lets v.wires (o.next r x).lets.items) at.opened ∙ sym (end-wires deals (o.next r v.opened) v clear.0.0) ∙ sym (ap (λ x. x.wires) clear.2) in
+    ap (λ x. with_lets v.wires (o.next r x).lets.items) at.opened ∙ sym (end-wires deals (o.next r v.opened) v clear.0.0) in
     subst (λ n. OnLines (clear_values o.next most values o.masks).wires (slopes_standing o slopes n) (standing_at o n).wires) (sym same)
     (subst (λ w. OnLines w (slopes_standing o slopes r) (standing_at o r).wires) are (lets-on-lines (coming o r) v.wires (slopes_at o slopes r) (shared_at o r) at.lines))
 
 -- the end does not come before the rounds are over
 pub goes-before : (o : Opening) (r t : ℕ) → HasRounds o r → t ≤ r → Goes o t
 goes-before o r t h le k lt = h.goes k (omega (arith, le, lt))
-
--- what is no end, nor comes after one, is a round, and no other
-pub round-below : (o : Opening) (r t : ℕ) → HasRounds o r → IsRound o t → t < r
-round-below o r t h is = elim (less-or t r) [
-  | inl less ↦ less
-  | inr rest ↦ elim rest [
-    | inl same ↦ cc (h.ends, is r (omega (arith, same)))
-    | inr more ↦ cc (h.ends, is r (omega (arith, more)))
-  ]
-]
-
-pub below-round : (o : Opening) (r t : ℕ) → HasRounds o r → t < r → IsRound o t
-below-round o r t h lt k le = h.goes k (omega (arith, le, lt))
 
 -- a lawful run after t of its rounds
 pub walks-among : (o : Opening) (bounds : Standing) (most inputs : ℕ) → LawFrom o.next bounds most (start_of inputs) [] → HasInputs o inputs → (t : ℕ) →

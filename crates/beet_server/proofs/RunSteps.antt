@@ -2,7 +2,7 @@
 use Rattle.std.proofs.Common.{◌≡◌, ℕ, List, take, drop, map, length, slice_index, refl, ◌∙◌, arith}
 use Rattle.std.specs.Int.{bit_at}
 use Rattle.std.proofs.lemmas.List.{length-map}
-use Rattle.beet_field.specs.Trio.{member}
+use Rattle.beet_field.specs.Trio.{member, of_each}
 use Rattle.beet_field.specs.declared.point.Point.{Point}
 use Rattle.beet_field.specs.declared.point.Point.TheVariants.{One, Two, Three}
 use Rattle.beet_field.specs.declared.trio.Trio.{Trio}
@@ -15,7 +15,7 @@ use Rattle.beet_gates.specs.declared.Act.TheVariants.{Deal, Mul, Reveal, End}
 use Rattle.beet_gates.proofs.EachFacts.{length-each, item-each, each-same}
 use Rattle.beet_round.specs.Sides.{peer, side_of}
 use Rattle.beet_round.specs.declared.sides.Side.TheVariants.{Low, High}
-use Rattle.beet_server.specs.Runs.{Opening, Shared, draws_in, of_each, hidden_at, secret_hidden, number_drawn, product_at, gained, opened_at, opened_by, sent_for}
+use Rattle.beet_server.specs.Runs.{Opening, Shared, draws_in, hidden_at, secret_hidden, number_drawn, product_at, gained, opened_at, opened_by, sent_for}
 use Rattle.beet_server.specs.Steps.{numbers_for, three_at, points_given, numbers_opened, at_side}
 use Rattle.beet_server.proofs.Lists.{item-taken, item-map, each-map}
 

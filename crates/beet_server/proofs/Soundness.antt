@@ -2,9 +2,7 @@
 use Rattle.std.proofs.Common.{◌≡◌, ◌+◌, ◌*◌, ◌^◌, ◌<◌, ◌≤◌, ℕ, zero, suc, Bool, true, false, List, [], ◌∷◌, ◌++◌, drop, length, refl, sym, ap, ◌∙◌, arith, true≢false, length-append}
 use Rattle.std.proofs.lemmas.List.{length-map}
 use Rattle.std.specs.Int.{bit_at}
-use Rattle.arrayvec.specs.ArrayVec.{ArrayVec}
-use Rattle.beet_field.specs.Trio.{member}
-use Rattle.beet_field.specs.declared.trio.Trio.{Trio}
+use Rattle.beet_field.specs.Trio.{member, trio_of}
 use Rattle.beet_field.specs.declared.point.Point.{Point}
 use Rattle.beet_field.specs.declared.point.Point.TheVariants.{One, Two, Three}
 use Rattle.beet_words.specs.Tapes.{Tape, left_of}
@@ -16,7 +14,7 @@ use Rattle.beet_gates.specs.declared.Batch.{Batch}
 use Rattle.beet_gates.proofs.ClearFacts.{length-with_lets}
 use Rattle.beet_gates.proofs.EachFacts.{length-each}
 use Rattle.beet_gates.proofs.Laws.{law-now, law-next, law-last}
-use Rattle.beet_server.specs.Runs.{draws_in, trio_of}
+use Rattle.beet_server.specs.Runs.{draws_in}
 use Rattle.beet_server.specs.Sound.{IsSound}
 use Rattle.beet_server.specs.Steps.{numbers_for, gained_in}
 
@@ -31,14 +29,6 @@ length-numbers_for Deal points word drawn to = length-each _ _ ∙ length-each (
 length-numbers_for (Mul pairs) points word drawn to = length-each _ _ ∙ length-map pairs.items (product_of points)
 length-numbers_for (Reveal shown) points word drawn to = length-map shown.items _
 length-numbers_for End points word drawn to = refl
-
-pub length-own : (numbers : Trio (ArrayVec ℕ)) (own : ArrayVec ℕ) (a : Act) (points : List ℕ) (word : ℕ) (drawn : List ℕ) (me : Point) →
-    numbers ≡ trio_of (λ to. record { items = numbers_for a points word drawn to }) → own ≡ member numbers me → length own.items ≡ size_of a
-length-own numbers own a points word drawn me e f =
-    rw (f, e, member-trio_of (λ (to : Point). the_numbers to) me) (length-numbers_for a points word drawn me)
-  where
-    the_numbers : Point → ArrayVec ℕ
-    the_numbers to = record { items = numbers_for a points word drawn to }
 
 -- how far a batch leads
 pub record Leads (s t : Standing) (b : Batch) : Type 0 where

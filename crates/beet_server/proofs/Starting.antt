@@ -2,6 +2,7 @@
 use Rattle.std.proofs.Common.{◌≡◌, ℕ, false, true≢false, List, [], ◌∷◌, ◌++◌, take, length, refl, sym, ap, ◌∙◌, arith, append-nil, append_assoc}
 use Rattle.beet_field.specs.declared.point.Point.{Point}
 use Rattle.beet_words.specs.Tapes.{Tape}
+use Rattle.beet_words.proofs.DrawnFrom.{none-passed}
 use Rattle.beet_gates.specs.Clear.{with_lets, let_of}
 use Rattle.beet_gates.specs.Scripts.{size_of}
 use Rattle.beet_gates.specs.declared.Batch.{Batch}
@@ -78,7 +79,7 @@ module _ {S : Type 0} (next : S → ℕ → List ℕ → Batch) (me : Point) (sc
       opened = refl;
       received = sym (each-zero (messages_to o me));
       dealt = no_mask;
-      drawn = rw no_number (sym opens.has_numbers);
+      drawn = no_number ∙ sym (none-passed coefficients.words);
       own = refl;
       now = elim [ Low ↦ refl | High ↦ refl ];
       early = elim [ Low ↦ refl | High ↦ refl ];

@@ -244,17 +244,3 @@ sent-length o s End from to = refl
 
 pub message-length : (o : Opening) (from to : Point) (t : ℕ) → length (message o from to t) ≡ size_of (coming o t).act
 message-length o from to t = sent-length o (standing_at o t) (coming o t).act from to
-
--- an act that is not the end draws no more numbers than a message has
-pub draws-size : (a : Act) → draws_in a ≤ size_of a
-draws-size Deal = omega arith
-draws-size (Mul pairs) = omega arith
-draws-size (Reveal shown) = omega arith
-draws-size End = omega arith
-
--- how many numbers are drawn and words dealt after one batch more
-pub drawn-next : (o : Opening) (t : ℕ) → (shared_at o (suc t)).drawn ≡ (shared_at o t).drawn + draws_in (coming o t).act
-drawn-next o t = refl
-
-pub dealt-next : (o : Opening) (t : ℕ) → (shared_at o (suc t)).dealt ≡ (shared_at o t).dealt + deals_in (coming o t).act
-dealt-next o t = refl

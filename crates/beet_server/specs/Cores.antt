@@ -9,7 +9,8 @@ use Rattle.beet_gates.specs.Scripts.{size_of}
 use Rattle.beet_gates.specs.declared.Batch.{Batch}
 use Rattle.beet_round.specs.Boxes.{Mailbox, fresh_box}
 use Rattle.beet_round.specs.declared.message.RoundMessage.{RoundMessage}
-use Rattle.beet_server.specs.Runs.{Opening, of_each, numbers_of}
+use Rattle.beet_server.specs.Runs.{Opening, numbers_of}
+use Rattle.beet_field.specs.Trio.{of_each}
 
 -- a server: its script and tapes; how many rounds it has passed, and both messages to it of each passed round, the lower sender's first;
 -- its points of the wires, with the lets of the batch that comes; the opened numbers; the numbers that it sends itself in its round, once

@@ -7,7 +7,8 @@ use Rattle.beet_gates.specs.Each.{each}
 use Rattle.beet_gates.specs.Linears.{three_terms}
 use Rattle.beet_gates.specs.Product.{product_batch}
 use Rattle.beet_gates.specs.declared.Batch.{Batch}
-use Rattle.beet_server.specs.Runs.{Opening, message, of_each, shared_at, trio_of}
+use Rattle.beet_server.specs.Runs.{Opening, message, shared_at}
+use Rattle.beet_field.specs.Trio.{of_each, trio_of}
 
 -- three things
 abbrev pub trio : {A : Type 0} → A → A → A → Trio A

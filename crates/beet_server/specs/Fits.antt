@@ -1,8 +1,8 @@
 -- When a core fits a run and a set of delivered messages.
-use Rattle.std.specs.Prelude.{◌≡◌, ℕ, suc, ◌+◌, ◌<◌, ◌≤◌, List, [], ◌∷◌, drop, Option, Some, None, Bool, true, false, if◌then◌else◌}
+use Rattle.std.specs.Prelude.{◌≡◌, ℕ, suc, ◌+◌, ◌<◌, ◌≤◌, List, [], ◌∷◌, Option, Some, None, Bool, true, false, if◌then◌else◌}
 use Rattle.beet_field.specs.Trio.{member}
 use Rattle.beet_field.specs.declared.point.Point.{Point}
-use Rattle.beet_words.specs.Tapes.{left_of}
+use Rattle.beet_words.specs.Tapes.{words_passed}
 use Rattle.beet_words.specs.Words.{accepted}
 use Rattle.beet_gates.specs.Clear.{is_end}
 use Rattle.beet_gates.specs.Each.{each}
@@ -50,12 +50,13 @@ pub record Fits {S : Type 0} (next : S → ℕ → List ℕ → Batch) (o : Open
   pub words : c.masks.words ≡ member o.masks c.me
   pub numbers : accepted c.coefficients.words ≡ member o.numbers c.me
   pub rounds : (t : ℕ) → t < c.round → is_end (coming o t).act ≡ false
-  -- its points, opened and received numbers are those of the run, and so is what it took from its tapes
+  -- its points, opened and received numbers are those of the run; of its tapes the words are passed that it dealt and drew, with every
+  -- word before them and none after the last
   pub wires : c.wires ≡ member (standing_at o c.round).wires c.me
   pub opened : c.opened ≡ (shared_at o c.round).opened
   pub received : c.received ≡ each (messages_to o c.me) c.round
   pub dealt : c.masks.passed ≡ (shared_at o (taken c.round c.handed)).dealt
-  pub drawn : left_of c.coefficients ≡ drop (shared_at o (taken c.round c.handed)).drawn (member o.numbers c.me)
+  pub drawn : c.coefficients.passed ≡ words_passed c.coefficients.words (shared_at o (taken c.round c.handed)).drawn
   pub own : c.own ≡ (if c.handed then message o c.me c.me c.round else [])
   -- its box has the delivered messages of its round and the next
   pub now : (s : Side) → place_at c.mail.now s ≡ some_if (x (peer c.me s) c.me c.round) (message_of o (peer c.me s) c.me c.round)

@@ -9,3 +9,5 @@ pub mod Examples
 pub mod Steps
 pub mod Answers
 pub mod Sound
+pub mod Rows
+pub mod Kept

@@ -1,7 +1,7 @@
 -- Wires whose three points lie on lines, and the slopes of these lines in a run.
 use Rattle.std.specs.Prelude.{◌≡◌, ◌↔◌, ℕ, zero, suc, ◌%◌, List, [], ◌∷◌, ◌++◌, length, slice_index}
 use Rattle.beet_field.specs.Field.{p, IsElement}
-use Rattle.beet_field.specs.Trio.{member}
+use Rattle.beet_field.specs.Trio.{member, trio_of}
 use Rattle.beet_field.specs.declared.point.Point.{Point}
 use Rattle.beet_field.specs.declared.point.Point.TheVariants.{One, Two, Three}
 use Rattle.beet_field.specs.declared.trio.Trio.{Trio}
@@ -12,7 +12,7 @@ use Rattle.beet_gates.specs.Each.{each}
 use Rattle.beet_gates.specs.declared.Act.{Act}
 use Rattle.beet_gates.specs.declared.Act.TheVariants.{Deal, Mul, Reveal, End}
 use Rattle.beet_gates.specs.declared.Linear.{Linear}
-use Rattle.beet_server.specs.Runs.{Opening, Shared, HasRounds, coming, shared_at, number_drawn, trio_of}
+use Rattle.beet_server.specs.Runs.{Opening, Shared, HasRounds, coming, shared_at, number_drawn}
 
 -- the points of each wire are those of the line with its value and its slope
 pub record OnLines (values slopes : List ℕ) (wires : Trio (List ℕ)) : Type 0 where

@@ -2,7 +2,7 @@
 -- messages in it.
 use Rattle.std.specs.Prelude.{◌≡◌, ◌<◌, ℕ, zero, suc, ◌+◌, List, [], ◌++◌, map, length, slice_index, slice_index_or, true, false, if◌then◌else◌}
 use Rattle.std.specs.Int.{bit_at}
-use Rattle.beet_field.specs.Trio.{member}
+use Rattle.beet_field.specs.Trio.{member, of_each, trio_of}
 use Rattle.beet_field.specs.declared.point.Point.{Point}
 use Rattle.beet_field.specs.declared.point.Point.TheVariants.{One, Two, Three}
 use Rattle.beet_field.specs.declared.trio.Trio.{Trio}
@@ -22,10 +22,6 @@ pub record Opening : Type 0 where
   pub inputs : Trio (List ℕ)
   pub masks : Trio (List ℕ)
   pub numbers : Trio (List ℕ)
-
--- f of each of three
-abbrev pub of_each : {A B : Type 0} → (A → B) → Trio A → Trio B
-of_each f t = record { one = f t.one; two = f t.two; three = f t.three }
 
 -- the numbers that servers with these coefficient words draw: the accepted words, in order
 abbrev pub numbers_of : Trio (List ℕ) → Trio (List ℕ)
@@ -64,10 +60,6 @@ number_drawn o s j k = slice_index (member o.numbers j) (s.drawn + k)
 -- the k-th secret that it hides, where the lets of the batch are among the wires
 abbrev pub secret_hidden : Opening → Shared → Act → Point → ℕ → ℕ
 secret_hidden o s a j k = secret_of a (member s.wires j) (slice_index (member o.masks j) s.dealt) k
-
--- one value of each server
-abbrev pub trio_of : {A : Type 0} → (Point → A) → Trio A
-trio_of f = record { one = f One; two = f Two; three = f Three }
 
 -- the k-th secret of server j as the value of a line, and the number that hides it as its slope: the point of this line at i
 abbrev pub hidden_at : Opening → Shared → Act → Point → Point → ℕ → ℕ

@@ -1,5 +1,6 @@
 -- What always holds of what computes in a server.
-use Rattle.std.specs.Prelude.{◌≡◌, ℕ, ◌+◌, ◌*◌, ◌^◌, ◌<◌, ◌≤◌, List, [], ◌∷◌, length, Bool, true, false}
+use Rattle.std.specs.Prelude.{◌≡◌, ℕ, ◌+◌, ◌*◌, ◌^◌, ◌<◌, ◌≤◌, List, length, Bool, true, false}
+use Rattle.beet_field.specs.declared.point.Point.{Point}
 use Rattle.beet_words.specs.Tapes.{Tape, left_of}
 use Rattle.beet_gates.specs.Scripts.{Standing, LawFrom, deals_in, size_of}
 use Rattle.beet_gates.specs.declared.Batch.{Batch}
@@ -32,17 +33,12 @@ pub record IsSound (next : ℕ → List ℕ → Batch) (bounds : Standing) (roun
   pub opened_fit : 64 * rounds ≤ opened_room
   pub small : rounds < 2 ^ 32
 
--- both messages of each round are there
-abbrev pub ArePairs : List (List RoundMessage) → Type 0
-ArePairs [] = Unit {0}
-ArePairs (m ∷ ms) = (length m ≡ 2) × ArePairs ms
-
 -- what computes in a server, the messages of the passed rounds and the box are of one round, and there is room for the messages of all
 -- rounds
-pub record AreTied {S : Type 0} (next : S → ℕ → List ℕ → Batch) (rounds : ℕ) (w : Work S) (received : List (List RoundMessage)) (mail : Mailbox) (room : ℕ) : Type 0 where
+pub record AreTied {S : Type 0} (next : S → ℕ → List ℕ → Batch) (rounds : ℕ) (w : Work S) (received : List (List RoundMessage)) (mail : Mailbox) (room : ℕ) (keeper : Point) : Type 0 where
   pub me : mail.me ≡ w.me
   pub round : mail.round ≡ w.round
   pub want : mail.want ≡ size_of (batch_of next w).act
   pub count : length received ≡ w.round
-  pub pairs : ArePairs received
   pub fit : rounds ≤ room
+  pub keeps : keeper ≡ w.me

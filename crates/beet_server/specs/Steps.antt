@@ -5,7 +5,7 @@ use Rattle.beet_field.specs.declared.point.Point.{Point}
 use Rattle.beet_field.specs.declared.point.Point.TheVariants.{One, Two, Three}
 use Rattle.beet_field.specs.declared.trio.Trio.{Trio}
 use Rattle.beet_shamir.specs.Line.{point_of, recombined, reshared}
-use Rattle.beet_words.specs.Tapes.{Tape, left_of}
+use Rattle.beet_words.specs.Tapes.{Tape, drawn_from, left_of}
 use Rattle.beet_gates.specs.Clear.{with_lets, product_of}
 use Rattle.beet_gates.specs.Each.{each}
 use Rattle.beet_gates.specs.Scripts.{deals_in, size_of}
@@ -13,7 +13,7 @@ use Rattle.beet_gates.specs.declared.Act.{Act}
 use Rattle.beet_gates.specs.declared.Act.TheVariants.{Deal, Mul, Reveal, End}
 use Rattle.beet_gates.specs.declared.Batch.{Batch}
 use Rattle.beet_round.specs.Boxes.{Mailbox, numbers_at, turned}
-use Rattle.beet_round.specs.Sides.{side_of}
+use Rattle.beet_round.specs.Sides.{peer, side_of}
 use Rattle.beet_round.specs.declared.message.RoundMessage.{RoundMessage}
 use Rattle.beet_round.specs.declared.sides.Side.{Side}
 use Rattle.beet_round.specs.declared.sides.Side.TheVariants.{Low, High}
@@ -119,11 +119,11 @@ module _ {S : Type 0} (next : S → ℕ → List ℕ → Batch) where
       let act = (batch_of w).act in
       numbers_for act w.wires (slice_index w.masks.words w.masks.passed) (take (draws_in act) (left_of w.coefficients)) to
 
-  -- the messages of the round are handed out, and the words and numbers are taken for them; the tape of numbers is then this one
-  abbrev pub handing : Work S → Tape → Work S
-  handing w rest = record w {
+  -- the messages of the round are handed out, and the words and numbers are taken for them
+  abbrev pub handing : Work S → Work S
+  handing w = record w {
     masks = record w.masks { passed = w.masks.passed + deals_in (batch_of w).act };
-    coefficients = rest;
+    coefficients = drawn_from w.coefficients (draws_in (batch_of w).act);
     own = sends w w.me;
     handed = true;
   }
@@ -157,6 +157,20 @@ module _ {S : Type 0} (next : S → ℕ → List ℕ → Batch) where
   both_of (Some low) (Some high) = low ∷ high ∷ []
   both_of None high = []
   both_of (Some low) None = []
+
+  -- the message of a core's round to its peer of a side
+  abbrev pub message_out : Core S → Side → RoundMessage
+  message_out c side =
+      let to = peer c.me side in
+      record { from = c.me; to = to; round = c.round; numbers = record { items = sends (work_of c) to } }
+
+  -- both messages of its round, to the lower peer first
+  abbrev pub messages_out : Core S → List RoundMessage
+  messages_out c = message_out c Low ∷ message_out c High ∷ []
+
+  -- a core hands out the messages of its round
+  abbrev pub handed_out : Core S → Core S
+  handed_out c = core_of (handing (work_of c)) c.received c.mail
 
   -- a core passes the round whose messages are in its box
   abbrev pub moved_on : Core S → Core S

@@ -1,16 +1,15 @@
 //! What computes in a server: its points of the wires, the opened numbers, and the batch that
 //! comes.
 
-ghost use Rattle.std.specs.Prelude.{◌≡◌, ◌<◌, ◌≤◌, ◌+◌, ◌-◌, ◌^◌, [], length, drop, IfOk, true, false, vec_capacity};
+ghost use Rattle.std.specs.Prelude.{◌≡◌, ◌<◌, ◌≤◌, ◌+◌, ◌-◌, ◌^◌, [], length, IfOk, true, false, vec_capacity};
 ghost use Rattle.beet_words.specs.Tapes.{left_of};
 ghost use Rattle.beet_gates.specs.Clear.{is_end, with_lets};
 ghost use Rattle.beet_gates.specs.Scripts.{size_of};
 ghost use Rattle.beet_round.specs.Sides.{peer};
 ghost use Rattle.beet_round.specs.declared.sides.Side.TheVariants.{Low, High};
-ghost use Rattle.beet_server.specs.Runs.{draws_in};
 ghost use Rattle.beet_server.specs.Steps.{Work, batch_of, sends, handing, passing};
 
-use crate::parts::{Numbers, absorb, apart, append_all, append_lets, numbers_for_each, of_sender};
+use crate::parts::{Numbers, absorb, append_all, append_lets, of_sender, put_numbers};
 use beet_field::{Fe, Point};
 use beet_gates::{Act, Batch, Script};
 use beet_words::Tape;
@@ -105,29 +104,27 @@ impl<S: Script> Engine<S> {
         })
     }
 
-    /// Takes the words and numbers of the round from the tapes. The answer is for the lower and for
-    /// the higher peer.
-    pub fn hand_out(&mut self) -> (Numbers, Numbers)
+    /// Takes the words and numbers of the round from the tapes. What is for the lower and for the
+    /// higher peer is put in the place of other numbers.
+    pub fn hand_out(&mut self, low: &mut Numbers, high: &mut Numbers)
         requires handed { self.old.handed ≡ false }
         requires goes { is_end (batch_of S.batch_of self.old).act ≡ false }
-        ensures work { self.new ≡ handing S.batch_of self.old self.new.coefficients }
-        ensures left { left_of self.new.coefficients
-            ≡ drop (draws_in (batch_of S.batch_of self.old).act) (left_of self.old.coefficients) }
-        ensures words { self.new.coefficients.words ≡ self.old.coefficients.words }
+        ensures work { self.new ≡ handing S.batch_of self.old }
         ensures within { self.old.round < S.rounds_of self.old.script }
-        ensures low { result.0.items ≡ sends S.batch_of self.old (peer self.old.me Low) }
-        ensures high { result.1.items ≡ sends S.batch_of self.old (peer self.old.me High) }
+        ensures low { low.new.items ≡ sends S.batch_of self.old (peer self.old.me Low) }
+        ensures high { high.new.items ≡ sends S.batch_of self.old (peer self.old.me High) }
     {
-        let numbers = numbers_for_each(
+        put_numbers(
             &self.batch.act,
             self.wires.as_slice(),
             &mut self.masks,
             &mut self.coefficients,
+            self.me,
+            &mut self.own,
+            low,
+            high,
         );
-        let (own, low, high) = apart(numbers, self.me);
-        self.own = own;
         self.handed = true;
-        (low, high)
     }
 
     /// Passes the round with the numbers of the lower and of the higher peer.
@@ -152,10 +149,11 @@ impl<S: Script> Engine<S> {
             two,
             three,
         );
-        self.own = Numbers::new();
+        self.own.clear();
         self.handed = false;
         self.round += 1;
-        self.batch = self.script.next(self.round, self.opened.as_slice());
+        self.script
+            .refill(self.round, self.opened.as_slice(), &mut self.batch);
         append_lets(&mut self.wires, self.batch.lets.as_slice());
     }
 

@@ -6,9 +6,11 @@
 #![tactic(auto)]
 
 mod engine;
+mod kept;
 mod laws_of_events;
 mod laws_of_lines;
 mod parts;
+mod rows;
 mod server;
 
 pub use laws_of_events::{

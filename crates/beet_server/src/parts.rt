@@ -1,17 +1,16 @@
 //! What a batch does to lists of numbers.
 
-ghost use Rattle.std.specs.Prelude.{◌≡◌, ◌<◌, ◌≤◌, ◌+◌, ◌%◌, ◌++◌, take, drop, map, length, slice_index, vec_capacity};
+ghost use Rattle.std.specs.Prelude.{◌≡◌, ◌<◌, ◌≤◌, ◌+◌, ◌%◌, ◌++◌, take, map, length, slice_index, vec_capacity};
 ghost use Rattle.std.specs.Int.{bit_at};
 ghost use Rattle.beet_field.specs.Field.{p};
-ghost use Rattle.beet_field.specs.Trio.{member};
 ghost use Rattle.beet_shamir.specs.Line.{recombined, reshared};
-ghost use Rattle.beet_words.specs.Tapes.{left_of};
+ghost use Rattle.beet_words.specs.Tapes.{drawn_from, left_of};
 ghost use Rattle.beet_gates.specs.Each.{each};
 ghost use Rattle.beet_gates.specs.Scripts.{TermsBelow, LetsBelow, PairsBelow, WiresBelow, ActBelow, deals_in, revealed, size_of};
 ghost use Rattle.beet_gates.specs.Clear.{weighed, let_of, with_lets, product_of};
 ghost use Rattle.beet_round.specs.Sides.{peer, side_of};
 ghost use Rattle.beet_round.specs.declared.sides.Side.TheVariants.{Low, High};
-ghost use Rattle.beet_server.specs.Runs.{draws_in, trio_of};
+ghost use Rattle.beet_server.specs.Runs.{draws_in};
 ghost use Rattle.beet_server.specs.Steps.{hidden, numbers_for, three_at, points_given, numbers_opened, gained_in, at_side};
 
 use arrayvec::ArrayVec;
@@ -190,17 +189,16 @@ fn bits(word: Word) -> Numbers
     numbers
 }
 
-/// The points of the wires.
-fn pick(wires: &[Fe], shown: &[u32]) -> Numbers
+/// Puts the points of the wires in the place of other numbers.
+fn pick(wires: &[Fe], shown: &[u32], numbers: &mut Numbers)
     requires below { WiresBelow (length wires.now) shown.now }
     requires few { length shown.now ≤ 64 }
-    ensures { result.items ≡ map (slice_index wires.now) shown.now }
+    ensures { numbers.new.items ≡ map (slice_index wires.now) shown.now }
 {
-    let mut numbers = Numbers::new();
+    numbers.clear();
     for wire in shown {
         numbers.push(wires[*wire as usize]);
     }
-    numbers
 }
 
 /// The next numbers of the tape.
@@ -209,8 +207,7 @@ fn draw(tape: &mut Tape, count: usize) -> Numbers
     requires enough { count ≤ length (left_of tape.old) }
     ensures items { result.items ≡ take count (left_of tape.old) }
     ensures count { length result.items ≡ count }
-    ensures left { left_of tape.new ≡ drop count (left_of tape.old) }
-    ensures words { tape.new.words ≡ tape.old.words }
+    ensures tape { tape.new ≡ drawn_from tape.old count }
 {
     let mut numbers = Numbers::new();
     for _ in 0..count {
@@ -219,14 +216,14 @@ fn draw(tape: &mut Tape, count: usize) -> Numbers
     numbers
 }
 
-/// The points at a server of the lines with these values and slopes.
+/// Puts the points at a server of the lines with these values and slopes in the place of other numbers.
 #[tactic(auto, using(beet_gates::proofs::EachFacts::each_steps))]
-fn hide(values: &[Fe], slopes: &[Fe], to: Point) -> Numbers
+fn hide(values: &[Fe], slopes: &[Fe], to: Point, numbers: &mut Numbers)
     requires slopes { length slopes.now ≡ length values.now }
     requires few { length values.now ≤ 64 }
-    ensures { result.items ≡ hidden values.now slopes.now to }
+    ensures { numbers.new.items ≡ hidden values.now slopes.now to }
 {
-    let mut numbers = Numbers::new();
+    numbers.clear();
     for k in 0..values.len() {
         let line = Line {
             value: values[k],
@@ -234,78 +231,78 @@ fn hide(values: &[Fe], slopes: &[Fe], to: Point) -> Numbers
         };
         numbers.push(line.at(to));
     }
-    numbers
 }
 
-/// The points at each server of the lines with these values and slopes.
-fn hide_for_each(values: Numbers, slopes: Numbers) -> Trio<Numbers>
-    requires slopes { length slopes.items ≡ length values.items }
-    requires few { length values.items ≤ 64 }
-    ensures { result ≡ trio_of (λ to. record { items = hidden values.items slopes.items to }) }
+/// Puts the points of the lines with these values and slopes in the place of the numbers for the server itself, for its lower and
+/// for its higher peer.
+fn hide_for_each(
+    values: &[Fe],
+    slopes: &[Fe],
+    me: Point,
+    own: &mut Numbers,
+    low: &mut Numbers,
+    high: &mut Numbers,
+)
+    requires slopes { length slopes.now ≡ length values.now }
+    requires few { length values.now ≤ 64 }
+    ensures own { own.new.items ≡ hidden values.now slopes.now me }
+    ensures low { low.new.items ≡ hidden values.now slopes.now (peer me Low) }
+    ensures high { high.new.items ≡ hidden values.now slopes.now (peer me High) }
 {
-    let values = values.as_slice();
-    let slopes = slopes.as_slice();
-    Trio {
-        one: hide(values, slopes, Point::One),
-        two: hide(values, slopes, Point::Two),
-        three: hide(values, slopes, Point::Three),
-    }
+    hide(values, slopes, me, own);
+    hide(values, slopes, Side::Low.peer(me), low);
+    hide(values, slopes, Side::High.peer(me), high);
 }
 
-/// The numbers of a batch for each server. The words and the numbers that they need are taken from
-/// the tapes.
-pub fn numbers_for_each(
+/// The numbers of a batch for the server itself, for its lower and for its higher peer, in the place of others. The words and
+/// the numbers that they need are taken from the tapes.
+pub fn put_numbers(
     act: &Act,
     wires: &[Fe],
     masks: &mut Tape,
     coefficients: &mut Tape,
-) -> Trio<Numbers>
+    me: Point,
+    own: &mut Numbers,
+    low: &mut Numbers,
+    high: &mut Numbers,
+)
     requires below { ActBelow (length wires.now) act.now }
     requires few { size_of act.now ≤ 64 }
     requires words { masks.old.passed + deals_in act.now ≤ length masks.old.words }
     requires enough { draws_in act.now ≤ length (left_of coefficients.old) }
-    ensures numbers { result ≡ trio_of (λ to. record {
-      items = numbers_for act.now wires.now
-          (slice_index masks.old.words masks.old.passed)
-          (take (draws_in act.now) (left_of coefficients.old)) to;
-    }) }
+    ensures own { own.new.items ≡ numbers_for act.now wires.now
+        (slice_index masks.old.words masks.old.passed)
+        (take (draws_in act.now) (left_of coefficients.old)) me }
+    ensures low { low.new.items ≡ numbers_for act.now wires.now
+        (slice_index masks.old.words masks.old.passed)
+        (take (draws_in act.now) (left_of coefficients.old)) (peer me Low) }
+    ensures high { high.new.items ≡ numbers_for act.now wires.now
+        (slice_index masks.old.words masks.old.passed)
+        (take (draws_in act.now) (left_of coefficients.old)) (peer me High) }
     ensures dealt { masks.new ≡ record masks.old { passed = masks.old.passed + deals_in act.now } }
-    ensures left { left_of coefficients.new ≡ drop (draws_in act.now) (left_of coefficients.old) }
-    ensures kept { coefficients.new.words ≡ coefficients.old.words }
+    ensures drawn { coefficients.new ≡ drawn_from coefficients.old (draws_in act.now) }
 {
     match act {
         Act::Deal => {
             let values = bits(masks.next_mask());
-            hide_for_each(values, draw(coefficients, 61))
+            let slopes = draw(coefficients, 61);
+            hide_for_each(values.as_slice(), slopes.as_slice(), me, own, low, high);
         }
         Act::Mul(pairs) => {
             let values = products(wires, pairs.as_slice());
-            hide_for_each(values, draw(coefficients, pairs.len()))
+            let slopes = draw(coefficients, pairs.len());
+            hide_for_each(values.as_slice(), slopes.as_slice(), me, own, low, high);
         }
-        Act::Reveal(shown) => Trio {
-            one: pick(wires, shown.as_slice()),
-            two: pick(wires, shown.as_slice()),
-            three: pick(wires, shown.as_slice()),
-        },
-        Act::End => Trio {
-            one: Numbers::new(),
-            two: Numbers::new(),
-            three: Numbers::new(),
-        },
-    }
-}
-
-/// The numbers for the server itself, for its lower and for its higher peer.
-pub fn apart(numbers: Trio<Numbers>, me: Point) -> (Numbers, Numbers, Numbers)
-    ensures own { result.0 ≡ member numbers me }
-    ensures low { result.1 ≡ member numbers (peer me Low) }
-    ensures high { result.2 ≡ member numbers (peer me High) }
-{
-    let Trio { one, two, three } = numbers;
-    match me {
-        Point::One => (one, two, three),
-        Point::Two => (two, one, three),
-        Point::Three => (three, one, two),
+        Act::Reveal(shown) => {
+            pick(wires, shown.as_slice(), own);
+            pick(wires, shown.as_slice(), low);
+            pick(wires, shown.as_slice(), high);
+        }
+        Act::End => {
+            own.clear();
+            low.clear();
+            high.clear();
+        }
     }
 }
 

@@ -1,6 +1,6 @@
 //! One server of three.
 
-ghost use Rattle.std.specs.Prelude.{◌≡◌, ◌≢◌, ◌↔◌, ◌⊎◌, ◌<◌, ◌≤◌, ◌+◌, ◌-◌, ℕ, List, length, IfOk, IsNone, IfNone, IfSome, IsErrOf, option_map, true, false};
+ghost use Rattle.std.specs.Prelude.{◌≡◌, ◌≢◌, ◌↔◌, ◌⊎◌, ◌<◌, ◌≤◌, ◌+◌, ◌-◌, ◌++◌, ◌∷◌, [], ℕ, List, length, IfOk, IsNone, IfNone, IfSome, IsErrOf, option_map, true, false};
 ghost use Rattle.beet_words.specs.Tapes.{left_of};
 ghost use Rattle.beet_gates.specs.Scripts.{size_of};
 ghost use Rattle.beet_round.specs.Boxes.{HasBoth, Mailbox, Judged};
@@ -9,12 +9,15 @@ ghost use Rattle.beet_round.specs.declared.sides.Side.{Side as SideOf};
 ghost use Rattle.beet_server.specs.Runs.{Opening};
 ghost use Rattle.beet_server.specs.Events.{Delivered, nothing, with_triple};
 ghost use Rattle.beet_server.specs.Cores.{has_ended, is_quiet, fresh, IsFresh};
+ghost use Rattle.beet_server.specs.Kept.{ArePeers};
 ghost use Rattle.beet_server.specs.Fits.{Fits, OpensAt, IsRound, message_of, messages_from};
-ghost use Rattle.beet_server.specs.Steps.{moved_on, received_from};
-ghost use Rattle.beet_server.specs.Answers.{Keeps, Moves, IsLateVerdict, Answers, verdict_on};
+ghost use Rattle.beet_server.specs.Steps.{messages_out, moved_on, received_from};
+ghost use Rattle.beet_server.specs.Answers.{HandsOut, Keeps, Moves, IsLateVerdict, Answers, verdict_on};
 ghost use Rattle.beet_server.specs.declared.server.StartFault.TheVariants.{TooFewWords, TooFewMasks};
 
 use crate::engine::Engine;
+use crate::kept::Kept;
+use crate::parts::Numbers;
 use beet_field::{Fe, Point};
 use beet_gates::Script;
 use beet_round::{RoundBox, RoundMessage, Side, Verdict};
@@ -48,26 +51,37 @@ impl From<AllocError> for StartFault {
     }
 }
 
+/// Keeps the messages of the next round.
+fn keep(kept: &mut Kept, messages: [RoundMessage; 2])
+    requires room { length kept.old.messages < kept.old.room }
+    requires both { ArePeers kept.old.me (length kept.old.messages) messages }
+    ensures me { kept.new.me ≡ kept.old.me }
+    ensures room { kept.new.room ≡ kept.old.room }
+    ensures messages { kept.new.messages ≡ kept.old.messages ++ messages ∷ [] }
+{
+    let [low, high] = messages;
+    kept.push(&low, &high);
+}
+
 /// A server that runs a script with two others.
 #[derive(Drop)]
 pub struct ServerCore<S: Script> {
     engine: Engine<S>,
     mail: RoundBox,
-    received: Vec<[RoundMessage; 2]>,
+    received: Kept,
 }
 
 impl<S: Script> Model for ServerCore<S> {
-    ghost use Rattle.std.specs.Prelude.{vec_capacity};
     ghost use Rattle.beet_server.specs.Cores.{Core};
     ghost use Rattle.beet_server.specs.Steps.{core_of};
     ghost use Rattle.beet_server.specs.Sound.{AreTied};
 
     ghost Value = { Core S };
 
-    ghost view = { λ c. core_of c.engine c.received.items c.mail };
+    ghost view = { λ c. core_of c.engine c.received.messages c.mail };
 
     ghost invariant = { λ c. AreTied S.batch_of (S.rounds_of c.engine.script) c.engine
-        c.received.items c.mail (vec_capacity c.received) };
+        c.received.messages c.mail c.received.room c.received.me };
 }
 
 impl<S: Script> ServerCore<S> {
@@ -104,7 +118,7 @@ impl<S: Script> ServerCore<S> {
         if have < script.masks() {
             return Err(StartFault::TooFewMasks(have));
         }
-        let received = Vec::with_capacity(alloc, script.rounds() as usize)?;
+        let received = Kept::new(alloc, me, script.rounds())?;
         let engine = Engine::start(alloc, me, script, inputs.as_slice(), masks, coefficients)?;
         let mail = RoundBox::new(me, engine.size());
         Ok(ServerCore {
@@ -124,6 +138,8 @@ impl<S: Script> ServerCore<S> {
         ensures keeps { Keeps self.old self.new }
         ensures moves { IfSome result (λ m. Moves self.old self.new) }
         ensures within { IfSome result (λ m. self.old.round < S.rounds_of self.old.script) }
+        ensures hands { IfSome result (λ m. m ≡ messages_out S.batch_of self.old) }
+        ensures leaves { IfSome result (λ m. HandsOut S.batch_of self.old self.new) }
         ensures fits { (o : Opening) (x : Delivered) → Fits S.batch_of o x self.old
             → Fits S.batch_of o x self.new }
         ensures messages { (o : Opening) (x : Delivered) → Fits S.batch_of o x self.old
@@ -134,7 +150,9 @@ impl<S: Script> ServerCore<S> {
         }
         let from = self.engine.me();
         let round = self.engine.round();
-        let (low, high) = self.engine.hand_out();
+        let mut low = Numbers::new();
+        let mut high = Numbers::new();
+        self.engine.hand_out(&mut low, &mut high);
         let ready = self.mail.ready();
         if ready {
             self.turn();
@@ -208,7 +226,6 @@ impl<S: Script> ServerCore<S> {
     }
 
     /// Passes the round, whose messages are both in.
-    #[tactic(auto, using(crate::proofs::Receiving::pairs_more))]
     fn turn(&mut self)
         requires goes { has_ended S.batch_of self.old ≡ false }
         requires handed { self.old.handed ≡ true }
@@ -216,8 +233,9 @@ impl<S: Script> ServerCore<S> {
         ensures { self.new ≡ moved_on S.batch_of self.old }
     {
         self.engine.pass(self.mail.numbers(Side::Low), self.mail.numbers(Side::High));
-        let messages = self.mail.turn(self.engine.size());
-        self.received.push_reserved(messages);
+        let size = self.engine.size();
+        let messages = self.mail.turn(size);
+        keep(&mut self.received, messages);
     }
 
     /// Whether the script has ended.
@@ -281,10 +299,6 @@ impl<S: Script> ServerCore<S> {
         if round >= self.engine.round() {
             return None;
         }
-        let [low, high] = &self.received[round as usize];
-        match side {
-            Side::Low => Some(low.numbers.as_slice()),
-            Side::High => Some(high.numbers.as_slice()),
-        }
+        Some(self.received.numbers(round as usize, side))
     }
 }

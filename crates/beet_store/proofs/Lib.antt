@@ -1,2 +1,4 @@
 pub mod FileFacts
 pub mod ReadFacts
+pub mod WriteFacts
+pub mod Walks

@@ -1,18 +1,29 @@
 -- What a desk is given: files by name, and a printed text.
-use Rattle.std.specs.Prelude.{◌≡◌, ◌≤◌, ◌≢◌, ℕ, List, ◌++◌, take, Option, Some, None, Result, Ok, Err, IsErrOf, IsSomeAnd, OnOk}
+use Rattle.std.specs.Prelude.{◌≡◌, ◌≤◌, ◌≢◌, ℕ, List, [], ◌∷◌, ◌++◌, take, Option, Some, None, Result, Ok, Err, IsErrOf, IsSomeAnd, OnOk}
 use Rattle.beet_store.specs.Causes.{Rose}
 use Rattle.beet_store.specs.Files.{File, bytes_of}
 use Rattle.beet_store.specs.declared.desk.PutFault.{PutFault}
 use Rattle.beet_store.specs.declared.desk.PutFault.TheVariants.{Failed, OutOfMemory}
 
--- what a desk tells: the files that it was given, and the text printed so far
-pub record Given : Type 0 where
-  pub files : List File
-  pub said : List ℕ
-
 -- what a put or a say answers
 abbrev pub Done : Type 0
 Done = Result (Unit {0}) PutFault
+
+-- a call of a desk: what it was asked to put under a name, or to say, and what it answered
+pub data DeskCall : Type 0 where
+  Put : List ℕ → List ℕ → Done → DeskCall
+  Say : List ℕ → Done → DeskCall
+
+-- what a desk tells: the files that it was given, the text printed so far, and its record of the calls so far
+pub record Given : Type 0 where
+  pub files : List File
+  pub said : List ℕ
+  pub calls : List DeskCall
+
+-- what is seen of a desk: what it tells, and its count of faults
+pub record DeskSeen : Type 0 where
+  pub given : Option Given
+  pub faults : ℕ
 
 -- why a put or a say answers as it does, whatever the desk tells: the count of faults rose where it failed, and is as it was where
 -- it was taken
@@ -31,20 +42,42 @@ pub record Replaced (name bytes : List ℕ) (old new : Given) : Type 0 where
   pub file : bytes_of new.files name ≡ Some bytes
   pub rest : StandsBut name old new
 
--- what a put leaves, where the desk tells it; after a failure nothing is known of the name
-abbrev pub GivesPut : Option Given → Option Given → List ℕ → List ℕ → Done → Type 0
-GivesPut None new name bytes result = new ≡ None
-GivesPut (Some old) new name bytes (Ok done) = IsSomeAnd new (Replaced name bytes old)
-GivesPut (Some old) new name bytes (Err Failed) = IsSomeAnd new (StandsBut name old)
-GivesPut (Some old) new name bytes (Err OutOfMemory) = new ≡ Some old
+-- files and text stand
+pub record Stands (old new : Given) : Type 0 where
+  pub files : new.files ≡ old.files
+  pub said : new.said ≡ old.said
 
 -- the text grew by some front of these bytes, and no file changed
-abbrev pub SaysSome : List ℕ → Given → Given → Type 0
-SaysSome bytes old new = (n : ℕ) × (new ≡ record old { said = old.said ++ take n bytes })
+pub record SaysSome (bytes : List ℕ) (old new : Given) : Type 0 where
+  pub files : new.files ≡ old.files
+  pub said : (n : ℕ) × (new.said ≡ old.said ++ take n bytes)
 
--- what a say leaves, where the desk tells it; after a failure it is not known how much went out
-abbrev pub GivesSay : Option Given → Option Given → List ℕ → Done → Type 0
-GivesSay None new bytes result = new ≡ None
-GivesSay (Some old) new bytes (Ok done) = new ≡ Some (record old { said = old.said ++ bytes })
-GivesSay (Some old) new bytes (Err Failed) = IsSomeAnd new (SaysSome bytes old)
-GivesSay (Some old) new bytes (Err OutOfMemory) = new ≡ Some old
+-- the text grew by these bytes, and no file changed
+pub record SaysAll (bytes : List ℕ) (old new : Given) : Type 0 where
+  pub files : new.files ≡ old.files
+  pub said : new.said ≡ old.said ++ bytes
+
+-- what a call leaves of files and text: what was asked for where it is taken, and for want of memory what stood; after a failure
+-- nothing is known of the name, or it is not known how much of the text went out
+abbrev pub Leaves : DeskCall → Given → Given → Type 0
+Leaves (Put name bytes (Ok done)) old new = Replaced name bytes old new
+Leaves (Put name bytes (Err Failed)) old new = StandsBut name old new
+Leaves (Put name bytes (Err OutOfMemory)) old new = Stands old new
+Leaves (Say bytes (Ok done)) old new = SaysAll bytes old new
+Leaves (Say bytes (Err Failed)) old new = SaysSome bytes old new
+Leaves (Say bytes (Err OutOfMemory)) old new = Stands old new
+
+-- what a call leaves and records, where the desk tells it: one call more, this one
+abbrev pub GivesCall : Option Given → Option Given → DeskCall → Type 0
+GivesCall None new call = new ≡ None
+GivesCall (Some old) new call = IsSomeAnd new (λ given. Leaves call old given × (given.calls ≡ old.calls ++ call ∷ []))
+
+-- what a call answered
+abbrev pub answer_of : DeskCall → Done
+answer_of (Put name bytes answer) = answer
+answer_of (Say bytes answer) = answer
+
+-- a desk was called: why it answered as it did, and what the call left
+pub record Called (old new : DeskSeen) (call : DeskCall) : Type 0 where
+  pub cause : HasPutCause old.faults new.faults (answer_of call)
+  pub content : GivesCall old.given new.given call

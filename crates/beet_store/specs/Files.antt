@@ -39,25 +39,36 @@ Answers held (Err (TooLong n)) = IsSomeAnd held (λ bytes. length bytes ≡ n)
 Answers held (Err Failed) = ⊤
 Answers held (Err OutOfMemory) = ⊤
 
--- a name that was asked for, and whether that fetch failed
-abbrev pub Fetch : Type 0
-Fetch = List ℕ × Bool
+-- a fetch that is recorded: the name and the limit that were asked for, and whether it failed
+pub record Fetch : Type 0 where
+  pub name : List ℕ
+  pub limit : ℕ
+  pub failed : Bool
+
+-- the entry of a fetch of this name and limit
+abbrev pub fetch_of : List ℕ → ℕ → Bool → Fetch
+fetch_of name limit failed = record { name = name; limit = limit; failed = failed }
 
 -- the fetches so far and one more, unless memory ran out
-abbrev pub fetches_after : List Fetch → List ℕ → Fetched → List Fetch
-fetches_after before name (Ok bytes) = before ++ (name, false) ∷ []
-fetches_after before name (Err (TooLong n)) = before ++ (name, false) ∷ []
-fetches_after before name (Err Failed) = before ++ (name, true) ∷ []
-fetches_after before name (Err OutOfMemory) = before
+abbrev pub fetches_after : List Fetch → List ℕ → ℕ → Fetched → List Fetch
+fetches_after before name limit (Ok bytes) = before ++ fetch_of name limit false ∷ []
+fetches_after before name limit (Err (TooLong n)) = before ++ fetch_of name limit false ∷ []
+fetches_after before name limit (Err Failed) = before ++ fetch_of name limit true ∷ []
+fetches_after before name limit (Err OutOfMemory) = before
 
 -- what a shelf tells: the files that it holds, and its record of the fetches so far
 pub record Told : Type 0 where
   pub files : List File
   pub fetches : List Fetch
 
+-- what is seen of a shelf: what it tells, and its count of faults
+pub record Seen : Type 0 where
+  pub told : Option Told
+  pub faults : ℕ
+
 -- what a fetch answers and records, where the shelf tells its files; what it holds never changes
-abbrev pub TellsFetch : Option Told → Option Told → List ℕ → Fetched → Type 0
-TellsFetch None now name result = now ≡ None
-TellsFetch (Some told) now name result =
+abbrev pub TellsFetch : Option Told → Option Told → List ℕ → ℕ → Fetched → Type 0
+TellsFetch None now name limit result = now ≡ None
+TellsFetch (Some told) now name limit result =
     Answers (bytes_of told.files name) result
-    × (now ≡ Some (record told { fetches = fetches_after told.fetches name result }))
+    × (now ≡ Some (record told { fetches = fetches_after told.fetches name limit result }))

@@ -1,7 +1,6 @@
 //! What files and a text are given to.
 
-ghost use Rattle.std.specs.Prelude.{ℕ, Option};
-ghost use Rattle.beet_store.specs.Desks.{Given, HasPutCause, GivesPut, GivesSay};
+ghost use Rattle.beet_store.specs.Desks.{DeskSeen, Called, Put, Say};
 
 use std::alloc::Global;
 use thiserror::Error;
@@ -17,22 +16,17 @@ pub enum PutFault {
     OutOfMemory,
 }
 
-/// A place that files are put to, by name, and that a text is printed on.
+/// A place that files are put to, by name, and that a text is printed on. Each call is recorded, with its answer.
 pub trait Desk {
-    /// The files and the text that it was given, where it tells them.
-    ghost given: { Self → Option Given };
-
-    /// The count of faults.
-    ghost faults: { Self → ℕ };
+    /// The files and the text that it was given, with the calls so far, where it tells them, and the count of faults.
+    ghost seen: { Self → DeskSeen };
 
     /// Replaces the whole file of the name. After `Failed` nothing is known of that name, after want of memory the files
     /// are as before.
     fn put(&mut self, alloc: Global, name: &str, bytes: &[u8]) -> Result<(), PutFault>
-        ensures cause { HasPutCause (faults self.old) (faults self.new) result }
-        ensures content { GivesPut (given self.old) (given self.new) name.now bytes.now result };
+        ensures { Called (seen self.old) (seen self.new) (Put name.now bytes.now result) };
 
     /// Appends to the printed text. After `Failed` some front of the bytes went out, after want of memory none did.
     fn say(&mut self, bytes: &[u8]) -> Result<(), PutFault>
-        ensures cause { HasPutCause (faults self.old) (faults self.new) result }
-        ensures content { GivesSay (given self.old) (given self.new) bytes.now result };
+        ensures { Called (seen self.old) (seen self.new) (Say bytes.now result) };
 }

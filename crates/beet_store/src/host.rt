@@ -2,7 +2,7 @@
 
 ghost use Rattle.std.specs.Prelude.{◌≡◌, ◌≤◌, ◌<◌, ◌+◌, None};
 ghost use Rattle.beet_store.specs.Files.{KeepsLimit, HasCause, TellsFetch};
-ghost use Rattle.beet_store.specs.Host.{ReadsWithin, count_after};
+ghost use Rattle.beet_store.specs.Host.{ReadsWithin, StopsBeyond, count_after};
 
 use crate::shelf::{FetchFault, Shelf};
 use std::alloc::Global;
@@ -62,6 +62,7 @@ fn wanted(room: u64) -> usize
 /// Reads to the end, of at most `limit` bytes: in all at most one byte beyond the limit, in each turn at least one.
 fn read_whole<F: Read>(file: &mut F, alloc: Global, limit: u64) -> Result<Vec<u8>, FetchFault>
     ensures limited { KeepsLimit limit result }
+    ensures beyond { StopsBeyond limit result }
     ensures read { ReadsWithin (F.remaining file.old) (F.remaining file.new) limit result }
 {
     let mut bytes = Vec::new(alloc);
@@ -86,7 +87,8 @@ fn read_whole<F: Read>(file: &mut F, alloc: Global, limit: u64) -> Result<Vec<u8
 
 /// Opens the file and reads it.
 fn read_file<R: Files>(rt: &R, alloc: Global, name: &str, limit: u64) -> Result<Vec<u8>, FetchFault>
-    ensures { KeepsLimit limit result }
+    ensures limited { KeepsLimit limit result }
+    ensures beyond { StopsBeyond limit result }
 {
     let Ok(mut file) = fs::File::open(rt, name) else {
         return Err(FetchFault::Failed);
@@ -95,13 +97,12 @@ fn read_file<R: Files>(rt: &R, alloc: Global, name: &str, limit: u64) -> Result<
 }
 
 impl<R: Files> Shelf for HostShelf<R> {
-    ghost told = { λ _. None };
-
-    ghost faults = { λ s. s };
+    ghost seen = { λ s. record { told = None; faults = s } };
 
     fn fetch(&mut self, alloc: Global, name: &str, limit: u64) -> Result<Vec<u8>, FetchFault>
         ensures cause { HasCause self.old self.new limit result }
-        ensures content { TellsFetch None None name.now result }
+        ensures content { TellsFetch None None name.now limit result }
+        ensures beyond { StopsBeyond limit result }
         ensures counted { self.new ≡ count_after self.old result }
     {
         let answer = read_file(&self.rt, alloc, name, limit);

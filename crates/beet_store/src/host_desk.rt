@@ -1,8 +1,9 @@
 //! A desk over the files of the system and standard output, which tells nothing of what it was given.
 
-ghost use Rattle.std.specs.Prelude.{◌≡◌, None};
-ghost use Rattle.beet_store.specs.Desks.{HasPutCause, GivesPut, GivesSay};
-ghost use Rattle.beet_store.specs.Host.{count_after};
+ghost use Rattle.std.specs.Prelude.{◌≡◌, IfErr};
+ghost use Rattle.beet_store.specs.Desks.{HasPutCause, Called, Put, Say};
+ghost use Rattle.beet_store.specs.Host.{count_after, WritesAll, untold_desk};
+ghost use Rattle.beet_store.specs.declared.desk.PutFault.TheVariants.{Failed};
 
 use crate::desk::{Desk, PutFault};
 use std::alloc::Global;
@@ -11,7 +12,8 @@ use std::io::{self, Write};
 use std::marker::Model;
 use std::rt::Files;
 
-/// The files of the system, by path, and standard output. What reaches a real file is shown by tests alone.
+/// The files of the system, by path, and standard output. What reaches a real file is shown by tests alone; a write that fails
+/// or is interrupted midway answers `Failed`. No call takes memory.
 #[derive(Drop)]
 pub struct HostDesk<R> {
     rt: R,
@@ -41,43 +43,71 @@ impl<R> HostDesk<R> {
         self.faults
     }
 
-    /// The answer of a call that wrote, with its fault counted.
-    fn counted(&mut self, written: io::Result<()>) -> Result<(), PutFault>
+    /// The answer of a call, with its fault counted.
+    fn counted(&mut self, answer: Result<(), PutFault>) -> Result<(), PutFault>
+        ensures answer { result ≡ answer }
         ensures cause { HasPutCause self.old self.new result }
         ensures counted { self.new ≡ count_after self.old result }
     {
-        match written {
-            Ok(()) => Ok(()),
-            Err(_) => {
-                self.faults = self.faults.saturating_add(1);
-                Err(PutFault::Failed)
-            }
+        if answer.is_err() {
+            self.faults = self.faults.saturating_add(1);
         }
+        answer
     }
 }
 
-impl<R: Files + Print> Desk for HostDesk<R> {
-    ghost given = { λ _. None };
+/// Writes all the bytes in order, in each turn at least one.
+fn write_whole<W: Write>(out: &mut W, bytes: &[u8]) -> Result<(), PutFault>
+    ensures written { WritesAll (W.contents out.old) (W.contents out.new) bytes.now result }
+    ensures failed { IfErr result (λ fault. fault ≡ Failed) }
+{
+    let mut done = 0;
+    for _turn in 0..u64::MAX {
+        if done == bytes.len() {
+            return match out.flush() {
+                Ok(()) => Ok(()),
+                Err(_) => Err(PutFault::Failed),
+            };
+        }
+        let Ok(count) = out.write(&bytes[done..]) else {
+            return Err(PutFault::Failed);
+        };
+        if count == 0 {
+            return Err(PutFault::Failed);
+        }
+        done += count;
+    }
+    unreachable!()
+}
 
-    ghost faults = { λ d. d };
+/// Writes the whole file of the name.
+fn write_file<R: Files>(rt: &R, name: &str, bytes: &[u8]) -> Result<(), PutFault>
+    ensures { IfErr result (λ fault. fault ≡ Failed) }
+{
+    let Ok(mut file) = fs::File::create(rt, name) else {
+        return Err(PutFault::Failed);
+    };
+    write_whole(&mut file, bytes)
+}
+
+impl<R: Files + Print> Desk for HostDesk<R> {
+    ghost seen = { untold_desk };
 
     fn put(&mut self, _alloc: Global, name: &str, bytes: &[u8]) -> Result<(), PutFault>
-        ensures cause { HasPutCause self.old self.new result }
-        ensures content { GivesPut None None name.now bytes.now result }
+        ensures called { Called (untold_desk self.old) (untold_desk self.new) (Put name.now bytes.now result) }
         ensures counted { self.new ≡ count_after self.old result }
+        ensures failed { IfErr result (λ fault. fault ≡ Failed) }
     {
-        let written = fs::write(&self.rt, name, bytes);
-        self.counted(written)
+        let answer = write_file(&self.rt, name, bytes);
+        self.counted(answer)
     }
 
     fn say(&mut self, bytes: &[u8]) -> Result<(), PutFault>
-        ensures cause { HasPutCause self.old self.new result }
-        ensures content { GivesSay None None bytes.now result }
+        ensures called { Called (untold_desk self.old) (untold_desk self.new) (Say bytes.now result) }
         ensures counted { self.new ≡ count_after self.old result }
+        ensures failed { IfErr result (λ fault. fault ≡ Failed) }
     {
-        let mut out = io::writer(&self.rt);
-        let written = out.write_all(bytes);
-        let written = written.and_then(|()| out.flush());
-        self.counted(written)
+        let answer = write_whole(&mut io::writer(&self.rt), bytes);
+        self.counted(answer)
     }
 }

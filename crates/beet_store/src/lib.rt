@@ -5,6 +5,7 @@
 
 mod calls;
 mod desk;
+mod history;
 mod host;
 mod host_desk;
 mod memory;
@@ -18,5 +19,7 @@ pub use memory::{Held, MemoryShelf};
 pub use memory_desk::MemoryDesk;
 pub use shelf::{FetchFault, Shelf};
 
+#[cfg(test)]
+mod said_tests;
 #[cfg(test)]
 mod tests;

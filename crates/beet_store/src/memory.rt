@@ -1,11 +1,12 @@
 //! A shelf in memory, which fails at the calls that it is told.
 
-ghost use Rattle.std.specs.Prelude.{◌≡◌, ◌⊎◌, [], option_map, is_none, true, if◌then◌else◌, Some, None, Err, IfSome, IfNone};
+ghost use Rattle.std.specs.Prelude.{◌≡◌, ◌↔◌, [], option_map, is_none, true, if◌then◌else◌, Some, None, IfSome, IfNone, IsErrOf, IsTrue};
 ghost use Rattle.beet_store.specs.Files.{bytes_of, fetches_after, Answers, KeepsLimit, HasCause, TellsFetch};
-ghost use Rattle.beet_store.specs.Memory.{IsFirstOf, after_call, fetch_fails, FailsExactly};
-ghost use Rattle.beet_store.specs.declared.shelf.FetchFault.TheVariants.{OutOfMemory};
+ghost use Rattle.beet_store.specs.Memory.{IsFirstOf, after_call, fetch_fails};
+ghost use Rattle.beet_store.specs.declared.shelf.FetchFault.TheVariants.{Failed};
 
 use crate::calls::Calls;
+use crate::history::{Asked, History};
 use crate::shelf::{FetchFault, Shelf};
 use std::alloc::Global;
 use std::marker::Model;
@@ -25,36 +26,21 @@ impl Model for Held {
     ghost view = { λ a. (string_bytes a.name, a.bytes.items) };
 }
 
-/// One fetch: the name that was asked for, and whether the answer was `Failed`.
-#[derive(Drop)]
-struct Asked {
-    name: String,
-    failed: bool,
-}
-
-impl Model for Asked {
-    ghost use Rattle.std.specs.Prelude.{string_bytes, List, ℕ, Bool};
-
-    ghost Value = { List ℕ × Bool };
-
-    ghost view = { λ a. (string_bytes a.name, a.failed) };
-}
-
-/// Files in memory, with the record of the fetches. The calls are numbered from 1; those that are listed fail, and those
-/// that ask for a name that is not held.
+/// Files in memory, with the record of the fetches, which exists in proofs alone. The calls are numbered from 1; those that
+/// are listed fail, and those that ask for a name that is not held.
 #[derive(Drop)]
 pub struct MemoryShelf {
     files: Vec<Held>,
-    fetches: Vec<Asked>,
     calls: Calls,
+    history: History,
 }
 
 impl Model for MemoryShelf {
-    ghost use Rattle.beet_store.specs.Memory.{ShelfSeen};
+    ghost use Rattle.beet_store.specs.Memory.{ShelfInMemory};
 
-    ghost Value = { ShelfSeen };
+    ghost Value = { ShelfInMemory };
 
-    ghost view = { λ a. record { told = record { files = a.files.items; fetches = a.fetches.items }; calls = a.calls } };
+    ghost view = { λ a. record { told = record { files = a.files.items; fetches = a.history.so_far.fetches }; calls = a.calls } };
 }
 
 /// The place of the first file of the name.
@@ -93,7 +79,7 @@ fn answered(
 ) -> Result<Vec<u8>, FetchFault>
     ensures held { Answers (option_map (λ bytes. bytes.now) found.entry) result }
     ensures limited { KeepsLimit limit result }
-    ensures exact { FailsExactly (if is_none found.entry then true else fails) result }
+    ensures exact { IsErrOf result Failed ↔ IsTrue (if is_none found.entry then true else fails) }
 {
     let (Some(bytes), false) = (found, fails) else {
         return Err(FetchFault::Failed);
@@ -108,27 +94,19 @@ fn answered(
     }
 }
 
-/// Appends the fetch to the record and hands its answer on. Where memory runs out the record is as before.
-fn recorded(
-    fetches: &mut Vec<Asked>,
-    alloc: Global,
-    name: &str,
-    answer: Result<Vec<u8>, FetchFault>,
-) -> Result<Vec<u8>, FetchFault>
-    ensures answer { (result ≡ answer) ⊎ (result ≡ Err OutOfMemory) }
-    ensures fetches { fetches.new.items ≡ fetches_after fetches.old.items name.now result }
+/// Records the fetch, unless memory ran out.
+fn record_fetch(history: &mut History, name: &str, limit: u64, answer: &Result<Vec<u8>, FetchFault>)
+    ensures { history.new.so_far ≡ record history.old.so_far { fetches = fetches_after history.old.so_far.fetches name.now limit answer.now } }
 {
-    if matches!(answer, Err(FetchFault::OutOfMemory)) {
-        return answer;
+    match answer {
+        Ok(_) | Err(FetchFault::TooLong(_)) => {
+            *history = history.and(&Asked::Fetch(name, limit, false));
+        }
+        Err(FetchFault::Failed) => {
+            *history = history.and(&Asked::Fetch(name, limit, true));
+        }
+        Err(FetchFault::OutOfMemory) => {}
     }
-    let failed = matches!(answer, Err(FetchFault::Failed));
-    let Ok(name) = String::from_str(alloc, name) else {
-        return Err(FetchFault::OutOfMemory);
-    };
-    if fetches.push(Asked { name, failed }).is_err() {
-        return Err(FetchFault::OutOfMemory);
-    }
-    answer
 }
 
 impl MemoryShelf {
@@ -137,11 +115,10 @@ impl MemoryShelf {
         ensures told { result.told ≡ record { files = files.items; fetches = [] } }
         ensures calls { result.calls ≡ record { failing = failing.items; made = 0; faults = 0 } }
     {
-        let fetches = Vec::new(*files.allocator());
         MemoryShelf {
             files,
-            fetches,
             calls: Calls::new(failing),
+            history: History::new(),
         }
     }
 
@@ -154,19 +131,18 @@ impl MemoryShelf {
 }
 
 impl Shelf for MemoryShelf {
-    ghost told = { λ s. Some s.told };
-
-    ghost faults = { λ s. s.calls.faults };
+    ghost seen = { λ s. record { told = Some s.told; faults = s.calls.faults } };
 
     fn fetch(&mut self, alloc: Global, name: &str, limit: u64) -> Result<Vec<u8>, FetchFault>
         ensures cause { HasCause self.old.calls.faults self.new.calls.faults limit result }
-        ensures content { TellsFetch (Some self.old.told) (Some self.new.told) name.now result }
+        ensures content { TellsFetch (Some self.old.told) (Some self.new.told) name.now limit result }
         ensures counted { self.new.calls ≡ after_call self.old.calls (fetch_fails self.old name.now) }
-        ensures exact { FailsExactly (fetch_fails self.old name.now) result }
+        ensures exact { IsErrOf result Failed ↔ IsTrue (fetch_fails self.old name.now) }
     {
         let found = find(self.files.as_slice(), name);
         let fails = self.calls.begin(found.is_none());
         let answer = answered(alloc, fails, found, limit);
-        recorded(&mut self.fetches, alloc, name, answer)
+        record_fetch(&mut self.history, name, limit, &answer);
+        answer
     }
 }

@@ -1,32 +1,34 @@
 //! A desk in memory, which fails at the calls that it is told.
 
-ghost use Rattle.std.specs.Prelude.{◌≡◌, ◌≢◌, ◌↔◌, ℕ, List, [], option_map, Some, OnOk, OnErr, IsErrOf, IsTrue};
+ghost use Rattle.std.specs.Prelude.{◌≡◌, ◌≢◌, ◌↔◌, ◌++◌, ℕ, List, [], option_map, Some, OnOk, OnErr, IsErrOf, IsTrue};
 ghost use Rattle.beet_store.specs.Files.{bytes_of};
-ghost use Rattle.beet_store.specs.Desks.{HasPutCause, GivesPut, GivesSay};
-ghost use Rattle.beet_store.specs.Memory.{is_listed, after_call};
+ghost use Rattle.beet_store.specs.Desks.{Called, Put, Say, Stands};
+ghost use Rattle.beet_store.specs.Memory.{is_listed, after_call, desk_seen};
 ghost use Rattle.beet_store.specs.declared.desk.PutFault.TheVariants.{Failed};
 
 use crate::calls::Calls;
 use crate::desk::{Desk, PutFault};
+use crate::history::{Asked, History};
 use crate::memory::{Held, find, place};
 use std::alloc::{AllocError, Global};
 use std::marker::Model;
 
-/// Files and a text in memory. The calls are numbered from 1, and exactly those that are listed fail; they leave files
-/// and text as they were.
+/// Files and a text in memory, with the record of the calls, which exists in proofs alone. The calls are numbered from 1, and
+/// exactly those that are listed fail; they leave files and text as they were.
 #[derive(Drop)]
 pub struct MemoryDesk {
     files: Vec<Held>,
     said: Vec<u8>,
     calls: Calls,
+    history: History,
 }
 
 impl Model for MemoryDesk {
-    ghost use Rattle.beet_store.specs.Memory.{DeskSeen};
+    ghost use Rattle.beet_store.specs.Memory.{DeskInMemory};
 
-    ghost Value = { DeskSeen };
+    ghost Value = { DeskInMemory };
 
-    ghost view = { λ a. record { given = record { files = a.files.items; said = a.said.items }; calls = a.calls } };
+    ghost view = { λ a. record { given = record { files = a.files.items; said = a.said.items; calls = a.history.so_far.calls }; calls = a.calls } };
 }
 
 /// Puts the bytes under the name.
@@ -46,10 +48,47 @@ fn replace(files: &mut Vec<Held>, alloc: Global, name: &str, bytes: &[u8]) -> Re
     Ok(())
 }
 
+/// Puts the bytes under the name, where the call does not fail.
+fn put_into(
+    files: &mut Vec<Held>,
+    alloc: Global,
+    fails: bool,
+    name: &str,
+    bytes: &[u8],
+) -> Result<(), PutFault>
+    ensures exact { IsErrOf result Failed ↔ IsTrue fails }
+    ensures file { OnOk result (bytes_of files.new.items name.now ≡ Some bytes.now) }
+    ensures others { (other : List ℕ) → other ≢ name.now → bytes_of files.new.items other ≡ bytes_of files.old.items other }
+    ensures err { OnErr result (files.new.items ≡ files.old.items) }
+{
+    if fails {
+        return Err(PutFault::Failed);
+    }
+    match replace(files, alloc, name, bytes) {
+        Ok(()) => Ok(()),
+        Err(_) => Err(PutFault::OutOfMemory),
+    }
+}
+
+/// Appends the bytes to the text, where the call does not fail.
+fn say_into(said: &mut Vec<u8>, fails: bool, bytes: &[u8]) -> Result<(), PutFault>
+    ensures exact { IsErrOf result Failed ↔ IsTrue fails }
+    ensures ok { OnOk result (said.new.items ≡ said.old.items ++ bytes.now) }
+    ensures err { OnErr result (said.new.items ≡ said.old.items) }
+{
+    if fails {
+        return Err(PutFault::Failed);
+    }
+    match said.extend_from_slice(bytes) {
+        Ok(()) => Ok(()),
+        Err(_) => Err(PutFault::OutOfMemory),
+    }
+}
+
 impl MemoryDesk {
     /// A desk that was given nothing. `failing` are the numbers of the calls that fail, of `put` and `say` together.
     pub fn new(failing: Vec<u64>) -> MemoryDesk
-        ensures given { result.given ≡ record { files = []; said = [] } }
+        ensures given { result.given ≡ record { files = []; said = []; calls = [] } }
         ensures calls { result.calls ≡ record { failing = failing.items; made = 0; faults = 0 } }
     {
         let alloc = *failing.allocator();
@@ -57,6 +96,7 @@ impl MemoryDesk {
             files: Vec::new(alloc),
             said: Vec::new(alloc),
             calls: Calls::new(failing),
+            history: History::new(),
         }
     }
 
@@ -83,39 +123,29 @@ impl MemoryDesk {
 }
 
 impl Desk for MemoryDesk {
-    ghost given = { λ d. Some d.given };
-
-    ghost faults = { λ d. d.calls.faults };
+    ghost seen = { desk_seen };
 
     fn put(&mut self, alloc: Global, name: &str, bytes: &[u8]) -> Result<(), PutFault>
-        ensures cause { HasPutCause self.old.calls.faults self.new.calls.faults result }
-        ensures content { GivesPut (Some self.old.given) (Some self.new.given) name.now bytes.now result }
+        ensures called { Called (desk_seen self.old) (desk_seen self.new) (Put name.now bytes.now result) }
         ensures counted { self.new.calls ≡ after_call self.old.calls (is_listed self.old.calls) }
         ensures exact { IsErrOf result Failed ↔ IsTrue (is_listed self.old.calls) }
-        ensures err { OnErr result (self.new.given ≡ self.old.given) }
+        ensures err { OnErr result (Stands self.old.given self.new.given) }
     {
-        if self.calls.begin(false) {
-            return Err(PutFault::Failed);
-        }
-        match replace(&mut self.files, alloc, name, bytes) {
-            Ok(()) => Ok(()),
-            Err(_) => Err(PutFault::OutOfMemory),
-        }
+        let fails = self.calls.begin(false);
+        let answer = put_into(&mut self.files, alloc, fails, name, bytes);
+        self.history = self.history.and(&Asked::Put(name, bytes, answer));
+        answer
     }
 
     fn say(&mut self, bytes: &[u8]) -> Result<(), PutFault>
-        ensures cause { HasPutCause self.old.calls.faults self.new.calls.faults result }
-        ensures content { GivesSay (Some self.old.given) (Some self.new.given) bytes.now result }
+        ensures called { Called (desk_seen self.old) (desk_seen self.new) (Say bytes.now result) }
         ensures counted { self.new.calls ≡ after_call self.old.calls (is_listed self.old.calls) }
         ensures exact { IsErrOf result Failed ↔ IsTrue (is_listed self.old.calls) }
-        ensures err { OnErr result (self.new.given ≡ self.old.given) }
+        ensures err { OnErr result (Stands self.old.given self.new.given) }
     {
-        if self.calls.begin(false) {
-            return Err(PutFault::Failed);
-        }
-        match self.said.extend_from_slice(bytes) {
-            Ok(()) => Ok(()),
-            Err(_) => Err(PutFault::OutOfMemory),
-        }
+        let fails = self.calls.begin(false);
+        let answer = say_into(&mut self.said, fails, bytes);
+        self.history = self.history.and(&Asked::Say(bytes, answer));
+        answer
     }
 }

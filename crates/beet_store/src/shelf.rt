@@ -1,7 +1,6 @@
 //! What files are fetched from.
 
-ghost use Rattle.std.specs.Prelude.{ℕ, Option};
-ghost use Rattle.beet_store.specs.Files.{Told, HasCause, TellsFetch};
+ghost use Rattle.beet_store.specs.Files.{Seen, HasCause, TellsFetch};
 
 use std::alloc::Global;
 use thiserror::Error;
@@ -23,15 +22,12 @@ pub enum FetchFault {
 
 /// A place that files are fetched from, by name.
 pub trait Shelf {
-    /// Its files and the fetches so far, where it tells them.
-    ghost told: { Self → Option Told };
+    /// Its files and the fetches so far, where it tells them, and the count of faults.
+    ghost seen: { Self → Seen };
 
-    /// The count of faults.
-    ghost faults: { Self → ℕ };
-
-    /// Answers the whole file of the name, of at most `limit` bytes. A fetch that is answered by want of memory leaves no
-    /// entry in the record.
+    /// Answers the whole file of the name, of at most `limit` bytes. The record holds the name, the limit and whether the fetch
+    /// failed; one that is answered by want of memory leaves no entry.
     fn fetch(&mut self, alloc: Global, name: &str, limit: u64) -> Result<Vec<u8>, FetchFault>
-        ensures cause { HasCause (faults self.old) (faults self.new) limit result }
-        ensures content { TellsFetch (told self.old) (told self.new) name.now result };
+        ensures cause { HasCause (seen self.old).faults (seen self.new).faults limit result }
+        ensures content { TellsFetch (seen self.old).told (seen self.new).told name.now limit result };
 }

@@ -81,11 +81,20 @@ fn memory_desk_fails_where_listed(rt: HostRuntime) -> Result<(), Fail> {
     Ok(())
 }
 
+/// Bytes of more than one piece, each unlike its neighbours.
+pub(crate) fn long_bytes(alloc: Global) -> Result<Vec<u8>, AllocError> {
+    let mut bytes = Vec::new(alloc);
+    for i in 0..20_000u64 {
+        bytes.push((i % 251) as u8)?;
+    }
+    Ok(bytes)
+}
+
 #[test]
 fn host_types_reach_real_files(rt: HostRuntime) -> Result<(), Fail> {
     let alloc = rt.alloc();
     let name = "beet_store_test.tmp";
-    let long = vec![in alloc; 7u8; 20_000]?;
+    let long = long_bytes(alloc)?;
     let (mut desk, mut shelf) = (HostDesk::new(&rt), HostShelf::new(&rt));
     expect_put(&rt, alloc, &mut desk, name, long.as_slice(), Ok(()));
     expect_fetch(&rt, alloc, &mut shelf, name, 20_000, Ok(long.as_slice()));

@@ -1,18 +1,18 @@
 -- The bidders one after another.
-use Rattle.std.proofs.Common.{◌≡◌, ◌<◌, ◌≤◌, ℕ, ◌+◌, ◌*◌, [], ◌∷◌, ◌++◌, length, drop, Ok, Err, arith, refl, ap, sym, ◌∙◌, length-append, subst, Result, List}
+use Rattle.std.proofs.Common.{◌≡◌, ◌<◌, ◌≤◌, ℕ, ◌+◌, ◌*◌, [], ◌∷◌, ◌++◌, length, drop, Ok, Err, arith, refl, ap, sym, ◌∙◌, length-append, subst, List}
 use Rattle.std.proofs.lemmas.List.{drop_more, drop_all, map-append}
 use Rattle.std.proofs.lemmas.List.FromFn.{get_or-map-range_with_len, length-map-range_with_len, map-range_with_len_more}
 use Rattle.beet_words.specs.Words.{accepted}
 use Rattle.beet_words.specs.Tapes.{Tape, left_of}
 use Rattle.beet_bids.specs.Curves.{Curve, IsOfGrid}
 use Rattle.beet_bids.specs.Grids.{Grid}
-use Rattle.beet_auction.specs.Openings.{Farmer, summed_points}
+use Rattle.beet_book.specs.Farmers.{Farmer, summed_points}
 use Rattle.beet_auction.proofs.Adding.{summed-none as no-points, summed-more as points-more}
 use Rattle.beet_book.specs.Dealing.{dealt_points, quantities}
 use Rattle.beet_book.specs.Totals.{Totals, AddsQuantities, added, none_of, plain_sums, summed_quantities}
 use Rattle.beet_book.proofs.Summed.{shares-none, summed-more}
 use Rattle.beet_errand.specs.Errands.{Errand}
-use Rattle.beet_errand.specs.Fetches.{Passes}
+use Rattle.beet_errand.specs.Fetches.{Tests}
 use Rattle.beet_errand.specs.declared.answer.Stop.{Stop}
 use Rattle.beet_errand.specs.declared.answer.Stop.TheVariants.{Refused, OutOfMemory}
 use Rattle.beet_load.specs.Collecting.{curves_of}
@@ -48,12 +48,6 @@ adds-farmer grid farmer curve tape before after e f of_grid enough sums adds = �
       shares = rw values (adds (summed_quantities grid.prices (curves_of farmers)) c.shares);
     }
 
--- a test of a tape at its first word is one of its words
-pub same-words : (number wanted : ℕ) (tape : Tape) (words : List ℕ) (result : Result (Unit {0}) Stop) →
-    tape ≡ record { words = words; passed = 0 } → Passes (enough_words number wanted tape.words) result →
-    Passes (enough_words number wanted words) result
-same-words number wanted tape words result e p = subst (λ w. Passes (enough_words number wanted w) result) (ap (λ t. t.words) e) p
-
 farmers-more : (grid : Grid) (i : ℕ) → trial_farmers grid (i + 1) ≡ trial_farmers grid i ++ trial_farmer grid i ∷ []
 farmers-more grid i = map-range_with_len_more (trial_farmer grid) 0 i i (omega arith)
 
@@ -84,19 +78,19 @@ comes-next grid bidders i h c next = c next ∙ ap (λ farmers. enough_of_each g
 
 -- the next one has enough
 pub comes-on : (grid : Grid) (bidders i : ℕ) → i < bidders → Comes grid bidders i →
-    Passes (enough_words (i + 1) (words_wanted grid) (trial_farmer grid i).words) (Ok tt) → Comes grid bidders (i + 1)
-comes-on grid bidders i h c p = λ next. comes-next grid bidders i h c next ∙ p _
+    Tests (enough_words (i + 1) (words_wanted grid) (trial_farmer grid i).words) (Ok tt) → Comes grid bidders (i + 1)
+comes-on grid bidders i h c t = λ next. comes-next grid bidders i h c next ∙ t.passes _
 
 -- the next one has not
 pub comes-to-stop : (grid : Grid) (bidders i : ℕ) (stop : Stop) → i < bidders → Comes grid bidders i →
-    Passes (enough_words (i + 1) (words_wanted grid) (trial_farmer grid i).words) (Err stop) →
-    Passes (enough_of_each grid 1 (trial_farmers grid bidders)) (Err stop)
-comes-to-stop grid bidders i (Refused status line) h c p = λ next. comes-next grid bidders i h c next ∙ p _
-comes-to-stop grid bidders i OutOfMemory h c p = tt
+    Tests (enough_words (i + 1) (words_wanted grid) (trial_farmer grid i).words) (Err stop) →
+    Tests (enough_of_each grid 1 (trial_farmers grid bidders)) (Err stop)
+comes-to-stop grid bidders i (Refused status line) h c t = record { passes = λ next. comes-next grid bidders i h c next ∙ t.passes _; cause = t.cause }
+comes-to-stop grid bidders i OutOfMemory h c t = record { passes = tt; cause = λ before now. tt }
 
 -- all have
-pub comes-to-end : (grid : Grid) (bidders : ℕ) → Comes grid bidders bidders → Passes (enough_of_each grid 1 (trial_farmers grid bidders)) (Ok tt)
+pub comes-to-end : (grid : Grid) (bidders : ℕ) → Comes grid bidders bidders → Tests (enough_of_each grid 1 (trial_farmers grid bidders)) (Ok tt)
 comes-to-end grid bidders c =
     let all = trial_farmers grid bidders in
     let none = drop_all bidders all (omega (arith, length-map-range_with_len (trial_farmer grid) 0 bidders)) in
-    λ next. c next ∙ ap (λ farmers. enough_of_each grid (bidders + 1) farmers next) none
+    record { passes = λ next. c next ∙ ap (λ farmers. enough_of_each grid (bidders + 1) farmers next) none; cause = λ before now. tt }

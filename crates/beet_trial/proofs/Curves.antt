@@ -5,12 +5,14 @@ use Rattle.std.specs.List.{range_with_len}
 use Rattle.std.proofs.Math.Nat.{mul-le-mul_left}
 use Rattle.std.proofs.lemmas.Nat.{mul-le}
 use Rattle.std.proofs.lemmas.List.FromFn.{get_or-map-range_with_len, length-map-range_with_len, map-range_with_len_more}
-use Rattle.beet_bids.specs.Curves.{IsCurve, IsOfGrid, largest_quantity}
+use Rattle.beet_bids.specs.Curves.{IsCurve, IsOfGrid}
+use Rattle.beet_bids.specs.declared.curve.TheConstants.{LARGEST_QUANTITY}
 use Rattle.beet_bids.specs.Grids.{Grid}
 use Rattle.beet_trial.specs.Rules.{weight, buying, selling, bought, sold, trial_curve}
+use Rattle.beet_bids.specs.declared.grid.TheConstants.{MOST_PRICES}
 
-small : (weight count prices : ℕ) → weight ≤ 7 → count ≤ prices → prices ≤ 4096 → weight * count ≤ 28672
-small weight count prices w c p = omega (arith, mul-le weight count 7 4096 w (omega arith))
+small : (weight count prices : ℕ) → weight ≤ 7 → count ≤ prices → prices ≤ MOST_PRICES → weight * count ≤ 7 * MOST_PRICES
+small weight count prices w c p = omega (arith, mul-le weight count 7 MOST_PRICES w (omega arith))
 
 pub light : (b : Bool) (i : ℕ) → (if b then weight i else 0) ≤ 7
 light true i = omega arith
@@ -33,14 +35,14 @@ item-sold : (prices weight k d : ℕ) → k < prices → get_or (sold prices wei
 item-sold prices weight k d h = get_or-map-range_with_len (λ k. weight * k) 0 prices k k d h (omega arith)
 
 -- the quantities are small
-bought-small : (prices weight : ℕ) → weight ≤ 7 → prices ≤ 4096 → All (λ quantity. quantity ≤ largest_quantity) (bought prices weight)
+bought-small : (prices weight : ℕ) → weight ≤ 7 → prices ≤ MOST_PRICES → All (λ quantity. quantity ≤ LARGEST_QUANTITY) (bought prices weight)
 bought-small prices weight w p = λ k d h.
     let within : k < prices = omega (arith, h, length-bought prices weight) in
     let item = item-bought prices weight k d within in
     let few = small weight (prices - k) prices w (omega arith) p in
     omega (arith, item, few)
 
-sold-small : (prices weight : ℕ) → weight ≤ 7 → prices ≤ 4096 → All (λ quantity. quantity ≤ largest_quantity) (sold prices weight)
+sold-small : (prices weight : ℕ) → weight ≤ 7 → prices ≤ MOST_PRICES → All (λ quantity. quantity ≤ LARGEST_QUANTITY) (sold prices weight)
 sold-small prices weight w p = λ k d h.
     let within : k < prices = omega (arith, h, length-sold prices weight) in
     let item = item-sold prices weight k d within in
@@ -62,7 +64,7 @@ sold-rises prices weight = λ i j d lt h.
     let rises : weight * i ≤ weight * j = mul-le-mul_left weight (omega arith) in
     omega (arith, item-sold prices weight i d first, item-sold prices weight j d last, rises)
 
-pub is-curve : (grid : Grid) (i : ℕ) → grid.prices ≤ 4096 → IsCurve (trial_curve grid i)
+pub is-curve : (grid : Grid) (i : ℕ) → grid.prices ≤ MOST_PRICES → IsCurve (trial_curve grid i)
 is-curve grid i p = record {
   one_length = length-sold grid.prices (selling i) ∙ sym (length-bought grid.prices (buying i));
   buy_limit = bought-small grid.prices (buying i) (light (i % 2 == 0) i) p;
@@ -79,7 +81,7 @@ is-of-grid grid i = record {
 
 -- and so are lists that are made by the rule
 pub made : (grid : Grid) (i prices b s : ℕ) (buy sell : List ℕ) → prices ≡ grid.prices → b ≡ buying i → s ≡ selling i → buy ≡ bought prices b →
-    sell ≡ sold prices s → grid.prices ≤ 4096 →
+    sell ≡ sold prices s → grid.prices ≤ MOST_PRICES →
     IsOfGrid grid (record { buy = buy; sell = sell }) × IsCurve (record { buy = buy; sell = sell })
 made grid i prices b s buy sell p e f g h limit =
     let same : record { buy = buy; sell = sell } ≡ trial_curve grid i = cc in

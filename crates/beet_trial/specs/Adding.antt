@@ -3,7 +3,7 @@ use Rattle.std.specs.Prelude.{◌≡◌, ℕ, ◌+◌, List, [], ◌∷◌, ◌+
 use Rattle.beet_bids.specs.Grids.{Grid}
 use Rattle.beet_book.specs.Dealing.{AreShares}
 use Rattle.beet_book.specs.Totals.{Totals, summed_quantities}
-use Rattle.beet_auction.specs.Openings.{Farmer, summed_points}
+use Rattle.beet_book.specs.Farmers.{Farmer, summed_points}
 use Rattle.beet_errand.specs.Errands.{Errand}
 use Rattle.beet_load.specs.Collecting.{curves_of}
 use Rattle.beet_load.specs.Farmers.{enough_words, words_wanted}

@@ -8,13 +8,14 @@ use Rattle.beet_gates.specs.declared.Gates.TheVariants.{Chain}
 use Rattle.beet_bids.specs.Books.{Book}
 use Rattle.beet_bids.specs.Curves.{Curve}
 use Rattle.beet_bids.specs.Grids.{Grid}
-use Rattle.beet_auction.specs.Openings.{Farmer, book_of}
-use Rattle.beet_load.specs.Farmers.{words_kept}
+use Rattle.beet_book.specs.Farmers.{Farmer, book_of}
+use Rattle.beet_plan.specs.Kept.{words_kept}
 use Rattle.beet_load.specs.Servers.{ServerWords, seeded}
+use Rattle.beet_trial.specs.declared.rules.TheConstants.{BASE, TICK, FIRST_SEED}
 
--- the grid with so many prices: from 1,000 on, with a step of 10
+-- the grid with so many prices
 abbrev pub trial_grid : ℕ → Grid
-trial_grid prices = record { base = 1000; tick = 10; prices = prices; gates = Chain }
+trial_grid prices = record { base = BASE; tick = TICK; prices = prices; gates = Chain }
 
 -- the seed of a server: 32 bytes, each the server's number
 abbrev pub server_seed : ℕ → List ℕ
@@ -28,9 +29,9 @@ trial_servers grid = record {
   three = seeded grid (server_seed 3);
 }
 
--- the seed of bidder i, from 0: 24 zero bytes, and then the number 256 + i in 8 bytes
+-- the seed of bidder i, from 0: 24 zero bytes, and then its number, from the first on, in 8 bytes
 abbrev pub bidder_seed : ℕ → List ℕ
-bidder_seed i = replicate 24 0 ++ number_bytes (256 + i)
+bidder_seed i = replicate 24 0 ++ number_bytes (FIRST_SEED + i)
 
 -- its weight, 1 to 7
 abbrev pub weight : ℕ → ℕ
@@ -60,7 +61,7 @@ trial_curve grid i = record { buy = bought grid.prices (buying i); sell = sold g
 abbrev pub trial_farmer : Grid → ℕ → Farmer
 trial_farmer grid i = record {
   bidder = record { known = None; curve = trial_curve grid i };
-  words = seed_words (bidder_seed i) 0 (words_kept grid);
+  words = seed_words (bidder_seed i) 0 (words_kept grid.prices);
 }
 
 -- so many bidders

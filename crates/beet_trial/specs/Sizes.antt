@@ -2,12 +2,14 @@
 use Rattle.std.specs.Prelude.{ℕ, ◌≤◌, nat_lt, if◌then◌else◌, List, Option, Some, None, Result, Ok, Err, option_map, option_and_then}
 use Rattle.beet_forms.specs.Numbers.{number_of}
 use Rattle.beet_forms.specs.declared.decimals.NumberFault.{NumberFault}
+use Rattle.beet_bids.specs.declared.book.TheConstants.{MOST_BIDDERS}
+use Rattle.beet_bids.specs.declared.grid.TheConstants.{MOST_PRICES}
 
 -- at most 2,000 bidders, and 1 to 4,096 prices
 pub record AreSizes (bidders prices : ℕ) : Type 0 where
-  pub few : bidders ≤ 2000
+  pub few : bidders ≤ MOST_BIDDERS
   pub prices_some : 1 ≤ prices
-  pub prices_limit : prices ≤ 4096
+  pub prices_limit : prices ≤ MOST_PRICES
 
 -- the number that was read, if it is not below the lowest
 abbrev pub from_low : ℕ → Result ℕ NumberFault → Option ℕ
@@ -21,5 +23,5 @@ number_within low high word = from_low low (number_of word high)
 -- the numbers of bidders and of prices that two words write, or none
 abbrev pub sizes_of : List ℕ → List ℕ → Option (ℕ × ℕ)
 sizes_of bidders prices =
-    option_and_then (λ count. option_map (λ places. (count, places)) (number_within 1 4096 prices))
-    (number_within 0 2000 bidders)
+    option_and_then (λ count. option_map (λ places. (count, places)) (number_within 1 MOST_PRICES prices))
+    (number_within 0 MOST_BIDDERS bidders)

@@ -2,7 +2,7 @@
 use Rattle.std.specs.Prelude.{ℕ, List, ◌++◌, codes, decimal}
 use Rattle.beet_auction.specs.Endings.{book_finish, book_rounds}
 use Rattle.beet_bids.specs.Grids.{Grid}
-use Rattle.beet_errand.specs.Errands.{Answer, Errand, Ends, text_answer}
+use Rattle.beet_errand.specs.Errands.{Answer, Errand, Ends, Step, ◌>>◌, gives, text_answer}
 use Rattle.beet_errand.specs.Texts.{line_of}
 use Rattle.beet_load.specs.Servers.{enough_of_all, masks_of}
 use Rattle.beet_plan.specs.declared.Finish.{Finish}
@@ -28,11 +28,16 @@ trial_answer grid bidders =
     sized_answer grid bidders (book_finish book masks) (book_rounds book masks)
 
 -- a trial over a grid: each server has enough words, and then each bidder, numbered from 1
-abbrev pub trial_over : Grid → ℕ → Errand
-trial_over grid bidders =
-    enough_of_all grid (trial_servers grid)
-    (enough_of_each grid 1 (trial_farmers grid bidders) (Ends (trial_answer grid bidders)))
+abbrev pub trial_over : Grid → ℕ → Step Answer
+trial_over grid bidders = do
+  enough_of_all grid (trial_servers grid)
+  enough_of_each grid 1 (trial_farmers grid bidders)
+  gives (trial_answer grid bidders)
 
 -- the whole job, which fetches nothing
+abbrev pub trial_job : ℕ → ℕ → Step Answer
+trial_job bidders prices = trial_over (trial_grid prices) bidders
+
+-- what it does outside
 abbrev pub trial_errand : ℕ → ℕ → Errand
-trial_errand bidders prices = trial_over (trial_grid prices) bidders
+trial_errand bidders prices = trial_job bidders prices Ends

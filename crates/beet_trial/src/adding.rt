@@ -1,10 +1,11 @@
 //! Dealing the bidders of a trial one after another, with no list kept beyond one of them.
 
-ghost use Rattle.std.specs.Prelude.{◌≡◌, ◌≤◌, ◌<◌, ◌+◌, ℕ, [], IfErr, IfOk};
-ghost use Rattle.beet_errand.specs.Fetches.{Causes, Passes};
+ghost use Rattle.std.specs.Prelude.{◌≡◌, ◌≤◌, ◌<◌, ◌+◌, [], IfOk};
+ghost use Rattle.beet_errand.specs.Fetches.{Tests};
 ghost use Rattle.beet_load.specs.Farmers.{enough_words, words_wanted};
 ghost use Rattle.beet_trial.specs.Adding.{AddsFarmer, CarrySums, enough_of_each};
 ghost use Rattle.beet_trial.specs.Rules.{trial_farmer, trial_farmers};
+ghost use Rattle.beet_bids.specs.declared.book.TheConstants.{MOST_BIDDERS};
 
 use crate::rules::{curve_of, tape_of};
 use beet_bids::Grid;
@@ -15,10 +16,9 @@ use std::alloc::Global;
 
 /// Makes bidder `i`, from 0, deals its quantities and adds their points.
 fn add_bidder(alloc: Global, grid: &Grid, i: u32, totals: &mut Totals) -> Result<(), Stop>
-    requires few { i < 2000 }
+    requires few { i < MOST_BIDDERS }
     requires prices { totals.old.prices ≡ grid.now.prices }
-    ensures cause { (before now : ℕ) → IfErr result (λ stop. Causes before now stop) }
-    ensures passes { Passes (enough_words (i + 1) (words_wanted grid.now) (trial_farmer grid.now i).words) result }
+    ensures tests { Tests (enough_words (i + 1) (words_wanted grid.now) (trial_farmer grid.now i).words) result }
     ensures adds { IfOk result (λ done. AddsFarmer grid.now (trial_farmer grid.now i) totals.old totals.new) }
 {
     let curve = curve_of(alloc, grid, i)?;
@@ -35,10 +35,9 @@ pub(crate) fn add_bidders(
     bidders: u32,
     totals: &mut Totals,
 ) -> Result<(), Stop>
-    requires few { bidders ≤ 2000 }
+    requires few { bidders ≤ MOST_BIDDERS }
     requires none { CarrySums grid.now [] totals.old }
-    ensures cause { (before now : ℕ) → IfErr result (λ stop. Causes before now stop) }
-    ensures passes { Passes (enough_of_each grid.now 1 (trial_farmers grid.now bidders)) result }
+    ensures tests { Tests (enough_of_each grid.now 1 (trial_farmers grid.now bidders)) result }
     ensures carry { IfOk result (λ done. CarrySums grid.now (trial_farmers grid.now bidders) totals.new) }
 {
     for i in 0..bidders {

@@ -1,11 +1,11 @@
 //! The job `trial`.
 
-ghost use Rattle.std.specs.Prelude.{◌≡◌, ◌++◌, ℕ, IfErr, IfOk, Option};
-ghost use Rattle.beet_store.specs.Files.{Told};
-ghost use Rattle.beet_errand.specs.Fetches.{Causes, Finishes, IsDone};
+ghost use Rattle.std.specs.Prelude.{◌≡◌, ◌++◌, IfOk};
+ghost use Rattle.beet_store.specs.Files.{Seen};
+ghost use Rattle.beet_errand.specs.Fetches.{IsDone, Reads};
 ghost use Rattle.beet_gates.specs.declared.Gates.TheVariants.{Chain};
 ghost use Rattle.beet_trial.specs.Sizes.{AreSizes};
-ghost use Rattle.beet_trial.specs.Trial.{sized_answer, sizes_text, trial_errand};
+ghost use Rattle.beet_trial.specs.Trial.{sized_answer, sizes_text, trial_job};
 
 use crate::adding::add_bidders;
 use crate::rules::{grid_of, servers_of};
@@ -50,9 +50,8 @@ fn sized_reply(
 /// servers. The same numbers give the same text. It fetches nothing.
 pub fn trial(alloc: Global, bidders: u32, prices: u32) -> Result<Reply, Stop>
     requires { AreSizes bidders prices }
-    ensures cause { (before now : ℕ) → IfErr result (λ stop. Causes before now stop) }
     ensures done { IfOk result (λ reply. IsDone reply.status) }
-    ensures finishes { (told : Option Told) → Finishes told told (trial_errand bidders prices) result }
+    ensures reads { (seen : Seen) → Reads (λ reply. reply) seen seen (trial_job bidders prices) result }
 {
     let grid = grid_of(prices);
     let servers = servers_of(alloc, &grid)?;

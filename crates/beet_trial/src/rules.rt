@@ -3,9 +3,10 @@
 ghost use Rattle.std.specs.Prelude.{◌≡◌, ◌≤◌, IfOk};
 ghost use Rattle.beet_bids.specs.Grids.{IsGrid};
 ghost use Rattle.beet_words.specs.Seeds.{seed_words as words_of_seed};
-ghost use Rattle.beet_load.specs.Farmers.{words_kept as kept_of};
+ghost use Rattle.beet_plan.specs.Kept.{words_kept as kept_of};
 ghost use Rattle.beet_load.specs.Servers.{seeded};
 ghost use Rattle.beet_trial.specs.Rules.{bidder_seed, bought, buying, selling, server_seed, sold, trial_curve, trial_grid, trial_servers, weight};
+ghost use Rattle.beet_bids.specs.declared.grid.TheConstants.{MOST_PRICES};
 
 use beet_bids::{Curve, Grid};
 use beet_field::Trio;
@@ -26,7 +27,7 @@ const FIRST_SEED: u64 = 256;
 /// The grid with so many prices.
 pub(crate) fn grid_of(prices: u32) -> Grid
     requires some { 1 ≤ prices }
-    requires limit { prices ≤ 4096 }
+    requires limit { prices ≤ MOST_PRICES }
     ensures { result ≡ trial_grid prices }
 {
     match Grid::new(BASE, TICK, prices, Gates::Chain) {
@@ -68,7 +69,7 @@ fn seed_of(i: u32) -> [u8; 32]
 /// The words of bidder `i`, at the first.
 pub(crate) fn tape_of(alloc: Global, grid: &Grid, i: u32) -> Result<Tape, AllocError>
     ensures { IfOk result (λ tape. tape
-        ≡ record { words = words_of_seed (bidder_seed i) 0 (kept_of grid.now); passed = 0 }) }
+        ≡ record { words = words_of_seed (bidder_seed i) 0 (kept_of grid.now.prices); passed = 0 }) }
 {
     Tape::of_seed(alloc, &seed_of(i), 0, words_kept(grid))
 }

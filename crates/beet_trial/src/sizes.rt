@@ -3,13 +3,8 @@
 ghost use Rattle.std.specs.Prelude.{◌≡◌, ◌≤◌, IfSome};
 ghost use Rattle.beet_trial.specs.Sizes.{AreSizes, number_within, sizes_of};
 
+use beet_bids::{MOST_BIDDERS, MOST_PRICES};
 use beet_forms::number;
-
-/// The largest number of bidders.
-const MOST_BIDDERS: u64 = 2_000;
-
-/// The largest number of prices.
-const MOST_PRICES: u64 = 4_096;
 
 /// The number that a word writes, if it is from `low` to `high`.
 fn number_within(word: &str, low: u64, high: u64) -> Option<u64>
@@ -28,7 +23,7 @@ pub fn numbers_of_words(bidders: &str, prices: &str) -> Option<(u32, u32)>
     ensures numbers { result ≡ sizes_of bidders.now prices.now }
     ensures sizes { IfSome result (λ sizes. AreSizes sizes.0 sizes.1) }
 {
-    let bidders = number_within(bidders, 0, MOST_BIDDERS)?;
-    let prices = number_within(prices, 1, MOST_PRICES)?;
+    let bidders = number_within(bidders, 0, MOST_BIDDERS as u64)?;
+    let prices = number_within(prices, 1, MOST_PRICES as u64)?;
     Some((bidders as u32, prices as u32))
 }

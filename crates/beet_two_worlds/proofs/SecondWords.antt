@@ -11,16 +11,17 @@ use Rattle.beet_bids.specs.Books.{Book}
 use Rattle.beet_bids.specs.Grids.{Grid, IsGrid}
 use Rattle.beet_bids.proofs.GridFacts.{comparisons-le}
 use Rattle.beet_bids.specs.declared.book.Bidder.{Bidder}
-use Rattle.beet_auction.specs.Openings.{Farmer, farmers_of}
-use Rattle.beet_load.specs.Farmers.{words_wanted, words_kept}
-use Rattle.beet_load.specs.Servers.{coefficients_kept, coefficients_wanted, masks_wanted}
+use Rattle.beet_book.specs.Farmers.{Farmer, farmers_of}
+use Rattle.beet_plan.specs.Kept.{coefficients_kept, words_kept}
+use Rattle.beet_load.specs.Farmers.{words_wanted}
+use Rattle.beet_load.specs.Servers.{coefficients_wanted, masks_wanted}
 use Rattle.beet_load.specs.Wholes.{CanDeal, CanRun}
 use Rattle.beet_map.specs.Mapped.{ones_in}
 use Rattle.beet_worlds.specs.Enough.{AreEnough, HasAccepted}
 use Rattle.beet_worlds.specs.MappedBidders.{BiddersMapped, FarmerMapped}
 use Rattle.beet_worlds.specs.MappedWords.{Mapped}
 use Rattle.beet_worlds.specs.ViewsWith.{cut_words, transcript_with}
-use Rattle.beet_two_worlds.specs.Answering.{transcript_in}
+use Rattle.beet_view.specs.BookViews.{transcript_for}
 
 -- lists that are short enough are not cut
 lists-uncut : (n : ℕ) (lists : List (List ℕ)) → All (λ (list : List ℕ). length list ≤ n) lists → map (take n) lists ≡ lists
@@ -30,7 +31,7 @@ lists-uncut n (l ∷ ls) all =
     let rest = lists-uncut n ls (All-tail (λ (list : List ℕ). length list ≤ n) l ls all) in
     λ i. here i ∷ rest i
 
-bidders-kept : (grid : Grid) (lists : List (List ℕ)) → All (CanDeal grid) lists → All (λ (list : List ℕ). length list ≤ words_kept grid) lists
+bidders-kept : (grid : Grid) (lists : List (List ℕ)) → All (CanDeal grid) lists → All (λ (list : List ℕ). length list ≤ words_kept grid.prices) lists
 bidders-kept grid lists all = λ k d lt. (all k d lt).kept
 
 -- the words with which an auction can run are no more than those that are read for it
@@ -43,7 +44,7 @@ words-uncut book words r =
     let c1 = take_all (coefficients_kept grid) words.coefficients.one r.cut.one.coefficients in
     let c2 = take_all (coefficients_kept grid) words.coefficients.two r.cut.two.coefficients in
     let c3 = take_all (coefficients_kept grid) words.coefficients.three r.cut.three.coefficients in
-    let lists = lists-uncut (words_kept grid) words.bidders (bidders-kept grid words.bidders r.bidders) in
+    let lists = lists-uncut (words_kept grid.prices) words.bidders (bidders-kept grid words.bidders r.bidders) in
     λ i. record {
       masks = record { one = m1 i; two = m2 i; three = m3 i };
       coefficients = record { one = c1 i; two = c2 i; three = c3 i };
@@ -52,9 +53,9 @@ words-uncut book words r =
 
 -- so their transcripts are those of the words that are read
 pub same-transcripts : (s : Point) (first second : Book) (words mapped : Words) → CanRun first words → CanRun second mapped →
-    transcript_with second mapped s ≡ transcript_with first words s → transcript_in second mapped s ≡ transcript_in first words s
+    transcript_with second mapped s ≡ transcript_with first words s → transcript_for second mapped s ≡ transcript_for first words s
 same-transcripts s first second words mapped r r' e =
-    sym (ap (λ (w : Words). transcript_in second w s) (words-uncut second mapped r')) ∙ e ∙ ap (λ (w : Words). transcript_in first w s) (words-uncut first words r)
+    sym (ap (λ (w : Words). transcript_for second w s) (words-uncut second mapped r')) ∙ e ∙ ap (λ (w : Words). transcript_for first w s) (words-uncut first words r)
 
 -- enough words among those that are kept
 has-kept : (wanted : ℕ) (words : List ℕ) → length words ≤ wanted + 8 → wanted ≤ length (accepted words) → HasAccepted wanted words
@@ -135,7 +136,7 @@ can-run s first second words mapped r grids m e = by second.grid grids e where
             let short2 : length mapped.coefficients.two ≤ wanted + 8 = omega (arith, long2, r.cut.two.coefficients) in
             let short3 : length mapped.coefficients.three ≤ wanted + 8 = omega (arith, long3, r.cut.three.coefficients) in
             let lists = lists-long s first.grid.prices first.bidders second.bidders words.bidders mapped.bidders r.lists e.count m.lists m.bidders in
-            let short : (k : ℕ) → k < length mapped.bidders → length (get_or mapped.bidders k []) ≤ words_kept first.grid =
+            let short : (k : ℕ) → k < length mapped.bidders → length (get_or mapped.bidders k []) ≤ words_kept first.grid.prices =
             λ k lt. (let a = lists k lt in let b = All-get_or (CanDeal first.grid) words.bidders k [] (omega (arith, m.lists)) r.bidders in omega (arith, a, b.kept)) in
             record {
               gates = r.gates;

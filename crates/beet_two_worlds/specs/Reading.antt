@@ -1,10 +1,12 @@
 -- What is read for two worlds: an auction with its words, and a second book without words.
-use Rattle.std.specs.Prelude.{ℕ, List, map}
+use Rattle.std.specs.Prelude.{ℕ, List, Option, map}
+use Rattle.beet_store.specs.Files.{Told}
 use Rattle.beet_words.specs.Bundles.{Words}
 use Rattle.beet_bids.specs.Books.{Book}
 use Rattle.beet_bids.specs.declared.book.Bidder.{Bidder}
-use Rattle.beet_auction.specs.Openings.{book_of}
-use Rattle.beet_errand.specs.Errands.{Errand}
+use Rattle.beet_book.specs.Farmers.{book_of}
+use Rattle.beet_errand.specs.Errands.{Errand, Step, ◌>>=◌, gives}
+use Rattle.beet_errand.specs.Fetches.{Went}
 use Rattle.beet_load.specs.Loading.{Loaded}
 use Rattle.beet_load.specs.Servers.{masks_of, coefficients_of}
 use Rattle.beet_load.specs.Wholes.{limited_errand, curves_errand}
@@ -31,7 +33,13 @@ words_read both = record {
 }
 
 -- the auction, its servers and the first book come first, and then the second book
-abbrev pub both_errand : List ℕ → List ℕ → List ℕ → List ℕ → (Both → Errand) → Errand
-both_errand auction servers book1 book2 next =
-    limited_errand auction servers book1
-    (λ first. curves_errand book2 first.grid (λ second. next (record { first = first; second = second })))
+unfoldable pub both_errand : List ℕ → List ℕ → List ℕ → List ℕ → Step Both
+both_errand auction servers book1 book2 = do
+  first ← limited_errand auction servers book1
+  second ← curves_errand book2 first.grid
+  gives (record { first = first; second = second })
+
+-- both books are read: the fetches lead through them, whatever comes next
+abbrev pub AreRead : Option Told → Option Told → List ℕ → List ℕ → List ℕ → List ℕ → Both → Type 0
+AreRead old now auction servers book1 book2 both =
+    (next : Both → Errand) → Went old now (both_errand auction servers book1 book2 next) (next both)

@@ -1,14 +1,14 @@
 //! The answer for two books.
 
-ghost use Rattle.std.specs.Prelude.{◌≡◌, ◌++◌, ◌∷◌, [], ℕ, IfErr, IfOk, codes, string_bytes};
+ghost use Rattle.std.specs.Prelude.{◌≡◌, ◌++◌, ◌∷◌, [], IfErr, IfOk, codes, string_bytes};
 ghost use Rattle.beet_words.specs.Bundles.{FitsBundle};
-ghost use Rattle.beet_errand.specs.Fetches.{IsDone};
 ghost use Rattle.beet_errand.specs.Texts.{line_of};
 ghost use Rattle.beet_load.specs.Wholes.{CanRun};
 ghost use Rattle.beet_run.specs.Outcomes.{status_of};
 ghost use Rattle.beet_run.specs.OutcomeTexts.{outcome_text};
-ghost use Rattle.beet_two_worlds.specs.Answering.{agreed_answer, transcript_in};
-ghost use Rattle.beet_two_worlds.specs.Ending.{AnswersBooks, BeginsWithEqualFiles, CausesOfWorlds};
+ghost use Rattle.beet_two_worlds.specs.Answering.{agreed_answer};
+ghost use Rattle.beet_view.specs.BookViews.{transcript_for};
+ghost use Rattle.beet_two_worlds.specs.Ending.{AnswersBooks};
 
 use crate::refusing::refusal;
 use crate::seeing::{SeenRun, see};
@@ -76,14 +76,12 @@ fn agreed_reply(
     second: &Book,
     mapped: &Words,
 ) -> Result<Reply, Stop>
-    requires runs { CanRun whole.now.book whole.now.words }
     requires second_runs { CanRun second.now mapped.now }
     requires fits { FitsBundle mapped.now }
-    requires same { transcript_in second.now mapped.now me ≡ transcript_in whole.now.book whole.now.words me }
+    requires same { transcript_for second.now mapped.now me ≡ transcript_for whole.now.book whole.now.words me }
     ensures memory { IfErr result (λ stop. stop ≡ Stop.OutOfMemory) }
-    ensures answer { IfOk result (λ reply.
-        reply ≡ agreed_answer me out.now whole.now.book whole.now.words second.now mapped.now) }
-    ensures equal { IfOk result (λ reply. BeginsWithEqualFiles reply.files) }
+    ensures answer { IfOk result (λ reply. reply ≡ agreed_answer out.now whole.now.book whole.now.words
+        (transcript_for whole.now.book whole.now.words me) mapped.now) }
 {
     let first_run = see(alloc, me, &whole.book, &whole.words)?;
     let second_run = see(alloc, me, second, mapped)?;
@@ -105,12 +103,8 @@ pub(crate) fn answer_both(
     whole: &Whole,
     second: &Book,
 ) -> Result<Reply, Stop>
-    requires runs { CanRun whole.now.book whole.now.words }
-    requires grids { second.now.grid ≡ whole.now.book.grid }
-    ensures cause { (before now : ℕ) → IfErr result (λ stop. CausesOfWorlds before now stop) }
-    ensures done { IfOk result (λ reply. IsDone reply.status) }
-    ensures answers { AnswersBooks me out.now whole.now.book whole.now.words second.now result }
-    ensures equal { IfOk result (λ reply. BeginsWithEqualFiles reply.files) }
+    requires { second.now.grid ≡ whole.now.book.grid }
+    ensures { AnswersBooks me out.now whole.now.book whole.now.words second.now result }
 {
     // The limits of the grid keep the lists of words short enough for a bundle.
     let _within_limits = second.grid().prices();

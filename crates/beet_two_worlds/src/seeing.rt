@@ -3,7 +3,7 @@
 ghost use Rattle.std.specs.Prelude.{◌≡◌, IfErr, IfOk};
 ghost use Rattle.beet_auction.specs.Endings.{book_finish, book_rounds};
 ghost use Rattle.beet_load.specs.Wholes.{CanRun};
-ghost use Rattle.beet_two_worlds.specs.Answering.{transcript_in};
+ghost use Rattle.beet_view.specs.BookViews.{transcript_for};
 
 use beet_bids::Book;
 use beet_errand::Stop;
@@ -26,7 +26,7 @@ pub(crate) struct SeenRun {
 pub(crate) fn see(alloc: Global, me: Point, book: &Book, words: &Words) -> Result<SeenRun, Stop>
     requires { CanRun book.now words.now }
     ensures memory { IfErr result (λ stop. stop ≡ Stop.OutOfMemory) }
-    ensures transcript { IfOk result (λ run. run.transcript.items ≡ transcript_in book.now words.now me) }
+    ensures transcript { IfOk result (λ run. run.transcript.items ≡ transcript_for book.now words.now me) }
     ensures finish { IfOk result (λ run. run.finish ≡ book_finish book.now words.now.masks) }
     ensures rounds { IfOk result (λ run. run.rounds ≡ book_rounds book.now words.now.masks) }
 {

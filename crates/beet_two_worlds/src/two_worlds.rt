@@ -1,9 +1,8 @@
 //! The job `worlds`.
 
-ghost use Rattle.std.specs.Prelude.{◌≡◌, ◌≤◌, IfErr, IfOk};
-ghost use Rattle.beet_errand.specs.Fetches.{Finishes, IsDone};
-ghost use Rattle.beet_two_worlds.specs.Answering.{WithMapped};
-ghost use Rattle.beet_two_worlds.specs.Ending.{BeginsWithEqualFiles, CausesOfWorlds};
+ghost use Rattle.std.specs.Prelude.{IfOk};
+ghost use Rattle.beet_errand.specs.Fetches.{IsDone};
+ghost use Rattle.beet_two_worlds.specs.Ending.{Compares};
 
 use crate::answering::answer_both;
 use beet_errand::{Reply, Stop};
@@ -24,12 +23,8 @@ pub fn worlds<S: Shelf>(
     server: Point,
     out: &str,
 ) -> Result<Reply, Stop>
-    ensures later { S.faults shelf.old ≤ S.faults shelf.new }
-    ensures cause { IfErr result (λ stop. CausesOfWorlds (S.faults shelf.old) (S.faults shelf.new) stop) }
     ensures done { IfOk result (λ reply. IsDone reply.status) }
-    ensures finishes { WithMapped (S.told shelf.old) (S.told shelf.new) auction.now servers.now book1.now book2.now server out.now
-        (λ told errand. Finishes told (S.told shelf.new) errand result) }
-    ensures equal { IfOk result (λ reply. BeginsWithEqualFiles reply.files) }
+    ensures compares { Compares (S.seen shelf.old) (S.seen shelf.new) auction.now servers.now book1.now book2.now server out.now result }
 {
     let whole = load_whole(alloc, shelf, auction, servers, book1)?;
     let second = load_curves(alloc, shelf, whole.book.grid(), book2)?;

@@ -7,7 +7,7 @@ use Rattle.std.proofs.lemmas.List.Kept.{AllPairs-cons}
 use Rattle.beet_forms.specs.Faults.{Fault, Reading}
 use Rattle.beet_words.specs.declared.fields.Allowed.{Allowed}
 use Rattle.beet_words.specs.Fields.{◌>>=◌, Part, eight_bytes_at, at_offset, number_at, times, counted_at}
-use Rattle.beet_bids.specs.Curves.{largest_quantity}
+use Rattle.beet_bids.specs.declared.curve.TheConstants.{LARGEST_QUANTITY}
 use Rattle.beet_view.specs.declared.quantities.Course.{Course}
 use Rattle.beet_view.specs.declared.quantities.Course.TheVariants.{Falling, Rising}
 use Rattle.beet_view.specs.Transcripts.{allowed_after, quantities_at}
@@ -145,10 +145,10 @@ rising_above before [] on = All-nil (λ x. before ≤ x)
 rising_above before (x ∷ xs) on =
     All-cons (λ y. before ≤ y) x xs on.0 (λ k d h. omega (arith, rising_above x xs on.2 k d h, on.0))
 
-pub rising_within : (before : ℕ) (xs : List ℕ) → OnCourse Rising before xs → All (λ x. x ≤ largest_quantity) xs
+pub rising_within : (before : ℕ) (xs : List ℕ) → OnCourse Rising before xs → All (λ x. x ≤ LARGEST_QUANTITY) xs
 unfolding OnCourse
-rising_within before [] on = All-nil (λ x. x ≤ largest_quantity)
-rising_within before (x ∷ xs) on = All-cons (λ y. y ≤ largest_quantity) x xs on.1 (rising_within x xs on.2)
+rising_within before [] on = All-nil (λ x. x ≤ LARGEST_QUANTITY)
+rising_within before (x ∷ xs) on = All-cons (λ y. y ≤ LARGEST_QUANTITY) x xs on.1 (rising_within x xs on.2)
 
 pub rising_pairs : (before : ℕ) (xs : List ℕ) → OnCourse Rising before xs → AllPairs (λ x y. x ≤ y) xs
 unfolding OnCourse

@@ -5,13 +5,20 @@ use Rattle.std.proofs.lemmas.Bool.{eqb-true, eqb-false}
 use Rattle.beet_field.specs.Point.{number_of}
 use Rattle.beet_field.specs.declared.point.Point.{Point}
 use Rattle.beet_field.specs.declared.point.Point.TheVariants.{One, Two, Three}
+use Rattle.beet_words.specs.Bundles.{up_to, word_at, words_at}
 use Rattle.beet_words.specs.Fields.{◌>>=◌, number_at, times, counted_at}
 use Rattle.beet_bids.specs.Grids.{Grid}
 use Rattle.beet_bids.specs.Curves.{Curve}
+use Rattle.beet_bids.specs.declared.book.TheConstants.{MOST_BIDDERS}
+use Rattle.beet_bids.specs.declared.grid.TheConstants.{LARGEST_BASE, LARGEST_TICK, MOST_PRICES}
+use Rattle.beet_book.specs.declared.book_file.TheConstants.{MOST_PRODUCT}
+use Rattle.beet_gates.specs.declared.TheConstants.{MOST_NUMBERS}
+use Rattle.beet_view.specs.declared.reading.TheConstants.{MOST_ROUNDS}
 use Rattle.beet_view.specs.declared.quantities.Course.TheVariants.{Falling, Rising}
 use Rattle.beet_view.specs.declared.view.Seen.{Seen}
 use Rattle.beet_view.specs.Views.{Viewed, IsSeenAt}
-use Rattle.beet_view.specs.Transcripts.{from_to, most_bidders, most_words, most_masks, most_coefficients, mark_of, known_of, gates_of, grid_at, start_of, word_at, words_at, point_at, quantities_at, own_at, own_where_known, seen_at, message_at, round_at, IsMessage, FitsFile}
+use Rattle.beet_plan.specs.Kept.{words_kept, masks_kept, coefficients_kept}
+use Rattle.beet_view.specs.Transcripts.{from_to, most_bidders, mark_of, known_of, gates_of, grid_at, start_of, point_at, quantities_at, own_at, own_where_known, seen_at, message_at, round_at, IsMessage, FitsFile}
 use Rattle.beet_view.proofs.ReadFacts.{steps_of, value_has, number_at-within, times-all, counted_at-all, quantities_at-are}
 
 -- a list of any numbers was read
@@ -21,13 +28,13 @@ any n = Unit {0}
 -- words were read, at most so many
 pub words_at-few : (bytes : List ℕ) (most at : ℕ) (read : List ℕ × ℕ) → words_at bytes most at ≡ Ok read → length read.0 ≤ most
 unfolding any
-words_at-few bytes most at read e = (counted_at-all bytes (from_to 0 most) (word_at bytes) any at read (λ offset one is. tt) e).high
+words_at-few bytes most at read e = (counted_at-all bytes (up_to most) (word_at bytes) any at read (λ offset one is. tt) e).high
 
 -- a message was read
 pub message_at-is : (bytes : List ℕ) (at : ℕ) (read : List ℕ × ℕ) → message_at bytes at ≡ Ok read → IsMessage read.0
 unfolding any
 message_at-is bytes at read e =
-    let are = counted_at-all bytes (from_to 1 64) (point_at bytes) any at read (λ offset one is. tt) e in
+    let are = counted_at-all bytes (from_to 1 MOST_NUMBERS) (point_at bytes) any at read (λ offset one is. tt) e in
     (are.low, are.high)
 
 -- both messages of a round
@@ -46,20 +53,20 @@ round_at-are bytes at read e =
 pub record IsKept (prices : ℕ) (own : Curve × List ℕ) : Type 0 where
   pub buy : length own.0.buy ≡ prices
   pub sell : length own.0.sell ≡ prices
-  pub words : length own.1 ≤ most_words prices
+  pub words : length own.1 ≤ words_kept prices
 
 own_at-is : (bytes : List ℕ) (prices at : ℕ) (read : (Curve × List ℕ) × ℕ) → own_at bytes prices at ≡ Ok read → IsKept prices read.0
 unfolding own_at
 own_at-is bytes prices at read e =
     let curve : List ℕ → List ℕ → Curve = λ buy sell. record { buy = buy; sell = sell } in
-    let buy = steps_of (quantities_at bytes Falling prices (start_of Falling) at) (λ buy. quantities_at bytes Rising prices (start_of Rising) buy.1 >>= λ sell. words_at bytes (most_words prices) sell.1 >>= λ words. Ok ((record { buy = buy.0; sell = sell.0 }, words.0), words.1)) read e in
-    let sell = steps_of (quantities_at bytes Rising prices (start_of Rising) buy.between.1) (λ sell. words_at bytes (most_words prices) sell.1 >>= λ words. Ok ((record { buy = buy.between.0; sell = sell.0 }, words.0), words.1)) read buy.two in
-    let words = steps_of (words_at bytes (most_words prices) sell.between.1) (λ words. Ok ((curve buy.between.0 sell.between.0, words.0), words.1)) read sell.two in
+    let buy = steps_of (quantities_at bytes Falling prices (start_of Falling) at) (λ buy. quantities_at bytes Rising prices (start_of Rising) buy.1 >>= λ sell. words_at bytes (words_kept prices) sell.1 >>= λ words. Ok ((record { buy = buy.0; sell = sell.0 }, words.0), words.1)) read e in
+    let sell = steps_of (quantities_at bytes Rising prices (start_of Rising) buy.between.1) (λ sell. words_at bytes (words_kept prices) sell.1 >>= λ words. Ok ((record { buy = buy.between.0; sell = sell.0 }, words.0), words.1)) read buy.two in
+    let words = steps_of (words_at bytes (words_kept prices) sell.between.1) (λ words. Ok ((curve buy.between.0 sell.between.0, words.0), words.1)) read sell.two in
     value_has (λ (r : (Curve × List ℕ) × ℕ). IsKept prices r.0) ((curve buy.between.0 sell.between.0, words.between.0), words.between.1) read words.two
     (record {
       buy = (quantities_at-are bytes Falling prices (start_of Falling) at buy.between buy.one).many;
       sell = (quantities_at-are bytes Rising prices (start_of Rising) buy.between.1 sell.between sell.one).many;
-      words = words_at-few bytes (most_words prices) sell.between.1 words.between words.one;
+      words = words_at-few bytes (words_kept prices) sell.between.1 words.between words.one;
     })
 
 -- the mark that was read is the mark of the server that it names
@@ -98,7 +105,7 @@ kept_where bytes server prices mark at read false small is e =
 -- a bidder as a server of the grid sees it, with no more words than may stand in a transcript
 pub record IsSeenWithin (server : Point) (grid : Grid) (seen : Seen) : Type 0 where
   pub at_server : IsSeenAt server grid seen
-  pub words : IfSome seen.own (λ own. length own.1 ≤ most_words grid.prices)
+  pub words : IfSome seen.own (λ own. length own.1 ≤ words_kept grid.prices)
 
 seen_within : (server : Point) (grid : Grid) (known : Option Point) (points : List ℕ) (own : Option (Curve × List ℕ)) →
     length points ≡ 2 * grid.prices →
@@ -130,9 +137,9 @@ seen_at-is bytes server grid at read e =
 
 -- a grid whose numbers are read one after another
 pub grid_at-parts : (bytes : List ℕ) (at base tick prices gates a b c d : ℕ) →
-    number_at bytes (from_to 0 1000000000000) at ≡ Ok (base, a) →
-    number_at bytes (from_to 1 1000000000) a ≡ Ok (tick, b) →
-    number_at bytes (from_to 1 4096) b ≡ Ok (prices, c) →
+    number_at bytes (from_to 0 LARGEST_BASE) at ≡ Ok (base, a) →
+    number_at bytes (from_to 1 LARGEST_TICK) a ≡ Ok (tick, b) →
+    number_at bytes (from_to 1 MOST_PRICES) b ≡ Ok (prices, c) →
     number_at bytes (from_to 0 1) c ≡ Ok (gates, d) →
     grid_at bytes at ≡ Ok (record { base = base; tick = tick; prices = prices; gates = gates_of gates }, d)
 unfolding grid_at
@@ -140,8 +147,8 @@ grid_at-parts bytes at base tick prices gates a b c d e f g h = rw (e, f, g, h) 
 
 -- bidders were read
 pub record AreBidders (server : Point) (grid : Grid) (bidders : List Seen) : Type 0 where
-  pub few : length bidders ≤ 2000
-  pub product : length bidders * grid.prices ≤ 500000
+  pub few : length bidders ≤ MOST_BIDDERS
+  pub product : length bidders * grid.prices ≤ MOST_PRODUCT
   pub each : All (IsSeenWithin server grid) bidders
 
 pub bidders_at-are : (bytes : List ℕ) (server : Point) (grid : Grid) (at : ℕ) (read : List Seen × ℕ) →
@@ -152,27 +159,27 @@ bidders_at-are bytes server grid at read some e =
     let are = counted_at-all bytes (from_to 0 (most_bidders grid.prices)) (seen_at bytes server grid.prices) (IsSeenWithin server grid) at read (seen_at-is bytes server grid) e in
     record {
       few = omega (arith, are.high);
-      product = (le-div_iff_mul-le {k = grid.prices} {x = length read.0} {y = 500000} (omega arith)).0 (omega (arith, are.high));
+      product = (le-div_iff_mul-le {k = grid.prices} {x = length read.0} {y = MOST_PRODUCT} (omega arith)).0 (omega (arith, are.high));
       each = are.each;
     }
 
 -- rounds were read
 pub record AreRounds (rounds : List (List ℕ × List ℕ)) : Type 0 where
-  pub few : length rounds ≤ 4096
+  pub few : length rounds ≤ MOST_ROUNDS
   pub each : All AreMessages rounds
 
 pub rounds_at-are : (bytes : List ℕ) (at : ℕ) (read : List (List ℕ × List ℕ) × ℕ) →
-    counted_at bytes (from_to 0 4096) (round_at bytes) at ≡ Ok read →
+    counted_at bytes (from_to 0 MOST_ROUNDS) (round_at bytes) at ≡ Ok read →
     AreRounds read.0
 rounds_at-are bytes at read e =
-    let are = counted_at-all bytes (from_to 0 4096) (round_at bytes) AreMessages at read (round_at-are bytes) e in
+    let are = counted_at-all bytes (from_to 0 MOST_ROUNDS) (round_at bytes) AreMessages at read (round_at-are bytes) e in
     record { few = are.high; each = are.each }
 
 -- a view of these bidders and rounds, and of no longer tapes than may stand in a transcript
 pub view_fits : (view : Viewed) →
     AreBidders view.server view.grid view.bidders →
-    length view.masks ≤ most_masks view.grid.prices →
-    length view.coefficients ≤ most_coefficients view.grid.prices →
+    length view.masks ≤ masks_kept view.grid →
+    length view.coefficients ≤ coefficients_kept view.grid →
     AreRounds view.rounds →
     FitsFile view
 unfolding AreMessages

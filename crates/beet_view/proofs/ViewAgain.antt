@@ -10,18 +10,26 @@ use Rattle.beet_field.specs.Point.{number_of}
 use Rattle.beet_field.specs.declared.point.Point.{Point}
 use Rattle.beet_field.specs.declared.point.Point.TheVariants.{One, Two, Three}
 use Rattle.beet_words.specs.Words.{IsWord, ones}
+use Rattle.beet_words.specs.Bundles.{up_to, word_at, words_at}
 use Rattle.beet_words.specs.Fields.{Part, number_bytes, number_at, times, counted_at, after_magic, ended}
 use Rattle.beet_words.proofs.FieldsAgain.{StandsAt, StandsAt-left, StandsAt-right, number_at-number, times-parts}
 use Rattle.beet_gates.specs.declared.Gates.{Gates}
 use Rattle.beet_gates.specs.declared.Gates.TheVariants.{Chain, Tree}
 use Rattle.beet_bids.specs.Grids.{Grid, IsGrid, comparisons_of}
 use Rattle.beet_bids.proofs.GridFacts.{comparisons-le}
-use Rattle.beet_bids.specs.Curves.{Curve, IsCurve, largest_quantity}
+use Rattle.beet_bids.specs.Curves.{Curve, IsCurve}
+use Rattle.beet_bids.specs.declared.curve.TheConstants.{LARGEST_QUANTITY}
+use Rattle.beet_bids.specs.declared.grid.TheConstants.{LARGEST_BASE, LARGEST_TICK, MOST_PRICES}
+use Rattle.beet_book.specs.declared.book_file.TheConstants.{MOST_PRODUCT}
+use Rattle.beet_gates.specs.declared.TheConstants.{MOST_NUMBERS}
+use Rattle.beet_words.specs.declared.bundle.TheConstants.{BAD_MAGIC, TRAILING}
+use Rattle.beet_view.specs.declared.reading.TheConstants.{MOST_ROUNDS}
 use Rattle.beet_view.specs.declared.quantities.Course.{Course}
 use Rattle.beet_view.specs.declared.quantities.Course.TheVariants.{Falling, Rising}
 use Rattle.beet_view.specs.declared.view.Seen.{Seen}
 use Rattle.beet_view.specs.Views.{Viewed, IsSeenAt, IsView}
-use Rattle.beet_view.specs.Transcripts.{magic, from_to, most_bidders, most_words, most_masks, most_coefficients, known_of, mark_of, gates_of, number_of_gates, server_at, grid_at, point_at, word_at, words_at, allowed_after, start_of, quantities_at, own_at, own_where_known, seen_at, message_at, round_at, view_in, numbers_bytes, counted_bytes, grid_bytes, own_bytes, seen_bytes, round_bytes, view_bytes, IsMessage, FitsFile, HasNumbers, HasElements, AreNumbers}
+use Rattle.beet_plan.specs.Kept.{words_kept, masks_kept, coefficients_kept}
+use Rattle.beet_view.specs.Transcripts.{magic, from_to, most_bidders, known_of, mark_of, gates_of, number_of_gates, server_at, grid_at, point_at, allowed_after, start_of, quantities_at, own_at, own_where_known, seen_at, message_at, round_at, view_in, numbers_bytes, counted_bytes, grid_bytes, own_bytes, seen_bytes, round_bytes, view_bytes, IsMessage, FitsFile, HasNumbers, HasElements, AreNumbers}
 use Rattle.beet_view.proofs.ReadFacts.{OnCourse}
 use Rattle.beet_view.proofs.SeenFacts.{grid_at-parts}
 
@@ -56,7 +64,7 @@ words_at-words : (bytes words : List ℕ) (most at : ℕ) → length words ≤ m
     words_at bytes most at ≡ Ok (words, at + length (counted_bytes number_bytes words))
 words_at-words bytes words most at few fits below s =
     let each : (word offset : ℕ) → IsWord word → StandsAt bytes offset (number_bytes word) → word_at bytes offset ≡ Ok (word, offset + length (number_bytes word)) =
-    λ word offset small stands. number_at-number bytes (from_to 0 ones) offset word (omega arith) (omega arith) (omega arith) stands in
+    λ word offset small stands. number_at-number bytes (up_to ones) offset word (omega arith) (omega arith) (omega arith) stands in
     counted_at-parts bytes 0 most (word_at bytes) number_bytes IsWord words at (omega arith) few fits each below s
 
 -- a message is read
@@ -64,7 +72,7 @@ message_at-message : (bytes numbers : List ℕ) (at : ℕ) → IsMessage numbers
     StandsAt bytes at (counted_bytes number_bytes numbers) →
     message_at bytes at ≡ Ok (numbers, at + length (counted_bytes number_bytes numbers))
 message_at-message bytes numbers at is below s =
-    counted_at-parts bytes 1 64 (point_at bytes) number_bytes IsElement numbers at is.0 is.1 (omega (arith, is.1)) (point_at-point bytes) below s
+    counted_at-parts bytes 1 MOST_NUMBERS (point_at bytes) number_bytes IsElement numbers at is.0 is.1 (omega (arith, is.1)) (point_at-point bytes) below s
 
 -- the messages of a round may stand in a transcript
 record FitsRound (round : List ℕ × List ℕ) : Type 0 where
@@ -87,7 +95,7 @@ round_at-round bytes round at fits s =
 -- quantities are read
 quantities_at-quantities : (bytes : List ℕ) (course : Course) (before at : ℕ) (xs : List ℕ) →
     OnCourse course before xs →
-    All (λ x. x ≤ largest_quantity) xs →
+    All (λ x. x ≤ LARGEST_QUANTITY) xs →
     StandsAt bytes at (numbers_bytes xs) →
     quantities_at bytes course (length xs) before at ≡ Ok (xs, at + length (numbers_bytes xs))
 unfolding quantities_at OnCourse
@@ -95,9 +103,9 @@ quantities_at-quantities bytes course before at [] on small s =
     let place : at ≡ at + 0 = omega arith in
     ap (λ n. Ok ([], n)) place
 quantities_at-quantities bytes course before at (x ∷ xs) on small s =
-    let within : x ≤ largest_quantity = All-head (λ x. x ≤ largest_quantity) x xs small in
+    let within : x ≤ LARGEST_QUANTITY = All-head (λ x. x ≤ LARGEST_QUANTITY) x xs small in
     let first = number_at-number bytes (allowed_after course before) at x on.0 on.1 (omega (arith, within)) (StandsAt-left bytes at (number_bytes x) (numbers_bytes xs) s) in
-    let others = quantities_at-quantities bytes course x (at + 8) xs on.2 (All-tail (λ x. x ≤ largest_quantity) x xs small) (StandsAt-right bytes at (number_bytes x) (numbers_bytes xs) s) in
+    let others = quantities_at-quantities bytes course x (at + 8) xs on.2 (All-tail (λ x. x ≤ LARGEST_QUANTITY) x xs small) (StandsAt-right bytes at (number_bytes x) (numbers_bytes xs) s) in
     let place : at + 8 + length (numbers_bytes xs) ≡ at + length (number_bytes x ++ numbers_bytes xs) = omega (arith, length-append (number_bytes x) (numbers_bytes xs)) in
     rw (first, others) (ap (λ n. Ok (x ∷ xs, n)) place)
 
@@ -116,21 +124,21 @@ on_falling before (x ∷ xs) below pairs = (
 )
 
 -- quantities that never fall are on a rising course
-on_rising : (before : ℕ) (xs : List ℕ) → All (λ x. before ≤ x) xs → All (λ x. x ≤ largest_quantity) xs → AllPairs (λ x y. x ≤ y) xs → OnCourse Rising before xs
+on_rising : (before : ℕ) (xs : List ℕ) → All (λ x. before ≤ x) xs → All (λ x. x ≤ LARGEST_QUANTITY) xs → AllPairs (λ x y. x ≤ y) xs → OnCourse Rising before xs
 unfolding OnCourse
 on_rising before [] above small pairs = tt
 on_rising before (x ∷ xs) above small pairs = (
   All-head (λ y. before ≤ y) x xs above,
-  All-head (λ y. y ≤ largest_quantity) x xs small,
-  on_rising x xs (λ k d h. pairs 0 (suc k) d (omega arith) (omega arith)) (All-tail (λ y. y ≤ largest_quantity) x xs small) (AllPairs-tail (λ x y. x ≤ y) x xs pairs),
+  All-head (λ y. y ≤ LARGEST_QUANTITY) x xs small,
+  on_rising x xs (λ k d h. pairs 0 (suc k) d (omega arith) (omega arith)) (All-tail (λ y. y ≤ LARGEST_QUANTITY) x xs small) (AllPairs-tail (λ x y. x ≤ y) x xs pairs),
 )
 
 -- the curve and the words of a known bidder are read
 own_at-own : (bytes : List ℕ) (prices at : ℕ) (own : Curve × List ℕ) →
-    prices ≤ 4096 →
+    prices ≤ MOST_PRICES →
     length own.0.buy ≡ prices →
     length own.0.sell ≡ prices →
-    length own.1 ≤ most_words prices →
+    length own.1 ≤ words_kept prices →
     IsCurve own.0 →
     All IsWord own.1 →
     StandsAt bytes at (own_bytes (Some own)) →
@@ -147,7 +155,7 @@ own_at-own bytes prices at own small buys sells few curve words s =
     let sell = subst (λ n. quantities_at bytes Rising n (start_of Rising) (at + length a) ≡ Ok (own.0.sell, at + length a + length b)) sells
     (quantities_at-quantities bytes Rising (start_of Rising) (at + length a) own.0.sell
     (on_rising (start_of Rising) own.0.sell (λ k d h. omega arith) curve.sell_limit curve.sell_never_falls) curve.sell_limit (StandsAt-left bytes (at + length a) b c after)) in
-    let last = words_at-words bytes own.1 (most_words prices) (at + length a + length b) few (omega (arith, few)) words (StandsAt-right bytes (at + length a) b c after) in
+    let last = words_at-words bytes own.1 (words_kept prices) (at + length a + length b) few (omega (arith, few)) words (StandsAt-right bytes (at + length a) b c after) in
     let place : at + length a + length b + length c ≡ at + length (own_bytes (Some own)) = omega (arith, length-append a (b ++ c), length-append b c) in
     rw (buy, sell, last) (ap (λ n. Ok (own, n)) place)
 
@@ -188,12 +196,12 @@ other_mark (Some Three) Three other = absurd (other refl)
 -- a bidder may stand in a transcript
 record FitsSeen (server : Point) (grid : Grid) (seen : Seen) : Type 0 where
   pub at_server : IsSeenAt server grid seen
-  pub words : IfSome seen.own (λ own. length own.1 ≤ most_words grid.prices)
+  pub words : IfSome seen.own (λ own. length own.1 ≤ words_kept grid.prices)
   pub numbers : HasNumbers seen
 
 -- what is kept of a bidder is read, or nothing where nothing is kept
 own_where_known-own : (bytes : List ℕ) (server : Point) (grid : Grid) (at : ℕ) (known : Option Point) (points : List ℕ) (own : Option (Curve × List ℕ)) →
-    grid.prices ≤ 4096 →
+    grid.prices ≤ MOST_PRICES →
     FitsSeen server grid (record { known = known; points = points; own = own }) →
     StandsAt bytes at (own_bytes own) →
     own_where_known bytes server grid.prices (mark_of known) at ≡ Ok (own, at + length (own_bytes own))
@@ -209,7 +217,7 @@ own_where_known-own bytes server grid at known points (Some own) small fits s =
 
 -- a bidder is read
 seen_at-seen : (bytes : List ℕ) (server : Point) (grid : Grid) (seen : Seen) (at : ℕ) →
-    grid.prices ≤ 4096 →
+    grid.prices ≤ MOST_PRICES →
     FitsSeen server grid seen →
     StandsAt bytes at (seen_bytes seen) →
     seen_at bytes server grid.prices at ≡ Ok (seen, at + length (seen_bytes seen))
@@ -257,28 +265,28 @@ grid_at-grid bytes grid is s =
     let small = number_of_gates-small grid.gates in
     let made : Gates → Grid = λ kind. record { base = grid.base; tick = grid.tick; prices = grid.prices; gates = kind } in
     grid_at-parts bytes 16 grid.base grid.tick grid.prices (number_of_gates grid.gates) 24 32 40 48
-    (number_first bytes 0 1000000000000 16 grid.base (tick ++ (prices ++ (gates ++ []))) (omega arith) is.base_limit (omega (arith, is.base_limit)) s)
-    (number_first bytes 1 1000000000 24 grid.tick (prices ++ (gates ++ [])) is.tick_some is.tick_limit (omega (arith, is.tick_limit)) at_tick)
-    (number_first bytes 1 4096 32 grid.prices (gates ++ []) is.prices_some is.prices_limit (omega (arith, is.prices_limit)) at_prices)
+    (number_first bytes 0 LARGEST_BASE 16 grid.base (tick ++ (prices ++ (gates ++ []))) (omega arith) is.base_limit (omega (arith, is.base_limit)) s)
+    (number_first bytes 1 LARGEST_TICK 24 grid.tick (prices ++ (gates ++ [])) is.tick_some is.tick_limit (omega (arith, is.tick_limit)) at_tick)
+    (number_first bytes 1 MOST_PRICES 32 grid.prices (gates ++ []) is.prices_some is.prices_limit (omega (arith, is.prices_limit)) at_prices)
     (number_first bytes 0 1 40 (number_of_gates grid.gates) [] (omega arith) small (omega (arith, small)) at_gates)
     ∙ ap (λ kind. Ok (made kind, 48)) (gates_of-number grid.gates)
 
 -- a view whose parts are read one after another up to its end
 view_in-parts : (file : List ℕ) (view : Viewed) (bidders masks coefficients rounds : ℕ) →
-    after_magic file magic 1 ≡ Ok 8 →
+    after_magic file magic BAD_MAGIC ≡ Ok 8 →
     server_at file 8 ≡ Ok (view.server, 16) →
     grid_at file 16 ≡ Ok (view.grid, 48) →
     counted_at file (from_to 0 (most_bidders view.grid.prices)) (seen_at file view.server view.grid.prices) 48 ≡ Ok (view.bidders, bidders) →
-    words_at file (most_masks view.grid.prices) bidders ≡ Ok (view.masks, masks) →
-    words_at file (most_coefficients view.grid.prices) masks ≡ Ok (view.coefficients, coefficients) →
-    counted_at file (from_to 0 4096) (round_at file) coefficients ≡ Ok (view.rounds, rounds) →
-    ended file 4 rounds ≡ Ok tt →
+    words_at file (masks_kept view.grid) bidders ≡ Ok (view.masks, masks) →
+    words_at file (coefficients_kept view.grid) masks ≡ Ok (view.coefficients, coefficients) →
+    counted_at file (from_to 0 MOST_ROUNDS) (round_at file) coefficients ≡ Ok (view.rounds, rounds) →
+    ended file TRAILING rounds ≡ Ok tt →
     view_in file ≡ Ok view
 unfolding view_in
 view_in-parts file view bidders masks coefficients rounds a b c d e f g h = rw (a, b, c, d, e, f, g, h) refl
 
 -- at most 2^32 words, since a grid has few comparisons
-few_comparisons : (prices : ℕ) → prices ≤ 4096 → comparisons_of prices ≤ 13
+few_comparisons : (prices : ℕ) → prices ≤ MOST_PRICES → comparisons_of prices ≤ 13
 few_comparisons prices small = comparisons-le prices 13 (omega arith)
 
 -- the bidders may stand in a transcript
@@ -315,21 +323,21 @@ view_in-view view is fits are =
     let at_coefficients = StandsAt-right file place_masks masks after_masks at_masks in
     let at_rounds = StandsAt-right file place_coefficients coefficients rounds at_coefficients in
     let comparisons = few_comparisons prices are.grid.prices_limit in
-    let many : length view.bidders ≤ 500000 / prices = (le-div_iff_mul-le {k = prices} {x = length view.bidders} {y = 500000} (omega (arith, are.grid.prices_some))).1 fits.product in
+    let many : length view.bidders ≤ MOST_PRODUCT / prices = (le-div_iff_mul-le {k = prices} {x = length view.bidders} {y = MOST_PRODUCT} (omega (arith, are.grid.prices_some))).1 fits.product in
     let read_bidders = counted_at-parts file 0 (most_bidders prices) (seen_at file view.server prices) seen_bytes (FitsSeen view.server view.grid) view.bidders 48
     (omega arith) (omega (arith, many, is.few)) (omega (arith, is.few))
     (λ seen offset can stands. seen_at-seen file view.server view.grid seen offset are.grid.prices_limit can stands)
     (bidders_fit view is fits are) (StandsAt-left file 48 bidders after_bidders at_bidders) in
-    let read_masks = words_at-words file view.masks (most_masks prices) place_masks fits.masks (omega (arith, fits.masks, comparisons)) are.masks
+    let read_masks = words_at-words file view.masks (masks_kept view.grid) place_masks fits.masks (omega (arith, fits.masks, comparisons)) are.masks
     (StandsAt-left file place_masks masks after_masks at_masks) in
-    let read_coefficients = words_at-words file view.coefficients (most_coefficients prices) place_coefficients fits.coefficients (omega (arith, fits.coefficients, comparisons)) are.coefficients
+    let read_coefficients = words_at-words file view.coefficients (coefficients_kept view.grid) place_coefficients fits.coefficients (omega (arith, fits.coefficients, comparisons)) are.coefficients
     (StandsAt-left file place_coefficients coefficients rounds at_coefficients) in
-    let read_rounds = counted_at-parts file 0 4096 (round_at file) round_bytes FitsRound view.rounds place_rounds
+    let read_rounds = counted_at-parts file 0 MOST_ROUNDS (round_at file) round_bytes FitsRound view.rounds place_rounds
     (omega arith) fits.rounds (omega (arith, fits.rounds)) (λ round offset can stands. round_at-round file round offset can stands)
     (rounds_fit view fits are) at_rounds in
     let all : length file ≡ place_rounds + length rounds =
     omega (arith, length-append bidders after_bidders, length-append masks after_masks, length-append coefficients rounds) in
-    let end : ended file 4 (place_rounds + length rounds) ≡ Ok tt = rw (le-ltb (place_rounds + length rounds) (length file) (omega arith)) refl in
+    let end : ended file TRAILING (place_rounds + length rounds) ≡ Ok tt = rw (le-ltb (place_rounds + length rounds) (length file) (omega arith)) refl in
     view_in-parts file view place_masks place_coefficients place_rounds (place_rounds + length rounds)
     refl (server_at-server file view.server 8 after_server at_server) (grid_at-grid file view.grid are.grid (StandsAt-left file 16 grid after_grid at_grid))
     read_bidders read_masks read_coefficients read_rounds end

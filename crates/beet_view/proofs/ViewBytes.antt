@@ -10,14 +10,20 @@ use Rattle.beet_field.specs.Point.{number_of}
 use Rattle.beet_field.specs.declared.point.Point.{Point}
 use Rattle.beet_forms.specs.Faults.{Fault, Reading}
 use Rattle.beet_words.specs.declared.fields.Allowed.{Allowed}
+use Rattle.beet_words.specs.Bundles.{up_to, word_at, words_at}
 use Rattle.beet_words.specs.Fields.{◌>>=◌, Part, number_bytes, eight_bytes_at, at_offset, number_at, times, counted_at, after_magic, ended}
 use Rattle.beet_bids.specs.Grids.{Grid}
 use Rattle.beet_bids.specs.Curves.{Curve}
+use Rattle.beet_bids.specs.declared.grid.TheConstants.{LARGEST_BASE, LARGEST_TICK, MOST_PRICES}
+use Rattle.beet_gates.specs.declared.TheConstants.{MOST_NUMBERS}
+use Rattle.beet_words.specs.declared.bundle.TheConstants.{BAD_MAGIC, TRAILING}
+use Rattle.beet_view.specs.declared.reading.TheConstants.{MOST_ROUNDS}
 use Rattle.beet_view.specs.declared.quantities.Course.{Course}
 use Rattle.beet_view.specs.declared.quantities.Course.TheVariants.{Falling, Rising}
 use Rattle.beet_view.specs.declared.view.Seen.{Seen}
 use Rattle.beet_view.specs.Views.{Viewed}
-use Rattle.beet_view.specs.Transcripts.{magic, from_to, most_bidders, most_words, most_masks, most_coefficients, server_of, known_of, mark_of, gates_of, number_of_gates, server_at, grid_at, point_at, word_at, words_at, allowed_after, start_of, quantities_at, own_at, own_where_known, seen_at, message_at, round_at, view_in, numbers_bytes, counted_bytes, grid_bytes, own_bytes, seen_bytes, round_bytes, view_bytes}
+use Rattle.beet_plan.specs.Kept.{words_kept, masks_kept, coefficients_kept}
+use Rattle.beet_view.specs.Transcripts.{magic, from_to, most_bidders, server_of, known_of, mark_of, gates_of, number_of_gates, server_at, grid_at, point_at, allowed_after, start_of, quantities_at, own_at, own_where_known, seen_at, message_at, round_at, view_in, numbers_bytes, counted_bytes, grid_bytes, own_bytes, seen_bytes, round_bytes, view_bytes}
 use Rattle.beet_view.proofs.ReadFacts.{same_value, value_has, no_value, number_at-within, times-all}
 use Rattle.beet_view.proofs.SeenFacts.{mark_of-known}
 
@@ -106,14 +112,14 @@ words_at-spans : (bytes : List ℕ) (most at : ℕ) (read : List ℕ × ℕ) →
     words_at bytes most at ≡ Ok read →
     Spans bytes at (counted_bytes number_bytes read.0) read.1
 words_at-spans bytes most at read small e =
-    counted_at-spans bytes (from_to 0 most) (word_at bytes) number_bytes at read small (λ offset one is. number_at-spans bytes _ offset one small is) e
+    counted_at-spans bytes (up_to most) (word_at bytes) number_bytes at read small (λ offset one is. number_at-spans bytes _ offset one small is) e
 
 -- a message stands where it was read
 message_at-spans : (bytes : List ℕ) (at : ℕ) (read : List ℕ × ℕ) → AreBytes bytes →
     message_at bytes at ≡ Ok read →
     Spans bytes at (counted_bytes number_bytes read.0) read.1
 message_at-spans bytes at read small e =
-    counted_at-spans bytes (from_to 1 64) (point_at bytes) number_bytes at read small (λ offset one is. number_at-spans bytes _ offset one small is) e
+    counted_at-spans bytes (from_to 1 MOST_NUMBERS) (point_at bytes) number_bytes at read small (λ offset one is. number_at-spans bytes _ offset one small is) e
 
 -- the messages of a round stand where they were read
 round_at-spans : (bytes : List ℕ) (at : ℕ) (read : (List ℕ × List ℕ) × ℕ) → AreBytes bytes →
@@ -153,14 +159,14 @@ own_at-spans bytes prices at read small e =
     let curve : List ℕ → List ℕ → Curve = λ buy sell. record { buy = buy; sell = sell } in
     through Is (quantities_at bytes Falling prices (start_of Falling) at) _ read e (λ buy e0 e.
     through Is (quantities_at bytes Rising prices (start_of Rising) buy.1) _ read e (λ sell e1 e.
-    through Is (words_at bytes (most_words prices) sell.1) _ read e (λ words e2 e.
+    through Is (words_at bytes (words_kept prices) sell.1) _ read e (λ words e2 e.
     let a = numbers_bytes buy.0 in
     let b = numbers_bytes sell.0 in
     let c = counted_bytes number_bytes words.0 in
     value_has (λ (r : (Curve × List ℕ) × ℕ). Spans bytes at (own_bytes (Some r.0)) r.1) ((curve buy.0 sell.0, words.0), words.1) read e
     (Spans-then bytes at a buy.1 (b ++ c) words.1 (quantities_at-spans bytes Falling prices (start_of Falling) at buy small e0)
     (Spans-then bytes buy.1 b sell.1 c words.1 (quantities_at-spans bytes Rising prices (start_of Rising) buy.1 sell small e1)
-    (words_at-spans bytes (most_words prices) sell.1 words small e2))))))
+    (words_at-spans bytes (words_kept prices) sell.1 words small e2))))))
 
 -- what is kept of a bidder stands where it was read
 own_where_known-spans : (bytes : List ℕ) (prices at : ℕ) (read : Option (Curve × List ℕ) × ℕ) (same : Bool) → AreBytes bytes →
@@ -226,9 +232,9 @@ unfolding grid_at
 grid_at-spans bytes at read small e =
     let Is : Type 0 = Spans bytes at (grid_bytes read.0) read.1 in
     let made : ℕ → ℕ → ℕ → ℕ → Grid = λ base tick prices gates. record { base = base; tick = tick; prices = prices; gates = gates_of gates } in
-    through Is (number_at bytes (from_to 0 1000000000000) at) _ read e (λ base e0 e.
-    through Is (number_at bytes (from_to 1 1000000000) base.1) _ read e (λ tick e1 e.
-    through Is (number_at bytes (from_to 1 4096) tick.1) _ read e (λ prices e2 e.
+    through Is (number_at bytes (from_to 0 LARGEST_BASE) at) _ read e (λ base e0 e.
+    through Is (number_at bytes (from_to 1 LARGEST_TICK) base.1) _ read e (λ tick e1 e.
+    through Is (number_at bytes (from_to 1 MOST_PRICES) tick.1) _ read e (λ prices e2 e.
     through Is (number_at bytes (from_to 0 1) prices.1) _ read e (λ gates e3 e.
     let is = number_of_gates-gates gates.0 (number_at-within bytes (from_to 0 1) prices.1 gates e3).1 in
     let a = number_bytes base.0 in
@@ -238,18 +244,18 @@ grid_at-spans bytes at read small e =
     let fourth = subst (λ n. Spans bytes prices.1 (number_bytes n) gates.1) (sym is) (number_at-spans bytes (from_to 0 1) prices.1 gates small e3) in
     let last = Spans-then bytes prices.1 d gates.1 [] gates.1 fourth (record { stands = refl }) in
     value_has (λ (r : Grid × ℕ). Spans bytes at (grid_bytes r.0) r.1) (made base.0 tick.0 prices.0 gates.0, gates.1) read e
-    (Spans-then bytes at a base.1 (b ++ (c ++ (d ++ []))) gates.1 (number_at-spans bytes (from_to 0 1000000000000) at base small e0)
-    (Spans-then bytes base.1 b tick.1 (c ++ (d ++ [])) gates.1 (number_at-spans bytes (from_to 1 1000000000) base.1 tick small e1)
-    (Spans-then bytes tick.1 c prices.1 (d ++ []) gates.1 (number_at-spans bytes (from_to 1 4096) tick.1 prices small e2) last)))))))
+    (Spans-then bytes at a base.1 (b ++ (c ++ (d ++ []))) gates.1 (number_at-spans bytes (from_to 0 LARGEST_BASE) at base small e0)
+    (Spans-then bytes base.1 b tick.1 (c ++ (d ++ [])) gates.1 (number_at-spans bytes (from_to 1 LARGEST_TICK) base.1 tick small e1)
+    (Spans-then bytes tick.1 c prices.1 (d ++ []) gates.1 (number_at-spans bytes (from_to 1 MOST_PRICES) tick.1 prices small e2) last)))))))
 
 -- bytes that begin with the text
 begins : (begin : Bool) (n after : ℕ) (fault : Fault) → (if begin then Ok n else Err fault) ≡ Ok after → (begin ≡ true) × (n ≡ after)
 begins true n after fault e = (refl, same_value n after e)
 begins false n after fault e = absurd (no_value fault after e)
 
-magic-spans : (bytes : List ℕ) (after : ℕ) → after_magic bytes magic 1 ≡ Ok after → Spans bytes 0 magic after
+magic-spans : (bytes : List ℕ) (after : ℕ) → after_magic bytes magic BAD_MAGIC ≡ Ok after → Spans bytes 0 magic after
 magic-spans bytes after e =
-    let is = begins (starts_with eqb bytes magic) (length magic) after (at_offset 0 1) e in
+    let is = begins (starts_with eqb bytes magic) (length magic) after (at_offset 0 BAD_MAGIC) e in
     subst (λ n. Spans bytes 0 magic n) is.1 (record { stands = (starts_is Decides-eqb bytes magic (starts_with eqb bytes magic) refl).0 is.0 })
 
 -- nothing stands after the end
@@ -257,8 +263,8 @@ no_more : (more : Bool) (fault : Fault) (done : Unit {0}) → (if more then Err 
 no_more true fault done e = absurd (no_value fault done e)
 no_more false fault done e = refl
 
-ended-nothing : (bytes : List ℕ) (at : ℕ) (done : Unit {0}) → ended bytes 4 at ≡ Ok done → drop at bytes ≡ []
-ended-nothing bytes at done e = drop_all at bytes (ltb-false at (length bytes) (no_more (ltb at (length bytes)) (at_offset at 4) done e))
+ended-nothing : (bytes : List ℕ) (at : ℕ) (done : Unit {0}) → ended bytes TRAILING at ≡ Ok done → drop at bytes ≡ []
+ended-nothing bytes at done e = drop_all at bytes (ltb-false at (length bytes) (no_more (ltb at (length bytes)) (at_offset at TRAILING) done e))
 
 -- where the parts of a view stand one after another up to the end, the bytes are those of the view
 parts-bytes : (bytes : List ℕ) (view : Viewed) (a b c d e f g : ℕ) →
@@ -285,14 +291,14 @@ pub view_in-bytes : (bytes : List ℕ) (view : Viewed) → AreBytes bytes → vi
 unfolding view_in
 view_in-bytes bytes view small e =
     let Is : Type 0 = view_bytes view ≡ bytes in
-    through Is (after_magic bytes magic 1) _ view e (λ start e0 e.
+    through Is (after_magic bytes magic BAD_MAGIC) _ view e (λ start e0 e.
     through Is (server_at bytes start) _ view e (λ server e1 e.
     through Is (grid_at bytes server.1) _ view e (λ grid e2 e.
     through Is (counted_at bytes (from_to 0 (most_bidders grid.0.prices)) (seen_at bytes server.0 grid.0.prices) grid.1) _ view e (λ bidders e3 e.
-    through Is (words_at bytes (most_masks grid.0.prices) bidders.1) _ view e (λ masks e4 e.
-    through Is (words_at bytes (most_coefficients grid.0.prices) masks.1) _ view e (λ coefficients e5 e.
-    through Is (counted_at bytes (from_to 0 4096) (round_at bytes) coefficients.1) _ view e (λ rounds e6 e.
-    through Is (ended bytes 4 rounds.1) _ view e (λ done e7 e.
+    through Is (words_at bytes (masks_kept grid.0) bidders.1) _ view e (λ masks e4 e.
+    through Is (words_at bytes (coefficients_kept grid.0) masks.1) _ view e (λ coefficients e5 e.
+    through Is (counted_at bytes (from_to 0 MOST_ROUNDS) (round_at bytes) coefficients.1) _ view e (λ rounds e6 e.
+    through Is (ended bytes TRAILING rounds.1) _ view e (λ done e7 e.
     let made : Viewed = record { server = server.0; grid = grid.0; bidders = bidders.0; masks = masks.0; coefficients = coefficients.0; rounds = rounds.0 } in
     subst (λ (v : Viewed). view_bytes v ≡ bytes) (same_value made view e)
     (parts-bytes bytes made start server.1 grid.1 bidders.1 masks.1 coefficients.1 rounds.1
@@ -300,7 +306,7 @@ view_in-bytes bytes view small e =
     (server_at-spans bytes start server small e1)
     (grid_at-spans bytes server.1 grid small e2)
     (counted_at-spans bytes (from_to 0 (most_bidders grid.0.prices)) (seen_at bytes server.0 grid.0.prices) seen_bytes grid.1 bidders small (λ offset one is. seen_at-spans bytes server.0 grid.0.prices offset one small is) e3)
-    (words_at-spans bytes (most_masks grid.0.prices) bidders.1 masks small e4)
-    (words_at-spans bytes (most_coefficients grid.0.prices) masks.1 coefficients small e5)
-    (counted_at-spans bytes (from_to 0 4096) (round_at bytes) round_bytes coefficients.1 rounds small (λ offset one is. round_at-spans bytes offset one small is) e6)
+    (words_at-spans bytes (masks_kept grid.0) bidders.1 masks small e4)
+    (words_at-spans bytes (coefficients_kept grid.0) masks.1 coefficients small e5)
+    (counted_at-spans bytes (from_to 0 MOST_ROUNDS) (round_at bytes) round_bytes coefficients.1 rounds small (λ offset one is. round_at-spans bytes offset one small is) e6)
     (ended-nothing bytes rounds.1 done e7))))))))))

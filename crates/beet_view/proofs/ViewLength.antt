@@ -4,12 +4,14 @@ use Rattle.std.specs.List.{flat_map}
 use Rattle.std.proofs.lemmas.List.{length-append}
 use Rattle.std.proofs.lemmas.List.Elements.{All-head, All-tail}
 use Rattle.beet_field.specs.declared.point.Point.{Point}
+use Rattle.beet_forms.specs.declared.faults.TheConstants.{LONGEST_FILE}
 use Rattle.beet_words.specs.Fields.{number_bytes}
 use Rattle.beet_bids.specs.Grids.{Grid, IsGrid}
 use Rattle.beet_bids.proofs.GridFacts.{comparisons-le}
 use Rattle.beet_bids.specs.Curves.{Curve}
 use Rattle.beet_view.specs.Views.{Viewed, IsSeenAt, IsView}
-use Rattle.beet_view.specs.Transcripts.{mark_of, most_words, numbers_bytes, counted_bytes, own_bytes, seen_bytes, round_bytes, view_bytes, IsMessage, FitsFile}
+use Rattle.beet_plan.specs.Kept.{words_kept}
+use Rattle.beet_view.specs.Transcripts.{mark_of, numbers_bytes, counted_bytes, own_bytes, seen_bytes, round_bytes, view_bytes, IsMessage, FitsFile}
 
 -- texts that are at most so long, one after another
 texts-short : {A : Type 0} (text : A → List ℕ) (most : ℕ) (xs : List A) → All (λ x. length (text x) ≤ most) xs → length (flat_map text xs) ≤ length xs * most
@@ -26,12 +28,12 @@ numbers-short numbers = omega (arith, texts-short number_bytes 8 numbers (λ k d
 counted-short : (numbers : List ℕ) → length (counted_bytes number_bytes numbers) ≤ 8 + 8 * length numbers
 counted-short numbers = omega (arith, numbers-short numbers, length-append (number_bytes (length numbers)) (numbers_bytes numbers))
 
--- a message has at most 64 numbers
+-- a message has few numbers
 round-short : (round : List ℕ × List ℕ) → IsMessage round.0 × IsMessage round.1 → length (round_bytes round) ≤ 1040
 round-short round are =
     omega (arith, are.0.1, are.1.1, counted-short round.0, counted-short round.1, length-append (counted_bytes number_bytes round.0) (counted_bytes number_bytes round.1))
 
-own-short : (prices : ℕ) (own : Curve × List ℕ) → length own.0.buy ≡ prices → length own.0.sell ≡ prices → length own.1 ≤ most_words prices →
+own-short : (prices : ℕ) (own : Curve × List ℕ) → length own.0.buy ≡ prices → length own.0.sell ≡ prices → length own.1 ≤ words_kept prices →
     length (own_bytes (Some own)) ≤ 72 + 32 * prices
 own-short prices own buys sells few =
     let a = numbers_bytes own.0.buy in
@@ -41,7 +43,7 @@ own-short prices own buys sells few =
 
 -- a bidder whose parts are as many as the prices tell
 seen-short : (server : Point) (grid : Grid) (known : Option Point) (points : List ℕ) (own : Option (Curve × List ℕ)) →
-    IsSeenAt server grid (record { known = known; points = points; own = own }) → IfSome own (λ kept. length kept.1 ≤ most_words grid.prices) →
+    IsSeenAt server grid (record { known = known; points = points; own = own }) → IfSome own (λ kept. length kept.1 ≤ words_kept grid.prices) →
     length (seen_bytes (record { known = known; points = points; own = own })) ≤ 80 + 48 * grid.prices
 seen-short server grid known points None is few =
     omega (arith, is.points, numbers-short points, length-append (number_bytes (mark_of known)) (numbers_bytes points ++ []), length-append (numbers_bytes points) [])
@@ -66,7 +68,7 @@ rounds-short view fits =
     omega (arith, all, fits.rounds)
 
 -- the whole transcript
-pub view_bytes-short : (view : Viewed) → IsGrid view.grid → IsView view → FitsFile view → length (view_bytes view) ≤ 67108864
+pub view_bytes-short : (view : Viewed) → IsGrid view.grid → IsView view → FitsFile view → length (view_bytes view) ≤ LONGEST_FILE
 view_bytes-short view grid is fits =
     let a = counted_bytes seen_bytes view.bidders in
     let b = counted_bytes number_bytes view.masks in

@@ -4,11 +4,14 @@ use Rattle.beet_field.specs.Trio.{member}
 use Rattle.beet_field.specs.declared.point.Point.{Point}
 use Rattle.beet_field.specs.declared.trio.Trio.{Trio}
 use Rattle.beet_gates.specs.Each.{each}
+use Rattle.beet_words.specs.Bundles.{Words}
+use Rattle.beet_bids.specs.Books.{Book}
 use Rattle.beet_bids.specs.Grids.{Grid}
-use Rattle.beet_plan.specs.Auction.{most_rounds}
+use Rattle.beet_plan.specs.Auction.{most_rounds, auction_over}
 use Rattle.beet_server.specs.Events.{same}
 use Rattle.beet_server.specs.Runs.{rounds_among}
-use Rattle.beet_auction.specs.Openings.{Farmer, auction_over, book_opening, point_for}
+use Rattle.beet_auction.specs.Openings.{book_opening}
+use Rattle.beet_book.specs.Farmers.{Farmer, point_for, farmers_of}
 use Rattle.beet_view.specs.declared.view.Seen.{Seen}
 use Rattle.beet_view.specs.RunViews.{view_of_run}
 use Rattle.beet_view.specs.Transcripts.{view_bytes}
@@ -37,3 +40,10 @@ view_of_book grid farmers masks coefficients s =
 -- the transcript of that server
 abbrev pub transcript_of_book : Grid → List Farmer → Trio (List ℕ) → Trio (List ℕ) → Point → List ℕ
 transcript_of_book grid farmers masks coefficients s = view_bytes (view_of_book grid farmers masks coefficients s)
+
+-- what a server sees of the auction of a book with these words of servers and bidders, and its transcript
+abbrev pub view_for : Book → Words → Point → Viewed
+view_for book words s = view_of_book book.grid (farmers_of book.bidders words.bidders) words.masks words.coefficients s
+
+abbrev pub transcript_for : Book → Words → Point → List ℕ
+transcript_for book words s = view_bytes (view_for book words s)

@@ -6,13 +6,22 @@ use Rattle.beet_field.specs.Point.{number_of}
 use Rattle.beet_field.specs.declared.point.Point.{Point}
 use Rattle.beet_field.specs.declared.point.Point.TheVariants.{One, Two, Three}
 use Rattle.beet_forms.specs.Faults.{Reading}
+use Rattle.beet_words.specs.declared.bundle.TheConstants.{BAD_MAGIC, TRUNCATED, BAD_NUMBER, TRAILING}
 use Rattle.beet_words.specs.declared.fields.Allowed.{Allowed}
-use Rattle.beet_words.specs.Words.{IsWord, ones}
+use Rattle.beet_words.specs.Words.{IsWord}
+use Rattle.beet_words.specs.Bundles.{words_at}
 use Rattle.beet_words.specs.Fields.{◌>>=◌, Part, number_bytes, number_at, times, counted_at, after_magic, ended}
+use Rattle.beet_gates.specs.declared.TheConstants.{MOST_NUMBERS}
 use Rattle.beet_gates.specs.declared.Gates.{Gates}
 use Rattle.beet_gates.specs.declared.Gates.TheVariants.{Chain, Tree}
-use Rattle.beet_bids.specs.Grids.{Grid, IsGrid, comparisons_of}
-use Rattle.beet_bids.specs.Curves.{Curve, IsCurve, largest_quantity}
+use Rattle.beet_bids.specs.Grids.{Grid, IsGrid}
+use Rattle.beet_bids.specs.Curves.{Curve, IsCurve}
+use Rattle.beet_bids.specs.declared.book.TheConstants.{MOST_BIDDERS}
+use Rattle.beet_bids.specs.declared.curve.TheConstants.{LARGEST_QUANTITY}
+use Rattle.beet_bids.specs.declared.grid.TheConstants.{LARGEST_BASE, LARGEST_TICK, MOST_PRICES}
+use Rattle.beet_book.specs.declared.book_file.TheConstants.{MOST_PRODUCT}
+use Rattle.beet_plan.specs.Kept.{words_kept, masks_kept, coefficients_kept}
+use Rattle.beet_view.specs.declared.reading.TheConstants.{MOST_ROUNDS}
 use Rattle.beet_view.specs.declared.quantities.Course.{Course}
 use Rattle.beet_view.specs.declared.quantities.Course.TheVariants.{Falling, Rising}
 use Rattle.beet_view.specs.declared.view.Seen.{Seen}
@@ -24,23 +33,11 @@ magic = codes "BEETVW01"
 
 -- a number of a transcript, from the lowest to the highest
 abbrev pub from_to : ℕ → ℕ → Allowed
-from_to lowest highest = record { low = lowest; high = highest; truncated = 2; outside = 3 }
+from_to lowest highest = record { low = lowest; high = highest; truncated = TRUNCATED; outside = BAD_NUMBER }
 
--- the most bidders: 2,000, and 500,000 where each is counted once for each price
+-- the most bidders, also where each is counted once for each price
 abbrev pub most_bidders : ℕ → ℕ
-most_bidders prices = min 2000 (500000 / prices)
-
--- the most words of a known bidder
-abbrev pub most_words : ℕ → ℕ
-most_words prices = 2 * prices + 8
-
--- the most mask words
-abbrev pub most_masks : ℕ → ℕ
-most_masks prices = comparisons_of prices + 2
-
--- the most coefficient words
-abbrev pub most_coefficients : ℕ → ℕ
-most_coefficients prices = 512 * (comparisons_of prices + 2) + 8
+most_bidders prices = min MOST_BIDDERS (MOST_PRODUCT / prices)
 
 -- the server of a number from 1 to 3
 abbrev pub server_of : ℕ → Point
@@ -73,9 +70,9 @@ server_at bytes at = do
 -- a grid within its limits
 unfoldable pub grid_at : List ℕ → Part Grid
 grid_at bytes at = do
-  base ← number_at bytes (from_to 0 1000000000000) at
-  tick ← number_at bytes (from_to 1 1000000000) base.1
-  prices ← number_at bytes (from_to 1 4096) tick.1
+  base ← number_at bytes (from_to 0 LARGEST_BASE) at
+  tick ← number_at bytes (from_to 1 LARGEST_TICK) base.1
+  prices ← number_at bytes (from_to 1 MOST_PRICES) tick.1
   gates ← number_at bytes (from_to 0 1) prices.1
   Ok (record { base = base.0; tick = tick.0; prices = prices.0; gates = gates_of gates.0 }, gates.1)
 
@@ -83,22 +80,14 @@ grid_at bytes at = do
 abbrev pub point_at : List ℕ → Part ℕ
 point_at bytes = number_at bytes (from_to 0 (p - 1))
 
--- a word
-abbrev pub word_at : List ℕ → Part ℕ
-word_at bytes = number_at bytes (from_to 0 ones)
-
--- words after their count, at most so many
-abbrev pub words_at : List ℕ → ℕ → Part (List ℕ)
-words_at bytes most = counted_at bytes (from_to 0 most) (word_at bytes)
-
 -- what a quantity may be after the one before it
 abbrev pub allowed_after : Course → ℕ → Allowed
 allowed_after Falling before = from_to 0 before
-allowed_after Rising before = from_to before largest_quantity
+allowed_after Rising before = from_to before LARGEST_QUANTITY
 
 -- what stands before the first quantity
 abbrev pub start_of : Course → ℕ
-start_of Falling = largest_quantity
+start_of Falling = LARGEST_QUANTITY
 start_of Rising = 0
 
 -- so many quantities, each allowed after the one before it
@@ -114,7 +103,7 @@ unfoldable pub own_at : List ℕ → ℕ → Part (Curve × List ℕ)
 own_at bytes prices at = do
   buy ← quantities_at bytes Falling prices (start_of Falling) at
   sell ← quantities_at bytes Rising prices (start_of Rising) buy.1
-  words ← words_at bytes (most_words prices) sell.1
+  words ← words_at bytes (words_kept prices) sell.1
   Ok ((record { buy = buy.0; sell = sell.0 }, words.0), words.1)
 
 -- the curve and the words, where the mark is the server's number
@@ -130,9 +119,9 @@ seen_at bytes server prices at = do
   own ← own_where_known bytes server prices mark.0 points.1
   Ok (record { known = known_of mark.0; points = points.0; own = own.0 }, own.1)
 
--- a message: one to 64 numbers of the field, after their count
+-- a message: one number of the field or more, after their count
 abbrev pub message_at : List ℕ → Part (List ℕ)
-message_at bytes = counted_at bytes (from_to 1 64) (point_at bytes)
+message_at bytes = counted_at bytes (from_to 1 MOST_NUMBERS) (point_at bytes)
 
 -- the messages of a round, first the lower peer's
 unfoldable pub round_at : List ℕ → Part (List ℕ × List ℕ)
@@ -144,14 +133,14 @@ round_at bytes at = do
 -- what a transcript reads as
 unfoldable pub view_in : List ℕ → Reading Viewed
 view_in bytes = do
-  start ← after_magic bytes magic 1
+  start ← after_magic bytes magic BAD_MAGIC
   server ← server_at bytes start
   grid ← grid_at bytes server.1
   bidders ← counted_at bytes (from_to 0 (most_bidders grid.0.prices)) (seen_at bytes server.0 grid.0.prices) grid.1
-  masks ← words_at bytes (most_masks grid.0.prices) bidders.1
-  coefficients ← words_at bytes (most_coefficients grid.0.prices) masks.1
-  rounds ← counted_at bytes (from_to 0 4096) (round_at bytes) coefficients.1
-  done ← ended bytes 4 rounds.1
+  masks ← words_at bytes (masks_kept grid.0) bidders.1
+  coefficients ← words_at bytes (coefficients_kept grid.0) masks.1
+  rounds ← counted_at bytes (from_to 0 MOST_ROUNDS) (round_at bytes) coefficients.1
+  done ← ended bytes TRAILING rounds.1
   Ok (record {
     server = server.0;
     grid = grid.0;
@@ -196,17 +185,17 @@ view_bytes view =
     ++ (counted_bytes number_bytes view.coefficients
     ++ counted_bytes round_bytes view.rounds)))))
 
--- from 1 to 64 numbers
+-- one number or more, as many as a message may have
 abbrev pub IsMessage : List ℕ → Type 0
-IsMessage numbers = (1 ≤ length numbers) × (length numbers ≤ 64)
+IsMessage numbers = (1 ≤ length numbers) × (length numbers ≤ MOST_NUMBERS)
 
 -- the view may stand in a transcript
 pub record FitsFile (view : Viewed) : Type 0 where
-  pub product : length view.bidders * view.grid.prices ≤ 500000
-  pub words : All (λ seen. IfSome seen.own (λ own. length own.1 ≤ most_words view.grid.prices)) view.bidders
-  pub masks : length view.masks ≤ most_masks view.grid.prices
-  pub coefficients : length view.coefficients ≤ most_coefficients view.grid.prices
-  pub rounds : length view.rounds ≤ 4096
+  pub product : length view.bidders * view.grid.prices ≤ MOST_PRODUCT
+  pub words : All (λ seen. IfSome seen.own (λ own. length own.1 ≤ words_kept view.grid.prices)) view.bidders
+  pub masks : length view.masks ≤ masks_kept view.grid
+  pub coefficients : length view.coefficients ≤ coefficients_kept view.grid
+  pub rounds : length view.rounds ≤ MOST_ROUNDS
   pub messages : All (λ round. IsMessage round.0 × IsMessage round.1) view.rounds
 
 -- the numbers of a bidder are points, quantities and words

@@ -4,6 +4,7 @@ use Rattle.beet_field.specs.declared.point.Point.{Point}
 use Rattle.beet_field.specs.declared.point.Point.TheVariants.{One, Two, Three}
 use Rattle.beet_bids.specs.Grids.{Grid}
 use Rattle.beet_bids.specs.Curves.{IsOfGrid}
+use Rattle.beet_bids.specs.declared.book.TheConstants.{MOST_BIDDERS}
 use Rattle.beet_view.specs.declared.view.Seen.{Seen}
 
 -- the server, its grid, the bidders, its tapes, and in each round the numbers from its lower and from its higher peer
@@ -22,7 +23,7 @@ pub record IsSeenAt (server : Point) (grid : Grid) (seen : Seen) : Type 0 where
 
 -- at most 2,000 bidders, each as a server of the grid sees it, and fewer than 2^32 rounds
 pub record IsView (view : Viewed) : Type 0 where
-  pub few : length view.bidders ≤ 2000
+  pub few : length view.bidders ≤ MOST_BIDDERS
   pub seen : All (λ seen. IsSeenAt view.server view.grid seen) view.bidders
   pub rounds : length view.rounds < 2 ^ 32
 

@@ -8,7 +8,7 @@ mod running;
 mod view;
 mod writing;
 
-pub use reading::read_view;
+pub use reading::{MOST_ROUNDS, read_view};
 pub use running::view_of;
 pub use view::{Seen, View};
 pub use writing::write_view;

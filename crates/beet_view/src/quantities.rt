@@ -4,12 +4,10 @@ ghost use Rattle.std.specs.Prelude.{◌≡◌, ◌≤◌, length, IfOk};
 ghost use Rattle.beet_forms.specs.Faults.{Answers};
 ghost use Rattle.beet_view.specs.Transcripts.{from_to as allowed_from_to, allowed_after, start_of, quantities_at};
 
+use beet_bids::LARGEST_QUANTITY;
 use beet_forms::ReadFault;
-use beet_words::{Allowed, read_number, room};
+use beet_words::{Allowed, BAD_NUMBER, TRUNCATED, read_number, room};
 use std::alloc::Global;
-
-/// The largest quantity.
-const LARGEST_QUANTITY: u64 = 281_474_976_710_655;
 
 /// How the quantities of a curve go on from price to price.
 #[derive(Clone, Copy, PartialEq, Eq, Debug)]
@@ -27,8 +25,8 @@ pub(crate) fn from_to(low: u64, high: u64) -> Allowed
     Allowed {
         low,
         high,
-        truncated: 2,
-        outside: 3,
+        truncated: TRUNCATED,
+        outside: BAD_NUMBER,
     }
 }
 

@@ -2,40 +2,30 @@
 
 ghost use Rattle.std.specs.Prelude.{◌≡◌, ◌≤◌, length, IfOk, IfSome};
 ghost use Rattle.beet_forms.specs.Faults.{Answers};
+ghost use Rattle.beet_forms.specs.declared.faults.TheConstants.{LONGEST_FILE};
 ghost use Rattle.beet_words.specs.Fields.{times, counted_at};
 ghost use Rattle.beet_bids.specs.Grids.{IsGrid};
 ghost use Rattle.beet_view.specs.Transcripts.{from_to as allowed_from_to, gates_of, known_of, server_at, grid_at, most_bidders, own_at, own_where_known, seen_at, round_at, view_in, view_bytes, FitsFile};
 
-use crate::parts::{read_message, read_points, read_words};
+use crate::parts::{read_message, read_points};
 use crate::quantities::{Course, from_to};
 use crate::view::{Received, Seen, View};
-use beet_bids::{Curve, Grid};
+use beet_bids::{Curve, Grid, LARGEST_BASE, LARGEST_TICK, MOST_BIDDERS, MOST_PRICES};
+use beet_book::MOST_PRODUCT;
 use beet_field::Point;
 use beet_forms::ReadFault;
 use beet_gates::Gates;
-use beet_words::{WordList, read_end, read_magic, read_number, room};
+use beet_plan::{MASK_COEFFICIENTS, SPARE_WORDS};
+use beet_words::{
+    BAD_MAGIC, TRAILING, WordList, read_end, read_list, read_magic, read_many, read_number,
+};
 use std::alloc::Global;
 
 /// The text that a transcript begins with.
 pub(crate) const MAGIC: &[u8] = b"BEETVW01";
 
-/// The largest base price.
-const LARGEST_BASE: u64 = 1_000_000_000_000;
-
-/// The largest step from one price to the next.
-const LARGEST_TICK: u64 = 1_000_000_000;
-
-/// The largest number of prices.
-const MOST_PRICES: u64 = 4_096;
-
-/// The largest number of bidders.
-const MOST_BIDDERS: u64 = 2_000;
-
-/// The largest number of bidders, each counted once for each price.
-const MOST_PRODUCT: u64 = 500_000;
-
-/// The largest number of rounds.
-const MOST_ROUNDS: u64 = 4_096;
+/// The largest number of rounds of a transcript.
+pub const MOST_ROUNDS: u64 = 4_096;
 
 /// A server.
 #[tactic(auto, unfolding(crate::specs::Transcripts::server_at))]
@@ -74,7 +64,7 @@ fn read_grid(bytes: &[u8], at: usize) -> Result<(Grid, usize), ReadFault>
 {
     let (base, at) = read_number(bytes, from_to(0, LARGEST_BASE), at)?;
     let (tick, at) = read_number(bytes, from_to(1, LARGEST_TICK), at)?;
-    let (prices, at) = read_number(bytes, from_to(1, MOST_PRICES), at)?;
+    let (prices, at) = read_number(bytes, from_to(1, MOST_PRICES as u64), at)?;
     let (gates, at) = read_number(bytes, from_to(0, 1), at)?;
     let Some(grid) = Grid::new(base, tick, prices as u32, gates_of(gates)) else {
         unreachable!()
@@ -100,7 +90,7 @@ fn read_own(
     let Some(curve) = Curve::of(grid, buy, sell) else {
         unreachable!()
     };
-    let (words, at) = read_words(alloc, bytes, 2 * prices + 8, at)?;
+    let (words, at) = read_list(alloc, bytes, 2 * prices + SPARE_WORDS as u64, at)?;
     Ok(((curve, words), at))
 }
 
@@ -172,18 +162,13 @@ fn read_so_many_bidders(
         (times count (seen_at bytes.now server grid.now.prices) at) result }
     ensures within { IfOk result (λ read. read.1 ≤ length bytes.now) }
 {
-    let Ok(mut bidders) = Vec::with_capacity(alloc, room(bytes, at, count)) else {
-        return Err(ReadFault::OutOfMemory);
-    };
-    let mut next = at;
-    for _k in 0..count {
-        let (seen, after) = read_seen(alloc, bytes, server, grid, next)?;
-        let Ok(()) = bidders.push(seen) else {
-            return Err(ReadFault::OutOfMemory);
-        };
-        next = after;
-    }
-    Ok((bidders, next))
+    read_many(
+        alloc,
+        bytes,
+        count,
+        at,
+        |from| read_seen(alloc, bytes, server, grid, from),
+    )
 }
 
 /// The most bidders of a grid.
@@ -191,10 +176,10 @@ fn most_bidders(grid: &Grid) -> u64
     ensures { result ≡ most_bidders grid.now.prices }
 {
     let most = MOST_PRODUCT / grid.prices() as u64;
-    if most < MOST_BIDDERS {
+    if most < MOST_BIDDERS as u64 {
         most
     } else {
-        MOST_BIDDERS
+        MOST_BIDDERS as u64
     }
 }
 
@@ -240,18 +225,7 @@ fn read_so_many_rounds(
     ensures rounds { Answers (λ read. (read.0.items, read.1)) (times count (round_at bytes.now) at) result }
     ensures within { IfOk result (λ read. read.1 ≤ length bytes.now) }
 {
-    let Ok(mut rounds) = Vec::with_capacity(alloc, room(bytes, at, count)) else {
-        return Err(ReadFault::OutOfMemory);
-    };
-    let mut next = at;
-    for _k in 0..count {
-        let (round, after) = read_round(bytes, next)?;
-        let Ok(()) = rounds.push(round) else {
-            return Err(ReadFault::OutOfMemory);
-        };
-        next = after;
-    }
-    Ok((rounds, next))
+    read_many(alloc, bytes, count, at, |from| read_round(bytes, from))
 }
 
 /// What came in all rounds, after their count.
@@ -259,7 +233,7 @@ fn read_so_many_rounds(
 fn read_rounds(alloc: Global, bytes: &[u8], at: usize) -> Result<(Vec<Received>, usize), ReadFault>
     requires { at ≤ length bytes.now }
     ensures rounds { Answers (λ read. (read.0.items, read.1))
-        (counted_at bytes.now (allowed_from_to 0 4096) (round_at bytes.now) at) result }
+        (counted_at bytes.now (allowed_from_to 0 MOST_ROUNDS) (round_at bytes.now) at) result }
     ensures within { IfOk result (λ read. read.1 ≤ length bytes.now) }
 {
     let (count, at) = read_number(bytes, from_to(0, MOST_ROUNDS), at)?;
@@ -272,15 +246,16 @@ fn read_parts(alloc: Global, bytes: &[u8]) -> Result<View, ReadFault>
     ensures view { Answers (λ view. view) (view_in bytes.now) result }
     ensures fits { IfOk result (λ view. FitsFile view) }
 {
-    let at = read_magic(bytes, MAGIC, 1)?;
+    let at = read_magic(bytes, MAGIC, BAD_MAGIC)?;
     let (server, at) = read_server(bytes, at)?;
     let (grid, at) = read_grid(bytes, at)?;
     let (bidders, at) = read_bidders(alloc, bytes, server, &grid, at)?;
     let most_masks = grid.comparisons() as u64 + 2;
-    let (masks, at) = read_words(alloc, bytes, most_masks, at)?;
-    let (coefficients, at) = read_words(alloc, bytes, 512 * most_masks + 8, at)?;
+    let (masks, at) = read_list(alloc, bytes, most_masks, at)?;
+    let most_coefficients = MASK_COEFFICIENTS as u64 * most_masks + SPARE_WORDS as u64;
+    let (coefficients, at) = read_list(alloc, bytes, most_coefficients, at)?;
     let (rounds, at) = read_rounds(alloc, bytes, at)?;
-    read_end(bytes, 4, at)?;
+    read_end(bytes, TRAILING, at)?;
     Ok(View {
         server,
         grid,
@@ -311,7 +286,7 @@ fn read_parts(alloc: Global, bytes: &[u8]) -> Result<View, ReadFault>
 ///
 /// The file is gone over once, and memory is taken for no more items than it can hold.
 pub fn read_view(alloc: Global, bytes: &[u8]) -> Result<View, ReadFault>
-    requires { length bytes.now ≤ 67108864 }
+    requires { length bytes.now ≤ LONGEST_FILE }
     ensures view { Answers (λ view. view) (view_in bytes.now) result }
     ensures fits { IfOk result (λ view. FitsFile view) }
     ensures bytes { IfOk result (λ view. view_bytes view ≡ bytes.now) }

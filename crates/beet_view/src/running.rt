@@ -1,6 +1,8 @@
 //! The view of a server that has run a script.
 
 ghost use Rattle.std.specs.Prelude.{◌≡◌, ◌<◌, ◌≤◌, ◌^◌, true, length, All, IfOk};
+ghost use Rattle.beet_bids.specs.declared.book.TheConstants.{MOST_BIDDERS};
+ghost use Rattle.beet_gates.specs.declared.TheConstants.{MOST_NUMBERS};
 ghost use Rattle.beet_server.specs.Runs.{Opening, HasRounds};
 ghost use Rattle.beet_server.specs.Events.{Delivered};
 ghost use Rattle.beet_server.specs.Cores.{has_ended};
@@ -12,15 +14,15 @@ use crate::view::{Received, Seen, View};
 use arrayvec::ArrayVec;
 use beet_bids::Grid;
 use beet_field::Fe;
-use beet_gates::Script;
+use beet_gates::{MOST_NUMBERS, Script};
 use beet_round::Side;
 use beet_server::ServerCore;
 use beet_words::{Word, WordList};
 use std::alloc::{AllocError, Global};
 
 /// A copy of the numbers of a message.
-fn copy_of(numbers: &[Fe]) -> ArrayVec<Fe, 64>
-    requires { length numbers.now ≤ 64 }
+fn copy_of(numbers: &[Fe]) -> ArrayVec<Fe, MOST_NUMBERS>
+    requires { length numbers.now ≤ MOST_NUMBERS }
     ensures { result.items ≡ numbers.now }
 {
     let Ok(copy) = ArrayVec::try_from(numbers) else {
@@ -30,7 +32,7 @@ fn copy_of(numbers: &[Fe]) -> ArrayVec<Fe, 64>
 }
 
 /// A copy of the numbers from a peer in a passed round.
-fn numbers_of<S: Script>(core: &ServerCore<S>, side: Side, round: u32) -> ArrayVec<Fe, 64>
+fn numbers_of<S: Script>(core: &ServerCore<S>, side: Side, round: u32) -> ArrayVec<Fe, MOST_NUMBERS>
     requires { round < core.now.round }
     ensures { result.items ≡ numbers_received core.now side round }
 {
@@ -68,7 +70,11 @@ fn rounds_of<S: Script>(alloc: Global, core: &ServerCore<S>) -> Result<Vec<Recei
 fn words_of(alloc: Global, words: &[Word]) -> Result<WordList, AllocError>
     ensures { IfOk result (λ copy. copy ≡ words.now) }
 {
-    Ok(WordList::of(Vec::from_slice(alloc, words)?))
+    let mut copy = WordList::with_capacity(alloc, words.len())?;
+    for word in words {
+        copy.push(*word)?;
+    }
+    Ok(copy)
 }
 
 /// The view of a server that has ended, with these bidders in their order, as it sees them. The view has the words and
@@ -80,7 +86,7 @@ pub fn view_of<S: Script>(
     bidders: Vec<Seen>,
 ) -> Result<View, AllocError>
     requires ended { has_ended S.batch_of core.now ≡ true }
-    requires few { length bidders.items ≤ 2000 }
+    requires few { length bidders.items ≤ MOST_BIDDERS }
     requires seen { All (IsSeenAt core.now.me grid.now) bidders.items }
     ensures core { IfOk result (λ view. view ≡ view_of_core core.now grid.now bidders.items) }
     ensures run { (o : Opening) (x : Delivered) → Fits S.batch_of o x core.now

@@ -6,6 +6,7 @@ ghost use Rattle.beet_view.specs.Views.{IsView, from_peer, numbers_of};
 use arrayvec::ArrayVec;
 use beet_bids::{Curve, Grid};
 use beet_field::{Fe, Point};
+use beet_gates::MOST_NUMBERS;
 use beet_words::{FeList, Word, WordList};
 use std::marker::Model;
 
@@ -22,8 +23,8 @@ pub struct Seen {
 /// What came in a round: the numbers from the lower and from the higher peer.
 #[derive(Drop)]
 pub(crate) struct Received {
-    pub(crate) lower: ArrayVec<Fe, 64>,
-    pub(crate) higher: ArrayVec<Fe, 64>,
+    pub(crate) lower: ArrayVec<Fe, MOST_NUMBERS>,
+    pub(crate) higher: ArrayVec<Fe, MOST_NUMBERS>,
 }
 
 impl Model for Received {

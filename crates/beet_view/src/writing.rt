@@ -3,7 +3,7 @@
 ghost use Rattle.std.specs.Prelude.{◌≡◌, ◌≤◌, ◌++◌, Ok, IfOk, IfSome, OnOk, All, length};
 ghost use Rattle.std.specs.List.{flat_map};
 ghost use Rattle.beet_field.specs.Field.{IsElement};
-ghost use Rattle.beet_words.specs.Words.{IsWord};
+ghost use Rattle.beet_forms.specs.declared.faults.TheConstants.{LONGEST_FILE};
 ghost use Rattle.beet_words.specs.Fields.{number_bytes};
 ghost use Rattle.beet_bids.specs.Grids.{IsGrid};
 ghost use Rattle.beet_bids.specs.Curves.{IsCurve, IsOfGrid};
@@ -15,7 +15,7 @@ use crate::view::{Received, Seen, View};
 use beet_bids::{Curve, Grid};
 use beet_field::{Fe, Point};
 use beet_gates::Gates;
-use beet_words::{Word, push_number};
+use beet_words::{push_list, push_number};
 use std::alloc::{AllocError, Global};
 
 /// Appends numbers.
@@ -37,26 +37,6 @@ fn push_points(file: &mut Vec<u8>, points: &[Fe]) -> Result<(), AllocError>
         push_number(file, point.value())?;
     }
     Ok(())
-}
-
-/// Appends words.
-fn push_words(file: &mut Vec<u8>, words: &[Word]) -> Result<(), AllocError>
-    ensures bytes { OnOk result (file.new.items ≡ file.old.items ++ numbers_bytes words.now) }
-    ensures words { OnOk result (All IsWord words.now) }
-{
-    for word in words {
-        push_number(file, word.value())?;
-    }
-    Ok(())
-}
-
-/// Appends words after their count.
-fn push_tape(file: &mut Vec<u8>, words: &[Word]) -> Result<(), AllocError>
-    ensures bytes { OnOk result (file.new.items ≡ file.old.items ++ counted_bytes number_bytes words.now) }
-    ensures words { OnOk result (All IsWord words.now) }
-{
-    push_number(file, words.len() as u64)?;
-    push_words(file, words)
 }
 
 /// The mark that names a server, or 0 for none.
@@ -130,7 +110,7 @@ fn push_seen(file: &mut Vec<u8>, grid: &Grid, seen: &Seen) -> Result<(), AllocEr
     if let Some((curve, words)) = &seen.own {
         push_bought(file, curve, grid.prices())?;
         push_sold(file, curve, grid.prices())?;
-        push_tape(file, words.as_slice())?;
+        push_list(file, words)?;
     }
     Ok(())
 }
@@ -228,8 +208,8 @@ fn bytes_of(alloc: Global, view: &View) -> Result<Vec<u8>, AllocError>
     push_grid(&mut file, view.grid())?;
     push_number(&mut file, view.bidders().len() as u64)?;
     push_bidders(&mut file, view.grid(), view.bidders())?;
-    push_tape(&mut file, view.masks())?;
-    push_tape(&mut file, view.coefficients())?;
+    push_list(&mut file, &view.masks)?;
+    push_list(&mut file, &view.coefficients)?;
     push_number(&mut file, view.rounds() as u64)?;
     push_rounds(&mut file, view.received())?;
     Ok(file)
@@ -242,7 +222,7 @@ fn bytes_of(alloc: Global, view: &View) -> Result<Vec<u8>, AllocError>
 pub fn write_view(alloc: Global, view: &View) -> Result<Vec<u8>, AllocError>
     ensures bytes { IfOk result (λ file. file.items ≡ view_bytes view.now) }
     ensures again { FitsFile view.now → IfOk result (λ file. view_in file.items ≡ Ok view.now) }
-    ensures short { FitsFile view.now → IfOk result (λ file. length file.items ≤ 67108864) }
+    ensures short { FitsFile view.now → IfOk result (λ file. length file.items ≤ LONGEST_FILE) }
 {
     let file = bytes_of(alloc, view)?;
     Ok(file)

@@ -3,6 +3,7 @@ use Rattle.std.proofs.Common.{◌≡◌, ℕ, ◌+◌, List, [], ◌++◌, lengt
 use Rattle.std.specs.List.{flat_map}
 use Rattle.std.proofs.lemmas.Bool.{le-ltb}
 use Rattle.std.proofs.lemmas.List.{append-nil, length-append}
+use Rattle.beet_words.specs.declared.bundle.TheConstants.{MOST_WORDS, MOST_BIDDERS, BAD_MAGIC, TRAILING}
 use Rattle.beet_words.specs.Words.{IsWord, ones}
 use Rattle.beet_words.specs.Fields.{number_bytes, number_at, times, counted_at, after_magic, ended}
 use Rattle.beet_words.specs.Bundles.{Words, magic, up_to, word_at, list_at, server_at, bundle_of, list_bytes, server_bytes, bundle_bytes, IsShort, AreWords, FitsBundle}
@@ -16,7 +17,7 @@ list_at-list : (bytes words : List ℕ) (at : ℕ) →
     list_at bytes at ≡ Ok (words, at + length (list_bytes words))
 unfolding counted_at
 list_at-list bytes words at short below s =
-    let count = number_at-number bytes (up_to 16384) at (length words) (omega arith) short (omega arith) (StandsAt-left bytes at (number_bytes (length words)) (flat_map number_bytes words) s) in
+    let count = number_at-number bytes (up_to MOST_WORDS) at (length words) (omega arith) short (omega arith) (StandsAt-left bytes at (number_bytes (length words)) (flat_map number_bytes words) s) in
     let each : (word offset : ℕ) → IsWord word → StandsAt bytes offset (number_bytes word) → word_at bytes offset ≡ Ok (word, offset + length (number_bytes word)) =
     λ word offset small stands. number_at-number bytes (up_to ones) offset word (omega arith) (omega arith) (omega arith) stands in
     let items = times-parts bytes (word_at bytes) number_bytes IsWord words (at + 8) each below (StandsAt-right bytes at (number_bytes (length words)) (flat_map number_bytes words) s) in
@@ -60,13 +61,13 @@ lists_at-lists bytes lists at short below s =
 
 -- a bundle whose parts are read one after another up to its end
 bundle_of-parts : (file : List ℕ) (words : Words) (one two three lists : ℕ) →
-    after_magic file magic 1 ≡ Ok 8 →
-    number_at file (up_to 2000) 8 ≡ Ok (length words.bidders, 16) →
+    after_magic file magic BAD_MAGIC ≡ Ok 8 →
+    number_at file (up_to MOST_BIDDERS) 8 ≡ Ok (length words.bidders, 16) →
     server_at file 16 ≡ Ok ((words.masks.one, words.coefficients.one), one) →
     server_at file one ≡ Ok ((words.masks.two, words.coefficients.two), two) →
     server_at file two ≡ Ok ((words.masks.three, words.coefficients.three), three) →
     times (length words.bidders) (list_at file) three ≡ Ok (words.bidders, lists) →
-    ended file 4 lists ≡ Ok tt →
+    ended file TRAILING lists ≡ Ok tt →
     bundle_of file ≡ Ok words
 unfolding bundle_of
 bundle_of-parts file words one two three lists a b c d e f g = rw (a, b, c, d, e, f, g) refl
@@ -92,7 +93,7 @@ bundle_of-bundle words fits are =
     let at_two = StandsAt-right file 16 server_one after_two at_one in
     let at_three = StandsAt-right file place_two server_two after_three at_two in
     let at_lists = StandsAt-right file place_three server_three lists at_three in
-    let read_count = number_at-number file (up_to 2000) 8 (length words.bidders) (omega arith) fits.count (omega arith) (StandsAt-left file 8 count after_one at_count) in
+    let read_count = number_at-number file (up_to MOST_BIDDERS) 8 (length words.bidders) (omega arith) fits.count (omega arith) (StandsAt-left file 8 count after_one at_count) in
     let read_one =
     server_at-server file words.masks.one words.coefficients.one 16 fits.masks.0 fits.coefficients.0 are.masks.0 are.coefficients.0 (StandsAt-left file 16 server_one after_two at_one) in
     let read_two =
@@ -102,5 +103,5 @@ bundle_of-bundle words fits are =
     let read_lists = lists_at-lists file words.bidders place_lists fits.bidders are.bidders at_lists in
     let all : length file ≡ place_lists + length lists =
     omega (arith, length-append server_one after_two, length-append server_two after_three, length-append server_three lists) in
-    let end : ended file 4 (place_lists + length lists) ≡ Ok tt = rw (le-ltb (place_lists + length lists) (length file) (omega arith)) refl in
+    let end : ended file TRAILING (place_lists + length lists) ≡ Ok tt = rw (le-ltb (place_lists + length lists) (length file) (omega arith)) refl in
     bundle_of-parts file words place_two place_three place_lists (place_lists + length lists) refl read_count read_one read_two read_three read_lists end

@@ -4,3 +4,4 @@ pub mod Times
 pub mod FieldsAgain
 pub mod BundleAgain
 mod Drawing
+pub mod DrawnFrom

@@ -1,5 +1,5 @@
 -- Reading parts one after another, as a loop does.
-use Rattle.std.proofs.Common.{◌≡◌, ℕ, suc, ◌+◌, ◌-◌, ◌<◌, ◌≤◌, List, [], ◌∷◌, ◌++◌, Ok, Err, refl, sym, ap, ◌∙◌, append_assoc, arith}
+use Rattle.std.proofs.Common.{◌≡◌, ℕ, zero, suc, ◌+◌, ◌-◌, ◌<◌, ◌≤◌, List, [], ◌∷◌, ◌++◌, length, Ok, Err, IfOk, refl, sym, ap, ◌∙◌, append_assoc, arith}
 use Rattle.std.proofs.lemmas.List.{append-nil}
 use Rattle.beet_forms.specs.declared.faults.ReadFault.{ReadFault}
 use Rattle.beet_forms.specs.declared.faults.ReadFault.TheVariants.{Bad, OutOfMemory}
@@ -51,3 +51,24 @@ onto-end part front count i at whole le so_far =
     let none : count - i ≡ 0 = omega arith in
     let one : onto front (times (count - i) part at) ≡ Ok (front, at) = rw none (ap (λ values. Ok (values, at)) (append-nil front)) in
     sym so_far ∙ one
+
+-- as many values as parts are read
+pub length-times : {A : Type 0} (part : Part A) (count at : ℕ) → IfOk (times count part at) (λ read. length read.0 ≡ count)
+unfolding times
+length-times part zero at = refl
+length-times {A} part (suc n) at = first (part at) (length-times part n) where
+  others : (value : A) (reading : Reading (List A × ℕ)) → IfOk reading (λ read. length read.0 ≡ n) →
+      IfOk {T = List A × ℕ} (reading >>= λ read. Ok (value ∷ read.0, read.1)) (λ read. length read.0 ≡ suc n)
+  others value (Ok read) e = ap suc e
+  others value (Err fault) e = tt
+
+  first : (reading : Reading (A × ℕ)) → ((from : ℕ) → IfOk (times n part from) (λ read. length read.0 ≡ n)) →
+      IfOk {T = List A × ℕ} (reading >>= λ one. times n part one.1 >>= λ read. Ok (one.0 ∷ read.0, read.1)) (λ read. length read.0 ≡ suc n)
+  first (Ok one) e = others one.0 (times n part one.1) (e one.1)
+  first (Err fault) e = tt
+
+-- a fault is told of what a file reads as, however its value is shown
+pub same-fault : {A T U : Type 0} (reading : Reading A) (seen : T → A) (view : U → A) (fault : ReadFault) →
+    Answers seen reading (Err fault) → Answers view reading (Err fault)
+same-fault reading seen view (Bad place reason) is = is
+same-fault reading seen view OutOfMemory is = tt

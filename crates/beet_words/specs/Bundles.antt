@@ -3,6 +3,7 @@ use Rattle.std.specs.Prelude.{ℕ, ◌≤◌, ◌++◌, List, length, codes, Ok,
 use Rattle.std.specs.List.{flat_map}
 use Rattle.beet_field.specs.declared.trio.Trio.{Trio}
 use Rattle.beet_forms.specs.Faults.{Reading}
+use Rattle.beet_words.specs.declared.bundle.TheConstants.{MOST_WORDS, MOST_BIDDERS, BAD_MAGIC, TRUNCATED, BAD_NUMBER, TRAILING}
 use Rattle.beet_words.specs.declared.fields.Allowed.{Allowed}
 use Rattle.beet_words.specs.Words.{IsWord, ones}
 use Rattle.beet_words.specs.Fields.{◌>>=◌, Part, number_bytes, number_at, times, counted_at, after_magic, ended}
@@ -19,15 +20,19 @@ magic = codes "BEETWD01"
 
 -- a number of a bundle, from 0 to the highest
 abbrev pub up_to : ℕ → Allowed
-up_to highest = record { low = 0; high = highest; truncated = 2; outside = 3 }
+up_to highest = record { low = 0; high = highest; truncated = TRUNCATED; outside = BAD_NUMBER }
 
 -- a word, below 2^61
 abbrev pub word_at : List ℕ → Part ℕ
 word_at bytes = number_at bytes (up_to ones)
 
--- a count of at most 16,384, and so many words
+-- a count, at most so many, and as many words
+abbrev pub words_at : List ℕ → ℕ → Part (List ℕ)
+words_at bytes most = counted_at bytes (up_to most) (word_at bytes)
+
+-- a list of words of a bundle
 abbrev pub list_at : List ℕ → Part (List ℕ)
-list_at bytes = counted_at bytes (up_to 16384) (word_at bytes)
+list_at bytes = words_at bytes MOST_WORDS
 
 -- the masks of a server, and then its coefficients
 unfoldable pub server_at : List ℕ → Part (List ℕ × List ℕ)
@@ -39,13 +44,13 @@ server_at bytes at = do
 -- what a bundle reads as: the number of bidders, the three servers, the bidders
 unfoldable pub bundle_of : List ℕ → Reading Words
 bundle_of bytes = do
-  start ← after_magic bytes magic 1
-  count ← number_at bytes (up_to 2000) start
+  start ← after_magic bytes magic BAD_MAGIC
+  count ← number_at bytes (up_to MOST_BIDDERS) start
   one ← server_at bytes count.1
   two ← server_at bytes one.1
   three ← server_at bytes two.1
   bidders ← times count.0 (list_at bytes) three.1
-  done ← ended bytes 4 bidders.1
+  done ← ended bytes TRAILING bidders.1
   Ok (record {
     masks = record { one = one.0.0; two = two.0.0; three = three.0.0 };
     coefficients = record { one = one.0.1; two = two.0.1; three = three.0.1 };
@@ -77,11 +82,11 @@ pub record AreWords (words : Words) : Type 0 where
 
 -- the list may stand in a bundle
 abbrev pub IsShort : List ℕ → Type 0
-IsShort words = length words ≤ 16384
+IsShort words = length words ≤ MOST_WORDS
 
 -- the words may stand in a bundle
 pub record FitsBundle (words : Words) : Type 0 where
-  pub count : length words.bidders ≤ 2000
+  pub count : length words.bidders ≤ MOST_BIDDERS
   pub masks : IsShort words.masks.one × IsShort words.masks.two × IsShort words.masks.three
   pub coefficients : IsShort words.coefficients.one × IsShort words.coefficients.two × IsShort words.coefficients.three
   pub bidders : All IsShort words.bidders

@@ -4,6 +4,7 @@ use Rattle.std.specs.List.{range_with_len, flat_map}
 use Rattle.std.specs.Int.{w64, from_be_bytes, to_be_bytes}
 use Rattle.hex.specs.Hex.{decode_of, encode_lower}
 use Rattle.beet_forms.specs.Faults.{Fault, Reading, reading_of, at_row}
+use Rattle.beet_words.specs.declared.tape_file.TheConstants.{BAD_LINE, TOO_LARGE}
 use Rattle.beet_words.specs.Seeds.{bytes_in}
 
 -- the k-th line, from 0; the last may be shorter
@@ -25,10 +26,10 @@ number_in line = if (length line == 17) && (slice_index line 16 == 10) then digi
 abbrev pub word_in : List ℕ → ℕ
 word_in line = unwrap_or (number_in line) 0
 
--- the reason against the number of a line, if there is one: 1 for no number, 2 for one that is no word
+-- the reason against the number of a line, if there is one
 abbrev pub reason_of_number : Option ℕ → Option ℕ
-reason_of_number None = Some 1
-reason_of_number (Some n) = if nat_lt n (2 ^ 61) then None else Some 2
+reason_of_number None = Some BAD_LINE
+reason_of_number (Some n) = if nat_lt n (2 ^ 61) then None else Some TOO_LARGE
 
 -- the reason against a line
 abbrev pub reason_against : List ℕ → Option ℕ

@@ -5,9 +5,10 @@ ghost use Rattle.std.specs.List.{flat_map};
 ghost use Rattle.beet_forms.specs.Faults.{Answers};
 ghost use Rattle.beet_words.specs.Words.{IsWord};
 ghost use Rattle.beet_words.specs.Fields.{times, number_bytes};
-ghost use Rattle.beet_words.specs.Bundles.{up_to as allowed_up_to, word_at, list_at, server_at, bundle_of, list_bytes, server_bytes, bundle_bytes, AreWords, FitsBundle};
+ghost use Rattle.beet_words.specs.Bundles.{up_to as allowed_up_to, word_at, words_at, list_at, server_at, bundle_of, list_bytes, server_bytes, bundle_bytes, AreWords, FitsBundle};
 
 use crate::fields::{Allowed, push_number, read_end, read_magic, read_number, room};
+use crate::many::read_many;
 use crate::word::{Word, WordList};
 use beet_field::{P, Trio};
 use beet_forms::ReadFault;
@@ -33,11 +34,29 @@ impl Model for Words {
 /// The text that a bundle begins with.
 const MAGIC: &[u8] = b"BEETWD01";
 
-/// How many words a list may have.
-const WORDS: u64 = 16_384;
+/// The most bytes of a bundle.
+pub const BUNDLE_LIMIT: u64 = 67_108_864;
 
-/// How many bidders a bundle may have.
-const BIDDERS: u64 = 2_000;
+/// The most words of a list.
+pub const MOST_WORDS: u64 = 16_384;
+
+/// The most bidders of a bundle.
+const MOST_BIDDERS: u64 = 2_000;
+
+/// The reason against a file that does not begin with its text.
+pub const BAD_MAGIC: u32 = 1;
+
+/// The reason against a field that is cut off.
+pub const TRUNCATED: u32 = 2;
+
+/// The reason against a field whose number is not allowed.
+pub const BAD_NUMBER: u32 = 3;
+
+/// The reason against bytes after the last field.
+pub const TRAILING: u32 = 4;
+
+/// The reason against a bundle of another number of bidders than the book has.
+pub const WRONG_COUNT: u32 = 5;
 
 /// The numbers of a bundle up to the highest.
 fn up_to(high: u64) -> Allowed
@@ -46,8 +65,8 @@ fn up_to(high: u64) -> Allowed
     Allowed {
         low: 0,
         high,
-        truncated: 2,
-        outside: 3,
+        truncated: TRUNCATED,
+        outside: BAD_NUMBER,
     }
 }
 
@@ -75,28 +94,29 @@ fn read_words(
     ensures words { Answers (λ read. read) (times count (word_at bytes.now) at) result }
     ensures within { IfOk result (λ read. read.1 ≤ length bytes.now) }
 {
-    let Ok(mut words) = Vec::with_capacity(alloc, room(bytes, at, count)) else {
-        return Err(ReadFault::OutOfMemory);
-    };
+    let mut words = WordList::with_capacity(alloc, room(bytes, at, count))?;
     let mut next = at;
     for _k in 0..count {
         let (word, after) = read_word(bytes, next)?;
-        let Ok(()) = words.push(word) else {
-            return Err(ReadFault::OutOfMemory);
-        };
+        words.push(word)?;
         next = after;
     }
-    Ok((WordList::of(words), next))
+    Ok((words, next))
 }
 
-/// A count and so many words.
+/// A count, at most `most`, and so many words.
 #[tactic(auto, unfolding(crate::specs::Fields::counted_at))]
-fn read_list(alloc: Global, bytes: &[u8], at: usize) -> Result<(WordList, usize), ReadFault>
+pub fn read_list(
+    alloc: Global,
+    bytes: &[u8],
+    most: u64,
+    at: usize,
+) -> Result<(WordList, usize), ReadFault>
     requires { at ≤ length bytes.now }
-    ensures list { Answers (λ read. read) (list_at bytes.now at) result }
+    ensures list { Answers (λ read. read) (words_at bytes.now most at) result }
     ensures within { IfOk result (λ read. read.1 ≤ length bytes.now) }
 {
-    let (count, at) = read_number(bytes, up_to(WORDS), at)?;
+    let (count, at) = read_number(bytes, up_to(most), at)?;
     read_words(alloc, bytes, count, at)
 }
 
@@ -111,18 +131,13 @@ fn read_lists(
     ensures lists { Answers (λ read. (read.0.items, read.1)) (times count (list_at bytes.now) at) result }
     ensures within { IfOk result (λ read. read.1 ≤ length bytes.now) }
 {
-    let Ok(mut lists) = Vec::with_capacity(alloc, room(bytes, at, count)) else {
-        return Err(ReadFault::OutOfMemory);
-    };
-    let mut next = at;
-    for _k in 0..count {
-        let (list, after) = read_list(alloc, bytes, next)?;
-        let Ok(()) = lists.push(list) else {
-            return Err(ReadFault::OutOfMemory);
-        };
-        next = after;
-    }
-    Ok((lists, next))
+    read_many(
+        alloc,
+        bytes,
+        count,
+        at,
+        |from| read_list(alloc, bytes, MOST_WORDS, from),
+    )
 }
 
 /// The masks and the coefficients of a server.
@@ -136,8 +151,8 @@ fn read_server(
     ensures lists { Answers (λ read. read) (server_at bytes.now at) result }
     ensures within { IfOk result (λ read. read.1 ≤ length bytes.now) }
 {
-    let (masks, at) = read_list(alloc, bytes, at)?;
-    let (coefficients, at) = read_list(alloc, bytes, at)?;
+    let (masks, at) = read_list(alloc, bytes, MOST_WORDS, at)?;
+    let (coefficients, at) = read_list(alloc, bytes, MOST_WORDS, at)?;
     Ok(((masks, coefficients), at))
 }
 
@@ -150,16 +165,16 @@ fn read_server(
 /// memory is taken for no more items than it can hold.
 #[tactic(auto, unfolding(crate::specs::Bundles::bundle_of))]
 pub fn read_bundle(alloc: Global, bytes: &[u8]) -> Result<Words, ReadFault>
-    requires { length bytes.now ≤ 67108864 }
+    requires { length bytes.now ≤ BUNDLE_LIMIT }
     ensures { Answers (λ words. words) (bundle_of bytes.now) result }
 {
-    let at = read_magic(bytes, MAGIC, 1)?;
-    let (count, at) = read_number(bytes, up_to(BIDDERS), at)?;
+    let at = read_magic(bytes, MAGIC, BAD_MAGIC)?;
+    let (count, at) = read_number(bytes, up_to(MOST_BIDDERS), at)?;
     let (one, at) = read_server(alloc, bytes, at)?;
     let (two, at) = read_server(alloc, bytes, at)?;
     let (three, at) = read_server(alloc, bytes, at)?;
     let (bidders, at) = read_lists(alloc, bytes, count, at)?;
-    read_end(bytes, 4, at)?;
+    read_end(bytes, TRAILING, at)?;
     Ok(Words {
         masks: Trio {
             one: one.0,
@@ -177,8 +192,7 @@ pub fn read_bundle(alloc: Global, bytes: &[u8]) -> Result<Words, ReadFault>
 
 /// Appends words.
 fn push_words(file: &mut Vec<u8>, words: &[Word]) -> Result<(), AllocError>
-    ensures bytes { OnOk result (file.new.items ≡ file.old.items ++ flat_map number_bytes words.now) }
-    ensures words { OnOk result (All IsWord words.now) }
+    ensures { OnOk result (file.new.items ≡ file.old.items ++ flat_map number_bytes words.now) }
 {
     for word in words {
         push_number(file, word.value())?;
@@ -186,8 +200,8 @@ fn push_words(file: &mut Vec<u8>, words: &[Word]) -> Result<(), AllocError>
     Ok(())
 }
 
-/// Appends a list of words after its count.
-fn push_list(file: &mut Vec<u8>, list: &WordList) -> Result<(), AllocError>
+/// Appends a list of words after its count. Want of memory is the only error.
+pub fn push_list(file: &mut Vec<u8>, list: &WordList) -> Result<(), AllocError>
     ensures bytes { OnOk result (file.new.items ≡ file.old.items ++ list_bytes list.now) }
     ensures words { OnOk result (All IsWord list.now) }
 {

@@ -4,7 +4,7 @@ ghost use Rattle.std.specs.Prelude.{◌≡◌, ◌≤◌, ◌-◌, ◌/◌, ◌+
 ghost use Rattle.beet_forms.specs.Faults.{Answers};
 ghost use Rattle.beet_words.specs.Fields.{number_at, number_bytes, after_magic, ended};
 
-use beet_forms::{Place, ReadFault};
+use beet_forms::ReadFault;
 use std::alloc::AllocError;
 
 /// The numbers that a field may hold, and the format's reasons against a field that is cut off
@@ -20,16 +20,6 @@ pub struct Allowed {
 /// How many bytes a field has.
 const WIDTH: usize = 8;
 
-/// The fault at an offset.
-fn fault(at: usize, reason: u32) -> ReadFault
-    ensures { result ≡ ReadFault.Bad (Place.At at) reason }
-{
-    ReadFault::Bad {
-        place: Place::At(at as u64),
-        reason,
-    }
-}
-
 /// The number of the field at an offset, and the offset after it. A field that is cut off and a number
 /// that is not allowed are refused at the offset, for the reasons that `allowed` gives.
 pub fn read_number(bytes: &[u8], allowed: Allowed, at: usize) -> Result<(u64, usize), ReadFault>
@@ -40,13 +30,13 @@ pub fn read_number(bytes: &[u8], allowed: Allowed, at: usize) -> Result<(u64, us
 {
     let rest = &bytes[at..];
     if rest.len() < WIDTH {
-        return Err(fault(at, allowed.truncated));
+        return Err(ReadFault::at_offset(at as u64, allowed.truncated));
     }
     let number = u64::from_be_bytes([
         rest[0], rest[1], rest[2], rest[3], rest[4], rest[5], rest[6], rest[7],
     ]);
     if number < allowed.low || allowed.high < number {
-        return Err(fault(at, allowed.outside));
+        return Err(ReadFault::at_offset(at as u64, allowed.outside));
     }
     Ok((number, at + WIDTH))
 }
@@ -78,7 +68,7 @@ pub fn read_magic(bytes: &[u8], magic: &[u8], reason: u32) -> Result<usize, Read
     ensures within { IfOk result (λ at. at ≤ length bytes.now) }
 {
     if !bytes.starts_with(magic) {
-        return Err(fault(0, reason));
+        return Err(ReadFault::at_offset(0, reason));
     }
     Ok(magic.len())
 }
@@ -88,7 +78,7 @@ pub fn read_end(bytes: &[u8], reason: u32, at: usize) -> Result<(), ReadFault>
     ensures { Answers (λ done. done) (ended bytes.now reason at) result }
 {
     if at < bytes.len() {
-        return Err(fault(at, reason));
+        return Err(ReadFault::at_offset(at as u64, reason));
     }
     Ok(())
 }

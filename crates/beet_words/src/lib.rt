@@ -4,16 +4,23 @@
 mod bundle;
 mod digits;
 mod fields;
+mod many;
+mod points;
 mod seed;
 mod tape;
 mod tape_file;
 mod word;
 
-pub use bundle::{Words, read_bundle, write_bundle};
+pub use bundle::{
+    BAD_MAGIC, BAD_NUMBER, BUNDLE_LIMIT, MOST_WORDS, TRAILING, TRUNCATED, WRONG_COUNT, Words,
+    push_list, read_bundle, read_list, write_bundle,
+};
 pub use digits::read_seed;
 pub use fields::{Allowed, push_number, read_end, read_magic, read_number, room};
+pub use many::read_many;
+pub use points::{read_point, read_points};
 pub use tape::{Tape, count_accepted};
-pub use tape_file::{read_tape, write_tape};
+pub use tape_file::{BAD_LINE, TAPE_LIMIT, TOO_LARGE, read_tape, write_tape};
 pub use word::{FeList, Word, WordList};
 
 #[cfg(test)]

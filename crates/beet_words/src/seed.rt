@@ -4,7 +4,7 @@ ghost use Rattle.std.specs.Prelude.{◌≡◌, ◌<◌, ◌^◌, ◌+◌, ◌*�
 ghost use Rattle.rand_chacha.specs.ChaCha.{word_at};
 ghost use Rattle.beet_words.specs.Seeds.{seed_words};
 
-use crate::word::Word;
+use crate::word::{Word, WordList};
 use rand_chacha::ChaCha20Rng;
 use rand_core::SeedableRng;
 use rand_core::utils::NextWord;
@@ -29,13 +29,13 @@ pub(crate) fn words_of_seed(
     seed: &[u8; 32],
     stream: u64,
     n: u32,
-) -> Result<Vec<Word>, AllocError>
-    ensures { IfOk result (λ v. v.items ≡ seed_words seed.now stream n) }
+) -> Result<WordList, AllocError>
+    ensures { IfOk result (λ words. words ≡ seed_words seed.now stream n) }
 {
     let mut rng = ChaCha20Rng::from_seed(*seed);
     // `set_stream` keeps the place, which is 0 in a fresh generator.
     rng.set_stream(stream);
-    let mut words = Vec::with_capacity(alloc, n as usize)?;
+    let mut words = WordList::with_capacity(alloc, n as usize)?;
     for _k in 0..n {
         words.push(next_of_seed(&mut rng))?;
     }

@@ -1,7 +1,7 @@
 //! Tapes: words that are taken from the front.
 
-ghost use Rattle.std.specs.Prelude.{◌≡◌, ◌≢◌, ◌<◌, ◌≤◌, ◌^◌, ◌-◌, ◌+◌, ◌∷◌, drop, length, slice_index, take, IfOk};
-ghost use Rattle.beet_words.specs.Words.{accepted, ones};
+ghost use Rattle.std.specs.Prelude.{◌≡◌, ◌≢◌, ◌<◌, ◌≤◌, ◌^◌, ◌-◌, ◌+◌, ◌∷◌, drop, length, slice_index, take, IfOk, All};
+ghost use Rattle.beet_words.specs.Words.{IsWord, accepted, ones};
 ghost use Rattle.beet_words.specs.Seeds.{seed_words};
 ghost use Rattle.beet_words.specs.Tapes.{left_of, Draws, DrawsMany};
 
@@ -77,12 +77,13 @@ impl Tape {
         ensures { IfOk result (λ tape. tape ≡ record { words = seed_words seed.now stream n; passed = 0 }) }
     {
         let words = words_of_seed(alloc, seed, stream, n)?;
-        Ok(Tape::of_words(WordList::of(words)))
+        Ok(Tape::of_words(words))
     }
 
     /// All words of the tape, also those that are passed.
     pub fn words(&self) -> &[Word]
-        ensures { result.now ≡ self.now.words }
+        ensures value { result.now ≡ self.now.words }
+        ensures below { All IsWord result.now }
     {
         self.words.as_slice()
     }

@@ -2,13 +2,23 @@
 
 ghost use Rattle.std.specs.Prelude.{◌≡◌, ◌≤◌, ◌*◌, ◌++◌, ◌∷◌, [], ℕ, length, take, IfOk, OnOk, MatchResult, Ok, None, Some};
 ghost use Rattle.beet_forms.specs.Faults.{Answers};
+ghost use Rattle.beet_forms.specs.declared.faults.TheConstants.{LONGEST_FILE};
 ghost use Rattle.beet_words.specs.TapeFiles.{tape_of, line_at, number_in, reason_against, word_in, line_of, tape_bytes};
 ghost use Rattle.beet_words.specs.Words.{IsWord};
 
 use crate::digits::{read_digits, write_digits};
 use crate::word::{Word, WordList};
-use beet_forms::{Place, ReadFault};
+use beet_forms::ReadFault;
 use std::alloc::{AllocError, Global};
+
+/// The most bytes of a tape file.
+pub const TAPE_LIMIT: u64 = 1_048_576;
+
+/// The reason against a line that is not 16 hexadecimal digits and a newline byte.
+pub const BAD_LINE: u32 = 1;
+
+/// The reason against a line whose number is 2^61 or more.
+pub const TOO_LARGE: u32 = 2;
 
 /// How many bytes a line has.
 const LINE: usize = 17;
@@ -43,15 +53,15 @@ fn read_line(line: &[u8]) -> Result<Word, u32>
         (λ reason. reason_against line.now ≡ Some reason) }
 {
     let Some(n) = read_number(line) else {
-        return Err(1);
+        return Err(BAD_LINE);
     };
-    Word::of(n).ok_or(2)
+    Word::of(n).ok_or(TOO_LARGE)
 }
 
 /// Keeps a word, unless enough are kept.
-fn keep_word(words: &mut Vec<Word>, word: Word, keep: u32) -> Result<(), AllocError>
-    requires { length words.old.items ≤ keep }
-    ensures { OnOk result (words.new.items ≡ take keep (words.old.items ++ word ∷ [])) }
+fn keep_word(words: &mut WordList, word: Word, keep: u32) -> Result<(), AllocError>
+    requires { length words.old ≤ keep }
+    ensures { OnOk result (words.new ≡ take keep (words.old ++ word ∷ [])) }
 {
     if words.len() < keep as usize {
         words.push(word)?;
@@ -65,24 +75,19 @@ fn keep_word(words: &mut Vec<Word>, word: Word, keep: u32) -> Result<(), AllocEr
 /// is not 16 hexadecimal digits of either case and a newline byte, and for the reason 2 where its
 /// number is 2^61 or more.
 pub fn read_tape(alloc: Global, bytes: &[u8], keep: u32) -> Result<WordList, ReadFault>
-    requires { length bytes.now ≤ 67108864 }
+    requires { length bytes.now ≤ LONGEST_FILE }
     ensures { Answers (λ words. words) (tape_of bytes.now keep) result }
 {
     let count = bytes.len().div_ceil(LINE) as u32;
-    let mut words = Vec::new(alloc);
+    let mut words = WordList::new(alloc);
     for k in 0..count {
         let word = match read_line(line(bytes, k)) {
             Ok(word) => word,
-            Err(reason) => {
-                let place = Place::Row(k + 1);
-                return Err(ReadFault::Bad { place, reason });
-            }
+            Err(reason) => return Err(ReadFault::at_row(k + 1, reason)),
         };
-        let Ok(()) = keep_word(&mut words, word, keep) else {
-            return Err(ReadFault::OutOfMemory);
-        };
+        keep_word(&mut words, word, keep)?;
     }
-    Ok(WordList::of(words))
+    Ok(words)
 }
 
 /// Appends the line of a word.

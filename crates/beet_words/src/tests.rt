@@ -51,6 +51,11 @@ fn words_and_lists(rt: HostRuntime) -> Result<(), Fail> {
     assert_eq!(rt; Tape::of_words(words).copy(alloc)?.masks_left(), 2);
     let numbers = FeList::of(vec![in alloc; Fe::reduce(5)]?);
     assert_eq!(rt; numbers.copy(alloc)?.as_slice()[0].value(), 5);
+    let mut list = WordList::new(alloc);
+    assert!(rt; list.is_empty());
+    list.push(six)?;
+    assert_eq!(rt; list.len(), 1);
+    assert_eq!(rt; list.as_slice()[0], six);
     Ok(())
 }
 
@@ -114,6 +119,44 @@ fn no_words(alloc: Global) -> Words
         },
         bidders: Vec::new(alloc),
     }
+}
+
+#[test]
+fn numbers_of_a_file(rt: HostRuntime) -> Result<(), Fail> {
+    let alloc = rt.alloc();
+    let mut file = Vec::new(alloc);
+    push_number(&mut file, 3)?;
+    push_number(&mut file, 9)?;
+    let below_nine = Allowed {
+        low: 0,
+        high: 8,
+        truncated: 2,
+        outside: 3,
+    };
+    let (points, at) = read_points(alloc, &file, below_nine, 1, 0)?;
+    assert_eq!(rt; at, 8);
+    assert_eq!(rt; points.as_slice()[0].value(), 3);
+    assert_eq!(rt;
+        read_points(alloc, &file, below_nine, 2, 0).err(),
+        Some(ReadFault::at_offset(8, 3))
+    );
+    assert_eq!(rt;
+        read_points(alloc, &file, below_nine, 2, 16).err(),
+        Some(ReadFault::at_offset(16, 2))
+    );
+    let (numbers, at) = read_many(alloc, &file, 2, 0, |from| {
+        read_number(
+            &file,
+            Allowed {
+                high: 9,
+                ..below_nine
+            },
+            from,
+        )
+    })?;
+    assert_eq!(rt; at, 16);
+    assert_eq!(rt; numbers.as_slice(), [3, 9].as_slice());
+    Ok(())
 }
 
 #[test]

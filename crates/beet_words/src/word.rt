@@ -1,6 +1,6 @@
 //! Words, and lists of words and of field numbers.
 
-ghost use Rattle.std.specs.Prelude.{◌≡◌, ◌↔◌, ◌≤◌, ◌<◌, ◌^◌, ◌/◌, ◌%◌, IsNone, IfSome, IfOk, IsTrue, bit_xor};
+ghost use Rattle.std.specs.Prelude.{◌≡◌, ◌↔◌, ◌≤◌, ◌<◌, ◌^◌, ◌/◌, ◌%◌, ◌++◌, ◌∷◌, [], length, IsNone, IfSome, IfOk, OnOk, IsTrue, All, bit_xor};
 ghost use Rattle.beet_words.specs.Words.{IsWord, ones};
 
 use beet_field::{Fe, P};
@@ -94,24 +94,72 @@ pub struct WordList {
 }
 
 impl Model for WordList {
-    ghost use Rattle.std.specs.Prelude.{ℕ, List};
+    ghost use Rattle.std.specs.Prelude.{ℕ, List, All};
+    ghost use Rattle.beet_words.specs.Words.{IsWord};
 
     ghost Value = { List ℕ };
 
     ghost view = { λ a. a.items.items };
+
+    ghost invariant = { λ a. All IsWord a.items.items };
 }
 
 impl WordList {
+    /// The list of no words.
+    pub fn new(alloc: Global) -> WordList
+        ensures { result ≡ [] }
+    {
+        WordList {
+            items: Vec::new(alloc),
+        }
+    }
+
+    /// The list of no words, with room for so many. Want of memory is the only error.
+    pub fn with_capacity(alloc: Global, room: usize) -> Result<WordList, AllocError>
+        ensures { IfOk result (λ words. words ≡ []) }
+    {
+        Ok(WordList {
+            items: Vec::with_capacity(alloc, room)?,
+        })
+    }
+
     /// The list of these items.
     pub fn of(items: Vec<Word>) -> WordList
         ensures { result ≡ items.items }
     {
+        for word in &items {
+            let _below = word.value();
+        }
         WordList { items }
+    }
+
+    /// Appends a word. Want of memory is the only error.
+    pub fn push(&mut self, word: Word) -> Result<(), AllocError>
+        ensures { OnOk result (self.new ≡ self.old ++ word ∷ []) }
+    {
+        let number = word.number;
+        self.items.push(Word { number })?;
+        Ok(())
+    }
+
+    /// How many words there are.
+    pub fn len(&self) -> usize
+        ensures { result ≡ length self.now }
+    {
+        self.items.len()
+    }
+
+    /// Whether there is no word.
+    pub fn is_empty(&self) -> bool
+        ensures { IsTrue result ↔ (self.now ≡ []) }
+    {
+        self.items.is_empty()
     }
 
     /// The items.
     pub fn as_slice(&self) -> &[Word]
-        ensures { result.now ≡ self.now }
+        ensures value { result.now ≡ self.now }
+        ensures below { All IsWord result.now }
     {
         self.items.as_slice()
     }

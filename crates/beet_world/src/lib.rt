@@ -7,7 +7,7 @@ mod schedule;
 mod stepping;
 mod world;
 
-pub use schedule::{Delivery, read_schedule};
+pub use schedule::{Delivery, SCHEDULE_LIMIT, read_schedule};
 pub use stepping::lockstep;
 pub use world::{Event, World};
 

@@ -5,11 +5,23 @@ ghost use Rattle.beet_forms.specs.Faults.{Answers};
 ghost use Rattle.beet_world.specs.Schedules.{server_of, delivery_in, delivery_at, deliveries_of, schedule_of};
 
 use beet_field::Point;
-use beet_forms::{Place, ReadFault, Row, begins_with_header, first_rows, number, three_fields};
+use beet_forms::{ReadFault, Row, RowReader, number, three_fields};
 use std::alloc::Global;
 
+/// The most bytes of a schedule file.
+pub const SCHEDULE_LIMIT: u64 = 16_777_216;
+
+/// The reason against a row that is missing or not of its form.
+const BAD_ROW: u32 = 1;
+
+/// The reason against a row that is one too many.
+const TOO_MANY: u32 = 2;
+
+/// The most deliveries of a schedule.
+const MOST_DELIVERIES: u32 = 1_000_000;
+
 /// The number of the first row that is one row too many.
-const ONE_TOO_MANY: u32 = 1_000_002;
+const ONE_TOO_MANY: u32 = MOST_DELIVERIES + 2;
 
 /// The latest round that a schedule can name.
 const LATEST_ROUND: u64 = 999_999;
@@ -65,27 +77,26 @@ fn read_row(number: u32, row: &Row) -> Result<Delivery, u32>
     ensures { result ≡ delivery_at number row.now }
 {
     if number == ONE_TOO_MANY {
-        return Err(2);
+        return Err(TOO_MANY);
     }
-    read_delivery(row).ok_or(1)
+    read_delivery(row).ok_or(BAD_ROW)
 }
 
-/// The deliveries, of the rows after the first.
-fn read_deliveries(alloc: Global, rows: &[Row]) -> Result<Vec<Delivery>, ReadFault>
-    requires { length rows.now ≤ 67108864 }
-    ensures { Answers (λ deliveries. deliveries.items) (deliveries_of rows.now) result }
+/// The deliveries, of the rows that are left, which are those after the first.
+fn read_deliveries(
+    alloc: Global,
+    rows: &mut RowReader,
+    row: &mut Row,
+) -> Result<Vec<Delivery>, ReadFault>
+    requires { length rows.old ≤ 67108864 }
+    ensures { Answers (λ deliveries. deliveries.items) (deliveries_of rows.old) result }
 {
     let mut deliveries = Vec::new(alloc);
-    for (i, row) in rows.iter().enumerate() {
-        let number = i as u32 + 2;
+    while rows.next(row)? {
+        let number = deliveries.len() as u32 + 2;
         match read_row(number, row) {
-            Ok(delivery) => if deliveries.push(delivery).is_err() {
-                return Err(ReadFault::OutOfMemory);
-            },
-            Err(reason) => {
-                let place = Place::Row(number);
-                return Err(ReadFault::Bad { place, reason });
-            }
+            Ok(delivery) => deliveries.push(delivery)?,
+            Err(reason) => return Err(ReadFault::at_row(number, reason)),
         }
     }
     Ok(deliveries)
@@ -94,20 +105,17 @@ fn read_deliveries(alloc: Global, rows: &[Row]) -> Result<Vec<Delivery>, ReadFau
 /// The deliveries of a schedule file, in order: the row `beet-schedule,1` and then at most
 /// 1,000,000 rows `FROM,TO,ROUND`. An error is `OutOfMemory`, or a fault in the file.
 ///
-/// The first row with a fault is named, with the first reason that stands against it: 2 for row
-/// 1,000,002; 1 for a row 1 that is missing or another one, and for a row that has not three
-/// fields, whose FROM or TO is not `1`, `2` or `3`, whose FROM is its TO, or whose ROUND is no
-/// number up to 999,999.
+/// The first row with a fault is named. Its reason is [`TOO_MANY`] for row 1,000,002, and else [`BAD_ROW`]: for a row 1 that
+/// is missing or another one, and for a row that has not three fields, whose FROM or TO is not `1`, `2` or `3`, whose FROM
+/// is its TO, or whose ROUND is no number up to 999,999.
 pub fn read_schedule(alloc: Global, bytes: &[u8]) -> Result<Vec<Delivery>, ReadFault>
     requires { length bytes.now ≤ 67108864 }
     ensures { Answers (λ deliveries. deliveries.items) (schedule_of bytes.now) result }
 {
-    let Ok(rows) = first_rows(alloc, bytes, ONE_TOO_MANY as usize) else {
-        return Err(ReadFault::OutOfMemory);
-    };
-    if !begins_with_header(&rows, b"beet-schedule", b"1") {
-        let place = Place::Row(1);
-        return Err(ReadFault::Bad { place, reason: 1 });
+    let mut rows = RowReader::new(alloc, bytes);
+    let mut row = Row::new(alloc);
+    if !rows.begins_with(&mut row, b"beet-schedule", b"1")? {
+        return Err(ReadFault::at_row(1, BAD_ROW));
     }
-    read_deliveries(alloc, &rows[1..])
+    read_deliveries(alloc, &mut rows, &mut row)
 }

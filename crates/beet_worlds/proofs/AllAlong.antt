@@ -7,6 +7,7 @@ use Rattle.beet_gates.specs.Deals.{deals_of}
 use Rattle.beet_gates.specs.Scripts.{revealed}
 use Rattle.beet_gates.specs.declared.Batch.{Batch}
 use Rattle.beet_gates.proofs.ClearFacts.{opened-more}
+use Rattle.beet_map.proofs.Openings.{fronts}
 
 record Grows (xs ys : List ℕ) : Type 0 where
   more : List ℕ
@@ -35,9 +36,6 @@ module _ (next : ℕ → List ℕ → Batch) (words : Trio (List ℕ)) (inputs :
   grows t u le =
       let s : (u - t) + t ≡ u = omega arith in
       subst (λ x. Grows (run_of next words inputs t).opened (run_of next words inputs x).opened) s (grows_by t (u - t))
-
-fronts : (xs ys m n : List ℕ) → length ys ≡ length xs → ys ++ n ≡ xs ++ m → ys ≡ xs
-fronts xs ys m n len e = sym (take-append_seam ys n) ∙ (λ i. take (len i) (e i)) ∙ take-append_seam xs m
 
 module _ (next : ℕ → List ℕ → Batch) (words words' : Trio (List ℕ)) (inputs inputs' : List ℕ) (r : ℕ)
     (all : (run_of next words' inputs' r).opened ≡ (run_of next words inputs r).opened) where

@@ -14,18 +14,20 @@ use Rattle.beet_words.specs.Words.{IsWord, accepted}
 use Rattle.beet_gates.specs.Each.{each}
 use Rattle.beet_gates.proofs.EachFacts.{each-same}
 use Rattle.beet_bids.specs.Books.{IsBook}
-use Rattle.beet_bids.specs.Curves.{Curve, IsCurve, quantity, largest_quantity}
+use Rattle.beet_bids.specs.Curves.{Curve, IsCurve, quantity}
+use Rattle.beet_bids.specs.declared.curve.TheConstants.{LARGEST_QUANTITY}
 use Rattle.beet_bids.specs.Grids.{Grid}
 use Rattle.beet_bids.specs.declared.book.Bidder.{Bidder}
 use Rattle.beet_book.specs.Totals.{supply_first}
 use Rattle.beet_server.proofs.Lined.{member-trio}
-use Rattle.beet_auction.specs.Openings.{Farmer, book_of, book_inputs, point_for, slope_for, summed_point}
+use Rattle.beet_book.specs.Farmers.{Farmer, book_of, book_inputs, point_for, slope_for, summed_point}
 use Rattle.beet_worlds.specs.Agreement.{SameKnown}
 use Rattle.beet_map.specs.Mapped.{moved_of}
 use Rattle.beet_worlds.specs.MappedBidders.{BiddersMapped, FarmerMapped}
 use Rattle.beet_worlds.proofs.MasksBack.{get-map, some-same}
-use Rattle.beet_worlds.proofs.Moved.{moved-same, moved-back}
-use Rattle.beet_worlds.proofs.WordPlaces.{words-same, accepted-length, accepted-small}
+use Rattle.beet_worlds.proofs.WordPlaces.{accepted-length, accepted-small}
+use Rattle.beet_map.proofs.Moves.{moved_back, moved_same}
+use Rattle.beet_map.proofs.WordLists.{words_same}
 
 -- a bidder is known to a server, or not
 pub known-or : (known : Option Point) (s : Point) → (known ≡ Some s) ⊎ (known ≢ Some s)
@@ -43,9 +45,9 @@ known-or (Some Three) Three = inl refl
 -- quantities are numbers of the field
 pub quantity-small : (curve : Curve) → IsCurve curve → (n : ℕ) → IsElement (quantity curve n)
 quantity-small curve c n =
-    let all : All (λ (q : ℕ). q ≤ largest_quantity) (curve.buy ++ curve.sell) = All-append (λ (q : ℕ). q ≤ largest_quantity) curve.buy curve.sell c.buy_limit c.sell_limit in
+    let all : All (λ (q : ℕ). q ≤ LARGEST_QUANTITY) (curve.buy ++ curve.sell) = All-append (λ (q : ℕ). q ≤ LARGEST_QUANTITY) curve.buy curve.sell c.buy_limit c.sell_limit in
     elim (cases_lt n (length (curve.buy ++ curve.sell))) [
-      | inl h ↦ let l = All-get_or (λ (q : ℕ). q ≤ largest_quantity) (curve.buy ++ curve.sell) n 0 h all in omega (arith, l)
+      | inl h ↦ let l = All-get_or (λ (q : ℕ). q ≤ LARGEST_QUANTITY) (curve.buy ++ curve.sell) n 0 h all in omega (arith, l)
       | inr past ↦ rw (get_or_past (curve.buy ++ curve.sell) n 0 past) (omega arith)
     ]
 
@@ -57,7 +59,7 @@ module _ (s : Point) (wanted : ℕ) (one other : Farmer) where
     | inl known ↦ λ j. point_of (quantity (own known j) n) (slice_index (accepted (m.own known j)) n) s
     | inr unknown ↦
         ap (λ a. point_of (quantity other.bidder.curve n) a s) ((m.moved unknown).moves n h)
-        ∙ moved-same s (slope_for one n) (quantity one.bidder.curve n) (quantity other.bidder.curve n) (quantity-small other.bidder.curve c n)
+        ∙ moved_same s (slope_for one n) (quantity one.bidder.curve n) (quantity other.bidder.curve n) (quantity-small other.bidder.curve c n)
   ]
 
   pub farmer-back : IsCurve one.bidder.curve → IsCurve other.bidder.curve → All IsWord one.words → FarmerMapped s wanted one other → FarmerMapped s wanted other one
@@ -69,7 +71,7 @@ module _ (s : Point) (wanted : ℕ) (one other : Farmer) where
         record {
           places = sym v.places;
           moves = λ n h.
-              moved-back s (slope_for one n) (quantity one.bidder.curve n) (quantity other.bidder.curve n) (quantity-small one.bidder.curve c n) (quantity-small other.bidder.curve d n)
+              moved_back s (slope_for one n) (quantity one.bidder.curve n) (quantity other.bidder.curve n) (quantity-small one.bidder.curve c n) (quantity-small other.bidder.curve d n)
               (accepted-small one.words words n)
               ∙ sym (ap (λ a. moved_of s a (quantity other.bidder.curve n) (quantity one.bidder.curve n)) (v.moves n h));
           rest = λ n h. sym (v.rest n h);
@@ -85,7 +87,7 @@ module _ (s : Point) (wanted : ℕ) (one u v : Farmer) where
             let x = a.moved unknown in
             let y = b.moved unknown in
             let places = x.places ∙ sym y.places in
-            words-same u.words v.words places
+            words_same u.words v.words places
             (ext_get_or 0 (accepted u.words) (accepted v.words) (accepted-length u.words v.words places)
             (λ n lt. elim (cases_lt n wanted) [
               | inl h ↦

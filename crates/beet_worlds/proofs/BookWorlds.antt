@@ -1,8 +1,7 @@
 -- The runs of two books that agree, with mapped mask words, open the same numbers.
 use Rattle.std.proofs.Common.{◌≡◌, ◌↔◌, ℕ, zero, suc, ◌+◌, ◌*◌, ◌/◌, ◌<◌, ◌≤◌, inl, inr, Bool, true, false, List, [], length, slice_index, Some, refl, sym, ap, ◌∙◌, arith, zero-add}
-use Rattle.std.specs.Prelude.{nat_le, nat_lt, IsTrue}
-use Rattle.std.proofs.lemmas.Bool.{cases_Bool, iff_false}
-use Rattle.std.proofs.lemmas.Bool.Decides.{nat_tests}
+use Rattle.std.specs.Prelude.{nat_le, nat_lt}
+use Rattle.std.proofs.lemmas.Bool.{cases_Bool}
 use Rattle.std.proofs.lemmas.List.Elements.{All-get_or}
 use Rattle.beet_field.specs.Field.{IsElement, add_of}
 use Rattle.beet_field.specs.Trio.{member}
@@ -12,27 +11,30 @@ use Rattle.beet_field.specs.declared.trio.Trio.{Trio}
 use Rattle.beet_gates.specs.Clear.{Values, clear_values, clear_at, rounds_run, start_values}
 use Rattle.beet_gates.specs.Deals.{deals_of}
 use Rattle.beet_gates.specs.Scripts.{HasWords, LawFrom, bounds_of, start_of}
-use Rattle.beet_gates.proofs.ClearAt.{run-ends}
-use Rattle.beet_gates.proofs.PlanFacts.{plan-clear}
+use Rattle.beet_gates.proofs.PlanFacts.{plan-runs}
 use Rattle.beet_bids.specs.Books.{Book, IsBook}
-use Rattle.beet_bids.specs.Grids.{comparisons_of}
-use Rattle.beet_bids.specs.Sums.{supply_at, demand_at}
+use Rattle.beet_bids.specs.Grids.{Grid, comparisons_of}
+use Rattle.beet_bids.specs.Sums.{supply_at, demand_at, sums_of}
 use Rattle.beet_bids.specs.Outcomes.{clearing_place}
 use Rattle.beet_compare.specs.Compare.{doubled, is_doubled_even}
 use Rattle.beet_compare.proofs.Parity.{doubled_even-≤}
-use Rattle.beet_plan.specs.Auction.{Auction, auction_plan, auction_batch, most_rounds, most_masks, most_coefficients, most_wires}
+use Rattle.beet_plan.specs.Auction.{Auction, auction_plan, auction_batch, most_rounds, most_masks, most_coefficients, most_wires, auction_over}
+use Rattle.beet_plan.specs.Blocks.{blocks_of}
+use Rattle.beet_plan.proofs.BlockLaws.{are-blocks}
 use Rattle.beet_plan.specs.Search.{tested, place_between, path, mask_at}
-use Rattle.beet_plan.specs.Runs.{AreMasks, run_rounds, sums_of}
+use Rattle.beet_plan.specs.Runs.{AreMasks, run_rounds}
 use Rattle.beet_plan.proofs.AuctionLaw.{below_comparisons, auction-law, auction-stands, follows-itself}
 use Rattle.beet_plan.proofs.BlockSteps.{Stands}
-use Rattle.beet_plan.proofs.BookFacts.{book-turn, clearing-within, length-sums, sums-supply, sums-demand, sums-elements, small}
+use Rattle.beet_bids.proofs.BookSums.{book-turn, clearing-within, length-sums, sums-supply, sums-demand, sums-elements, small}
 use Rattle.beet_plan.proofs.BookRuns.{book-run}
 use Rattle.beet_plan.proofs.Searches.{place-turn}
-use Rattle.beet_auction.specs.Openings.{auction_over}
+use Rattle.beet_round.specs.Sides.{peer}
+use Rattle.beet_round.specs.declared.sides.Side.TheVariants.{Low}
+use Rattle.beet_auction.proofs.BookPoints.{same_test}
 use Rattle.beet_worlds.specs.Agreement.{Agree}
 use Rattle.beet_worlds.specs.Opened.{OpensAlike}
 use Rattle.beet_worlds.specs.Turn.{turned}
-use Rattle.beet_worlds.specs.MappedMasks.{MasksMapped, lower_other, place_compared, doubled_at, lost_at, mask_mapped}
+use Rattle.beet_worlds.specs.MappedMasks.{MasksMapped, place_compared, doubled_at, lost_at, mask_mapped}
 use Rattle.beet_worlds.proofs.Agreed.{prices-same, clearing-same, volume-same}
 use Rattle.beet_worlds.proofs.AllAlong.{opened-along}
 use Rattle.beet_worlds.proofs.BothRuns.{Turns, both-search}
@@ -41,13 +43,6 @@ use Rattle.beet_worlds.proofs.Places.{along-start, compared-accepted, compared-e
 use Rattle.beet_worlds.proofs.PlanNumbers.{plan_numbers, plan-opened}
 use Rattle.beet_worlds.proofs.Small.{deals-words, mapped-masks}
 use Rattle.beet_worlds.proofs.Turned.{turned-opens}
-
--- two tests agree where both say the same
-same_test : (b : Bool) (s d : ℕ) → IsTrue b ↔ (d ≤ s) → b ≡ nat_le d s
-same_test b s d e = elim (cases_Bool b) [
-  | inl t ↦ let h = e.0 t in t ∙ (let le : nat_le d s ≡ true = grind (arith, nat_tests, h) in sym le)
-  | inr f ↦ f ∙ (let h = iff_false e f in let le : nat_le d s ≡ false = grind (arith, nat_tests, h) in sym le)
-]
 
 -- a book's sums, over so many prices and with this clearing place
 module _ (book : Book) (prices z : ℕ) (b : IsBook book) (same : book.grid.prices ≡ prices) (clears : clearing_place book ≡ z) where
@@ -96,8 +91,8 @@ run-numbers : (a : Auction) (inputs : List ℕ) (words : Trio (List ℕ)) →
 run-numbers a inputs words =
     let bounds = bounds_of (most_wires a) (most_masks a) (most_coefficients a) in
     let start = start_values inputs in
-    let run = plan-clear (auction_batch a) (deals_of words) bounds (auction_plan a) (start_of (2 * a.prices)) (most_rounds a) 0 start (auction-stands a) (follows-itself a) in
-    ap (λ (v : Values). v.opened) run ∙ plan-opened words bounds (auction_plan a) (start_of (2 * a.prices)) (most_rounds a) start (auction-stands a)
+    let run = plan-runs (auction_batch a) words inputs bounds (auction_plan a) (start_of (2 * a.prices)) (most_rounds a) (auction-stands a) (follows-itself a) in
+    ap (λ (v : Values). v.opened) run.values ∙ plan-opened words bounds (auction_plan a) (start_of (2 * a.prices)) (most_rounds a) start (auction-stands a)
 
 tested-length : (test : ℕ → Bool) (n lo hi : ℕ) → length (tested test n lo hi) ≤ n
 unfolding tested
@@ -110,9 +105,9 @@ tested-length test (suc n) lo hi = elim (cases_Bool (nat_lt lo hi)) [
   ]
 ]
 
-pub rounds-same : (masks masks' : ℕ → ℕ) (prices z : ℕ) → Alike masks masks' → run_rounds prices masks' z ≡ run_rounds prices masks z
-rounds-same masks masks' prices z a =
-    let c = length (path prices z) in
+pub rounds-same : (auction : Auction) (masks masks' : ℕ → ℕ) (z : ℕ) → Alike masks masks' → run_rounds auction masks' z ≡ run_rounds auction masks z
+rounds-same auction masks masks' z a =
+    let c = length (path auction.prices z) in
     rw (spent-same masks masks' a c, dealt-spent-same masks masks' a c, dealt-for-same masks masks' a c) refl
 
 module _ (s : Point) (first second : Book) (words words' : Trio (List ℕ)) (b : IsBook first) (b' : IsBook second) (agree : Agree s first second)
@@ -135,7 +130,7 @@ module _ (s : Point) (first second : Book) (words words' : Trio (List ℕ)) (b :
       let some = compared-accepted (mask_at words) (path prices z) i k e in
       let early = compared-early (mask_at words) (path prices z) i k e in
       let few = tested-length (nat_le z) (comparisons_of prices) 0 prices in
-      let lt : i < length (member words (lower_other s)) = omega (arith, enough-at (lower_other s), early, few) in
+      let lt : i < length (member words (peer s Low)) = omega (arith, enough-at (peer s Low), early, few) in
       let mask : mask_at words' i ≡ turned (mask_at words i) (lost_at first second k) =
       mask-turned first second words words' s mapped i lt ∙ ap (mask_mapped first second (mask_at words i)) e in
       (λ j. add_of (sum-doubled second prices z b' (prices-same s first second agree) (clearing-same s first second agree) k h j) (mask j))
@@ -156,7 +151,7 @@ module _ (s : Point) (first second : Book) (words words' : Trio (List ℕ)) (b :
       let volume : z < prices → slice_index (sums_of second) (prices + z) ≡ slice_index (sums_of first) (prices + z) = λ h.
       sum-demand second prices z b' ps zs z h ∙ volume-same s first second agree h ∙ sym (sum-demand first prices z b refl refl z h) in
       run-numbers a (sums_of second) words'
-      ∙ both-search (deals_of words) (deals_of words') (mask_at words) (mask_at words') prices z (path prices z)
+      ∙ both-search (blocks_of a.gates) (are-blocks a.gates) (deals_of words) (deals_of words') (mask_at words) (mask_at words') prices z (path prices z)
       (slice_index (sums_of first)) (λ k. slice_index (sums_of first) (prices + k)) (slice_index (sums_of second)) (λ k. slice_index (sums_of second) (prices + k))
       (deals-words words m) (deals-words words' (mapped-masks first second s words words' m mapped))
       (sum-turns first prices z b refl refl) (sum-turns second prices z b' ps zs) alike same-opened volume
@@ -169,14 +164,15 @@ module _ (s : Point) (first second : Book) (words words' : Trio (List ℕ)) (b :
   same-rounds : rounds_run (auction_batch (auction_over first.grid)) (most_rounds (auction_over first.grid)) (sums_of second) words'
       ≡ rounds_run (auction_batch (auction_over first.grid)) (most_rounds (auction_over first.grid)) (sums_of first) words
   same-rounds =
-      let prices = first.grid.prices in
       let z = clearing_place first in
+      let a = auction_over first.grid in
+      let grids : first.grid ≡ second.grid = sym agree.grids in
       let run = book-run first words b m in
       let run' = book-run second words' b' (mapped-masks first second s words words' m mapped) in
-      let there : rounds_run (auction_batch (auction_over first.grid)) (most_rounds (auction_over first.grid)) (sums_of second) words' ≡ run_rounds prices (mask_at words') z =
-      ap (λ n. rounds_run (auction_batch (record { prices = n })) (most_rounds (record { prices = n })) (sums_of second) words') (sym (prices-same s first second agree))
-      ∙ run'.rounds ∙ (λ i. run_rounds (prices-same s first second agree i) (mask_at words') (clearing-same s first second agree i)) in
-      there ∙ rounds-same (mask_at words) (mask_at words') prices z alike ∙ sym run.rounds
+      let there : rounds_run (auction_batch a) (most_rounds a) (sums_of second) words' ≡ run_rounds a (mask_at words') z =
+      ap (λ (grid : Grid). rounds_run (auction_batch (auction_over grid)) (most_rounds (auction_over grid)) (sums_of second) words') grids
+      ∙ run'.rounds ∙ (λ i. run_rounds (auction_over (agree.grids i)) (mask_at words') (clearing-same s first second agree i)) in
+      there ∙ rounds-same a (mask_at words) (mask_at words') z alike ∙ sym run.rounds
 
   pub opens-alike : OpensAlike (auction_batch (auction_over first.grid)) (most_rounds (auction_over first.grid)) (sums_of first) words (sums_of second) words'
   opens-alike =
@@ -185,12 +181,9 @@ module _ (s : Point) (first second : Book) (words words' : Trio (List ℕ)) (b :
       let law : LawFrom (auction_batch a) bounds (most_rounds a) (start_of (length (sums_of first))) [] = rw (length-sums first) (auction-law a) in
       let long : length (sums_of second) ≡ 2 * first.grid.prices = omega (arith, length-sums second, prices-same s first second agree) in
       let law' : LawFrom (auction_batch a) bounds (most_rounds a) (start_of (length (sums_of second))) [] = rw long (auction-law a) in
-      let end = run-ends (auction_batch a) words bounds (most_rounds a) (sums_of first) law in
-      let end' = run-ends (auction_batch a) words' bounds (most_rounds a) (sums_of second) law' in
       let r = rounds_run (auction_batch a) (most_rounds a) (sums_of first) words in
       let all : (clear_at (auction_batch a) (deals_of words') (sums_of second) (suc r)).opened ≡ (clear_at (auction_batch a) (deals_of words) (sums_of first) (suc r)).opened =
-      ap (λ n. (clear_at (auction_batch a) (deals_of words') (sums_of second) (suc n)).opened) (sym same-rounds)
-      ∙ ap (λ (v : Values). v.opened) (sym end'.2) ∙ same-numbers ∙ ap (λ (v : Values). v.opened) end.2 in
+      ap (λ n. (clear_at (auction_batch a) (deals_of words') (sums_of second) (suc n)).opened) (sym same-rounds) ∙ same-numbers in
       record {
         rounds = same-rounds;
         in_the_end = same-numbers;

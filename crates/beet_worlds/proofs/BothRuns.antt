@@ -2,39 +2,27 @@
 use Rattle.std.proofs.Common.{◌≡◌, ◌≢◌, ℕ, zero, suc, ◌+◌, ◌*◌, ◌/◌, ◌^◌, ◌<◌, ◌≤◌, inl, inr, Bool, true, false, List, [], ◌∷◌, slice_index, Some, refl, ap, sym, ◌∙◌, arith, eq-eqb, ne_eqb, pow-suc, zero-add}
 use Rattle.std.specs.Prelude.{nat_lt, nat_le, if◌then◌else◌, ◌==◌}
 use Rattle.std.specs.Int.{bit_at}
+use Rattle.std.proofs.Math.Seq.{drop-append_seam}
 use Rattle.std.proofs.lemmas.Bool.{cases_eq, cases_lt, cases_Bool}
 use Rattle.std.proofs.lemmas.Bool.Decides.{nat_tests}
 use Rattle.beet_field.specs.Field.{p, IsElement, add_of}
 use Rattle.beet_gates.specs.Batches.{reveal_batch}
-use Rattle.beet_gates.specs.Clear.{Values, batches_on}
-use Rattle.beet_gates.specs.Plans.{Plan, Ended, Block, opened_by}
-use Rattle.beet_gates.proofs.Segments.{Holds}
-use Rattle.beet_mask.specs.Mask.{mask_batches}
-use Rattle.beet_compare.specs.Compare.{masked_batch, borrow_batches, doubled, is_doubled_even}
-use Rattle.beet_compare.proofs.MaskedRun.{masked-run}
+use Rattle.beet_gates.specs.Clear.{Values, batch_on, batches_on}
+use Rattle.beet_gates.specs.Plans.{Plan, Ended, Block, all_opened_by, opened_by}
+use Rattle.beet_compare.specs.Compare.{doubled, is_doubled_even}
+use Rattle.beet_plan.specs.Blocks.{Blocks, after_both, after_mask}
+use Rattle.beet_plan.proofs.BlockLaws.{AreBlocks}
 use Rattle.beet_plan.specs.Auction.{search_plan, compare_plan, end_plan, after_answer, after_product}
 use Rattle.beet_plan.specs.Search.{tested, place_between}
 use Rattle.beet_plan.specs.declared.Finish.{Finish}
 use Rattle.beet_plan.specs.declared.Finish.TheVariants.{MasksSpent}
 use Rattle.beet_plan.proofs.AuctionEnd.{opened-rejected, search_plan-open, search_plan-done}
-use Rattle.beet_plan.proofs.BlockSteps.{Stands, Deals, AreElements, mask-step, compare-step, after_masked, opened-new}
+use Rattle.beet_plan.proofs.BlockSteps.{Stands, Deals, AreElements, mask-step, compare-step, after_masked}
 use Rattle.beet_plan.proofs.Searches.{tested-open, place-none, place-open}
 use Rattle.beet_worlds.specs.MappedMasks.{place_compared}
 use Rattle.beet_worlds.proofs.MaskFacts.{Alike}
 use Rattle.beet_worlds.proofs.Places.{Along, along-rejected, along-accepted, along-compared}
 use Rattle.beet_worlds.proofs.PlanNumbers.{plan_numbers, numbers-block, numbers-ended, numbers-true, numbers-false}
-
--- what a comparison opens first
-pub compared-number : (deals : ℕ → List ℕ) (prices : ℕ) (supply demand : ℕ → ℕ) (first mask r i place : ℕ) (v : Values) →
-    AreElements prices supply demand → Stands prices supply demand first i v → Holds v.wires (mask + 366) 61 (bit_at r) → IsElement r → place < prices →
-    opened_by v (after_masked deals first mask place (prices + place) v) ≡ add_of (doubled (supply place) (demand place)) r
-compared-number deals prices supply demand first mask r i place v small s bits hr hp =
-    let middle = after_masked deals first mask place (prices + place) v in
-    let at_supply : slice_index v.wires place ≡ supply place = rw zero-add at (s.supplies.at place hp) in
-    let at_demand : slice_index v.wires (prices + place) ≡ demand place = s.demands.at place hp in
-    let a = masked-run deals first mask place (prices + place) r (supply place) (demand place) v s.len hr (small.supply_element place hp) (small.demand_element place hp) bits
-    (omega (arith, s.demands.room, s.len)) (omega (arith, s.demands.room, s.len)) at_supply at_demand in
-    opened-new v middle _ a.opened
 
 -- the end of a search at a place opens the demand there
 end-numbers : (deals : ℕ → List ℕ) (prices : ℕ) (supply demand : ℕ → ℕ) (first i z : ℕ) (v : Values) → Stands prices supply demand first i v →
@@ -44,8 +32,8 @@ end-numbers deals prices supply demand first i z v s = elim (cases_lt z prices) 
   | inl h ↦
       let t : nat_lt z prices ≡ true = grind (arith, nat_tests) in
       let e : slice_index v.wires (prices + z) ≡ demand z = s.demands.at z h in
-      let o : opened_by v (batches_on deals (reveal_batch [] ((prices + z) ∷ []) ∷ []) v) ≡ slice_index v.wires (prices + z) =
-      opened-new v (batches_on deals (reveal_batch [] ((prices + z) ∷ []) ∷ []) v) (slice_index v.wires (prices + z)) refl in
+      let o : all_opened_by v (batch_on deals (reveal_batch [] ((prices + z) ∷ [])) v) ≡ slice_index v.wires (prices + z) ∷ [] =
+      drop-append_seam v.opened (slice_index v.wires (prices + z) ∷ []) in
       rw (t, o, e) refl
   | inr h ↦
       let t : nat_lt z prices ≡ false = grind (arith, nat_tests) in
@@ -57,7 +45,7 @@ pub record Turns (prices z : ℕ) (supply demand : ℕ → ℕ) : Type 0 where
   pub elements : AreElements prices supply demand
   pub reached : (k : ℕ) → k < prices → is_doubled_even (supply k) (demand k) ≡ nat_le z k
 
-module _ (deals deals' : ℕ → List ℕ) (masks masks' : ℕ → ℕ) (prices z : ℕ) (places : List ℕ) (supply demand supply' demand' : ℕ → ℕ)
+module _ (g : Blocks) (are : AreBlocks g) (deals deals' : ℕ → List ℕ) (masks masks' : ℕ → ℕ) (prices z : ℕ) (places : List ℕ) (supply demand supply' demand' : ℕ → ℕ)
     (d : Deals deals masks) (d' : Deals deals' masks') (turns : Turns prices z supply demand) (turns' : Turns prices z supply' demand')
     (alike : Alike masks masks')
     (opens : (i m : ℕ) → m < prices → place_compared places masks i ≡ Some m →
@@ -65,21 +53,21 @@ module _ (deals deals' : ℕ → List ℕ) (masks masks' : ℕ → ℕ) (prices 
     (volume : z < prices → demand' z ≡ demand z) where
   over : (n m lo hi first i rej : ℕ) (v v' : Values) → Stands prices supply demand first i v → Stands prices supply' demand' first i v' →
       hi ≤ lo → nat_lt lo hi ≡ false → place_between (nat_le z) m lo hi ≡ z →
-      plan_numbers deals' (search_plan prices (suc n) lo hi first rej) v' ≡ plan_numbers deals (search_plan prices (suc n) lo hi first rej) v
+      plan_numbers deals' (search_plan g prices (suc n) lo hi first rej) v' ≡ plan_numbers deals (search_plan g prices (suc n) lo hi first rej) v
   over n m lo hi first i rej v v' s s' h t end =
       let here : lo ≡ z = sym (place-none (nat_le z) m lo hi h) ∙ end in
       let same : (if nat_lt lo prices then demand' lo ∷ [] else []) ≡ (if nat_lt lo prices then demand lo ∷ [] else []) = elim (cases_lt lo prices) [
         | inl l ↦ let e : nat_lt lo prices ≡ true = grind (arith, nat_tests) in rw (e, here) (ap (λ k. k ∷ []) (volume (rw here at l)))
         | inr l ↦ let e : nat_lt lo prices ≡ false = grind (arith, nat_tests) in rw e refl
       ] in
-      ap (λ (q : Plan Finish). plan_numbers deals' q v') (search_plan-done prices n lo hi first rej t) ∙ end-numbers deals' prices supply' demand' first i lo v' s'
+      ap (λ (q : Plan Finish). plan_numbers deals' q v') (search_plan-done g prices n lo hi first rej t) ∙ end-numbers deals' prices supply' demand' first i lo v' s'
       ∙ same
-      ∙ sym (ap (λ (q : Plan Finish). plan_numbers deals q v) (search_plan-done prices n lo hi first rej t) ∙ end-numbers deals prices supply demand first i lo v s)
+      ∙ sym (ap (λ (q : Plan Finish). plan_numbers deals q v) (search_plan-done g prices n lo hi first rej t) ∙ end-numbers deals prices supply demand first i lo v s)
 
   pub both-search : (n m lo hi first i rej : ℕ) (v v' : Values) → Stands prices supply demand first i v → Stands prices supply' demand' first i v' →
       lo ≤ hi → hi ≤ prices → hi < lo + 2 ^ m → m + 3 ≤ n + rej → rej < 3 →
       place_between (nat_le z) m lo hi ≡ z → Along masks places i rej (tested (nat_le z) m lo hi) →
-      plan_numbers deals' (search_plan prices n lo hi first rej) v' ≡ plan_numbers deals (search_plan prices n lo hi first rej) v
+      plan_numbers deals' (search_plan g prices n lo hi first rej) v' ≡ plan_numbers deals (search_plan g prices n lo hi first rej) v
   both-search zero m lo hi first i rej v v' s s' hl hp hm hn hr end along = absurd (omega arith)
   both-search (suc n) zero lo hi first i rej v v' s s' hl hp hm hn hr end along =
       let h : hi ≤ lo = omega arith in
@@ -92,25 +80,25 @@ module _ (deals deals' : ℕ → List ℕ) (masks masks' : ℕ → ℕ) (prices 
     | inl h ↦
         let t : nat_lt lo hi ≡ true = grind (arith, nat_tests) in
         let mid = (lo + hi) / 2 in
-        let after = batches_on deals (mask_batches first) v in
-        let after' = batches_on deals' (mask_batches first) v' in
+        let after = batches_on deals (g.mask first) v in
+        let after' = batches_on deals' (g.mask first) v' in
         let x = opened_by v after in
         let x' = opened_by v' after' in
         let end' = sym (place-open (nat_le z) m lo hi t) ∙ end in
         let along' : Along masks places i rej (mid ∷ (if nat_le z mid then tested (nat_le z) m lo mid else tested (nat_le z) m (mid + 1) hi)) =
         rw (tested-open (nat_le z) m lo hi t) at along in
-        let a = mask-step deals masks prices supply demand first i v d s in
-        let a' = mask-step deals' masks' prices supply' demand' first i v' d' s' in
+        let a = mask-step g are deals masks prices supply demand first i v d s in
+        let a' = mask-step g are deals' masks' prices supply' demand' first i v' d' s' in
         let one : x' ≡ x = a'.opened ∙ ap (λ (b : Bool). if b then 1 else 0) (alike.same i) ∙ sym a.opened in
         let o : (x == 1) ≡ (masks i == p) = opened-rejected x (masks i) a.opened in
         let o2 : (x' == 1) ≡ (x == 1) = ap (λ n. n == 1) one in
-        let begun = ap (λ (q : Plan Finish). plan_numbers deals q v) (search_plan-open prices n lo hi first rej t)
-        ∙ numbers-block deals v (mask_batches first) (after_product prices n lo hi first rej) in
-        let begun' = ap (λ (q : Plan Finish). plan_numbers deals' q v') (search_plan-open prices n lo hi first rej t)
-        ∙ numbers-block deals' v' (mask_batches first) (after_product prices n lo hi first rej) in
-        let no = search_plan prices n lo hi (first + 487) (rej + 1) in
-        let yes = compare_plan prices (first + 487) first mid (after_answer prices n lo hi first rej) in
-        let rest : plan_numbers deals' (after_product prices n lo hi first rej x') after' ≡ plan_numbers deals (after_product prices n lo hi first rej x) after =
+        let begun = ap (λ (q : Plan Finish). plan_numbers deals q v) (search_plan-open g prices n lo hi first rej t)
+        ∙ numbers-block deals v (g.mask first) (after_product g prices n lo hi first rej) in
+        let begun' = ap (λ (q : Plan Finish). plan_numbers deals' q v') (search_plan-open g prices n lo hi first rej t)
+        ∙ numbers-block deals' v' (g.mask first) (after_product g prices n lo hi first rej) in
+        let no = search_plan g prices n lo hi (after_mask g first) (rej + 1) in
+        let yes = compare_plan g prices (after_mask g first) first mid (after_answer g prices n lo hi first rej) in
+        let rest : plan_numbers deals' (after_product g prices n lo hi first rej x') after' ≡ plan_numbers deals (after_product g prices n lo hi first rej x) after =
         elim (cases_eq (masks i) p) [
           | inl all ↦
               let t1 : (x == 1) ≡ true = o ∙ eq-eqb (masks i) p all in
@@ -124,7 +112,7 @@ module _ (deals deals' : ℕ → List ℕ) (masks masks' : ℕ → ℕ) (prices 
                 | inr other ↦
                     let e = ne_eqb rej 2 other in
                     numbers-false deals' after' (rej == 2) (Ended MasksSpent) no e
-                    ∙ both-search n (suc m) lo hi (first + 487) (i + 1) (rej + 1) after after' a.stands a'.stands hl hp hm (omega arith) (omega arith) end
+                    ∙ both-search n (suc m) lo hi (after_mask g first) (i + 1) (rej + 1) after after' a.stands a'.stands hl hp hm (omega arith) (omega arith) end
                     (along-rejected masks places i rej (tested (nat_le z) (suc m) lo hi) all along)
                     ∙ sym (numbers-false deals after (rej == 2) (Ended MasksSpent) no e)
               ] in
@@ -139,49 +127,46 @@ module _ (deals deals' : ℕ → List ℕ) (masks masks' : ℕ → ℕ) (prices 
               let r' : masks' i < p = omega (arith, d'.small i) in
               let within : mid < prices = omega arith in
               let compared = along-compared masks places i rej mid _ some hr along' in
-              let middle = after_masked deals (first + 487) first mid (prices + mid) after in
-              let middle' = after_masked deals' (first + 487) first mid (prices + mid) after' in
+              let middle = after_masked g deals (after_mask g first) first mid (prices + mid) after in
+              let middle' = after_masked g deals' (after_mask g first) first mid (prices + mid) after' in
               let c = opened_by after middle in
               let c' = opened_by after' middle' in
-              let same_c : c' ≡ c =
-              compared-number deals' prices supply' demand' (first + 487) first (masks' i) (i + 1) mid after' turns'.elements a'.stands a'.bits r' within
-              ∙ opens i mid within compared
-              ∙ sym (compared-number deals prices supply demand (first + 487) first (masks i) (i + 1) mid after turns.elements a.stands a.bits r within) in
-              let late = batches_on deals (borrow_batches (first + 487) first c) middle in
-              let late' = batches_on deals' (borrow_batches (first + 487) first c') middle' in
+              let late = batches_on deals (g.answer (after_mask g first) first c) middle in
+              let late' = batches_on deals' (g.answer (after_mask g first) first c') middle' in
               let y = opened_by middle late in
               let y' = opened_by middle' late' in
-              let b = compare-step deals prices supply demand (first + 487) first (masks i) (i + 1) mid after turns.elements a.stands a.bits r within in
-              let b' = compare-step deals' prices supply' demand' (first + 487) first (masks' i) (i + 1) mid after' turns'.elements a'.stands a'.bits r' within in
+              let b = compare-step g are deals prices supply demand (after_mask g first) first (masks i) (i + 1) mid after turns.elements a.stands (omega arith) a.bits r within in
+              let b' = compare-step g are deals' prices supply' demand' (after_mask g first) first (masks' i) (i + 1) mid after' turns'.elements a'.stands (omega arith) a'.bits r' within in
+              let same_c : c' ≡ c = b'.masked ∙ opens i mid within compared ∙ sym b.masked in
               let answer : y ≡ (if nat_le z mid then 1 else 0) = rw (turns.reached mid within) at b.opened in
               let answer' : y' ≡ (if nat_le z mid then 1 else 0) = rw (turns'.reached mid within) at b'.opened in
               let same_y : y' ≡ y = answer' ∙ sym answer in
-              let place : first + 487 + 245 ≡ first + 732 = omega arith in
-              let stands : Stands prices supply demand (first + 732) (i + 1) late = rw place at b.stands in
-              let stands' : Stands prices supply' demand' (first + 732) (i + 1) late' = rw place at b'.stands in
-              let next = after_answer prices n lo hi first rej in
+              let place : after_mask g first + g.compare_wires ≡ after_both g first = omega arith in
+              let stands : Stands prices supply demand (after_both g first) (i + 1) late = rw place at b.stands in
+              let stands' : Stands prices supply' demand' (after_both g first) (i + 1) late' = rw place at b'.stands in
+              let next = after_answer g prices n lo hi first rej in
               let q : plan_numbers deals yes after ≡ c ∷ y ∷ plan_numbers deals (next y) late =
-              numbers-block deals after (masked_batch (first + 487) first mid (prices + mid) ∷ []) (λ (c : ℕ). Block (borrow_batches (first + 487) first c) next)
-              ∙ ap (λ (l : List ℕ). c ∷ l) (numbers-block deals middle (borrow_batches (first + 487) first c) next) in
+              numbers-block deals after (g.masked (after_mask g first) first mid (prices + mid) ∷ []) (λ (c : ℕ). Block (g.answer (after_mask g first) first c) next)
+              ∙ ap (λ (l : List ℕ). c ∷ l) (numbers-block deals middle (g.answer (after_mask g first) first c) next) in
               let q' : plan_numbers deals' yes after' ≡ c' ∷ y' ∷ plan_numbers deals' (next y') late' =
-              numbers-block deals' after' (masked_batch (first + 487) first mid (prices + mid) ∷ []) (λ (c : ℕ). Block (borrow_batches (first + 487) first c) next)
-              ∙ ap (λ (l : List ℕ). c' ∷ l) (numbers-block deals' middle' (borrow_batches (first + 487) first c') next) in
-              let low = search_plan prices n lo mid (first + 732) rej in
-              let high = search_plan prices n (mid + 1) hi (first + 732) rej in
+              numbers-block deals' after' (g.masked (after_mask g first) first mid (prices + mid) ∷ []) (λ (c : ℕ). Block (g.answer (after_mask g first) first c) next)
+              ∙ ap (λ (l : List ℕ). c' ∷ l) (numbers-block deals' middle' (g.answer (after_mask g first) first c') next) in
+              let low = search_plan g prices n lo mid (after_both g first) rej in
+              let high = search_plan g prices n (mid + 1) hi (after_both g first) rej in
               let power : 2 ^ suc m ≡ 2 ^ m * 2 = pow-suc 2 m in
               let go : plan_numbers deals' (next y') late' ≡ plan_numbers deals (next y) late = elim (cases_Bool (nat_le z mid)) [
                 | inr above ↦
                     let e : (y == 1) ≡ false = ap (λ n. n == 1) (rw above at answer) in
                     let e' : (y' == 1) ≡ false = ap (λ n. n == 1) same_y ∙ e in
                     numbers-false deals' late' (y' == 1) low high e'
-                    ∙ both-search n m (mid + 1) hi (first + 732) (i + 1) rej late late' stands stands' (omega arith) hp (omega arith) (omega arith) hr (rw above at end')
+                    ∙ both-search n m (mid + 1) hi (after_both g first) (i + 1) rej late late' stands stands' (omega arith) hp (omega arith) (omega arith) hr (rw above at end')
                     (along-accepted masks places i rej mid (tested (nat_le z) m (mid + 1) hi) some (rw above at along'))
                     ∙ sym (numbers-false deals late (y == 1) low high e)
                 | inl below ↦
                     let e : (y == 1) ≡ true = ap (λ n. n == 1) (rw below at answer) in
                     let e' : (y' == 1) ≡ true = ap (λ n. n == 1) same_y ∙ e in
                     numbers-true deals' late' (y' == 1) low high e'
-                    ∙ both-search n m lo mid (first + 732) (i + 1) rej late late' stands stands' (omega arith) (omega arith) (omega arith) (omega arith) hr (rw below at end')
+                    ∙ both-search n m lo mid (after_both g first) (i + 1) rej late late' stands stands' (omega arith) (omega arith) (omega arith) (omega arith) hr (rw below at end')
                     (along-accepted masks places i rej mid (tested (nat_le z) m lo mid) some (rw below at along'))
                     ∙ sym (numbers-true deals late (y == 1) low high e)
               ] in

@@ -5,7 +5,7 @@ use Rattle.std.proofs.lemmas.List.{get_or_append_left, get_or-take, length-take-
 use Rattle.std.proofs.lemmas.List.Elements.{All-cons, All-head, All-tail, filter-append}
 use Rattle.std.proofs.lemmas.List.Sums.{sum_by-cons}
 use Rattle.beet_field.specs.Field.{p}
-use Rattle.beet_field.specs.Trio.{member}
+use Rattle.beet_field.specs.Trio.{member, of_each}
 use Rattle.beet_field.specs.declared.point.Point.{Point}
 use Rattle.beet_field.specs.declared.point.Point.TheVariants.{One, Two, Three}
 use Rattle.beet_field.specs.declared.trio.Trio.{Trio}
@@ -18,43 +18,45 @@ use Rattle.beet_gates.proofs.EachFacts.{each-same, length-each}
 use Rattle.beet_bids.specs.Books.{Book}
 use Rattle.beet_bids.specs.Curves.{quantity}
 use Rattle.beet_bids.specs.declared.book.Bidder.{Bidder}
-use Rattle.beet_plan.specs.Auction.{auction_batch, most_coefficients, most_masks, most_rounds, most_wires}
+use Rattle.beet_plan.specs.Auction.{auction_batch, most_coefficients, most_masks, most_rounds, most_wires, auction_over}
 use Rattle.beet_plan.proofs.AuctionLaw.{auction-law}
 use Rattle.beet_book.specs.Totals.{supply_first}
 use Rattle.beet_round.specs.Sides.{peer}
 use Rattle.beet_round.specs.declared.sides.Side.TheVariants.{Low, High}
-use Rattle.beet_server.specs.Runs.{HasRounds, Opening, coming, draws_in, message, numbers_of, of_each, rounds_among, shared_at}
+use Rattle.beet_server.specs.Runs.{HasRounds, Opening, coming, draws_in, message, numbers_of, rounds_among, shared_at}
 use Rattle.beet_server.proofs.Walk.{Walks, deals-fit, draws-fit, walks}
-use Rattle.beet_auction.specs.Openings.{Farmer, auction_over, book_inputs, point_for, summed_point, farmers_of}
+use Rattle.beet_plan.specs.Kept.{words_kept}
+use Rattle.beet_plan.specs.declared.TheConstants.{SPARE_WORDS}
+use Rattle.beet_book.specs.Farmers.{Farmer, book_inputs, point_for, summed_point, farmers_of}
 use Rattle.beet_view.specs.RunViews.{round_seen, rounds_seen}
-use Rattle.beet_map.proofs.Rounds.{rounds_are}
+use Rattle.beet_server.proofs.Rounds.{among-rounds}
 use Rattle.beet_worlds.specs.Enough.{AreEnough, HasAccepted}
-use Rattle.beet_worlds.specs.MappedWords.{opening_with}
+use Rattle.beet_auction.specs.Openings.{opening_for}
 use Rattle.beet_worlds.specs.ViewsWith.{cut_words}
 use Rattle.beet_worlds.proofs.SameRuns.{each-alike, ends-same, messages-same, runs-same}
 
 -- the words that are read hold the numbers that are wanted
 accepted-cut : (wanted : ℕ) (words : List ℕ) → HasAccepted wanted words → (n : ℕ) → n < wanted →
-    slice_index (accepted (take (wanted + 8) words)) n ≡ slice_index (accepted words) n
+    slice_index (accepted (take (wanted + SPARE_WORDS) words)) n ≡ slice_index (accepted words) n
 accepted-cut wanted words h n lt =
-    let m : ℕ = wanted + 8 in
+    let m : ℕ = wanted + SPARE_WORDS in
     let split : accepted words ≡ accepted (take m words) ++ accepted (drop m words) =
     ap accepted (sym (take-append-drop m words)) ∙ filter-append (λ w. not (w == ones)) (take m words) (drop m words) in
     sym (ap (λ l. slice_index l n) split ∙ get_or_append_left (accepted (take m words)) (accepted (drop m words)) 0 n (omega (arith, h, lt)))
 
 -- a bidder with the words that are read
 abbrev pub cut : ℕ → Farmer → Farmer
-cut wanted farmer = record { bidder = farmer.bidder; words = take (wanted + 8) farmer.words }
+cut wanted farmer = record { bidder = farmer.bidder; words = take (wanted + SPARE_WORDS) farmer.words }
 
 pub point-cut : (wanted : ℕ) (farmer : Farmer) → HasAccepted wanted farmer.words → (i : Point) (n : ℕ) → n < wanted →
     point_for (cut wanted farmer) i n ≡ point_for farmer i n
 point-cut wanted farmer h i n lt = λ x. point_of (quantity farmer.bidder.curve n) (accepted-cut wanted farmer.words h n lt x) i
 
 pub farmers-cut : (wanted : ℕ) (bidders : List Bidder) (words : List (List ℕ)) →
-    farmers_of bidders (map (take (wanted + 8)) words) ≡ map (cut wanted) (farmers_of bidders words)
+    farmers_of bidders (map (take (wanted + SPARE_WORDS)) words) ≡ map (cut wanted) (farmers_of bidders words)
 farmers-cut wanted [] words = refl
 farmers-cut wanted (b ∷ bs) [] = refl
-farmers-cut wanted (b ∷ bs) (w ∷ ws) = ap (λ l. record { bidder = b; words = take (wanted + 8) w } ∷ l) (farmers-cut wanted bs ws)
+farmers-cut wanted (b ∷ bs) (w ∷ ws) = ap (λ l. record { bidder = b; words = take (wanted + SPARE_WORDS) w } ∷ l) (farmers-cut wanted bs ws)
 
 -- what is true of each list is true of the words of each bidder
 pub farmers-have : (P : List ℕ → Type 0) (bidders : List Bidder) (words : List (List ℕ)) → All P words → All (λ (f : Farmer). P f.words) (farmers_of bidders words)
@@ -77,7 +79,7 @@ words-cut m t Two n lt = get_or-take m t.two n 0 lt
 words-cut m t Three n lt = get_or-take m t.three n 0 lt
 
 numbers-cut : (wanted : ℕ) (t : Trio (List ℕ)) (j : Point) (n : ℕ) → HasAccepted wanted t.one → HasAccepted wanted t.two → HasAccepted wanted t.three → n < wanted →
-    slice_index (member (numbers_of (of_each (take (wanted + 8)) t)) j) n ≡ slice_index (member (numbers_of t) j) n
+    slice_index (member (numbers_of (of_each (take (wanted + SPARE_WORDS)) t)) j) n ≡ slice_index (member (numbers_of t) j) n
 numbers-cut wanted t One n a b c lt = accepted-cut wanted t.one a n lt
 numbers-cut wanted t Two n a b c lt = accepted-cut wanted t.two b n lt
 numbers-cut wanted t Three n a b c lt = accepted-cut wanted t.three c n lt
@@ -96,12 +98,12 @@ inputs-long prices farmers Three = length-supply prices (summed_point farmers Th
 
 module _ (book : Book) (words : Words) (e : AreEnough book words) where
   point-inputs : (i : Point) →
-      supply_first book.grid.prices (each (summed_point (farmers_of book.bidders (map (take (2 * book.grid.prices + 8)) words.bidders)) i) (2 * book.grid.prices))
+      supply_first book.grid.prices (each (summed_point (farmers_of book.bidders (map (take (words_kept book.grid.prices)) words.bidders)) i) (2 * book.grid.prices))
       ≡ supply_first book.grid.prices (each (summed_point (farmers_of book.bidders words.bidders) i) (2 * book.grid.prices))
   point-inputs i =
       let wanted = 2 * book.grid.prices in
       let farmers = farmers_of book.bidders words.bidders in
-      let read = farmers_of book.bidders (map (take (wanted + 8)) words.bidders) in
+      let read = farmers_of book.bidders (map (take (wanted + SPARE_WORDS)) words.bidders) in
       ap (supply_first book.grid.prices)
       (each-same (summed_point read i) (summed_point farmers i) wanted
       (λ n lt. ap (λ l. sum_by (λ farmer. point_for farmer i n) l % p) (farmers-cut wanted book.bidders words.bidders)
@@ -109,10 +111,10 @@ module _ (book : Book) (words : Words) (e : AreEnough book words) where
 
   -- the same opening but for the words that are not read
   abbrev whole : Opening
-  whole = opening_with book words
+  whole = opening_for book words
 
   abbrev read : Opening
-  read = opening_with book (cut_words book.grid words)
+  read = opening_for book (cut_words book.grid words)
 
   abbrev shorter : Opening
   shorter = record { next = whole.next; inputs = whole.inputs; masks = read.masks; numbers = read.numbers }
@@ -154,7 +156,7 @@ module _ (book : Book) (words : Words) (e : AreEnough book words) where
     pub rounds-cut : rounds_among read (most_rounds (auction_over book.grid)) ≡ rounds
     rounds-cut =
         ap (λ o. rounds_among o (most_rounds (auction_over book.grid))) is-shorter
-        ∙ rounds_are shorter (most_rounds (auction_over book.grid)) rounds
+        ∙ among-rounds shorter rounds (most_rounds (auction_over book.grid))
         (ends-same whole.next whole.inputs whole.masks whole.numbers read.masks read.numbers rounds (most_coefficients (auction_over book.grid))
         (most_masks (auction_over book.grid)) fit numbers-read words-read runs)
         rounds-few

@@ -5,7 +5,8 @@ use Rattle.std.proofs.lemmas.List.Elements.{All-cons, All-head, All-tail, filter
 use Rattle.beet_words.specs.Words.{IsWord, accepted, ones}
 use Rattle.beet_bids.specs.Books.{Book}
 use Rattle.beet_bids.specs.declared.book.Bidder.{Bidder}
-use Rattle.beet_auction.specs.Openings.{Farmer, book_of, farmers_of}
+use Rattle.beet_plan.specs.declared.TheConstants.{SPARE_WORDS}
+use Rattle.beet_book.specs.Farmers.{Farmer, book_of, farmers_of}
 use Rattle.beet_worlds.specs.Enough.{HasAccepted}
 use Rattle.beet_worlds.proofs.InputFacts.{bidders-of}
 
@@ -34,7 +35,7 @@ words-told bidders u v a b e = sym (words-of bidders u a) ∙ ap (map (λ (f : F
 -- what the first words hold is there to draw from all
 pub drawn-of : (wanted : ℕ) (words : List ℕ) → HasAccepted wanted words → wanted ≤ length (accepted words)
 drawn-of wanted words h =
-    let n : ℕ = wanted + 8 in
+    let n : ℕ = wanted + SPARE_WORDS in
     let split : accepted words ≡ accepted (take n words) ++ accepted (drop n words) =
     ap accepted (sym (take-append-drop n words)) ∙ filter-append (λ w. not (w == ones)) (take n words) (drop n words) in
     omega (arith, h, ap length split, length-append (accepted (take n words)) (accepted (drop n words)))

@@ -6,7 +6,7 @@ use Rattle.std.proofs.lemmas.Option.{slice_get_within}
 use Rattle.beet_field.specs.declared.point.Point.{Point}
 use Rattle.beet_bids.specs.declared.book.Bidder.{Bidder}
 use Rattle.beet_gates.proofs.EachFacts.{get-append, get-append_right}
-use Rattle.beet_auction.specs.Openings.{Farmer, farmers_of}
+use Rattle.beet_book.specs.Farmers.{Farmer, farmers_of}
 use Rattle.beet_worlds.specs.MappedBidders.{BiddersMapped, FarmerMapped}
 use Rattle.beet_worlds.proofs.MasksBack.{get-map, some-same}
 

@@ -13,8 +13,9 @@ use Rattle.beet_gates.specs.Scripts.{HasWords}
 use Rattle.beet_bids.specs.Books.{Book}
 use Rattle.beet_bids.specs.Grids.{Grid}
 use Rattle.beet_bids.specs.declared.book.Bidder.{Bidder}
-use Rattle.beet_plan.specs.Auction.{most_masks, most_coefficients}
-use Rattle.beet_auction.specs.Openings.{Farmer, auction_over, farmers_of}
+use Rattle.beet_plan.specs.Auction.{most_masks, most_coefficients, auction_over}
+use Rattle.beet_plan.specs.declared.TheConstants.{SPARE_WORDS}
+use Rattle.beet_book.specs.Farmers.{Farmer, farmers_of}
 use Rattle.beet_worlds.specs.Agreement.{Agree}
 use Rattle.beet_worlds.specs.Enough.{AreEnough, HasAccepted}
 use Rattle.beet_map.specs.Mapped.{ones_in}
@@ -28,7 +29,7 @@ use Rattle.beet_worlds.proofs.WordPlaces.{accepted-length}
 -- as many words are accepted where the same are all ones
 has-accepted-same : (wanted : ℕ) (xs ys : List ℕ) → ones_in ys ≡ ones_in xs → HasAccepted wanted xs → HasAccepted wanted ys
 has-accepted-same wanted xs ys e h =
-    let n : ℕ = wanted + 8 in
+    let n : ℕ = wanted + SPARE_WORDS in
     let front : ones_in (take n ys) ≡ ones_in (take n xs) =
     sym (take-map (λ w. w == ones) n ys) ∙ ap (take n) e ∙ take-map (λ w. w == ones) n xs in
     omega (arith, h, accepted-length (take n ys) (take n xs) front)

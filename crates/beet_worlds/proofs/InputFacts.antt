@@ -12,13 +12,12 @@ use Rattle.beet_words.specs.Words.{accepted}
 use Rattle.beet_gates.specs.Each.{each}
 use Rattle.beet_gates.proofs.EachFacts.{each-more, each-same, item-each, length-each}
 use Rattle.beet_bids.specs.Books.{Book, IsBook}
-use Rattle.beet_bids.specs.Sums.{supply_at, demand_at}
+use Rattle.beet_bids.specs.Sums.{supply_at, demand_at, sums_of}
 use Rattle.beet_bids.specs.declared.book.Bidder.{Bidder}
-use Rattle.beet_plan.specs.Runs.{sums_of}
-use Rattle.beet_plan.proofs.BookFacts.{length-sums}
+use Rattle.beet_bids.proofs.BookSums.{length-sums}
 use Rattle.beet_book.specs.Totals.{supply_first}
 use Rattle.beet_server.specs.Lines.{OnLines}
-use Rattle.beet_auction.specs.Openings.{book_inputs, book_of, slope_for, farmers_of}
+use Rattle.beet_book.specs.Farmers.{book_inputs, book_of, slope_for, farmers_of}
 use Rattle.beet_auction.proofs.BookLines.{book-lines, slopes_of}
 use Rattle.beet_worlds.specs.InputLines.{AreInputLines, summed_slope}
 

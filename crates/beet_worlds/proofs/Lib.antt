@@ -8,7 +8,6 @@ pub mod Agreed
 pub mod Small
 pub mod BookWorlds
 pub mod MasksBack
-pub mod Moved
 pub mod WordPlaces
 pub mod BidderFacts
 pub mod Paths

@@ -12,8 +12,10 @@ use Rattle.beet_field.specs.declared.trio.Trio.{Trio}
 use Rattle.beet_bids.specs.Books.{Book}
 use Rattle.beet_mask.specs.Mask.{mask_of}
 use Rattle.beet_plan.specs.Search.{mask_at, is_accepted, rejected_among, accepted_among, is_spent, dealt_until_spent, dealt_for}
+use Rattle.beet_round.specs.Sides.{peer}
+use Rattle.beet_round.specs.declared.sides.Side.TheVariants.{Low}
 use Rattle.beet_worlds.specs.Turn.{turned}
-use Rattle.beet_worlds.specs.MappedMasks.{MasksMapped, lower_other, compared_in, lost_at, mask_mapped, word_mapped}
+use Rattle.beet_worlds.specs.MappedMasks.{MasksMapped, compared_in, lost_at, mask_mapped, word_mapped}
 use Rattle.beet_worlds.proofs.Turned.{turned-ones, first-word, second-word}
 
 module _ (first second : Book) where
@@ -37,7 +39,7 @@ module _ (first second : Book) where
     own-same Three m = m.others Three (λ e. cc e)
 
     -- each mask that is compared is turned
-    pub mask-turned : (s : Point) → MasksMapped s first second words words' → (i : ℕ) → i < length (member words (lower_other s)) →
+    pub mask-turned : (s : Point) → MasksMapped s first second words words' → (i : ℕ) → i < length (member words (peer s Low)) →
         mask_at words' i ≡ mask_mapped first second (mask_at words i) (compared_in first words i)
     mask-turned One m i lt =
         (λ j. mask_of (slice_index (m.others One (λ e. cc) j) i) (m.turns i lt j) (slice_index (m.others Three (λ e. cc) j) i))
@@ -52,7 +54,7 @@ module _ (first second : Book) where
     both_past : (xs ys : List ℕ) (i : ℕ) → length ys ≡ length xs → length xs ≤ i → slice_index ys i ≡ slice_index xs i
     both_past xs ys i e le = get_or_past ys i 0 (omega arith) ∙ sym (get_or_past xs i 0 le)
 
-    mask-past : (s : Point) → MasksMapped s first second words words' → (i : ℕ) → length (member words (lower_other s)) ≤ i → mask_at words' i ≡ mask_at words i
+    mask-past : (s : Point) → MasksMapped s first second words words' → (i : ℕ) → length (member words (peer s Low)) ≤ i → mask_at words' i ≡ mask_at words i
     mask-past One m i le =
         λ j. mask_of (slice_index (m.others One (λ e. cc) j) i) (both_past words.two words'.two i (m.lengths Two) le j) (slice_index (m.others Three (λ e. cc) j) i)
     mask-past Two m i le =
@@ -62,7 +64,7 @@ module _ (first second : Book) where
 
     -- the same masks are all ones
     pub mask-ones : (s : Point) → MasksMapped s first second words words' → (i : ℕ) → (mask_at words' i == p) ≡ (mask_at words i == p)
-    mask-ones s m i = elim (cases_lt i (length (member words (lower_other s)))) [
+    mask-ones s m i = elim (cases_lt i (length (member words (peer s Low)))) [
       | inl lt ↦ ap (λ r. r == p) (mask-turned s m i lt) ∙ mapped-ones (mask_at words i) (compared_in first words i)
       | inr past ↦ ap (λ r. r == p) (mask-past s m i past)
     ]

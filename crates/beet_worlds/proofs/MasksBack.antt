@@ -12,9 +12,11 @@ use Rattle.beet_bids.specs.Outcomes.{clearing_place}
 use Rattle.beet_bids.specs.declared.book.Bidder.{Bidder}
 use Rattle.beet_plan.specs.Runs.{AreMasks}
 use Rattle.beet_plan.specs.Search.{path, mask_at}
+use Rattle.beet_round.specs.Sides.{peer}
+use Rattle.beet_round.specs.declared.sides.Side.TheVariants.{Low}
 use Rattle.beet_worlds.specs.Agreement.{Agree}
 use Rattle.beet_worlds.specs.Turn.{turned}
-use Rattle.beet_worlds.specs.MappedMasks.{MasksMapped, lower_other, place_compared, compared_in, doubled_at, lost_at, mask_mapped, word_mapped}
+use Rattle.beet_worlds.specs.MappedMasks.{MasksMapped, place_compared, compared_in, doubled_at, lost_at, mask_mapped, word_mapped}
 use Rattle.beet_worlds.proofs.Agreed.{prices-same, clearing-same}
 use Rattle.beet_worlds.proofs.MaskFacts.{Alike, mask-turned, mask-ones, rejected-same, accepted-same}
 use Rattle.beet_worlds.proofs.Small.{mask-small}
@@ -66,7 +68,7 @@ word-mapped-back first second word mask word' mask' (Some k) small m w =
 module _ (s : Point) (first second : Book) (agree : Agree s first second) (words words' : Trio (List ℕ)) (small : AreMasks words) where
   pub masks-back : MasksMapped s first second words words' → MasksMapped s second first words' words
   masks-back mapped =
-      let l = lower_other s in
+      let l = peer s Low in
       let alike : Alike (mask_at words) (mask_at words') = record { same = mask-ones first second words words' s mapped } in
       record {
         lengths = λ j. sym (mapped.lengths j);
@@ -82,9 +84,9 @@ module _ (s : Point) (first second : Book) (agree : Agree s first second) (words
       }
 
 module _ (first second : Book) (words : Trio (List ℕ)) where
-  lower-only : (s : Point) (u v : Trio (List ℕ)) → MasksMapped s first second words u → MasksMapped s first second words v → member u (lower_other s) ≡ member v (lower_other s)
+  lower-only : (s : Point) (u v : Trio (List ℕ)) → MasksMapped s first second words u → MasksMapped s first second words v → member u (peer s Low) ≡ member v (peer s Low)
   lower-only s u v a b =
-      let l = lower_other s in
+      let l = peer s Low in
       ext_get_or 0 (member u l) (member v l) (a.lengths l ∙ sym (b.lengths l))
       (λ i lt. let h : i < length (member words l) = omega (arith, a.lengths l) in a.turns i h ∙ sym (b.turns i h))
 

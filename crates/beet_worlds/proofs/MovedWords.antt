@@ -11,18 +11,14 @@ use Rattle.beet_bids.specs.Curves.{Curve, quantity}
 use Rattle.beet_map.specs.Mapped.{moved_of, ones_in}
 use Rattle.beet_worlds.specs.MappedBidders.{SlopesMoved, slope_mapped}
 use Rattle.beet_worlds.proofs.WordPlaces.{accepted-length, accepted-some}
-
-accepted-append : (xs ys : List ℕ) → accepted (xs ++ ys) ≡ accepted xs ++ accepted ys
-accepted-append xs ys = filter-append (λ w. not (w == ones)) xs ys
+use Rattle.beet_map.proofs.WordLists.{accepted-append}
+use Rattle.beet_gates.proofs.Segments.{index-append}
 
 accepted-none : (w : ℕ) → w ≡ ones → accepted (w ∷ []) ≡ []
 accepted-none w e = let t : (w == ones) ≡ true = eq-eqb w ones e in rw t refl
 
 accepted-one : (w : ℕ) → w ≢ ones → accepted (w ∷ []) ≡ w ∷ []
 accepted-one w e = let t : (w == ones) ≡ false = ne_eqb w ones e in rw t refl
-
-front-item : (xs ys : List ℕ) (n : ℕ) → n < length xs → slice_index (xs ++ ys) n ≡ slice_index xs n
-front-item xs ys n h = get_or_append_left xs ys 0 n h
 
 last-item : (xs ys : List ℕ) (x : ℕ) → slice_index (xs ++ x ∷ ys) (length xs) ≡ x
 last-item xs ys x = let e : length xs ≡ length xs + 0 = omega arith in ap (slice_index (xs ++ x ∷ ys)) e ∙ get_or-append-add xs (x ∷ ys) 0 0
@@ -99,8 +95,8 @@ module _ (s : Point) (wanted : ℕ) (one other : Curve) where
                 count = ap length more ∙ length-append before (word ∷ []) ∙ ap (λ n. n + 1) g.count;
                 items = λ n h. elim (cases_lt n drawn) [
                   | inl low ↦
-                      ap (λ l. slice_index l n) kept ∙ front-item (accepted out) (x ∷ []) n (omega (arith, long, g.count)) ∙ g.items n low
-                      ∙ ap (slope_mapped s wanted one other n) (sym (ap (λ l. slice_index l n) more ∙ front-item before (word ∷ []) n (omega (arith, g.count))))
+                      ap (λ l. slice_index l n) kept ∙ index-append (accepted out) (x ∷ []) n (omega (arith, long, g.count)) ∙ g.items n low
+                      ∙ ap (slope_mapped s wanted one other n) (sym (ap (λ l. slice_index l n) more ∙ index-append before (word ∷ []) n (omega (arith, g.count))))
                   | inr high ↦
                       let e : n ≡ length (accepted out) = omega (arith, long, g.count) in
                       let e' : n ≡ length before = omega (arith, g.count) in

@@ -1,12 +1,13 @@
 -- The numbers that the run of a plan opens, block by block.
-use Rattle.std.proofs.Common.{◌≡◌, ℕ, ◌+◌, ◌-◌, Bool, true, false, List, [], ◌∷◌, ◌++◌, length, slice_index, refl, ap, sym, ◌∙◌, arith, append_assoc, append-nil}
+use Rattle.std.proofs.Common.{◌≡◌, ℕ, ◌+◌, ◌-◌, Bool, true, false, List, [], ◌∷◌, ◌++◌, drop, length, slice_index, refl, ap, sym, ◌∙◌, arith, append_assoc, append-nil}
 use Rattle.std.specs.Prelude.{if◌then◌else◌}
+use Rattle.std.proofs.Math.Seq.{drop-append_seam}
 use Rattle.std.proofs.lemmas.List.{get_or-append-add, nil_from_length}
 use Rattle.beet_field.specs.declared.trio.Trio.{Trio}
 use Rattle.beet_gates.specs.declared.Batch.{Batch}
 use Rattle.beet_gates.specs.Clear.{Values, batch_on, batches_on}
 use Rattle.beet_gates.specs.Deals.{deals_of}
-use Rattle.beet_gates.specs.Plans.{Plan, Ended, Block, plan_run, opened_by, BlockStands, PlanStands, after_all}
+use Rattle.beet_gates.specs.Plans.{Plan, Ended, Block, Last, all_opened_by, plan_run, opened_by, BlockStands, PlanStands, after_all}
 use Rattle.beet_gates.specs.Scripts.{Standing, after}
 use Rattle.beet_gates.proofs.ClearFacts.{opened-more}
 
@@ -15,6 +16,7 @@ unfoldable pub plan_numbers : {F : Type 0} → (ℕ → List ℕ) → Plan F →
 plan_numbers deals (Ended f) v = []
 plan_numbers deals (Block bs next) v =
     let after = batches_on deals bs v in opened_by v after ∷ plan_numbers deals (next (opened_by v after)) after
+plan_numbers deals (Last b n named) v = all_opened_by v (batch_on deals b v)
 
 single : (xs : List ℕ) → length xs ≡ 1 → (x : ℕ) × (xs ≡ x ∷ [])
 single [] h = absurd (omega arith)
@@ -50,6 +52,10 @@ module _ (words : Trio (List ℕ)) where
       (plan_run (deals_of words) plan v).opened ≡ v.opened ++ plan_numbers (deals_of words) plan v
   unfolding plan_run plan_numbers
   plan-opened bounds (Ended f) s n v h = sym (append-nil v.opened)
+  plan-opened bounds (Last b k named) s n v h =
+      let o = opened-more words b v in
+      let all : all_opened_by v (batch_on (deals_of words) b v) ≡ o.0 = ap (drop (length v.opened)) o.2 ∙ drop-append_seam v.opened o.0 in
+      o.2 ∙ ap (λ (l : List ℕ). v.opened ++ l) (sym all)
   plan-opened bounds (Block bs k) s n v h =
       let q = plan-next bounds s n bs k h in
       let after = batches_on (deals_of words) bs v in

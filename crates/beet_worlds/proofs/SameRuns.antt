@@ -1,7 +1,7 @@
 -- Runs in which the same numbers are drawn and the same words are dealt, and runs that one server cannot tell apart.
 use Rattle.std.proofs.Common.{◌≡◌, ◌≤◌, ◌<◌, ◌+◌, ℕ, zero, suc, List, [], ◌∷◌, ◌++◌, map, length, slice_index, refl, sym, ◌∙◌, arith}
 use Rattle.std.specs.Int.{bit_at}
-use Rattle.beet_field.specs.Trio.{member}
+use Rattle.beet_field.specs.Trio.{member, trio_of}
 use Rattle.beet_field.specs.declared.point.Point.{Point}
 use Rattle.beet_field.specs.declared.point.Point.TheVariants.{One, Two, Three}
 use Rattle.beet_field.specs.declared.trio.Trio.{Trio}
@@ -13,7 +13,7 @@ use Rattle.beet_gates.specs.declared.Act.{Act}
 use Rattle.beet_gates.specs.declared.Act.TheVariants.{Deal, Mul, Reveal, End}
 use Rattle.beet_gates.specs.declared.Batch.{Batch}
 use Rattle.beet_gates.proofs.EachFacts.{each-same, each-suc, each-zero}
-use Rattle.beet_server.specs.Runs.{Opening, Shared, HasRounds, act_among, coming, draws_in, gained, hidden_at, message, number_drawn, opened_by, product_at, secret_hidden, secret_of, sent_for, shared_at, standing_at, trio_of, with_batch_lets}
+use Rattle.beet_server.specs.Runs.{Opening, Shared, HasRounds, act_among, coming, draws_in, gained, hidden_at, message, number_drawn, opened_by, product_at, secret_hidden, secret_of, sent_for, shared_at, standing_at, with_batch_lets}
 
 -- rules that agree as far as a list goes give the same list
 pub each-alike : {A : Type 0} (f g : ℕ → A) (n : ℕ) → ((k : ℕ) → k < n → f k ≡ g k) → each f n ≡ each g n

@@ -8,7 +8,8 @@ use Rattle.beet_gates.specs.Each.{each}
 use Rattle.beet_gates.proofs.EachFacts.{each-same}
 use Rattle.beet_bids.specs.Curves.{Curve, IsCurve}
 use Rattle.beet_bids.specs.Grids.{Grid}
-use Rattle.beet_auction.specs.Openings.{Farmer, point_for}
+use Rattle.beet_plan.specs.declared.TheConstants.{SPARE_WORDS}
+use Rattle.beet_book.specs.Farmers.{Farmer, point_for}
 use Rattle.beet_view.specs.BookViews.{names, seen_at}
 use Rattle.beet_worlds.specs.Enough.{HasAccepted}
 use Rattle.beet_worlds.specs.MappedBidders.{BiddersMapped, FarmerMapped}
@@ -40,14 +41,14 @@ module _ (s : Point) (grid : Grid) where
       let points : each (point_for (cut wanted other) s) wanted ≡ each (point_for (cut wanted one) s) wanted =
       each-same (point_for (cut wanted other) s) (point_for (cut wanted one) s) wanted
       (λ n lt. point-cut wanted other h' s n lt ∙ point-same s wanted one other c own m n lt ∙ sym (point-cut wanted one h s n lt)) in
-      let secret : shown (names other.bidder.known s) other.bidder.curve (take (wanted + 8) other.words)
-      ≡ shown (names one.bidder.known s) one.bidder.curve (take (wanted + 8) one.words) =
+      let secret : shown (names other.bidder.known s) other.bidder.curve (take (wanted + SPARE_WORDS) other.words)
+      ≡ shown (names one.bidder.known s) one.bidder.curve (take (wanted + SPARE_WORDS) one.words) =
       elim (known-or one.bidder.known s) [
-        | inl known ↦ λ x. shown (names (m.known x) s) (own known x) (take (wanted + 8) (m.own known x))
+        | inl known ↦ λ x. shown (names (m.known x) s) (own known x) (take (wanted + SPARE_WORDS) (m.own known x))
         | inr unknown ↦
             let no : names one.bidder.known s ≡ false = names-not one.bidder.known s unknown in
-            (λ x. shown ((ap (λ k. names k s) m.known ∙ no) x) other.bidder.curve (take (wanted + 8) other.words))
-            ∙ sym (λ x. shown (no x) one.bidder.curve (take (wanted + 8) one.words))
+            (λ x. shown ((ap (λ k. names k s) m.known ∙ no) x) other.bidder.curve (take (wanted + SPARE_WORDS) other.words))
+            ∙ sym (λ x. shown (no x) one.bidder.curve (take (wanted + SPARE_WORDS) one.words))
       ] in
       λ x. record { known = m.known x; points = points x; own = secret x }
 

@@ -15,7 +15,9 @@ use Rattle.beet_gates.specs.Deals.{deals_of}
 use Rattle.beet_plan.specs.Runs.{AreMasks}
 use Rattle.beet_plan.specs.Search.{mask_at}
 use Rattle.beet_plan.proofs.BlockSteps.{Deals}
-use Rattle.beet_worlds.specs.MappedMasks.{MasksMapped, lower_other, compared_in, lost_at, word_mapped}
+use Rattle.beet_round.specs.Sides.{peer}
+use Rattle.beet_round.specs.declared.sides.Side.TheVariants.{Low}
+use Rattle.beet_worlds.specs.MappedMasks.{MasksMapped, compared_in, lost_at, word_mapped}
 use Rattle.beet_worlds.proofs.Turned.{turned-small}
 
 -- a word at any place, past the end too, where it is read as 0
@@ -53,16 +55,16 @@ module _ (first second : Book) where
     member-words Two = m.two
     member-words Three = m.three
 
-    lower-words : All IsWord (member words' (lower_other s))
+    lower-words : All IsWord (member words' (peer s Low))
     lower-words =
-        let l = lower_other s in
+        let l = peer s Low in
         All-from_get_or IsWord (member words' l) 0
         (λ i lt.
         let h : i < length (member words l) = omega (arith, mapped.lengths l) in
         rw (mapped.turns i h)
         (mapped-small (mask_at words i) (slice_index (member words l) i) (compared_in first words i) (mask-small words m i) (word-small (member words l) (member-words l) i)))
 
-    other-words : (j : Point) → j ≢ lower_other s → All IsWord (member words' j)
+    other-words : (j : Point) → j ≢ peer s Low → All IsWord (member words' j)
     other-words j ne = rw (mapped.others j ne) (member-words j)
 
   pub mapped-masks : (s : Point) (words words' : Trio (List ℕ)) → AreMasks words → MasksMapped s first second words words' → AreMasks words'

@@ -11,7 +11,9 @@ use Rattle.beet_field.specs.declared.trio.Trio.{Trio}
 use Rattle.beet_bids.specs.Books.{Book}
 use Rattle.beet_bids.specs.Outcomes.{clearing_place}
 use Rattle.beet_plan.specs.Search.{path, mask_at, rejected_among, accepted_among}
-use Rattle.beet_worlds.specs.MappedMasks.{MasksMapped, compared_in, lower_other, place_after, word_mapped}
+use Rattle.beet_round.specs.Sides.{peer}
+use Rattle.beet_round.specs.declared.sides.Side.TheVariants.{Low}
+use Rattle.beet_worlds.specs.MappedMasks.{MasksMapped, compared_in, place_after, word_mapped}
 use Rattle.beet_worlds.proofs.Places.{both-counts, passing-more}
 
 module _ (first second : Book) (masks : Trio (List ℕ)) (words : List ℕ) where
@@ -68,7 +70,7 @@ module _ (first second : Book) (words words' : Trio (List ℕ)) where
   first-others two three Two ne = two
   first-others two three Three ne = three
 
-  pub first-list : (s : Point) → lower_other s ≡ One → TurnsList One → words'.two ≡ words.two → words'.three ≡ words.three → MasksMapped s first second words words'
+  pub first-list : (s : Point) → peer s Low ≡ One → TurnsList One → words'.two ≡ words.two → words'.three ≡ words.three → MasksMapped s first second words words'
   first-list One l t two three = cc l
   first-list Two l t two three = record {
     lengths = first-lengths t two three;

@@ -25,26 +25,6 @@ is-ones w t = elim (cases_eq w ones) [
   | inr n ↦ absurd (cc (t, ne_eqb w ones n))
 ]
 
--- two lists with the same places and the same accepted words are the same
-pub words-same : (xs ys : List ℕ) → ones_in xs ≡ ones_in ys → accepted xs ≡ accepted ys → xs ≡ ys
-words-same [] [] e f = refl
-words-same [] (y ∷ ys) e f = cc e
-words-same (x ∷ xs) [] e f = cc e
-words-same (x ∷ xs) (y ∷ ys) e f =
-    let h : (x == ones) ≡ (y == ones) = head-same (x == ones) (y == ones) (ones_in xs) (ones_in ys) e in
-    let t = tail-same (x == ones) (y == ones) (ones_in xs) (ones_in ys) e in
-    elim (cases_Bool (y == ones)) [
-      | inl all ↦
-          let here : x ≡ y = is-ones x (h ∙ all) ∙ sym (is-ones y all) in
-          let rest = words-same xs ys t (sym (accepted-ones x xs (h ∙ all)) ∙ f ∙ accepted-ones y ys all) in
-          λ j. here j ∷ rest j
-      | inr some ↦
-          let g : x ∷ accepted xs ≡ y ∷ accepted ys = sym (accepted-more x xs (h ∙ some)) ∙ f ∙ accepted-more y ys some in
-          let here : x ≡ y = cc g in
-          let rest = words-same xs ys t (cc g) in
-          λ j. here j ∷ rest j
-    ]
-
 -- and as many are accepted
 pub accepted-length : (xs ys : List ℕ) → ones_in xs ≡ ones_in ys → length (accepted xs) ≡ length (accepted ys)
 accepted-length [] [] e = refl

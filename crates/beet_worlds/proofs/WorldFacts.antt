@@ -1,7 +1,7 @@
 -- The words of the second world: what is said of them.
 use Rattle.std.proofs.Common.{◌≡◌, ◌≤◌, ◌+◌, ◌*◌, ℕ, List, map, take, length, sym, ap, subst, ◌∙◌, arith}
 use Rattle.std.proofs.lemmas.List.{length-map}
-use Rattle.beet_field.specs.Trio.{member}
+use Rattle.beet_field.specs.Trio.{member, of_each}
 use Rattle.beet_field.specs.declared.point.Point.{Point}
 use Rattle.beet_field.specs.declared.point.Point.TheVariants.{One, Two, Three}
 use Rattle.beet_field.specs.declared.trio.Trio.{Trio}
@@ -12,29 +12,31 @@ use Rattle.beet_gates.specs.Scripts.{HasWords}
 use Rattle.beet_bids.specs.Books.{Book, IsBook}
 use Rattle.beet_bids.specs.Grids.{Grid}
 use Rattle.beet_bids.specs.declared.book.Bidder.{Bidder}
-use Rattle.beet_plan.specs.Auction.{auction_batch, most_coefficients, most_masks, most_rounds}
+use Rattle.beet_plan.specs.Auction.{auction_batch, most_coefficients, most_masks, most_rounds, auction_over}
 use Rattle.beet_plan.specs.Runs.{AreMasks}
-use Rattle.beet_plan.proofs.BookFacts.{length-sums}
+use Rattle.beet_bids.proofs.BookSums.{length-sums}
 use Rattle.beet_round.specs.Sides.{peer}
 use Rattle.beet_round.specs.declared.sides.Side.TheVariants.{Low, High}
 use Rattle.beet_server.specs.Events.{Triple, after, passed}
-use Rattle.beet_server.specs.Runs.{HasRounds, Opening, numbers_of, of_each, rounds_among}
+use Rattle.beet_server.specs.Runs.{HasRounds, Opening, numbers_of, rounds_among}
 use Rattle.beet_server.proofs.EventFacts.{passed_most, sent_parts, was_sent_parts}
 use Rattle.beet_server.proofs.Lined.{member-each}
-use Rattle.beet_auction.specs.Openings.{Farmer, auction_over, book_of, book_opening, farmers_of}
+use Rattle.beet_auction.specs.Openings.{book_opening, opening_for, rounds_for}
+use Rattle.beet_plan.specs.Kept.{words_kept, masks_kept, coefficients_kept}
+use Rattle.beet_book.specs.Farmers.{Farmer, book_of, farmers_of}
 use Rattle.beet_view.specs.BookViews.{seen_at}
 use Rattle.beet_view.specs.RunViews.{round_seen, rounds_seen}
 use Rattle.beet_map.specs.Mapped.{GateMapped, LooksAlike, run_with}
 use Rattle.beet_map.specs.Mapped.{AreWords as AreAllWords}
 use Rattle.beet_map.specs.Refused.{HasSecrets}
 use Rattle.beet_map.specs.Worlds.{World}
-use Rattle.beet_map.proofs.Rounds.{rounds_are}
+use Rattle.beet_server.proofs.Rounds.{among-rounds}
 use Rattle.beet_worlds.specs.Agreement.{Agree, SameKnown}
 use Rattle.beet_worlds.specs.Enough.{AreEnough, HasAccepted}
 use Rattle.beet_worlds.specs.InputLines.{AreInputLines}
 use Rattle.beet_worlds.specs.MappedBidders.{BiddersMapped}
 use Rattle.beet_worlds.specs.MappedMasks.{MasksMapped}
-use Rattle.beet_worlds.specs.MappedWords.{Mapped, opening_with, rounds_with}
+use Rattle.beet_worlds.specs.MappedWords.{Mapped}
 use Rattle.beet_worlds.specs.Moments.{SameAfter}
 use Rattle.beet_worlds.specs.ViewsWith.{cut_words, view_with}
 use Rattle.beet_worlds.specs.Worlds.{CoefficientsMapped, LookSameIn, WorldsMapped}
@@ -177,10 +179,10 @@ module _ (me : Point) (grid : Grid) (bidders others : List Bidder) (words : Word
     most = most_rounds (auction_over grid)
 
     abbrev here : Opening
-    here = opening_with first words
+    here = opening_for first words
 
     abbrev there : Opening
-    there = opening_with second words'
+    there = opening_for second words'
 
     begun-here : run_with (auction_batch (auction_over grid)) world words.coefficients ≡ here
     begun-here = begun first words.bidders words.masks words.coefficients lines s.here
@@ -188,7 +190,7 @@ module _ (me : Point) (grid : Grid) (bidders others : List Bidder) (words : Word
     begun-there : run_with (auction_batch (auction_over grid)) world' coefficients ≡ there
     begun-there = begun second lists masks coefficients lines' s.there
 
-    look : LooksAlike me (rounds_with first words) here there
+    look : LooksAlike me (rounds_for first words) here there
     look =
         look-along me most (run_with (auction_batch (auction_over grid)) world words.coefficients) here
         (run_with (auction_batch (auction_over grid)) world' coefficients) there begun-here begun-there c.looks
@@ -216,8 +218,8 @@ module _ (me : Point) (grid : Grid) (bidders others : List Bidder) (words : Word
     cut-me n t t' e = member-each (take n) t' me ∙ ap (take n) e ∙ sym (member-each (take n) t me)
 
     -- what the server sees
-    seen-bidders : map (seen_at grid me) (farmers_of others (map (take (2 * grid.prices + 8)) lists))
-        ≡ map (seen_at grid me) (farmers_of bidders (map (take (2 * grid.prices + 8)) words.bidders))
+    seen-bidders : map (seen_at grid me) (farmers_of others (map (take (words_kept grid.prices)) lists))
+        ≡ map (seen_at grid me) (farmers_of bidders (map (take (words_kept grid.prices)) words.bidders))
     seen-bidders =
         let wanted = 2 * grid.prices in
         ap (map (seen_at grid me)) (farmers-cut wanted others lists)
@@ -227,10 +229,10 @@ module _ (me : Point) (grid : Grid) (bidders others : List Bidder) (words : Word
         (farmers-have (HasAccepted wanted) bidders words.bidders s.enough.bidders) (farmers-have (HasAccepted wanted) others lists enough.bidders)
         ∙ sym (ap (map (seen_at grid me)) (farmers-cut wanted bidders words.bidders))
 
-    seen-rounds : rounds_seen (opening_with second (cut_words grid words')) me (rounds_among (opening_with second (cut_words grid words')) most)
-        ≡ rounds_seen (opening_with first (cut_words grid words)) me (rounds_among (opening_with first (cut_words grid words)) most)
+    seen-rounds : rounds_seen (opening_for second (cut_words grid words')) me (rounds_among (opening_for second (cut_words grid words')) most)
+        ≡ rounds_seen (opening_for first (cut_words grid words)) me (rounds_among (opening_for first (cut_words grid words)) most)
     seen-rounds =
-        let rounds = rounds_with first words in
+        let rounds = rounds_for first words in
         seen-cut second words' enough rounds look.second_ends me
         ∙ each-alike (round_seen there me) (round_seen here me) rounds (λ t lt. λ x. (look.messages t lt (peer me Low) x, look.messages t lt (peer me High) x))
         ∙ sym (seen-cut first words s.enough rounds look.first_ends me)
@@ -240,18 +242,18 @@ module _ (me : Point) (grid : Grid) (bidders others : List Bidder) (words : Word
       server = me;
       grid = grid;
       bidders = seen-bidders x;
-      masks = cut-me (most_masks (auction_over grid)) words.masks masks masks-me x;
-      coefficients = cut-me (most_coefficients (auction_over grid) + 8) words.coefficients coefficients c.mapped.own x;
+      masks = cut-me (masks_kept grid) words.masks masks masks-me x;
+      coefficients = cut-me (coefficients_kept grid) words.coefficients coefficients c.mapped.own x;
       rounds = seen-rounds x;
     }
 
     -- at every moment
-    rounds-same : rounds_with second words' ≡ rounds_with first words
-    rounds-same = rounds_are there most (rounds_with first words) look.second_ends (rounds-few first words s.enough (rounds_with first words) look.first_ends)
+    rounds-same : rounds_for second words' ≡ rounds_for first words
+    rounds-same = among-rounds there (rounds_for first words) most look.second_ends (rounds-few first words s.enough (rounds_for first words) look.first_ends)
 
-    moments : (es : List Triple) → SameAfter me here (rounds_with first words) there (rounds_with second words') es
+    moments : (es : List Triple) → SameAfter me here (rounds_for first words) there (rounds_for second words') es
     moments es =
-        let rounds = rounds_with first words in
+        let rounds = rounds_for first words in
         let t = passed rounds (after rounds es) me in
         let le : t ≤ rounds = passed_most rounds (after rounds es) me in
         record {
@@ -275,14 +277,14 @@ module _ (me : Point) (grid : Grid) (bidders others : List Bidder) (words : Word
         words-told others other.bidders lists long count
         (bidders-only me grid.prices farmers (farmers_of others other.bidders) farmers' (bidders-of others other.bidders long ∙ sym (bidders-of others lists count))
         m.bidders s.bidders_mapped) in
-        let there_same : opening_with second other ≡ run_with (auction_batch (auction_over grid)) world' other.coefficients =
+        let there_same : opening_for second other ≡ run_with (auction_batch (auction_over grid)) world' other.coefficients =
         (λ x. book_opening grid (farmers_of others (bidders_same x)) (masks_same x) other.coefficients)
         ∙ sym (begun second lists masks other.coefficients lines' s.there) in
         let same : other.coefficients ≡ coefficients = c.only other.coefficients (record {
           places = m.places;
           own = m.own;
           numbers = gate-along me most here (run_with (auction_batch (auction_over grid)) world words.coefficients)
-              (opening_with second other) (run_with (auction_batch (auction_over grid)) world' other.coefficients) (sym begun-here) there_same m.numbers;
+              (opening_for second other) (run_with (auction_batch (auction_over grid)) world' other.coefficients) (sym begun-here) there_same m.numbers;
         }) in
         λ x. record { masks = masks_same x; coefficients = same x; bidders = bidders_same x }
 
@@ -298,13 +300,13 @@ module _ (me : Point) (grid : Grid) (bidders others : List Bidder) (words : Word
         (bidders-only me grid.prices farmers' (farmers_of bidders other.bidders) farmers (bidders-of bidders other.bidders long ∙ sym (bidders-of bidders words.bidders s.enough.count))
         (mapped-back me grid (farmers_of bidders other.bidders) farmers' farmers-book' others_book (farmers-words bidders other.bidders m.are_words.bidders) m.bidders)
         (mapped-back me grid farmers farmers' farmers-book' farmers-book (farmers-words bidders words.bidders s.are_words.bidders) s.bidders_mapped)) in
-        let here_same : opening_with first other ≡ run_with (auction_batch (auction_over grid)) world other.coefficients =
+        let here_same : opening_for first other ≡ run_with (auction_batch (auction_over grid)) world other.coefficients =
         (λ x. book_opening grid (farmers_of bidders (bidders_same x)) (masks_same x) other.coefficients)
         ∙ sym (begun first words.bidders words.masks other.coefficients lines s.here) in
         let same : other.coefficients ≡ words.coefficients = c.back other.coefficients (all-words other m.are_words) (record {
           places = m.places;
           own = m.own;
-          numbers = gate-along me most (opening_with first other) (run_with (auction_batch (auction_over grid)) world other.coefficients)
+          numbers = gate-along me most (opening_for first other) (run_with (auction_batch (auction_over grid)) world other.coefficients)
               there (run_with (auction_batch (auction_over grid)) world' coefficients) here_same (sym begun-there) m.numbers;
         }) in
         λ x. record { masks = masks_same x; coefficients = same x; bidders = bidders_same x }

@@ -4,12 +4,12 @@ use Rattle.beet_words.specs.Bundles.{Words}
 use Rattle.beet_words.specs.Words.{accepted}
 use Rattle.beet_gates.specs.Scripts.{HasWords}
 use Rattle.beet_bids.specs.Books.{Book}
-use Rattle.beet_plan.specs.Auction.{most_masks, most_coefficients}
-use Rattle.beet_auction.specs.Openings.{auction_over}
+use Rattle.beet_plan.specs.declared.TheConstants.{SPARE_WORDS}
+use Rattle.beet_plan.specs.Auction.{most_masks, most_coefficients, auction_over}
 
--- so many words of a list are not all ones, among as many and eight more
+-- so many words of a list are not all ones, among as many and the spare ones
 abbrev pub HasAccepted : ℕ → List ℕ → Type 0
-HasAccepted wanted words = wanted ≤ length (accepted (take (wanted + 8) words))
+HasAccepted wanted words = wanted ≤ length (accepted (take (wanted + SPARE_WORDS) words))
 
 -- a list for each bidder with a word for each quantity, and the mask words and coefficient words of each server that the script may
 -- ask for

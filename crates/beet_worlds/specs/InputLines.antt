@@ -8,9 +8,9 @@ use Rattle.beet_shamir.specs.declared.Line.{Line}
 use Rattle.beet_words.specs.Words.{accepted}
 use Rattle.beet_gates.specs.Each.{each}
 use Rattle.beet_bids.specs.Books.{Book}
-use Rattle.beet_plan.specs.Runs.{sums_of}
+use Rattle.beet_bids.specs.Sums.{sums_of}
 use Rattle.beet_book.specs.Totals.{supply_first}
-use Rattle.beet_auction.specs.Openings.{book_inputs, farmers_of}
+use Rattle.beet_book.specs.Farmers.{book_inputs, farmers_of}
 
 -- the sum of the slopes for the n-th quantity of all bidders with these words
 abbrev pub summed_slope : List (List ℕ) → ℕ → ℕ

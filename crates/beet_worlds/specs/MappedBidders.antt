@@ -1,10 +1,9 @@
 -- The bidders' words of two worlds in which one server holds the same points.
-use Rattle.std.specs.Prelude.{◌≡◌, ◌≢◌, ◌<◌, ◌≤◌, ◌*◌, ◌==◌, ℕ, List, [], ◌∷◌, length, slice_index, slice_get, Some, nat_lt, if◌then◌else◌}
+use Rattle.std.specs.Prelude.{◌≡◌, ◌≢◌, ◌<◌, ◌≤◌, ◌*◌, ◌==◌, ℕ, List, length, slice_index, slice_get, Some, nat_lt, if◌then◌else◌}
 use Rattle.beet_field.specs.declared.point.Point.{Point}
 use Rattle.beet_words.specs.Words.{accepted, ones}
 use Rattle.beet_bids.specs.Curves.{Curve, quantity}
-use Rattle.beet_bids.specs.declared.book.Bidder.{Bidder}
-use Rattle.beet_auction.specs.Openings.{Farmer}
+use Rattle.beet_book.specs.Farmers.{Farmer}
 use Rattle.beet_map.specs.Mapped.{moved_of, ones_in}
 
 -- the n-th accepted word of a bidder in the second world: moved, for so many quantities; a word that is all ones stays

@@ -3,20 +3,15 @@ use Rattle.std.specs.Prelude.{◌≡◌, ◌≢◌, ◌<◌, ℕ, List, length, 
 use Rattle.beet_field.specs.Field.{sub_of}
 use Rattle.beet_field.specs.Trio.{member}
 use Rattle.beet_field.specs.declared.point.Point.{Point}
-use Rattle.beet_field.specs.declared.point.Point.TheVariants.{One, Two, Three}
 use Rattle.beet_field.specs.declared.trio.Trio.{Trio}
 use Rattle.beet_bids.specs.Books.{Book}
 use Rattle.beet_bids.specs.Outcomes.{clearing_place}
 use Rattle.beet_bids.specs.Sums.{supply_at, demand_at}
 use Rattle.beet_compare.specs.Compare.{doubled}
 use Rattle.beet_plan.specs.Search.{path, mask_at, is_accepted, rejected_among, accepted_among}
+use Rattle.beet_round.specs.Sides.{peer}
+use Rattle.beet_round.specs.declared.sides.Side.TheVariants.{Low}
 use Rattle.beet_worlds.specs.Turn.{turned}
-
--- the lower of the two other servers
-abbrev pub lower_other : Point → Point
-lower_other One = Two
-lower_other Two = One
-lower_other Three = One
 
 -- the place at which a mask is compared, if it is: one that is accepted, after fewer than three rejected ones, at the place that
 -- comes after those of the masks accepted before
@@ -55,7 +50,7 @@ word_mapped first second mask word (Some place) = bit_xor (bit_xor word mask) (t
 -- and all other words are the same
 pub record MasksMapped (s : Point) (first second : Book) (words words' : Trio (List ℕ)) : Type 0 where
   pub lengths : (j : Point) → length (member words' j) ≡ length (member words j)
-  pub turns : (i : ℕ) → i < length (member words (lower_other s)) →
-      slice_index (member words' (lower_other s)) i
-      ≡ word_mapped first second (mask_at words i) (slice_index (member words (lower_other s)) i) (compared_in first words i)
-  pub others : (j : Point) → j ≢ lower_other s → member words' j ≡ member words j
+  pub turns : (i : ℕ) → i < length (member words (peer s Low)) →
+      slice_index (member words' (peer s Low)) i
+      ≡ word_mapped first second (mask_at words i) (slice_index (member words (peer s Low)) i) (compared_in first words i)
+  pub others : (j : Point) → j ≢ peer s Low → member words' j ≡ member words j

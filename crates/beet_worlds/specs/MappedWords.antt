@@ -1,23 +1,14 @@
 -- The words of two worlds of an auction that one server cannot tell apart.
-use Rattle.std.specs.Prelude.{◌≡◌, ℕ, length}
+use Rattle.std.specs.Prelude.{◌≡◌, length}
 use Rattle.beet_field.specs.Trio.{member}
 use Rattle.beet_field.specs.declared.point.Point.{Point}
 use Rattle.beet_words.specs.Bundles.{Words, AreWords}
 use Rattle.beet_bids.specs.Books.{Book}
-use Rattle.beet_plan.specs.Auction.{most_rounds}
-use Rattle.beet_server.specs.Runs.{Opening, rounds_among}
-use Rattle.beet_auction.specs.Openings.{auction_over, book_opening, farmers_of}
+use Rattle.beet_auction.specs.Openings.{opening_for, rounds_for}
+use Rattle.beet_book.specs.Farmers.{farmers_of}
 use Rattle.beet_map.specs.Mapped.{GateMapped, ones_in}
 use Rattle.beet_worlds.specs.MappedBidders.{BiddersMapped}
 use Rattle.beet_worlds.specs.MappedMasks.{MasksMapped}
-
--- the opening of the auction of a book with these words
-abbrev pub opening_with : Book → Words → Opening
-opening_with book words = book_opening book.grid (farmers_of book.bidders words.bidders) words.masks words.coefficients
-
--- the rounds of its run
-abbrev pub rounds_with : Book → Words → ℕ
-rounds_with book words = rounds_among (opening_with book words) (most_rounds (auction_over book.grid))
 
 -- the words of two worlds, mapped for server s. There are as many lists, and all numbers are words. Of the coefficient words those
 -- that are all ones stand at the same places, those of s are the same, and the numbers drawn in the first run are mapped
@@ -29,7 +20,7 @@ pub record Mapped (s : Point) (first : Book) (words : Words) (second : Book) (wo
   pub bidders : BiddersMapped s first.grid.prices (farmers_of first.bidders words.bidders) (farmers_of second.bidders words'.bidders)
   pub places : (j : Point) → ones_in (member words'.coefficients j) ≡ ones_in (member words.coefficients j)
   pub own : member words'.coefficients s ≡ member words.coefficients s
-  pub numbers : GateMapped s (rounds_with first words) (opening_with first words) (opening_with second words')
+  pub numbers : GateMapped s (rounds_for first words) (opening_for first words) (opening_for second words')
 
 -- no other words of the second world go with those of the first
 abbrev pub IsOnlySecond : Point → Book → Words → Book → Words → Type 0

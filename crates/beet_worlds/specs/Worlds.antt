@@ -5,15 +5,15 @@ use Rattle.beet_field.specs.declared.trio.Trio.{Trio}
 use Rattle.beet_words.specs.Bundles.{Words}
 use Rattle.beet_bids.specs.Books.{Book}
 use Rattle.beet_bids.specs.Grids.{Grid}
-use Rattle.beet_plan.specs.Auction.{auction_batch, most_masks, most_rounds}
+use Rattle.beet_plan.specs.Auction.{auction_batch, most_masks, most_rounds, auction_over}
 use Rattle.beet_server.specs.Events.{Triple}
 use Rattle.beet_server.specs.Runs.{HasRounds}
-use Rattle.beet_auction.specs.Openings.{auction_over}
 use Rattle.beet_map.specs.Mapped.{IsOnlyImage, IsOnlySource, WordsLookAlike, WordsMapped}
 use Rattle.beet_map.specs.Refused.{LookSame}
 use Rattle.beet_map.specs.Worlds.{World}
 use Rattle.beet_worlds.specs.Enough.{AreEnough}
-use Rattle.beet_worlds.specs.MappedWords.{IsOnlyFirst, IsOnlySecond, Mapped, opening_with, rounds_with}
+use Rattle.beet_worlds.specs.MappedWords.{IsOnlyFirst, IsOnlySecond, Mapped}
+use Rattle.beet_auction.specs.Openings.{opening_for, rounds_for}
 use Rattle.beet_worlds.specs.Moments.{SameAfter}
 use Rattle.beet_worlds.specs.ViewsWith.{view_with}
 
@@ -33,11 +33,11 @@ pub record CoefficientsMapped (grid : Grid) (me : Point) (w w' : World) (words w
 abbrev pub AlwaysSame : Point → Book → Words → Book → Words → Type 0
 AlwaysSame s first words second words' =
     (es : List Triple) →
-    SameAfter s (opening_with first words) (rounds_with first words) (opening_with second words') (rounds_with second words') es
+    SameAfter s (opening_for first words) (rounds_for first words) (opening_for second words') (rounds_for second words') es
 
 -- the run of a book with these words has its rounds: its end comes after them, and not before
 abbrev pub Ends : Book → Words → Type 0
-Ends book words = HasRounds (opening_with book words) (rounds_with book words)
+Ends book words = HasRounds (opening_for book words) (rounds_for book words)
 
 -- words of two worlds: mapped in the one way there is, enough for the second book, and server s cannot tell which is which
 pub record WorldsMapped (s : Point) (first : Book) (words : Words) (second : Book) (words' : Words) : Type 0 where

@@ -1,6 +1,7 @@
 //! Whether one server can tell two books apart by what it knows and by what is opened.
 
 ghost use Rattle.std.specs.Prelude.{◌≡◌, ◌≢◌, ◌<◌, ◌≤◌, ◌↔◌, Some, map, slice_index, IsTrue, IsFalse, IsOk, MatchOption, IfErr, IfSome};
+ghost use Rattle.beet_bids.specs.declared.book.TheConstants.{MOST_BIDDERS};
 ghost use Rattle.beet_bids.specs.Curves.{IsOfGrid};
 ghost use Rattle.beet_map.specs.Refused.{DifferFirst};
 ghost use Rattle.beet_worlds.specs.Agreement.{Agree, SameKnown, marks_of};
@@ -24,7 +25,7 @@ pub enum Disagreement {
 fn other_mark(first: &Book, second: &Book) -> Option<u32>
     ensures place { MatchOption result (marks_of second.now ≡ marks_of first.now)
         (λ n. DifferFirst (marks_of first.now) (marks_of second.now) n) }
-    ensures below { IfSome result (λ n. n ≤ 2000) }
+    ensures below { IfSome result (λ n. n ≤ MOST_BIDDERS) }
 {
     let bidders = first.bidders();
     let others = second.bidders();
@@ -72,7 +73,7 @@ fn other_own_bid(me: Point, first: &Book, second: &Book) -> Option<u32>
     requires marks { marks_of second.now ≡ marks_of first.now }
     ensures place { MatchOption result (SameKnown me first.now second.now)
         (λ n. KnownDiffersAt me first.now.bidders second.now.bidders n) }
-    ensures below { IfSome result (λ n. n ≤ 2000) }
+    ensures below { IfSome result (λ n. n ≤ MOST_BIDDERS) }
 {
     let bidders = first.bidders();
     let others = second.bidders();

@@ -6,7 +6,7 @@ ghost use Rattle.beet_words.specs.Words.{accepted, ones};
 ghost use Rattle.beet_bids.specs.Curves.{IsCurve, IsOfGrid, quantity};
 ghost use Rattle.beet_worlds.specs.Agreement.{marks_of};
 ghost use Rattle.beet_worlds.specs.MappedBidders.{BiddersMapped, FarmerMapped, SlopesMoved, slope_mapped};
-ghost use Rattle.beet_auction.specs.Openings.{farmers_of};
+ghost use Rattle.beet_book.specs.Farmers.{farmers_of};
 
 use beet_bids::{Bidder, Book, Curve, Grid};
 use beet_field::{Fe, Point};

@@ -11,17 +11,20 @@ ghost use Rattle.beet_gates.specs.Scripts.{HasWords};
 ghost use Rattle.beet_bids.specs.Books.{Book, IsBook};
 ghost use Rattle.beet_bids.specs.Grids.{Grid};
 ghost use Rattle.beet_bids.specs.declared.book.Bidder.{Bidder};
-ghost use Rattle.beet_plan.specs.Auction.{auction_batch, most_rounds, most_masks, most_coefficients};
-ghost use Rattle.beet_plan.specs.Runs.{AreMasks, run_rounds, sums_of};
+ghost use Rattle.beet_plan.specs.Auction.{Auction, auction_batch, most_rounds, most_masks, most_coefficients, auction_over};
+ghost use Rattle.beet_plan.specs.Runs.{AreMasks, run_rounds};
+ghost use Rattle.beet_bids.specs.Sums.{sums_of};
 ghost use Rattle.beet_plan.specs.Search.{mask_at, rejected_among, accepted_among, is_spent, dealt_until_spent, dealt_for};
+ghost use Rattle.beet_round.specs.Sides.{peer};
+ghost use Rattle.beet_round.specs.declared.sides.Side.TheVariants.{Low};
 ghost use Rattle.beet_server.specs.Runs.{HasRounds, message, shared_at};
-ghost use Rattle.beet_auction.specs.Openings.{Farmer, auction_over, book_inputs, book_of, farmers_of};
+ghost use Rattle.beet_book.specs.Farmers.{Farmer, book_inputs, book_of, farmers_of};
 ghost use Rattle.beet_worlds.specs.Agreement.{Agree, SameKnown};
 ghost use Rattle.beet_worlds.specs.Enough.{AreEnough};
 ghost use Rattle.beet_map.specs.Mapped.{ones_in};
 ghost use Rattle.beet_worlds.specs.MappedBidders.{BiddersMapped};
-ghost use Rattle.beet_worlds.specs.MappedMasks.{MasksMapped, lower_other, compared_in, mask_mapped};
-ghost use Rattle.beet_worlds.specs.MappedWords.{opening_with, rounds_with};
+ghost use Rattle.beet_worlds.specs.MappedMasks.{MasksMapped, compared_in, mask_mapped};
+ghost use Rattle.beet_auction.specs.Openings.{opening_for, rounds_for};
 ghost use Rattle.beet_worlds.specs.Opened.{OpensAlike};
 ghost use Rattle.beet_worlds.specs.Turn.{turned};
 ghost use Rattle.beet_worlds.specs.ViewsWith.{cut_words};
@@ -42,7 +45,7 @@ pub fn mapped_masks_count_alike()
     ensures own { (s : Point) (first second : Book) (words words' : Trio (List ℕ)) →
         MasksMapped s first second words words' → member words' s ≡ member words s }
     ensures turns { (s : Point) (first second : Book) (words words' : Trio (List ℕ)) →
-        MasksMapped s first second words words' → (i : ℕ) → i < length (member words (lower_other s)) →
+        MasksMapped s first second words words' → (i : ℕ) → i < length (member words (peer s Low)) →
         mask_at words' i ≡ mask_mapped first second (mask_at words i) (compared_in first words i) }
     ensures are_words { (s : Point) (first second : Book) (words words' : Trio (List ℕ)) →
         MasksMapped s first second words words' → AreMasks words → AreMasks words' }
@@ -56,8 +59,8 @@ pub fn mapped_masks_count_alike()
         MasksMapped s first second words words' → (c : ℕ) →
         is_spent (mask_at words') c ≡ is_spent (mask_at words) c }
     ensures rounds { (s : Point) (first second : Book) (words words' : Trio (List ℕ)) →
-        MasksMapped s first second words words' → (prices z : ℕ) →
-        run_rounds prices (mask_at words') z ≡ run_rounds prices (mask_at words) z }
+        MasksMapped s first second words words' → (auction : Auction) (z : ℕ) →
+        run_rounds auction (mask_at words') z ≡ run_rounds auction (mask_at words) z }
 {}
 
 /// The runs of two books that agree, the second with mapped mask words, open the same numbers all along.
@@ -140,12 +143,12 @@ pub fn enough_words_can_be_drawn()
 /// Where words are enough, those that are not read change nothing: the run has the same rounds, points, opened numbers and messages.
 pub fn unread_words_change_nothing()
     ensures rounds { (book : Book) (words : Words) (rounds : ℕ) → AreEnough book words →
-        HasRounds (opening_with book words) rounds →
-        rounds_with book (cut_words book.grid words) ≡ rounds }
+        HasRounds (opening_for book words) rounds →
+        rounds_for book (cut_words book.grid words) ≡ rounds }
     ensures runs { (book : Book) (words : Words) (rounds t : ℕ) → AreEnough book words →
-        HasRounds (opening_with book words) rounds → t ≤ rounds →
-        shared_at (opening_with book (cut_words book.grid words)) t ≡ shared_at (opening_with book words) t }
+        HasRounds (opening_for book words) rounds → t ≤ rounds →
+        shared_at (opening_for book (cut_words book.grid words)) t ≡ shared_at (opening_for book words) t }
     ensures messages { (book : Book) (words : Words) (rounds t : ℕ) (from to : Point) → AreEnough book words →
-        HasRounds (opening_with book words) rounds → t < rounds →
-        message (opening_with book (cut_words book.grid words)) from to t ≡ message (opening_with book words) from to t }
+        HasRounds (opening_for book words) rounds → t < rounds →
+        message (opening_for book (cut_words book.grid words)) from to t ≡ message (opening_for book words) from to t }
 {}

@@ -5,9 +5,8 @@ ghost use Rattle.beet_words.specs.Bundles.{AreWords};
 ghost use Rattle.beet_words.specs.Words.{IsWord};
 ghost use Rattle.beet_gates.specs.Scripts.{HasWords};
 ghost use Rattle.beet_bids.specs.Books.{IsBook};
-ghost use Rattle.beet_plan.specs.Auction.{most_coefficients, most_masks};
+ghost use Rattle.beet_plan.specs.Auction.{most_coefficients, most_masks, auction_over};
 ghost use Rattle.beet_server.specs.Runs.{numbers_of};
-ghost use Rattle.beet_auction.specs.Openings.{auction_over};
 ghost use Rattle.beet_map.specs.Refused.{HasSecrets};
 ghost use Rattle.beet_worlds.specs.Agreement.{Agree};
 ghost use Rattle.beet_worlds.specs.Enough.{AreEnough};
@@ -205,7 +204,8 @@ fn map_words(
 ///
 /// They are the only words that are mapped from these, and these are the only words from which they are mapped. The books must
 /// agree for the server: they are refused where a bidder stands in one of them alone or has another mark in the other, then where a
-/// bidder that the server knows has another curve, and then where the outcomes differ. Want of memory may come at any time.
+/// bidder that the server knows has another curve, and then where the outcomes differ. Want of memory comes only where
+/// they agree.
 pub fn world_map(
     alloc: Global,
     me: Point,

@@ -2,12 +2,15 @@
 
 ghost use Rattle.std.specs.Prelude.{◌≡◌, ◌≢◌, ◌<◌, ◌≤◌, ◌+◌, ◌^◌, ◌==◌, ℕ, nat_le, length, slice_index, slice_get, if◌then◌else◌, IfOk, IfSome, All, None};
 ghost use Rattle.std.specs.Int.Bits.{bit_xor};
+ghost use Rattle.beet_bids.specs.declared.grid.TheConstants.{MOST_PRICES};
 ghost use Rattle.beet_bids.specs.Outcomes.{clearing_place};
 ghost use Rattle.beet_field.specs.Trio.{member};
 ghost use Rattle.beet_words.specs.Words.{IsWord, ones};
 ghost use Rattle.beet_plan.specs.Search.{path, mask_at, is_accepted};
+ghost use Rattle.beet_round.specs.Sides.{peer};
+ghost use Rattle.beet_round.specs.declared.sides.Side.TheVariants.{Low};
 ghost use Rattle.beet_worlds.specs.Turn.{turned};
-ghost use Rattle.beet_worlds.specs.MappedMasks.{MasksMapped, compared_in, lower_other, place_after, word_mapped};
+ghost use Rattle.beet_worlds.specs.MappedMasks.{MasksMapped, compared_in, place_after, word_mapped};
 
 use crate::differences::{clearing, lost};
 use crate::turning::turn;
@@ -18,7 +21,7 @@ use std::alloc::{AllocError, Global};
 
 /// The two places between which a search for `end` goes on, after the test at `middle`.
 fn half(low: u32, middle: u32, high: u32, end: u32) -> (u32, u32)
-    requires { middle < 4096 }
+    requires { middle < MOST_PRICES }
     ensures { result ≡ (if nat_le end middle then (low, middle) else (middle + 1, high)) }
 {
     if end <= middle {
@@ -141,7 +144,7 @@ fn turned_by_one(
     masks: &Trio<WordList>,
 ) -> Result<Trio<WordList>, AllocError>
     requires grids { first.now.grid.prices ≡ second.now.grid.prices }
-    requires lower { lower_other me ≡ Point.One }
+    requires lower { peer me Low ≡ Point.One }
     ensures { IfOk result (λ mapped. MasksMapped me first.now second.now masks.now mapped) }
 {
     let one = turning_words(alloc, first, second, masks, Point::One)?;

@@ -1,25 +1,27 @@
 //! Whether there are words enough.
 
 ghost use Rattle.std.specs.Prelude.{◌≡◌, ◌≤◌, ◌↔◌, ◌<◌, length, IsTrue};
+ghost use Rattle.beet_words.specs.declared.bundle.TheConstants.{MOST_WORDS};
 ghost use Rattle.beet_gates.specs.Scripts.{HasWords};
-ghost use Rattle.beet_plan.specs.Auction.{most_masks};
-ghost use Rattle.beet_auction.specs.Openings.{auction_over};
+ghost use Rattle.beet_plan.specs.Auction.{most_masks, auction_over};
 ghost use Rattle.beet_worlds.specs.Enough.{AreEnough, HasAccepted};
 
 use beet_bids::{Book, Grid};
 use beet_field::Trio;
+use beet_plan::{MASK_COEFFICIENTS, SPARE_WORDS};
 use beet_words::{WordList, Words, count_accepted};
 
-/// Whether so many of the first words are not all ones; eight words more than wanted are looked at.
+/// Whether so many of the first words are not all ones; the spare words are looked at too.
 fn has_accepted(words: &WordList, wanted: usize) -> bool
-    requires { wanted ≤ 16384 }
+    requires { wanted ≤ MOST_WORDS }
     ensures { IsTrue result ↔ HasAccepted wanted words.now }
 {
     let words = words.as_slice();
-    let looked_at = if words.len() < wanted + 8 {
+    let kept = wanted + SPARE_WORDS as usize;
+    let looked_at = if words.len() < kept {
         words.len()
     } else {
-        wanted + 8
+        kept
     };
     count_accepted(&words[..looked_at]) >= wanted
 }
@@ -49,10 +51,11 @@ pub fn enough(book: &Book, words: &Words) -> bool
 {
     let prices = book.grid().prices() as usize;
     let masks = masks_wanted(book.grid());
+    let numbers = MASK_COEFFICIENTS as usize * masks;
     has_words(&words.masks, masks)
-        && has_accepted(&words.coefficients.one, 512 * masks)
-        && has_accepted(&words.coefficients.two, 512 * masks)
-        && has_accepted(&words.coefficients.three, 512 * masks)
+        && has_accepted(&words.coefficients.one, numbers)
+        && has_accepted(&words.coefficients.two, numbers)
+        && has_accepted(&words.coefficients.three, numbers)
         && words.bidders.len() == book.bidders().len()
         && words
             .bidders

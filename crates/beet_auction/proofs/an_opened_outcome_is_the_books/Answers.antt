@@ -1,5 +1,7 @@
 use Rattle.std.proofs.Common.{refl}
-use Rattle.beet_auction.specs.Openings.{book_of, book_opening, auction_over}
+use Rattle.beet_auction.specs.Openings.{book_opening}
+use Rattle.beet_plan.specs.Auction.{auction_over}
+use Rattle.beet_book.specs.Farmers.{book_of}
 use Rattle.beet_auction.specs.Endings.{book_finish, book_rounds}
 use Rattle.beet_auction.proofs.BookLines.{book-lines, slopes_of}
 use Rattle.beet_auction.proofs.Ends.{book-ends, ends-always}

@@ -1,4 +1,4 @@
-use Rattle.beet_auction.specs.Openings.{book_inputs, book_of}
+use Rattle.beet_book.specs.Farmers.{book_inputs, book_of}
 use Rattle.beet_auction.proofs.BookLines.{book-lines, slopes_of}
 use Rattle.beet_auction.proofs.BookPoints.{points-finish, points-rounds}
 use Rattle.beet_auction.proofs.points_of_a_book_end_with_its_outcome.Goals as goal

@@ -1,7 +1,16 @@
-use Rattle.beet_compare.proofs.CompareTable.{compare-none}
+use Rattle.std.proofs.Common.{arith, ap, sym, ◌∙◌, Some}
+use Rattle.beet_gates.specs.declared.Batch.{Batch}
+use Rattle.beet_compare.specs.Compare.{compare_rounds_of}
+use Rattle.beet_compare.proofs.CompareTable.{compare-past, compare-there}
 use Rattle.beet_compare.proofs.compare_batch.Goals as goal
 
-pub returns-clause-past : goal.returns-clause-past
-returns-clause-past c =
-    rw (c.in-Chain.is, c.chain_batch.ensures)
-    (compare-none c.args.first c.args.mask c.args.supply c.args.demand c.args.c c.args.step)
+pub returns-then-step-compare_rounds-clause-batch : goal.returns-then-step-compare_rounds-clause-batch
+returns-then-step-compare_rounds-clause-batch c =
+    let rounds = c.compare_rounds.ensures ∙ ap compare_rounds_of c.requires.chain in
+    sym (compare-past c.args.first c.args.mask c.args.supply c.args.demand c.args.c c.args.step (omega (arith, rounds)))
+
+pub returns-clause-batch : goal.returns-clause-batch
+returns-clause-batch c =
+    let rounds = c.compare_rounds.ensures ∙ ap compare_rounds_of c.requires.chain in
+    ap (λ (b : Batch). Some b) c.refill_compare.ensures
+    ∙ compare-there c.args.first c.args.mask c.args.supply c.args.demand c.args.c c.args.step (omega (arith, rounds))

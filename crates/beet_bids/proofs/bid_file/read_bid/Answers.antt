@@ -1,36 +1,30 @@
-use Rattle.std.proofs.Common.{◌≡◌, ◌+◌, ◌-◌, List, ◌∷◌, [], rules, ap, sym, subst, Err, ◌∙◌, true, codes, take, drop, length, Vec}
+use Rattle.std.proofs.Common.{arith, ap, sym, ◌∙◌, length, length-drop, Vec}
 use Rattle.std.specs.Global.{Global}
-use Rattle.std.proofs.lemmas.List.{take_rest}
 use Rattle.std.proofs.lemmas.Result.{err_from_is_err_and}
-use Rattle.beet_forms.specs.Faults.{Reading, Answers}
-use Rattle.beet_forms.specs.Rows.{rows_of, begins_with}
-use Rattle.beet_forms.specs.declared.row.Row.{Row}
-use Rattle.beet_bids.specs.Curves.{Curve}
 use Rattle.beet_bids.specs.declared.lines.Line.{Line}
-use Rattle.beet_bids.proofs.LineFacts.{bid_in-front, header_passes, lines_read, file_refused}
+use Rattle.beet_bids.proofs.LineFacts.{header_passes, lines_read, file_refused}
 use Rattle.beet_bids.proofs.bid_file.read_bid.Goals as goal
+
+pub read_lines-requires : goal.read_lines-requires
+read_lines-requires c =
+    let rest = c.in_ok-begins_with.ensures.1 c.if-not-branch.false in
+    omega (arith, c.new-rows.ensures.few, ap length rest, length-drop 1 c.new-rows.result)
 
 pub returns-in_err-lines-clause-reads : goal.returns-in_err-lines-clause-reads
 returns-in_err-lines-clause-reads c =
-    let front : List Row = take (c.args.grid.now.prices + 2) (rows_of c.args.bytes.now) in
-    let items : c.in-Ok.rows.items ≡ take (c.args.grid.now.prices + 2) (rows_of c.args.bytes.now) = rw c.prices.ensures.value at c.in-Ok.ensures.records in
-    let all = c.deref-2.ensures.value ∙ items in
-    let rest : take (length c.deref-2.result.now - 1) (drop 1 c.deref-2.result.now) ≡ drop 1 front =
-    take_rest c.deref-2.result.now 1 ∙ ap (drop 1) all in
-    let begins : begins_with (take (c.args.grid.now.prices + 2) (rows_of c.args.bytes.now)) (codes "beet-bid" ∷ codes "1" ∷ []) ≡ true = search rules in
-    let p = err_from_is_err_and c.from_residual.result c.from_residual.ensures.1 in
-    rw (p.1, p.2)
-    (subst (λ (r : Reading Curve). Answers (λ (curve : Curve). curve) r (Err c.in_err-lines.field-0.0)) (bid_in-front c.args.grid.now (rows_of c.args.bytes.now))
-    (file_refused {T = Vec Line Global} c.args.grid.now front _ _ (λ v. v.items) c.in_err-lines.field-0.0 begins rest c.in_err-lines.ensures.reads))
+    let same = c.if-not-branch.false in
+    let header = c.in_ok-begins_with.ensures in
+    let p = err_from_is_err_and c.from_residual-in_err-lines.result c.from_residual-in_err-lines.ensures.1 in
+    rw (← c.new-rows.ensures.rows, p.1, p.2)
+    (file_refused {T = Vec Line Global} c.args.grid.now c.new-rows.result c.begins_with.new.self _ (λ v. v.items) c.in_err-lines.field-0.0 (sym header.0 ∙ same) (header.1 same) c.in_err-lines.ensures.reads)
 
-pub returns-in-Ok-curve_of-clause-reads : goal.returns-in-Ok-curve_of-clause-reads
-returns-in-Ok-curve_of-clause-reads c =
-    let front : List Row = take (c.args.grid.now.prices + 2) (rows_of c.args.bytes.now) in
-    let items : c.in-Ok.rows.items ≡ take (c.args.grid.now.prices + 2) (rows_of c.args.bytes.now) = rw c.prices.ensures.value at c.in-Ok.ensures.records in
-    let all = c.deref-2.ensures.value ∙ items in
-    let rest : take (length c.deref-2.result.now - 1) (drop 1 c.deref-2.result.now) ≡ drop 1 front =
-    take_rest c.deref-2.result.now 1 ∙ ap (drop 1) all in
-    let begins : begins_with (take (c.args.grid.now.prices + 2) (rows_of c.args.bytes.now)) (codes "beet-bid" ∷ codes "1" ∷ []) ≡ true = search rules in
-    sym (bid_in-front c.args.grid.now (rows_of c.args.bytes.now))
-    ∙ (header_passes c.args.grid.now front _ begins rest
-    ∙ lines_read _ _ c.in_ok-lines.lines.items c.in-Ok-curve_of.curve c.args.grid.now c.in_ok-lines.ensures.reads (rw c.deref-3.ensures.value at c.in-Ok-curve_of.ensures.value))
+pub returns : goal.returns
+returns c =
+    let same = c.if-not-branch.false in
+    let header = c.in_ok-begins_with.ensures in
+    record {
+      reads = rw (← c.new-rows.ensures.rows)
+          (header_passes c.args.grid.now c.new-rows.result c.begins_with.new.self (sym header.0 ∙ same) (header.1 same)
+          ∙ lines_read _ _ c.in_ok-lines.lines.items c.in_ok-curve_of.field-0 c.args.grid.now c.in_ok-lines.ensures.reads (rw c.deref.ensures.value at c.in_ok-curve_of.ensures.value));
+      of_grid = c.in_ok-curve_of.ensures.of_grid;
+    }

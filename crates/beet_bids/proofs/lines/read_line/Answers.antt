@@ -5,7 +5,7 @@ use Rattle.beet_bids.proofs.lines.read_line.Goals as goal
 
 pub returns-in-Some-line_reason : goal.returns-in-Some-line_reason
 returns-in-Some-line_reason c =
-    rw c.refused-in-Some-line_reason.ensures
+    rw c.at_row-in-Some-line_reason.ensures
     (row_refused c.args.grid.now c.args.before c.args.number (line_of c.args.row.now) c.in-Some.line c.in-Some-line_reason.reason (search rules) (search rules))
 
 pub returns-in-None : goal.returns-in-None

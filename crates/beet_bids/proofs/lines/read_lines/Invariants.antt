@@ -1,12 +1,16 @@
-use Rattle.std.proofs.Common.{◌≡◌, ◌+◌, map, filter_map, drop, take}
+use Rattle.std.proofs.Common.{◌≡◌, ◌+◌, ◌++◌, None, length, map, filter_map}
 use Rattle.beet_bids.specs.Reasons.{first_fault}
-use Rattle.beet_bids.specs.BidFiles.{line_of, line_reasons}
+use Rattle.beet_bids.specs.BidFiles.{line_of}
 use Rattle.beet_bids.proofs.LineFacts.{reasons_after}
 use Rattle.beet_bids.proofs.lines.read_lines.Given as goal
 
-abbrev pub invariant-loop-i : goal.invariant-loop-i
-invariant-loop-i l = record {
-  rest : first_fault (l.i + 2) (reasons_after l.grid l.before (drop l.i (map line_of l.rows)))
-      ≡ first_fault 2 (line_reasons l.grid (map line_of l.rows));
-  lines : l.lines.items ≡ filter_map line_of (take l.i l.rows);
+abbrev pub invariant-loop-lines : goal.invariant-loop-lines
+invariant-loop-lines l = record {
+  fault : first_fault (length l.lines.items + 2) (reasons_after l.grid l.before (map line_of l.rows))
+      ≡ first_fault 2 (reasons_after l.grid None (map line_of l.fn.rows));
+  lines : l.lines.items ++ filter_map line_of l.rows ≡ filter_map line_of l.fn.rows;
+  count : length l.lines.items + length l.rows ≡ length l.fn.rows;
 }
+
+abbrev pub decreases-loop-lines : goal.decreases-loop-lines
+decreases-loop-lines l = length l.rows

@@ -1,11 +1,8 @@
-use Rattle.std.proofs.lemmas.Result.{err_from_is_err_and}
-use Rattle.beet_errand.proofs.Steps.{nothing_stops}
+use Rattle.beet_errand.proofs.Frame.{exits, no_memory}
 use Rattle.beet_envelopes.proofs.sealing.read_source.Goals as goal
 
-pub returns-in_err-of_seed-in-Seed-clause-gives : goal.returns-in_err-of_seed-in-Seed-clause-gives
-returns-in_err-of_seed-in-Seed-clause-gives g c =
-    let p = err_from_is_err_and c.from_residual.result c.from_residual.ensures.1 in
-    rw (p.1, p.2) (nothing_stops _ _)
+pub returns-in_err-of_seed-in-Seed-clause-reads : goal.returns-in_err-of_seed-in-Seed-clause-reads
+returns-in_err-of_seed-in-Seed-clause-reads g c = exits c.from_residual.ensures.1 no_memory
 
-pub returns-in-Tape-clause-gives : goal.returns-in-Tape-clause-gives
-returns-in-Tape-clause-gives g c = rw c.in-Tape.is c.read_tape_file.ensures.gives
+pub returns-in-Tape-clause-reads : goal.returns-in-Tape-clause-reads
+returns-in-Tape-clause-reads g c = rw c.in-Tape.is c.read_tape_file.ensures.reads

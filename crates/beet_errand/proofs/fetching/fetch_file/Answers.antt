@@ -1,20 +1,41 @@
-use Rattle.std.proofs.Common.{arith}
+use Rattle.std.proofs.Common.{arith, refl, rules}
+use Rattle.beet_errand.proofs.Frame.{unread_cause, bad_cause}
 use Rattle.beet_errand.proofs.Steps.{fetched_gives, failed_stops, long_stops, memory_stops}
 use Rattle.beet_errand.proofs.fetching.fetch_file.Goals as goal
 
-pub returns-in-Ok-clause-gives : goal.returns-in-Ok-clause-gives
-returns-in-Ok-clause-gives g c = fetched_gives _ _ _ _ c.in-Ok.bytes
-    (rw c.in-Ok.is at c.fetch.ensures.content) (let within = (rw c.in-Ok.is at c.fetch.ensures.cause).limited in omega (arith, within))
+pub returns-in-Ok-clause-reads : goal.returns-in-Ok-clause-reads
+returns-in-Ok-clause-reads g c =
+    let cause = rw c.in-Ok.is at c.fetch.ensures.cause in
+    let within = cause.limited in
+    record {
+      gives = (c.in-Ok.bytes.items, refl, fetched_gives _ _ _ _ c.in-Ok.bytes (rw c.in-Ok.is at c.fetch.ensures.content) (omega (arith, within)));
+      cause = tt;
+      later = cause.later;
+    }
 
-pub returns-in-Err-Failed-clause-gives : goal.returns-in-Err-Failed-clause-gives
-returns-in-Err-Failed-clause-gives g c =
-    failed_stops _ _ _ _ _ (rw c.in-Err-Failed.field-0-is at c.in-Err-Failed.ensures.content) c.unread.ensures
+pub returns-in-Err-Failed-clause-reads : goal.returns-in-Err-Failed-clause-reads
+returns-in-Err-Failed-clause-reads g c =
+    let cause = rw c.in-Err-Failed.field-0-is at c.in-Err-Failed.ensures.cause in
+    record {
+      gives = failed_stops _ _ _ _ _ (rw c.in-Err-Failed.field-0-is at c.in-Err-Failed.ensures.content) c.unread.ensures;
+      cause = unread_cause _ _ _ _ c.unread.ensures (cause.failed (search rules));
+      later = cause.later;
+    }
 
-pub returns-in-Err-TooLong-clause-gives : goal.returns-in-Err-TooLong-clause-gives
-returns-in-Err-TooLong-clause-gives g c =
-    long_stops _ _ _ _ _ _ (rw c.in-Err-TooLong.field-0-is at c.in-Err-TooLong.ensures.content)
-    ((rw c.in-Err-TooLong.field-0-is at c.in-Err-TooLong.ensures.cause).limited) c.refuse.ensures
+pub returns-in-Err-TooLong-clause-reads : goal.returns-in-Err-TooLong-clause-reads
+returns-in-Err-TooLong-clause-reads g c =
+    let cause = rw c.in-Err-TooLong.field-0-is at c.in-Err-TooLong.ensures.cause in
+    record {
+      gives = long_stops _ _ _ _ _ _ (rw c.in-Err-TooLong.field-0-is at c.in-Err-TooLong.ensures.content) cause.limited c.refuse.ensures;
+      cause = bad_cause _ _ _ _ c.refuse.ensures;
+      later = cause.later;
+    }
 
-pub returns-in-Err-OutOfMemory-clause-gives : goal.returns-in-Err-OutOfMemory-clause-gives
-returns-in-Err-OutOfMemory-clause-gives g c =
-    memory_stops _ _ _ _ (rw c.in-Err-OutOfMemory.field-0-is at c.in-Err-OutOfMemory.ensures.content)
+pub returns-in-Err-OutOfMemory-clause-reads : goal.returns-in-Err-OutOfMemory-clause-reads
+returns-in-Err-OutOfMemory-clause-reads g c =
+    let cause = rw c.in-Err-OutOfMemory.field-0-is at c.in-Err-OutOfMemory.ensures.cause in
+    record {
+      gives = memory_stops _ _ _ _ (rw c.in-Err-OutOfMemory.field-0-is at c.in-Err-OutOfMemory.ensures.content);
+      cause = tt;
+      later = cause.later;
+    }

@@ -10,5 +10,5 @@ invariant-loop-done g l =
       end : l.rounds ≡ script.rounds_of l.script;
       underway : Underway (script.batch_of l.script) l.masks
           (bounds_of (script.wires_of l.script) (script.masks_of l.script) (script.coefficients_of l.script))
-          l.rounds l.inputs (l.rounds - l.done) l.done l.run;
+          l.inputs (l.rounds - l.done) l.done l.run;
     }

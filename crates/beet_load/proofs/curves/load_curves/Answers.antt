@@ -1,21 +1,16 @@
-use Rattle.std.proofs.Common.{[], length}
-use Rattle.std.proofs.lemmas.Result.{err_from_is_err_and}
-use Rattle.beet_book.specs.BookFiles.{book_of}
-use Rattle.beet_errand.specs.Errands.{reads}
-use Rattle.beet_errand.proofs.Steps.{stops_before}
-use Rattle.beet_load.specs.Limits.{within_product}
-use Rattle.beet_load.specs.Wholes.{bids_errand}
-use Rattle.beet_load.proofs.WholeSteps.{gives_on}
+use Rattle.std.proofs.Common.{◌≡◌, arith, length}
+use Rattle.beet_errand.proofs.Frame.{bind, exits, passed, stopped, tested}
 use Rattle.beet_load.proofs.curves.load_curves.Goals as goal
 
-pub returns-in_err-entries-clause-gives : goal.returns-in_err-entries-clause-gives
-returns-in_err-entries-clause-gives g c =
-    let p = err_from_is_err_and c.from_residual.result c.from_residual.ensures.1 in
-    rw (p.1, p.2) (stops_before _ _ (reads c.args.book.now 4194304 book_of)
-    (λ entries next. within_product c.args.book.now c.args.grid.now (length entries) (bids_errand c.args.grid.now [] entries next)) _ c.in_err-entries.ensures.gives)
+pub returns-in_err-entries-clause-reads : goal.returns-in_err-entries-clause-reads
+returns-in_err-entries-clause-reads g c = exits c.from_residual.ensures.1 (stopped c.in_err-entries.ensures.reads)
 
-pub returns-clause-gives : goal.returns-clause-gives
-returns-clause-gives g c =
-    gives_on _ _ _ _ (reads c.args.book.now 4194304 book_of)
-    (λ entries next. within_product c.args.book.now c.args.grid.now (length entries) (bids_errand c.args.grid.now [] entries next)) c.in_ok-entries.entries.items _
-    c.in_ok-entries.ensures.gives (rw c.as_slice.ensures.value at c.limited_bids.ensures.gives)
+pub returns-in_err-check_product-clause-reads : goal.returns-in_err-check_product-clause-reads
+returns-in_err-check_product-clause-reads g c =
+    let count : c.len.result ≡ length c.in_ok-entries.entries.items = omega arith in
+    exits c.from_residual-in_err-check_product.ensures.1 (bind c.in_ok-entries.ensures.reads (tested (rw count at c.in_err-check_product.ensures.tests)))
+
+pub returns-clause-reads : goal.returns-clause-reads
+returns-clause-reads g c =
+    let count : c.len.result ≡ length c.in_ok-entries.entries.items = omega arith in
+    bind c.in_ok-entries.ensures.reads (passed (rw count at c.in_ok-check_product.ensures.tests) (rw c.as_slice.ensures.value at c.read_bids.ensures.reads))

@@ -3,15 +3,15 @@ use Rattle.beet_words.specs.Words.{accepted}
 use Rattle.beet_load.proofs.Farming.{words_pass, words_short}
 use Rattle.beet_load.proofs.farmers.check_words.Goals as goal
 
-pub returns-then-held-wanted-clause-passes : goal.returns-then-held-wanted-clause-passes
-returns-then-held-wanted-clause-passes c =
+pub returns-then-held-wanted-clause-tests : goal.returns-then-held-wanted-clause-tests
+returns-then-held-wanted-clause-tests c =
     let words = c.args.tape.now.words in
     let held : c.accepted_left-held.result ≡ length (accepted words) =
     c.accepted_left-held.ensures ∙ ap (λ n. length (accepted (drop n words))) c.requires in
     words_short c.args.number _ words _ (omega arith) (rw (held, c.prices-wanted.ensures.value) at c.too_few_words.ensures)
 
-pub returns-clause-passes : goal.returns-clause-passes
-returns-clause-passes c =
+pub returns-clause-tests : goal.returns-clause-tests
+returns-clause-tests c =
     let words = c.args.tape.now.words in
     let held : c.accepted_left-held.result ≡ length (accepted words) =
     c.accepted_left-held.ensures ∙ ap (λ n. length (accepted (drop n words))) c.requires in

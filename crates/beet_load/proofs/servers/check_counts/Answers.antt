@@ -1,18 +1,18 @@
 use Rattle.std.proofs.Common.{arith, ◌≡◌, ◌∙◌, ap, subst, length, drop, Ok}
 use Rattle.beet_words.specs.Words.{accepted}
-use Rattle.beet_errand.specs.Fetches.{Passes}
+use Rattle.beet_errand.specs.Fetches.{Tests}
 use Rattle.beet_load.specs.Servers.{enough_of}
 use Rattle.beet_load.proofs.ServerSteps.{counts_pass}
 use Rattle.beet_load.proofs.servers.check_counts.Goals as goal
 
-pub returns-clause-passes : goal.returns-clause-passes
-returns-clause-passes c =
+pub returns-clause-tests : goal.returns-clause-tests
+returns-clause-tests c =
     let numbers = c.words.inside.coefficients in
     let masks = c.words.inside.masks in
     let held : c.accepted_left-held.result ≡ length (accepted numbers.words) =
     c.accepted_left-held.ensures ∙ ap (λ n. length (accepted (drop n numbers.words))) c.words.invariant.1 in
     let many : c.masks_left-held.result ≡ length masks.words = omega (arith, c.masks_left-held.ensures, c.words.invariant.0) in
-    subst (λ words. Passes (enough_of c.args.grid.now c.args.server words) (Ok tt)) c.words.view_is
+    subst (λ words. Tests (enough_of c.args.grid.now c.args.server words) (Ok tt)) c.words.view_is
     (counts_pass c.args.grid.now c.args.server (record { masks = masks.words; coefficients = numbers.words })
     (omega (arith, held, c.if-held-wanted.false, c.wanted_coefficients-wanted.ensures.value))
     (omega (arith, many, c.if-held-wanted-2.false, c.wanted_masks-wanted.ensures.value)))

@@ -1,28 +1,16 @@
-use Rattle.std.proofs.lemmas.Result.{err_from_is_err_and}
-use Rattle.beet_field.specs.declared.trio.Trio.{Trio}
-use Rattle.beet_load.specs.Servers.{ServerWords, server_errand}
-use Rattle.beet_load.proofs.ServerSteps.{three_give, first_of_three_stops, second_of_three_stops, third_of_three_stops}
+use Rattle.std.proofs.Common.{refl}
+use Rattle.beet_errand.proofs.Frame.{bind, exits, given, stopped}
 use Rattle.beet_load.proofs.servers.read_three.Goals as goal
 
-pub returns-in_err-one-clause-gives : goal.returns-in_err-one-clause-gives
-returns-in_err-one-clause-gives g c =
-    let p = err_from_is_err_and c.from_residual.result c.from_residual.ensures.1 in
-    rw (p.1, p.2) (first_of_three_stops {A = ServerWords} {B = Trio ServerWords} _ _
-    (server_errand c.args.grid.now 1 c.args.sources.now.one) (server_errand c.args.grid.now 2 c.args.sources.now.two) (server_errand c.args.grid.now 3 c.args.sources.now.three) (λ one two three. record { one = one; two = two; three = three }) _ c.in_err-one.ensures.gives)
+pub returns-in_err-one-clause-reads : goal.returns-in_err-one-clause-reads
+returns-in_err-one-clause-reads g c = exits c.from_residual.ensures.1 (stopped c.in_err-one.ensures.reads)
 
-pub returns-in_err-two-clause-gives : goal.returns-in_err-two-clause-gives
-returns-in_err-two-clause-gives g c =
-    let p = err_from_is_err_and c.from_residual-in_err-two.result c.from_residual-in_err-two.ensures.1 in
-    rw (p.1, p.2) (second_of_three_stops {A = ServerWords} {B = Trio ServerWords} _ _ _
-    (server_errand c.args.grid.now 1 c.args.sources.now.one) (server_errand c.args.grid.now 2 c.args.sources.now.two) (server_errand c.args.grid.now 3 c.args.sources.now.three) (λ one two three. record { one = one; two = two; three = three }) _ _ c.in_ok-one.ensures.gives c.in_err-two.ensures.gives)
+pub returns-in_err-two-clause-reads : goal.returns-in_err-two-clause-reads
+returns-in_err-two-clause-reads g c = exits c.from_residual-in_err-two.ensures.1 (bind c.in_ok-one.ensures.reads (stopped c.in_err-two.ensures.reads))
 
-pub returns-in_err-three-clause-gives : goal.returns-in_err-three-clause-gives
-returns-in_err-three-clause-gives g c =
-    let p = err_from_is_err_and c.from_residual-in_err-three.result c.from_residual-in_err-three.ensures.1 in
-    rw (p.1, p.2) (third_of_three_stops {A = ServerWords} {B = Trio ServerWords} _ _ _ _
-    (server_errand c.args.grid.now 1 c.args.sources.now.one) (server_errand c.args.grid.now 2 c.args.sources.now.two) (server_errand c.args.grid.now 3 c.args.sources.now.three) (λ one two three. record { one = one; two = two; three = three }) _ _ _ c.in_ok-one.ensures.gives c.in_ok-two.ensures.gives c.in_err-three.ensures.gives)
+pub returns-in_err-three-clause-reads : goal.returns-in_err-three-clause-reads
+returns-in_err-three-clause-reads g c =
+    exits c.from_residual-in_err-three.ensures.1 (bind c.in_ok-one.ensures.reads (bind c.in_ok-two.ensures.reads (stopped c.in_err-three.ensures.reads)))
 
-pub returns-clause-gives : goal.returns-clause-gives
-returns-clause-gives g c =
-    three_give {A = ServerWords} {B = Trio ServerWords} _ _ _ _
-    (server_errand c.args.grid.now 1 c.args.sources.now.one) (server_errand c.args.grid.now 2 c.args.sources.now.two) (server_errand c.args.grid.now 3 c.args.sources.now.three) (λ one two three. record { one = one; two = two; three = three }) _ _ _ c.in_ok-one.ensures.gives c.in_ok-two.ensures.gives c.in_ok-three.ensures.gives
+pub returns-clause-reads : goal.returns-clause-reads
+returns-clause-reads g c = bind c.in_ok-one.ensures.reads (bind c.in_ok-two.ensures.reads (bind c.in_ok-three.ensures.reads (given refl)))

@@ -1,5 +1,5 @@
 use Rattle.std.proofs.Common.{take}
-use Rattle.beet_auction.specs.Openings.{farmers_of}
+use Rattle.beet_book.specs.Farmers.{farmers_of}
 use Rattle.beet_record.specs.DealtBooks.{HasDealt}
 use Rattle.beet_record.proofs.dealing.deal_book.Given as goal
 

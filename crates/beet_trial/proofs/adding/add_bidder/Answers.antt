@@ -1,8 +1,7 @@
-use Rattle.std.proofs.Common.{arith, ◌∙◌, ◌+◌, Err}
-use Rattle.beet_load.specs.Farmers.{words_wanted}
-use Rattle.std.proofs.lemmas.Result.{err_from_is_err_and}
+use Rattle.std.proofs.Common.{arith, ◌∙◌}
+use Rattle.beet_errand.proofs.Frame.{test_exits}
 use Rattle.beet_trial.specs.Rules.{trial_farmer}
-use Rattle.beet_trial.proofs.Bidders.{adds-farmer, same-words}
+use Rattle.beet_trial.proofs.Bidders.{adds-farmer}
 use Rattle.beet_trial.proofs.Curves.{is-of-grid}
 use Rattle.beet_trial.proofs.adding.add_bidder.Goals as goal
 
@@ -12,16 +11,18 @@ deal-requires-clause-buy c = rw c.in_ok-curve.ensures ((is-of-grid c.args.grid.n
 pub deal-requires-clause-sell : goal.deal-requires-clause-sell
 deal-requires-clause-sell c = rw c.in_ok-curve.ensures ((is-of-grid c.args.grid.now c.args.i).sell_length ∙ omega arith)
 
-pub returns-in_err-check_words-clause-cause : goal.returns-in_err-check_words-clause-cause
-returns-in_err-check_words-clause-cause c =
-    let p = err_from_is_err_and c.from_residual-in_err-check_words.result c.from_residual-in_err-check_words.ensures.1 in
-    λ before now. rw (p.1, p.2) (c.in_err-check_words.ensures.cause before now)
+pub returns-in_err-curve-clause-tests : goal.returns-in_err-curve-clause-tests
+returns-in_err-curve-clause-tests c = test_exits c.from_residual.ensures.1 (record { passes = tt; cause = λ before now. tt })
 
-pub returns-in_err-check_words-clause-passes : goal.returns-in_err-check_words-clause-passes
-returns-in_err-check_words-clause-passes c =
-    let p = err_from_is_err_and c.from_residual-in_err-check_words.result c.from_residual-in_err-check_words.ensures.1 in
-    rw (p.1, p.2) (same-words (c.args.i + 1) (words_wanted c.args.grid.now) c.in_ok-tape.tape (trial_farmer c.args.grid.now c.args.i).words (Err c.in_err-check_words.field-0.0)
-    c.in_ok-tape.ensures c.in_err-check_words.ensures.passes)
+pub returns-in_err-tape-clause-tests : goal.returns-in_err-tape-clause-tests
+returns-in_err-tape-clause-tests c = test_exits c.from_residual-in_err-tape.ensures.1 (record { passes = tt; cause = λ before now. tt })
+
+pub returns-in_err-check_words-clause-tests : goal.returns-in_err-check_words-clause-tests
+returns-in_err-check_words-clause-tests c =
+    test_exits c.from_residual-in_err-check_words.ensures.1 (rw c.in_ok-tape.ensures at c.in_err-check_words.ensures.tests)
+
+pub returns-clause-tests : goal.returns-clause-tests
+returns-clause-tests c = rw c.in_ok-tape.ensures at c.in_ok-check_words.ensures.tests
 
 pub returns-clause-adds : goal.returns-clause-adds
 returns-clause-adds c =

@@ -1,46 +1,38 @@
-use Rattle.beet_two_worlds.proofs.BookAnswers.{memory-cause, agreed-done, agreed-answers, refused-answers}
+use Rattle.beet_two_worlds.proofs.BookAnswers.{agreed-answers, refused-answers}
 use Rattle.beet_two_worlds.proofs.SecondWords.{bundle-fits, can-run, same-transcripts}
 use Rattle.beet_two_worlds.proofs.answering.answer_both.Goals as goal
 
 pub agreed_reply-requires-clause-second_runs : goal.agreed_reply-requires-clause-second_runs
 agreed_reply-requires-clause-second_runs c =
-    can-run c.args.me c.args.whole.now.book c.args.second.now c.args.whole.now.words c.in-Ok.mapped c.requires.runs c.requires.grids
+    can-run c.args.me c.args.whole.now.book c.args.second.now c.args.whole.now.words c.in-Ok.mapped c.args.whole.now.runs c.requires
     c.in-Ok.ensures.mapped c.in-Ok.ensures.enough
 
 pub agreed_reply-requires-clause-fits : goal.agreed_reply-requires-clause-fits
 agreed_reply-requires-clause-fits c =
     bundle-fits c.args.second.now c.in-Ok.mapped
-    (can-run c.args.me c.args.whole.now.book c.args.second.now c.args.whole.now.words c.in-Ok.mapped c.requires.runs c.requires.grids
+    (can-run c.args.me c.args.whole.now.book c.args.second.now c.args.whole.now.words c.in-Ok.mapped c.args.whole.now.runs c.requires
     c.in-Ok.ensures.mapped c.in-Ok.ensures.enough)
     (rw c.grid.ensures.value at c.prices-within_limits.ensures.limits) c.grid.ensures.limits.few
 
 pub agreed_reply-requires-clause-same : goal.agreed_reply-requires-clause-same
 agreed_reply-requires-clause-same c =
-    same-transcripts c.args.me c.args.whole.now.book c.args.second.now c.args.whole.now.words c.in-Ok.mapped c.requires.runs
-    (can-run c.args.me c.args.whole.now.book c.args.second.now c.args.whole.now.words c.in-Ok.mapped c.requires.runs c.requires.grids
+    same-transcripts c.args.me c.args.whole.now.book c.args.second.now c.args.whole.now.words c.in-Ok.mapped c.args.whole.now.runs
+    (can-run c.args.me c.args.whole.now.book c.args.second.now c.args.whole.now.words c.in-Ok.mapped c.args.whole.now.runs c.requires
     c.in-Ok.ensures.mapped c.in-Ok.ensures.enough)
     c.in-Ok.ensures.bytes
 
-pub returns-in-Ok-clause-cause : goal.returns-in-Ok-clause-cause
-returns-in-Ok-clause-cause c = memory-cause c.agreed_reply.result c.agreed_reply.ensures.memory
-
-pub returns-in-Ok-clause-done : goal.returns-in-Ok-clause-done
-returns-in-Ok-clause-done c =
-    agreed-done c.args.me c.args.out.now c.args.whole.now.book c.args.whole.now.words c.args.second.now c.in-Ok.mapped
-    c.agreed_reply.result c.agreed_reply.ensures.answer
-
-pub returns-in-Ok-clause-answers : goal.returns-in-Ok-clause-answers
-returns-in-Ok-clause-answers c =
+pub returns-in-Ok : goal.returns-in-Ok
+returns-in-Ok c =
     agreed-answers c.args.me c.args.out.now c.args.whole.now.book c.args.whole.now.words c.args.second.now c.in-Ok.mapped
     c.in-Ok.ensures.agreed c.in-Ok.ensures.mapped
-    (same-transcripts c.args.me c.args.whole.now.book c.args.second.now c.args.whole.now.words c.in-Ok.mapped c.requires.runs
-    (can-run c.args.me c.args.whole.now.book c.args.second.now c.args.whole.now.words c.in-Ok.mapped c.requires.runs c.requires.grids
+    (same-transcripts c.args.me c.args.whole.now.book c.args.second.now c.args.whole.now.words c.in-Ok.mapped c.args.whole.now.runs
+    (can-run c.args.me c.args.whole.now.book c.args.second.now c.args.whole.now.words c.in-Ok.mapped c.args.whole.now.runs c.requires
     c.in-Ok.ensures.mapped c.in-Ok.ensures.enough)
     c.in-Ok.ensures.bytes)
     c.in-Ok.ensures.only c.in-Ok.ensures.back
     c.agreed_reply.result c.agreed_reply.ensures.memory c.agreed_reply.ensures.answer
 
-pub returns-in-Err-clause-answers : goal.returns-in-Err-clause-answers
-returns-in-Err-clause-answers c =
-    refused-answers c.args.me c.args.out.now c.args.whole.now.book c.args.whole.now.words c.args.second.now c.in-Err.fault
+pub returns-in-Err : goal.returns-in-Err
+returns-in-Err c =
+    refused-answers c.args.me c.args.whole.now.book c.args.second.now c.in-Err.fault
     c.in-Err.ensures.refused c.refusal.result c.refusal.ensures

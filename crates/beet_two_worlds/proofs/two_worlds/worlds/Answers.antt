@@ -1,25 +1,35 @@
-use Rattle.std.proofs.Common.{◌∙◌}
+use Rattle.std.proofs.Common.{refl, ◌∙◌}
 use Rattle.std.proofs.lemmas.Result.{err_from_is_err_and}
-use Rattle.beet_two_worlds.proofs.JobSteps.{second-stops, both-read, books-answered}
+use Rattle.beet_errand.proofs.Frame.{bind, given, stopped}
+use Rattle.beet_errand.specs.Errands.{gives}
+use Rattle.beet_two_worlds.specs.Reading.{Both, both_errand}
+use Rattle.beet_two_worlds.proofs.BookAnswers.{answered-done}
+use Rattle.beet_two_worlds.proofs.JobSteps.{both_of, compared, unread}
 use Rattle.beet_load.specs.WholeViews.{loaded_of}
 use Rattle.beet_two_worlds.proofs.two_worlds.worlds.Goals as goal
 
-pub returns-in_err-second-clause-finishes : goal.returns-in_err-second-clause-finishes
-returns-in_err-second-clause-finishes g c =
+pub returns-in_err-whole-clause-compares : goal.returns-in_err-whole-clause-compares
+unfolding both_errand
+returns-in_err-whole-clause-compares g c =
+    let p = err_from_is_err_and c.from_residual.result c.from_residual.ensures.1 in
+    rw (p.1, p.2) (unread (stopped c.in_err-whole.ensures))
+
+pub returns-in_err-second-clause-compares : goal.returns-in_err-second-clause-compares
+unfolding both_errand
+returns-in_err-second-clause-compares g c =
     let p = err_from_is_err_and c.from_residual-in_err-second.result c.from_residual-in_err-second.ensures.1 in
-    let stops = rw c.grid.ensures.value at c.in_err-second.ensures.gives in
-    rw (p.1, p.2) (second-stops _ _ c.args.auction.now c.args.servers.now c.args.book1.now c.args.book2.now c.args.server c.args.out.now _
-    (loaded_of c.in_ok-whole.whole) _ c.in_ok-whole.ensures.gives stops)
+    let first = loaded_of c.in_ok-whole.whole in
+    rw (p.1, p.2) (unread (bind c.in_ok-whole.ensures (stopped {rest = λ second. gives {A = Both} (record { first = first; second = second })}
+    (rw c.grid.ensures.value at c.in_err-second.ensures.reads))))
 
-pub returns-clause-cause : goal.returns-clause-cause
-returns-clause-cause g c = c.answer_both.ensures.cause _ _
+pub returns-clause-compares : goal.returns-clause-compares
+unfolding both_errand
+returns-clause-compares g c =
+    let first = loaded_of c.in_ok-whole.whole in
+    compared c.in_ok-whole.whole c.in_ok-second.second (c.in_ok-second.ensures.grid ∙ c.grid.ensures.value) c.answer_both.result
+    (bind c.in_ok-whole.ensures (bind {rest = λ second. gives {A = Both} (record { first = first; second = second })}
+    (rw c.grid.ensures.value at c.in_ok-second.ensures.reads) (given {value = both_of c.in_ok-whole.whole c.in_ok-second.second} refl)))
+    c.answer_both.ensures
 
-pub returns-clause-finishes : goal.returns-clause-finishes
-returns-clause-finishes g c =
-    let gives = rw c.grid.ensures.value at c.in_ok-second.ensures.gives in
-    let grids = c.in_ok-second.ensures.grid ∙ c.grid.ensures.value in
-    books-answered _ _ c.args.auction.now c.args.servers.now c.args.book1.now c.args.book2.now c.args.server c.args.out.now
-    c.in_ok-whole.whole c.in_ok-second.second c.in_ok-whole.ensures.runs.lists grids
-    (both-read _ _ c.args.auction.now c.args.servers.now c.args.book1.now c.args.book2.now c.args.server c.args.out.now
-    _ c.in_ok-whole.whole c.in_ok-second.second grids c.in_ok-whole.ensures.gives gives)
-    c.answer_both.result c.answer_both.ensures.answers
+pub returns-clause-done : goal.returns-clause-done
+returns-clause-done g c = answered-done _ _ _ _ _ c.answer_both.result c.answer_both.ensures

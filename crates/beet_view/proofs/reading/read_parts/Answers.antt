@@ -1,4 +1,6 @@
 use Rattle.std.proofs.Common.{◌+◌, ◌*◌, arith}
+use Rattle.beet_plan.specs.declared.TheConstants.{MASK_COEFFICIENTS}
+use Rattle.beet_plan.specs.declared.TheConstants.{SPARE_WORDS}
 use Rattle.beet_view.specs.Views.{Viewed}
 use Rattle.beet_view.proofs.SeenFacts.{words_at-few, bidders_at-are, rounds_at-are, view_fits}
 use Rattle.beet_view.proofs.reading.read_parts.Goals as goal
@@ -17,8 +19,8 @@ returns-clause-fits c =
     let grid = c.in_ok-grid.grid in
     let bidders = bidders_at-are bytes c.in_ok-server.server grid c.in_ok-grid.at (c.in_ok-bidders.bidders.items, c.in_ok-bidders.at) (c.in_ok-grid.ensures.limits).prices_some c.in_ok-bidders.ensures.bidders in
     let rounds = rounds_at-are bytes c.in_ok-coefficients.at (c.in_ok-rounds.rounds.items, c.in_ok-rounds.at) c.in_ok-rounds.ensures.rounds in
-    let masks = words_at-few bytes (c.comparisons.result + 2) c.in_ok-bidders.at (c.in_ok-masks.masks, c.in_ok-masks.at) c.in_ok-masks.ensures.words in
-    let coefficients = words_at-few bytes (512 * (c.comparisons.result + 2) + 8) c.in_ok-masks.at (c.in_ok-coefficients.coefficients, c.in_ok-coefficients.at) c.in_ok-coefficients.ensures.words in
+    let masks = words_at-few bytes (c.comparisons.result + 2) c.in_ok-bidders.at (c.in_ok-masks.masks, c.in_ok-masks.at) c.in_ok-masks.ensures.list in
+    let coefficients = words_at-few bytes (MASK_COEFFICIENTS * (c.comparisons.result + 2) + SPARE_WORDS) c.in_ok-masks.at (c.in_ok-coefficients.coefficients, c.in_ok-coefficients.at) c.in_ok-coefficients.ensures.list in
     let view : Viewed = record {
       server = c.in_ok-server.server;
       grid = grid;

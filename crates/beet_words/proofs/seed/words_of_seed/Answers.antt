@@ -14,5 +14,5 @@ loop-k-preserved c =
       key = ap (λ r. r.key) place ∙ i.key;
       stream = ap (λ r. r.stream) place ∙ i.stream;
       place = omega (arith, ap (λ r. r.word_pos) place);
-      words = rw (c.in_ok-push.ensures.items, i.words, word, more) refl;
+      words = rw (c.in_ok-push.ensures, i.words, word, more) refl;
     }

@@ -8,5 +8,5 @@ invariant-loop-k l = record {
   key : l.rng.key ≡ key_of l.seed;
   stream : l.rng.stream ≡ l.stream;
   place : l.rng.word_pos ≡ 2 * l._k;
-  words : l.words.items ≡ seed_words l.seed l.stream l._k;
+  words : l.words ≡ seed_words l.seed l.stream l._k;
 }

@@ -7,5 +7,5 @@ use Rattle.beet_words.proofs.tape_file.read_tape.Given as goal
 abbrev pub invariant-loop-k : goal.invariant-loop-k
 invariant-loop-k l = record {
   judged : first_fault (l.k + 1) (rows_from l.bytes l.k (l.count - l.k)) ≡ first_fault 1 (map reason_against (lines_of l.bytes));
-  words : l.words.items ≡ take l.keep (map word_in (map (line_at l.bytes) (range_with_len 0 l.k)));
+  words : l.words ≡ take l.keep (map word_in (map (line_at l.bytes) (range_with_len 0 l.k)));
 }

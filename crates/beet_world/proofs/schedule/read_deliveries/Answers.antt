@@ -1,18 +1,19 @@
-use Rattle.std.proofs.Common.{◌≡◌, ◌+◌, ◌++◌, ◌∷◌, [], ◌∙◌, ap, sym, rules, Ok, arith}
+use Rattle.std.proofs.Common.{◌≡◌, ◌+◌, ◌∷◌, arith, ap, sym, ◌∙◌, Ok, length, length-append}
 use Rattle.beet_world.specs.Schedules.{delivery_at}
 use Rattle.beet_world.proofs.ScheduleRows.{rest-accepted, deliveries-more}
 use Rattle.beet_world.proofs.schedule.read_deliveries.Goals as goal
 
-pub loop-i-preserved : goal.loop-i-preserved
-loop-i-preserved c =
-    let inv = c.loop-i.invariant in
-    let rows = c.args.rows.now in
-    let i = c.loop-i.i in
-    let row = c.index-rows-i.result in
-    let delivery = c.in-Ok.delivery in
-    let accepted : delivery_at (i + 2) row ≡ Ok delivery = sym c.read_row.ensures ∙ c.in-Ok.is in
-    let items : c.push.new.self.items ≡ c.loop-i.deliveries.items ++ delivery ∷ [] = search rules in
+pub loop-deliveries-preserved : goal.loop-deliveries-preserved
+loop-deliveries-preserved c =
+    let inv = c.loop-deliveries.invariant in
+    let before = c.loop-deliveries.deliveries.items in
+    let is : c.loop-deliveries.rows ≡ c.next.new.row ∷ c.next.new.self = rw c.if-branch.true at c.in_ok-next.ensures in
+    let count : c.len.result ≡ length c.loop-deliveries.deliveries.items = omega arith in
+    let accepted : delivery_at (length c.loop-deliveries.deliveries.items + 2) c.next.new.row ≡ Ok c.in-Ok.delivery = ap (λ n. delivery_at (n + 2) c.next.new.row) (sym count) ∙ (sym c.read_row.ensures ∙ c.in-Ok.is) in
+    let items = c.in_ok-push-in-Ok.ensures.items in
+    let number : length c.push.new.self.items + 2 ≡ length c.loop-deliveries.deliveries.items + 2 + 1 = rw (items, length-append) (omega arith) in
     record {
-      rest = rest-accepted rows i row delivery (omega arith) c.index-rows-i.is inv.rest accepted;
-      deliveries = items ∙ ap (λ xs. xs ++ delivery ∷ []) inv.deliveries ∙ sym (deliveries-more rows i row delivery (omega arith) c.index-rows-i.is accepted);
+      rest = rw number (rest-accepted (length before + 2) c.next.new.row c.loop-deliveries.rows c.next.new.self c.in-Ok.delivery is accepted ∙ inv.rest);
+      deliveries = rw items (deliveries-more before (length before + 2) c.next.new.row c.loop-deliveries.rows c.next.new.self c.args.rows.now c.in-Ok.delivery is accepted inv.deliveries);
+      count = omega (arith, number, ap length is, inv.count);
     }

@@ -1,16 +1,19 @@
-use Rattle.std.proofs.Common.{sym, ◌∙◌}
-use Rattle.beet_forms.specs.Rows.{rows_of}
-use Rattle.beet_world.proofs.ScheduleRows.{rest-rows, same-begin, schedule-read, no-schedule}
+use Rattle.std.proofs.Common.{arith, ap, sym, ◌∙◌, length, length-drop}
+use Rattle.beet_world.proofs.ScheduleRows.{schedule-begun, no-schedule}
 use Rattle.beet_world.proofs.schedule.read_schedule.Goals as goal
+
+pub returns-then-not-branch : goal.returns-then-not-branch
+returns-then-not-branch c =
+    rw (c.at_row.ensures, ← c.new-rows.ensures.rows)
+    (no-schedule c.new-rows.result (sym c.in_ok-begins_with.ensures.0 ∙ c.if-not-branch.true))
+
+pub read_deliveries-requires : goal.read_deliveries-requires
+read_deliveries-requires c =
+    let rest = c.in_ok-begins_with.ensures.1 c.if-not-branch.false in
+    omega (arith, c.new-rows.ensures.few, ap length rest, length-drop 1 c.new-rows.result)
 
 pub returns : goal.returns
 returns c =
-    let rows = c.in-Ok.rows.items in
-    let begun = same-begin rows c.deref.result.now c.deref.ensures.value ∙ sym c.begins_with_header.ensures ∙ c.if-not-begins_with_header.false in
-    schedule-read rows (rows_of c.args.bytes.now) c.read_deliveries.result c.in-Ok.ensures.records begun (rw (c.deref-2.ensures.value, rest-rows rows) at c.read_deliveries.ensures)
-
-pub returns-then-not-begins_with_header : goal.returns-then-not-begins_with_header
-returns-then-not-begins_with_header c =
-    let rows = c.in-Ok.rows.items in
-    no-schedule rows (rows_of c.args.bytes.now) c.in-Ok.ensures.records
-    (same-begin rows c.deref.result.now c.deref.ensures.value ∙ sym c.begins_with_header.ensures ∙ c.if-not-begins_with_header.true)
+    let header = c.in_ok-begins_with.ensures in
+    rw (← c.new-rows.ensures.rows, schedule-begun c.new-rows.result c.begins_with.new.self (sym header.0 ∙ c.if-not-branch.false) (header.1 c.if-not-branch.false))
+    c.read_deliveries.ensures

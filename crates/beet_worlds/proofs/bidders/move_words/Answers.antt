@@ -17,7 +17,7 @@ loop-word-preserved c =
 
 pub returns : goal.returns
 returns c =
-    let same = c.as_slice-words.ensures in
+    let same = c.as_slice-words.ensures.value in
     let enough : 2 * c.args.grid.now.prices ≤ length (accepted c.as_slice-words.result.now) = rw same c.requires.enough in
     let all = moved-all c.args.me (2 * c.args.grid.now.prices) c.args.first.now c.args.second.now c.as_slice-words.result.now c.loop-word.moved.items c.loop-word.word-index
     c.loop-word.drawn (omega arith) enough c.loop-word.invariant.moved_to in

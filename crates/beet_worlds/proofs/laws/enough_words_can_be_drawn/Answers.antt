@@ -5,8 +5,7 @@ use Rattle.beet_field.specs.declared.point.Point.TheVariants.{One, Two, Three}
 use Rattle.beet_words.specs.Bundles.{Words}
 use Rattle.beet_words.specs.Words.{accepted}
 use Rattle.beet_bids.specs.Books.{Book}
-use Rattle.beet_plan.specs.Auction.{most_coefficients}
-use Rattle.beet_auction.specs.Openings.{auction_over}
+use Rattle.beet_plan.specs.Auction.{most_coefficients, auction_over}
 use Rattle.beet_worlds.specs.Enough.{AreEnough}
 use Rattle.beet_worlds.proofs.Drawn.{all-drawn, drawn-of}
 use Rattle.beet_worlds.proofs.laws.enough_words_can_be_drawn.Goals as goal

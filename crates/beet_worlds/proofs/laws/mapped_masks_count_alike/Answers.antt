@@ -26,5 +26,5 @@ returns-clause-spent c = λ s first second words words' m.
     spent-same (mask_at words) (mask_at words') (record { same = mask-ones first second words words' s m })
 
 pub returns-clause-rounds : goal.returns-clause-rounds
-returns-clause-rounds c = λ s first second words words' m prices z.
-    rounds-same (mask_at words) (mask_at words') prices z (record { same = mask-ones first second words words' s m })
+returns-clause-rounds c = λ s first second words words' m auction z.
+    rounds-same auction (mask_at words) (mask_at words') z (record { same = mask-ones first second words words' s m })

@@ -1,4 +1,4 @@
-use Rattle.beet_auction.specs.Openings.{book_of}
+use Rattle.beet_book.specs.Farmers.{book_of}
 use Rattle.beet_bids.specs.Books.{IsBook}
 use Rattle.beet_worlds.proofs.BidderFacts.{bidders-only, mapped-back}
 use Rattle.beet_worlds.proofs.MasksBack.{masks-back, masks-only}

@@ -3,9 +3,9 @@ use Rattle.std.specs.Prelude.{All}
 use Rattle.beet_words.specs.Bundles.{Words, AreWords}
 use Rattle.beet_words.specs.Words.{accepted}
 use Rattle.beet_gates.specs.Scripts.{HasWords}
-use Rattle.beet_plan.specs.Auction.{most_coefficients}
+use Rattle.beet_plan.specs.Auction.{most_coefficients, auction_over}
 use Rattle.beet_server.specs.Runs.{numbers_of}
-use Rattle.beet_auction.specs.Openings.{auction_over, farmers_of}
+use Rattle.beet_book.specs.Farmers.{farmers_of}
 use Rattle.beet_worlds.specs.InputLines.{AreInputLines}
 use Rattle.beet_worlds.specs.MappedBidders.{BiddersMapped}
 use Rattle.beet_worlds.specs.MappedMasks.{MasksMapped}

@@ -1,7 +1,8 @@
 use Rattle.std.proofs.Common.{sym, subst}
 use Rattle.beet_field.specs.declared.point.Point.TheVariants.{One, Two, Three}
 use Rattle.beet_view.specs.Transcripts.{view_bytes}
-use Rattle.beet_record.specs.BookRuns.{HasRun, view_for}
+use Rattle.beet_record.specs.BookRuns.{HasRun}
+use Rattle.beet_view.specs.BookViews.{view_for}
 use Rattle.beet_record.proofs.HasRuns.{all-files, seen-by, transcript-shown}
 use Rattle.beet_record.proofs.running.Ran.into_transcripts.Goals as goal
 

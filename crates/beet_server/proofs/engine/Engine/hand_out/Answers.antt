@@ -1,7 +1,10 @@
 use Rattle.std.proofs.Common.{◌≡◌, ◌<◌, subst, length, ap, ◌∙◌, false}
+use Rattle.beet_words.specs.Tapes.{left_of}
+use Rattle.beet_words.proofs.DrawnFrom.{left-drawn}
 use Rattle.beet_gates.specs.Scripts.{size_of}
+use Rattle.beet_server.specs.Runs.{draws_in}
 use Rattle.beet_server.specs.Steps.{Work}
-use Rattle.beet_server.proofs.Soundness.{hands-sound, length-own, still-going}
+use Rattle.beet_server.proofs.Soundness.{hands-sound, length-numbers_for, still-going}
 use Rattle.beet_gates.specs.Clear.{is_end}
 use Rattle.beet_gates.specs.declared.Batch.{Batch}
 use Rattle.beet_server.specs.Steps.{batch_of}
@@ -11,9 +14,10 @@ pub invariant_of-self : goal.invariant_of-self
 invariant_of-self g c =
     let s = c.self.invariant in
     let handed : c.self.inside.handed ≡ false = ap (λ (w : Work g.row.S.Denot). w.handed) c.self.view_is ∙ c.requires.handed in
-    let size : length c.apart-own.result.0.items ≡ size_of c.self.inside.batch.act =
-    length-own _ _ c.self.inside.batch.act _ _ _ _ c.numbers_for_each-numbers.ensures.numbers c.apart-own.ensures.own in
-    hands-sound _ _ _ _ _ _ _ _ _ _ _ _ _ s handed _ _ _ size c.numbers_for_each-numbers.ensures.dealt c.numbers_for_each-numbers.ensures.left
+    let size : length c.put_numbers.new.own.items ≡ size_of c.self.inside.batch.act =
+    ap length c.put_numbers.ensures.own ∙ length-numbers_for c.self.inside.batch.act _ _ _ _ in
+    hands-sound _ _ _ _ _ _ _ _ _ _ _ _ _ s handed _ _ _ size c.put_numbers.ensures.dealt
+    (ap left_of c.put_numbers.ensures.drawn ∙ left-drawn c.self.inside.coefficients (draws_in c.self.inside.batch.act))
 
 pub returns-clause-within : goal.returns-clause-within
 returns-clause-within g c =

@@ -15,7 +15,7 @@ append_lets-requires-clause-below g c =
     let new = numbers_opened c.self.inside.batch.act c.of_sender-one.result.now c.of_sender-two.result.now c.of_sender-three.result.now in
     let count : length new ≡ revealed c.self.inside.batch.act =
     omega (arith, ap length c.absorb.ensures.opened, length-append c.self.inside.opened.items new, c.absorb.ensures.opened_count) in
-    let batch_is = c.next-self-inside.ensures ∙ ap (λ l. g.S.Script.batch_of c.self.inside.script (c.self.inside.round + 1) l) c.as_slice.ensures.value in
+    let batch_is = c.refill.ensures ∙ ap (λ l. g.S.Script.batch_of c.self.inside.script (c.self.inside.round + 1) l) c.as_slice.ensures.value in
     let lets_are = c.as_slice-2.ensures.value ∙ ap (λ (b : Batch). b.lets.items) batch_is in
     rw lets_are (next-lets _ _ _ _ _ _ _ _ _ _ _ _ _ s handed goes _ _ new c.absorb.ensures.wires_count c.absorb.ensures.opened count)
 
@@ -28,7 +28,7 @@ append_lets-requires-clause-room g c =
     let new = numbers_opened c.self.inside.batch.act c.of_sender-one.result.now c.of_sender-two.result.now c.of_sender-three.result.now in
     let count : length new ≡ revealed c.self.inside.batch.act =
     omega (arith, ap length c.absorb.ensures.opened, length-append c.self.inside.opened.items new, c.absorb.ensures.opened_count) in
-    let batch_is = c.next-self-inside.ensures ∙ ap (λ l. g.S.Script.batch_of c.self.inside.script (c.self.inside.round + 1) l) c.as_slice.ensures.value in
+    let batch_is = c.refill.ensures ∙ ap (λ l. g.S.Script.batch_of c.self.inside.script (c.self.inside.round + 1) l) c.as_slice.ensures.value in
     let lets_are = c.as_slice-2.ensures.value ∙ ap (λ (b : Batch). b.lets.items) batch_is in
     rw (lets_are, c.absorb.ensures.wires_capacity)
     (next-room _ _ _ _ _ _ _ _ _ _ _ _ _ s handed goes _ _ new c.absorb.ensures.wires_count c.absorb.ensures.opened count)
@@ -42,7 +42,7 @@ invariant_of-self g c =
     let new = numbers_opened c.self.inside.batch.act c.of_sender-one.result.now c.of_sender-two.result.now c.of_sender-three.result.now in
     let count : length new ≡ revealed c.self.inside.batch.act =
     omega (arith, ap length c.absorb.ensures.opened, length-append c.self.inside.opened.items new, c.absorb.ensures.opened_count) in
-    let batch_is = c.next-self-inside.ensures ∙ ap (λ l. g.S.Script.batch_of c.self.inside.script (c.self.inside.round + 1) l) c.as_slice.ensures.value in
+    let batch_is = c.refill.ensures ∙ ap (λ l. g.S.Script.batch_of c.self.inside.script (c.self.inside.round + 1) l) c.as_slice.ensures.value in
     rw (c.append_lets.ensures.capacity, c.absorb.ensures.wires_capacity, c.absorb.ensures.opened_capacity)
     (passes-sound _ _ _ _ _ _ _ _ _ _ _ _ _ s handed goes _ _ new c.absorb.ensures.wires_count c.absorb.ensures.opened count
-    _ _ _ batch_is (c.append_lets.ensures.wires ∙ ap (λ l. with_lets c.absorb.new.wires.items l) c.as_slice-2.ensures.value) c.new-self-inside.ensures)
+    _ _ _ batch_is (c.append_lets.ensures.wires ∙ ap (λ l. with_lets c.absorb.new.wires.items l) c.as_slice-2.ensures.value) c.clear.ensures)

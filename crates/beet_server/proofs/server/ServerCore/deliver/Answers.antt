@@ -20,7 +20,7 @@ returns-then-ended-clause-told g c =
 pub returns-in-Ready-clause-told : goal.returns-in-Ready-clause-told
 returns-in-Ready-clause-told g c =
     let next = g.S.Script.batch_of in
-    let old = core_of c.self.inside.engine c.self.inside.received.items c.self.inside.mail in
+    let old = core_of c.self.inside.engine c.self.inside.received.messages c.self.inside.mail in
     subst (λ (v : Core g.row.S.Denot). ToldAfter next v c.args.m c.offer-verdict.result) c.self.view_is
     (told-offer next old c.offer-verdict.new.self c.args.m c.offer-verdict.result c.self.invariant.me c.self.invariant.round
     c.self.invariant.want c.offer-verdict.ensures)
@@ -38,19 +38,19 @@ returns-in-Ready-clause-verdict g c = λ _.
 pub returns-in-Ready-clause-fits : goal.returns-in-Ready-clause-fits
 returns-in-Ready-clause-fits g c =
     let next = g.S.Script.batch_of in
-    let old = core_of c.self.inside.engine c.self.inside.received.items c.self.inside.mail in
+    let old = core_of c.self.inside.engine c.self.inside.received.messages c.self.inside.mail in
     let goes = sym c.ended.ensures ∙ c.if-ended.false in
     let quiet = ap (λ (v : Core g.row.S.Denot). is_quiet next v) c.self.view_is ∙ c.requires.sent in
     let handed = handed-first c.self.inside.engine.handed (has_ended next old) quiet goes in
     let fits = after-ready next old c.offer-verdict.new.self c.args.m c.self.invariant.me c.self.invariant.round c.in-Ready.ensures handed goes in
     subst (λ (v : Core g.row.S.Denot). FitsAfter next c.args.self.now v c.args.m) (sym c.turn.ensures)
-    (subst (λ (v : Core g.row.S.Denot). FitsAfter next v (moved_on next (core_of c.self.inside.engine c.self.inside.received.items c.offer-verdict.new.self)) c.args.m) c.self.view_is fits)
+    (subst (λ (v : Core g.row.S.Denot). FitsAfter next v (moved_on next (core_of c.self.inside.engine c.self.inside.received.messages c.offer-verdict.new.self)) c.args.m) c.self.view_is fits)
 
 pub returns-in_default : goal.returns-in_default
 returns-in_default g c =
     let next = g.S.Script.batch_of in
-    let old = core_of c.self.inside.engine c.self.inside.received.items c.self.inside.mail in
-    let new = core_of c.self.inside.engine c.self.inside.received.items c.offer-verdict.new.self in
+    let old = core_of c.self.inside.engine c.self.inside.received.messages c.self.inside.mail in
+    let new = core_of c.self.inside.engine c.self.inside.received.messages c.offer-verdict.new.self in
     let goes = sym c.ended.ensures ∙ c.if-ended.false in
     let quiet = ap (λ (v : Core g.row.S.Denot). is_quiet next v) c.self.view_is ∙ c.requires.sent in
     let handed = handed-first c.self.inside.engine.handed (has_ended next old) quiet goes in

@@ -17,6 +17,7 @@ loop-number-preserved c =
       filled = front-more k found.result.0 c.loop-number.numbers left _ within inv.filled next;
       left = rest-more k found.result.0 left _ next;
       forward = omega (arith, inv.forward, found.ensures.forward);
+      none = λ zero. omega (arith, zero);
       within = found.ensures.within;
       last = λ _. search rules;
     }

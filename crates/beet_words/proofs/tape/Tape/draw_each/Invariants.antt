@@ -9,6 +9,7 @@ invariant-loop-number l = record {
   filled : (k : ℕ) → k < l.number-index → get_or l.numbers k 0 ≡ get_or (left_of l.fn.self) k 0;
   left : accepted (drop l.place l.words) ≡ drop l.number-index (left_of l.fn.self);
   forward : l.fn.self.passed + l.number-index ≤ l.place;
+  none : l.number-index ≡ 0 → l.place ≡ l.fn.self.passed;
   within : l.place ≤ length l.words;
   last : 0 < l.number-index → get_or l.words (l.place - 1) 0 ≢ ones;
 }

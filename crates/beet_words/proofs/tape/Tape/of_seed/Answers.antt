@@ -5,4 +5,4 @@ use Rattle.beet_words.proofs.tape.Tape.of_seed.Goals as goal
 
 pub of_words-requires : goal.of_words-requires
 of_words-requires c =
-    rw (c.of.ensures, c.in_ok-words.ensures, length-map-range_with_len (seed_word c.args.seed.now c.args.stream) 0 c.args.n) (omega arith)
+    rw (c.in_ok-words.ensures, length-map-range_with_len (seed_word c.args.seed.now c.args.stream) 0 c.args.n) (omega arith)

@@ -1,0 +1,93 @@
+//! The jobs of the program over real files: each line of the file `lines` is one command, and what it says and its status
+//! are printed below it. A line `same ONE OTHER` compares two files, and its status is 0 where they hold the same bytes.
+#![tactic(auto)]
+
+use beet_store::{Desk, HostDesk, HostShelf, Shelf};
+use std::alloc::{AllocError, Global};
+use std::process::ExitCode;
+use std::str;
+
+/// The limit of the file of commands in bytes.
+const LINES_LIMIT: u64 = 65_536;
+
+/// The limit of a file that is compared, in bytes.
+const FILE_LIMIT: u64 = 1_048_576;
+
+/// The words of a line.
+fn words_of(alloc: Global, line: &str) -> Result<Vec<String>, AllocError> {
+    let mut words = Vec::new(alloc);
+    for word in line.split_whitespace() {
+        words.push(String::from_str(alloc, word)?)?;
+    }
+    Ok(words)
+}
+
+/// 0 where two files hold the same bytes, else 1.
+fn compare<S: Shelf>(alloc: Global, shelf: &mut S, one: &str, other: &str) -> u8 {
+    let Ok(one) = shelf.fetch(alloc, one, FILE_LIMIT) else {
+        return 1;
+    };
+    let Ok(other) = shelf.fetch(alloc, other, FILE_LIMIT) else {
+        return 1;
+    };
+    if one == other { 0 } else { 1 }
+}
+
+/// Does the job of these words, or compares the files that they name. Answers the status.
+fn run_words<S: Shelf, K: Desk>(
+    alloc: Global,
+    shelf: &mut S,
+    desk: &mut K,
+    words: &[String],
+) -> u8 {
+    if words.len() == 3 && words[0].as_str() == "same" {
+        compare(alloc, shelf, words[1].as_str(), words[2].as_str())
+    } else {
+        beet_app::run(alloc, words, shelf, desk)
+    }
+}
+
+/// Says a line, does its job, and says the status.
+fn run_line<S: Shelf, K: Desk>(
+    alloc: Global,
+    shelf: &mut S,
+    desk: &mut K,
+    line: &str,
+) -> Result<(), AllocError> {
+    let words = words_of(alloc, line)?;
+    let command = format!(in alloc; "$ {line}\n")?;
+    let _said = desk.say(command.as_bytes());
+    let status = run_words(alloc, shelf, desk, words.as_slice());
+    let end = format!(in alloc; "= {status}\n")?;
+    let _said = desk.say(end.as_bytes());
+    Ok(())
+}
+
+/// Does the jobs of the lines, in order.
+fn run_lines<S: Shelf, K: Desk>(
+    alloc: Global,
+    shelf: &mut S,
+    desk: &mut K,
+    lines: &str,
+) -> Result<(), AllocError> {
+    for line in lines.lines() {
+        run_line(alloc, shelf, desk, line)?;
+    }
+    Ok(())
+}
+
+fn main(rt: HostRuntime) -> ExitCode {
+    let alloc = rt.alloc();
+    let mut shelf = HostShelf::new(&rt);
+    let mut desk = HostDesk::new(&rt);
+    let Ok(bytes) = shelf.fetch(alloc, "lines", LINES_LIMIT) else {
+        return ExitCode::from(1);
+    };
+    let Ok(lines) = str::from_utf8(bytes.as_slice()) else {
+        return ExitCode::from(1);
+    };
+    match run_lines(alloc, &mut shelf, &mut desk, lines) {
+        Ok(()) => ExitCode::from(0),
+        Err(_) => ExitCode::from(1),
+    }
+}

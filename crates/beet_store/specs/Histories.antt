@@ -1,0 +1,56 @@
+-- The record of the calls of a memory type, and how the logic stores it.
+use Rattle.std.specs.Prelude.{◌≡◌, ℕ, ◌==◌, List, [], Bool, true, false, cond, Ok, Err, refl}
+use Rattle.std.specs.Coded.{Coded, code_by, coded×, coded_ℕ, coded_bool, coded_list}
+use Rattle.beet_store.specs.Files.{Fetch}
+use Rattle.beet_store.specs.Desks.{DeskCall, Put, Say, Done}
+use Rattle.beet_store.specs.declared.desk.PutFault.TheVariants.{Failed, OutOfMemory}
+
+-- the calls so far, in order: the fetches of a shelf, and the calls of a desk
+pub record Recorded : Type 0 where
+  pub fetches : List Fetch
+  pub calls : List DeskCall
+
+-- no call was made
+abbrev pub none_recorded : Recorded
+none_recorded = record { fetches = []; calls = [] }
+
+-- an answer as a number, and back
+abbrev done_number : Done → ℕ
+done_number (Ok done) = 0
+done_number (Err Failed) = 1
+done_number (Err OutOfMemory) = 2
+
+abbrev done_at : ℕ → Done
+done_at n = cond (n == 0) (Ok tt) (cond (n == 1) (Err Failed) (Err OutOfMemory))
+
+-- a call as a tuple: whether it is a put, the name, the bytes, the answer
+abbrev CallParts : Type 0
+CallParts = Bool × (List ℕ × (List ℕ × ℕ))
+
+abbrev to_parts : DeskCall → CallParts
+to_parts (Put name bytes done) = (true, (name, (bytes, done_number done)))
+to_parts (Say bytes done) = (false, ([], (bytes, done_number done)))
+
+abbrev from_parts : CallParts → DeskCall
+from_parts p = cond p.0 (Put p.1.0 p.1.1.0 (done_at p.1.1.1)) (Say p.1.1.0 (done_at p.1.1.1))
+
+pub from_parts-to_parts : (call : DeskCall) → from_parts (to_parts call) ≡ call
+from_parts-to_parts (Put name bytes (Ok tt)) = refl
+from_parts-to_parts (Put name bytes (Err Failed)) = refl
+from_parts-to_parts (Put name bytes (Err OutOfMemory)) = refl
+from_parts-to_parts (Say bytes (Ok tt)) = refl
+from_parts-to_parts (Say bytes (Err Failed)) = refl
+from_parts-to_parts (Say bytes (Err OutOfMemory)) = refl
+
+abbrev call_code : Coded DeskCall
+call_code = code_by CallParts (coded× coded_bool (coded× (coded_list coded_ℕ) (coded× (coded_list coded_ℕ) coded_ℕ))) to_parts from_parts from_parts-to_parts
+
+abbrev fetch_code : Coded Fetch
+fetch_code =
+    code_by (List ℕ × (ℕ × Bool)) (coded× (coded_list coded_ℕ) (coded× coded_ℕ coded_bool)) (λ f. (f.name, (f.limit, f.failed)))
+    (λ p. record { name = p.0; limit = p.1.0; failed = p.1.1 }) (λ _. refl)
+
+abbrev pub recorded_code : Coded Recorded
+recorded_code =
+    code_by (List Fetch × List DeskCall) (coded× (coded_list fetch_code) (coded_list call_code)) (λ r. (r.fetches, r.calls))
+    (λ p. record { fetches = p.0; calls = p.1 }) (λ _. refl)

@@ -1,0 +1,49 @@
+-- What the job `tally` tells of an auction of one price, and of any other.
+use Rattle.std.proofs.Common.{◌≡◌, ◌≢◌, ◌≤◌, arith, ℕ, List, length, Ok, Err, true, false, ◌==◌, refl}
+use Rattle.std.proofs.lemmas.Grind.{common_steps}
+use Rattle.beet_field.specs.declared.trio.Trio.{Trio}
+use Rattle.beet_shamir.specs.Line.{recombined}
+use Rattle.beet_forms.specs.FaultLines.{fault_line_of}
+use Rattle.beet_forms.specs.declared.faults.Place.TheVariants.{Row}
+use Rattle.beet_bids.specs.Grids.{Grid}
+use Rattle.beet_bids.specs.declared.auction_file.TheConstants.{NOT_ONE_PRICE}
+use Rattle.beet_bids.specs.declared.book.TheConstants.{MOST_BIDDERS}
+use Rattle.beet_book.specs.Totals.{Totals, points_on, CarriesValues}
+use Rattle.beet_book.specs.declared.entries.Entry.{Entry}
+use Rattle.beet_book.specs.Farmers.{Farmer}
+use Rattle.beet_errand.specs.Errands.{text_answer}
+use Rattle.beet_errand.specs.Fetches.{Tests, Refuses}
+use Rattle.beet_errand.specs.declared.answer.Status.TheVariants.{Done, BadFile}
+use Rattle.beet_errand.specs.declared.answer.Stop.{Stop}
+use Rattle.beet_errand.specs.declared.answer.Stop.TheVariants.{Refused, OutOfMemory}
+use Rattle.beet_errand.proofs.Frame.{bad_cause}
+use Rattle.beet_load.specs.Collecting.{AreCollected}
+use Rattle.beet_load.proofs.Summing.{opens_supply, opens_demand}
+use Rattle.beet_tally.specs.Tally.{one_price, prices_row, sums_text, tallied}
+
+is-not : (n : ℕ) → n ≢ 1 → (n == 1) ≡ false
+is-not n h = grind (arith, common_steps)
+
+is-one : (n : ℕ) → n ≡ 1 → (n == 1) ≡ true
+is-one n h = grind (arith, common_steps)
+
+-- the auction has one price
+pub one-passes : (auction : List ℕ) (grid : Grid) → grid.prices ≡ 1 → Tests (one_price auction grid) (Ok tt)
+one-passes auction grid h = record { passes = λ next. rw (is-one grid.prices h) refl; cause = λ before now. tt }
+
+-- the auction has another number of prices
+pub others-stop : (auction : List ℕ) (grid : Grid) (stop : Stop) → grid.prices ≢ 1 → Refuses BadFile (fault_line_of auction (Row prices_row) NOT_ONE_PRICE) stop →
+    Tests (one_price auction grid) (Err stop)
+others-stop auction grid (Refused status line) h r = record {
+  passes = λ next. rw (is-not grid.prices h, r.0, r.1) refl;
+  cause = λ before now. bad_cause before now (fault_line_of auction (Row prices_row) NOT_ONE_PRICE) (Refused status line) r;
+}
+others-stop auction grid OutOfMemory h r = record { passes = tt; cause = λ before now. tt }
+
+-- the sums that are opened are those of supply and demand
+pub tells-sums : (grid : Grid) (entries : List Entry) (totals : Totals) (farmers : List Farmer) (wires : Trio (List ℕ)) →
+    grid.prices ≡ 1 → length entries ≤ MOST_BIDDERS → AreCollected grid entries totals farmers → CarriesValues totals wires →
+    tallied farmers ≡ text_answer Done (sums_text (recombined (points_on wires 0)) (recombined (points_on wires 1)))
+tells-sums grid entries totals farmers wires one few c carries =
+    let fewer : length farmers ≤ MOST_BIDDERS = rw c.many few in
+    rw (opens_supply grid totals farmers wires one c.adds fewer carries, opens_demand grid totals farmers wires one c.adds fewer carries) refl

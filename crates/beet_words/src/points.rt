@@ -1,0 +1,47 @@
+//! Numbers of the field in binary files.
+
+ghost use Rattle.std.specs.Prelude.{◌≡◌, ◌≤◌, ◌<◌, length, IfOk};
+ghost use Rattle.beet_field.specs.Field.{p};
+ghost use Rattle.beet_forms.specs.Faults.{Answers};
+ghost use Rattle.beet_words.specs.Fields.{number_at, times};
+
+use crate::fields::{Allowed, read_number};
+use crate::many::read_many;
+use crate::word::FeList;
+use beet_field::Fe;
+use beet_forms::ReadFault;
+use std::alloc::Global;
+
+/// A number of the field, and the offset after it.
+pub fn read_point(bytes: &[u8], allowed: Allowed, at: usize) -> Result<(Fe, usize), ReadFault>
+    requires at { at ≤ length bytes.now }
+    requires below { allowed.high < p }
+    ensures point { Answers (λ read. read) (number_at bytes.now allowed at) result }
+    ensures within { IfOk result (λ read. read.1 ≤ length bytes.now) }
+{
+    let (number, at) = read_number(bytes, allowed, at)?;
+    let Some(point) = Fe::of(number) else {
+        unreachable!()
+    };
+    Ok((point, at))
+}
+
+/// So many numbers of the field, and the offset after the last.
+pub fn read_points(
+    alloc: Global,
+    bytes: &[u8],
+    allowed: Allowed,
+    count: u64,
+    at: usize,
+) -> Result<(FeList, usize), ReadFault>
+    requires at { at ≤ length bytes.now }
+    requires below { allowed.high < p }
+    ensures points { Answers (λ read. read) (times count (number_at bytes.now allowed) at) result }
+    ensures count { IfOk result (λ read. length read.0 ≡ count) }
+    ensures within { IfOk result (λ read. read.1 ≤ length bytes.now) }
+{
+    let (points, at) = read_many(alloc, bytes, count, at, |from| {
+        read_point(bytes, allowed, from)
+    })?;
+    Ok((FeList::of(points), at))
+}
