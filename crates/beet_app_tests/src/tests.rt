@@ -1,3 +1,5 @@
+ghost use Rattle.std.specs.Prelude.{◌≤◌};
+
 use beet_answer::give_answer;
 use beet_app::run;
 use beet_errand::{NewFile, Reply, Status};
@@ -199,7 +201,10 @@ fn expect_first_alone(
     names: &[&str],
 ) -> Result<(), Fail> {
     let desk = expect_files(rt, alloc, line, names, 2, 4, 1)?;
-    assert!(rt; desk.file(names[0]).is_some());
+    let Some(first) = names.first() else {
+        return Err(Fail::new("no file is named"));
+    };
+    assert!(rt; desk.file(first).is_some());
     expect_said(rt, &desk, "");
     Ok(())
 }
