@@ -20,28 +20,30 @@ use Rattle.beet_app.specs.Texts.{usage_text}
 use Rattle.beet_app.specs.Jobs.{Job, Answering, Comparing}
 use Rattle.beet_app.specs.Doing.{ComparesWorlds, OfJob, DoesJob, EndsFor, CausesFor}
 
--- a job whose answer is given
-pub answers_job : {job : Step Answer} {old now : Seen} (result : Result Answer Stop) → IfOk result (λ answer. IsDone answer.status) →
-    Reads (λ answer. answer) old now job result → DoesJob (Some (Answering (job Ends))) old now result
-answers_job (Ok answer) done r = let d = does (Ok answer) r in record { finishes = d.finishes; ends = done; shows = tt; later = d.later }
-answers_job (Err stop) done r = let d = does (Err stop) r in record { finishes = d.finishes; ends = d.cause; shows = tt; later = d.later }
+-- the job that words name, whose answer is given
+pub answers_job : {named : Option Job} (job : Step Answer) {old now : Seen} (result : Result Answer Stop) → named ≡ Some (Answering (job Ends)) →
+    IfOk result (λ answer. IsDone answer.status) → Reads (λ answer. answer) old now job result → DoesJob named old now result
+answers_job job (Ok answer) is done r =
+    let d = does (Ok answer) r in rw is (record { finishes = d.finishes; ends = done; shows = tt; later = d.later })
+answers_job job (Err stop) is done r =
+    let d = does (Err stop) r in rw is (record { finishes = d.finishes; ends = d.cause; shows = tt; later = d.later })
 
 pub done_ends : (result : Result Answer Stop) → IfOk result (λ answer. answer.status ≡ JobDone) → IfOk result (λ answer. IsDone answer.status)
 done_ends (Ok answer) e = inl e
 done_ends (Err stop) e = tt
 
--- a job that compares two worlds
-pub compares_worlds : {old now : Seen} {auction servers first second : List ℕ} {s : Point} {out : List ℕ} (result : Result Answer Stop) →
-    IfOk result (λ answer. IsDone answer.status) → Compares old now auction servers first second s out result →
-    DoesJob (Some (Comparing auction servers first second s out)) old now result
-compares_worlds {now = now} (Ok answer) done c = record {
+-- the job that words name, which compares two worlds
+pub compares_worlds : {named : Option Job} {old now : Seen} {auction servers first second : List ℕ} {s : Point} {out : List ℕ}
+    (result : Result Answer Stop) → named ≡ Some (Comparing auction servers first second s out) →
+    IfOk result (λ answer. IsDone answer.status) → Compares old now auction servers first second s out result → DoesJob named old now result
+compares_worlds {now = now} (Ok answer) is done c = rw is (record {
   finishes = inl (answer, c.ends, went_none now.told (Ends answer));
   ends = done;
   shows = c.ends;
   later = c.later;
-}
-compares_worlds (Err (Refused status text)) done c = record { finishes = inr c.ends; ends = c.cause; shows = tt; later = c.later }
-compares_worlds (Err OutOfMemory) done c = record { finishes = inr c.ends; ends = c.cause; shows = tt; later = c.later }
+})
+compares_worlds (Err (Refused status text)) is done c = rw is (record { finishes = inr c.ends; ends = c.cause; shows = tt; later = c.later })
+compares_worlds (Err OutOfMemory) is done c = rw is (record { finishes = inr c.ends; ends = c.cause; shows = tt; later = c.later })
 
 -- what holds of an errand and makes something else hold of it does so of a job
 of_more : {P Q : Option Told → Errand → Type 0} (job : Option Job) (old now : Option Told) →

@@ -40,6 +40,11 @@ pub record DoesJob (job : Option Job) (old now : Seen) (result : Result Answer S
   pub shows : AnswerShows job old.told now.told result
   pub later : old.faults ≤ now.faults
 
+-- the job that words name is done; or they name none, and nothing is done
+abbrev pub DoesNamed : Option Job → Seen → Seen → Option (Result Answer Stop) → Type 0
+DoesNamed job old now None = (job ≡ None) × (now ≡ old)
+DoesNamed job old now (Some result) = DoesJob job old now result
+
 -- the job compares two worlds
 abbrev pub ComparesWorlds : Option Job → Type 0
 ComparesWorlds None = ⊥

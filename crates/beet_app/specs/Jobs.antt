@@ -1,5 +1,5 @@
--- The words of the command line, and the job that they name.
-use Rattle.std.specs.Prelude.{◌≡◌, ℕ, List, [], ◌∷◌, Option, Some, None, option_map, Bool, ◌&&◌, if◌then◌else◌, codes, nat_eq, true}
+-- The table of commands: a row for each, with its words and the job that they name.
+use Rattle.std.specs.Prelude.{ℕ, List, [], ◌∷◌, Option, Some, None, option_map, Bool, ◌&&◌, if◌then◌else◌, codes, nat_eq, true}
 use Rattle.std.specs.Cmp.Lexicographic.{pointwise}
 use Rattle.beet_field.specs.declared.point.Point.{Point}
 use Rattle.beet_forms.specs.Names.{is_name_of}
@@ -9,13 +9,11 @@ use Rattle.beet_tally.specs.Tally.{tally_errand}
 use Rattle.beet_clear.specs.Clear.{clear_errand}
 use Rattle.beet_rehearse.specs.Rehearse.{rehearse_errand}
 use Rattle.beet_record.specs.Records.{record_errand}
-use Rattle.beet_envelopes.specs.SourceWords.{source_word, named_source}
+use Rattle.beet_envelopes.specs.SourceWords.{source_word}
 use Rattle.beet_envelopes.specs.Seal.{seal_errand}
 use Rattle.beet_envelopes.specs.Open.{open_errand}
-use Rattle.beet_trial.specs.Sizes.{AreSizes, sizes_of}
+use Rattle.beet_trial.specs.Sizes.{sizes_of}
 use Rattle.beet_trial.specs.Trial.{trial_errand}
-use Rattle.beet_app.specs.declared.jobs.Command.{Command}
-use Rattle.beet_app.specs.declared.jobs.Command.TheVariants.{Tally as TallyOf, Clear as ClearOf, Rehearse as RehearseOf, Record as RecordOf, Worlds as WorldsOf, Seal as SealOf, Open as OpenOf, Trial as TrialOf}
 
 -- a job: it has an errand, which ends with its answer; or it compares two worlds, with the words of the second as they are mapped
 pub data Job : Type 0 where
@@ -77,24 +75,3 @@ job_of (command ∷ a ∷ b ∷ c ∷ []) = job_of_three command a b c
 job_of (command ∷ a ∷ b ∷ c ∷ d ∷ []) = job_of_four command a b c d
 job_of (command ∷ a ∷ b ∷ c ∷ d ∷ e ∷ f ∷ []) = job_of_six command a b c d e f
 job_of words = None
-
--- the job of a command that is read
-abbrev pub job_in : Command → Job
-job_in (TallyOf auction book) = Answering (tally_errand auction.now book.now)
-job_in (ClearOf auction servers book) = Answering (clear_errand auction.now servers.now book.now)
-job_in (RehearseOf auction servers book schedule) = Answering (rehearse_errand auction.now servers.now book.now schedule.now)
-job_in (RecordOf auction servers book out) = Answering (record_errand auction.now servers.now book.now out.now)
-job_in (WorldsOf auction servers first second server out) = Comparing auction.now servers.now first.now second.now server out.now
-job_in (SealOf auction bid source out) = Answering (seal_errand auction.now bid.now (named_source source) out.now)
-job_in (OpenOf auction servers list) = Answering (open_errand auction.now servers.now list.now)
-job_in (TrialOf bidders prices) = Answering (trial_errand bidders prices)
-
--- the sizes of a trial are within their limits
-abbrev pub IsSized : Command → Type 0
-IsSized (TrialOf bidders prices) = AreSizes bidders prices
-IsSized command = Unit {0}
-
--- what the program knows of a command: the job that the words name, and that the sizes of a trial are within their limits
-abbrev pub Knows : Option Job → Option Command → Type 0
-Knows job None = job ≡ None
-Knows job (Some command) = (job ≡ Some (job_in command)) × IsSized command

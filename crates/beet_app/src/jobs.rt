@@ -1,15 +1,15 @@
-//! The jobs that words name.
+//! The table of commands: an arm for each, with the job that its words name.
 
-ghost use Rattle.std.specs.Prelude.{◌≡◌, Some, map, string_bytes};
+ghost use Rattle.std.specs.Prelude.{◌≡◌, map, string_bytes};
 ghost use Rattle.beet_forms.specs.Names.{is_name_of};
 ghost use Rattle.beet_world.specs.Schedules.{server_of};
 ghost use Rattle.beet_errand.specs.Fetches.{Refuses};
 ghost use Rattle.beet_app.specs.Texts.{usage_text};
-ghost use Rattle.beet_app.specs.Doing.{DoesJob};
-ghost use Rattle.beet_app.specs.Jobs.{IsSized, Knows, job_in, job_of, job_of_four, job_of_six, job_of_three, job_of_two, seal_of};
+ghost use Rattle.beet_app.specs.Doing.{DoesJob, DoesNamed};
+ghost use Rattle.beet_app.specs.Jobs.{job_of, job_of_four, job_of_six, job_of_three, job_of_two};
 
 use beet_clear::clear;
-use beet_envelopes::{SourceWord, open_envelopes, read_source_word, seal_bid};
+use beet_envelopes::{open_envelopes, read_source_word, seal_bid};
 use beet_errand::{Reply, Status, Stop};
 use beet_field::Point;
 use beet_forms::is_name;
@@ -19,56 +19,7 @@ use beet_store::Shelf;
 use beet_tally::tally;
 use beet_trial::{numbers_of_words, trial};
 use beet_two_worlds::worlds;
-use std::alloc::{AllocError, Global};
-
-/// A job with its words.
-#[derive(Clone, Copy)]
-pub(crate) enum Command<'a> {
-    Tally {
-        auction: &'a str,
-        book: &'a str,
-    },
-    Clear {
-        auction: &'a str,
-        servers: &'a str,
-        book: &'a str,
-    },
-    Rehearse {
-        auction: &'a str,
-        servers: &'a str,
-        book: &'a str,
-        schedule: &'a str,
-    },
-    Record {
-        auction: &'a str,
-        servers: &'a str,
-        book: &'a str,
-        out: &'a str,
-    },
-    Worlds {
-        auction: &'a str,
-        servers: &'a str,
-        first: &'a str,
-        second: &'a str,
-        server: Point,
-        out: &'a str,
-    },
-    Seal {
-        auction: &'a str,
-        bid: &'a str,
-        source: SourceWord<'a>,
-        out: &'a str,
-    },
-    Open {
-        auction: &'a str,
-        servers: &'a str,
-        list: &'a str,
-    },
-    Trial {
-        bidders: u32,
-        prices: u32,
-    },
-}
+use std::alloc::Global;
 
 /// Whether a word is the name of a file.
 fn is_file(word: &str) -> bool
@@ -77,99 +28,72 @@ fn is_file(word: &str) -> bool
     is_name(word.as_bytes())
 }
 
-/// The job of a command with two words.
-fn command_of_two<'a>(command: &str, first: &'a str, second: &'a str) -> Option<Command<'a>>
-    ensures { Knows (job_of_two command.now first.now second.now) result }
+/// Does the job of a command with two words, if they name one.
+fn do_two<S: Shelf>(
+    alloc: Global,
+    shelf: &mut S,
+    command: &str,
+    first: &str,
+    second: &str,
+) -> Option<Result<Reply, Stop>>
+    ensures { DoesNamed (job_of_two command.now first.now second.now) (S.seen shelf.old) (S.seen shelf.new) result }
 {
     if command == "tally" && is_file(first) && is_file(second) {
-        return Some(Command::Tally {
-            auction: first,
-            book: second,
-        });
-    }
-    if command != "trial" {
-        return None;
-    }
-    let (bidders, prices) = numbers_of_words(first, second)?;
-    Some(Command::Trial { bidders, prices })
-}
-
-/// The job of a command with three files.
-fn command_of_three<'a>(
-    command: &str,
-    first: &'a str,
-    second: &'a str,
-    third: &'a str,
-) -> Option<Command<'a>>
-    ensures { Knows (job_of_three command.now first.now second.now third.now) result }
-{
-    if !(is_file(first) && is_file(second) && is_file(third)) {
-        None
-    } else if command == "clear" {
-        Some(Command::Clear {
-            auction: first,
-            servers: second,
-            book: third,
-        })
-    } else if command == "open" {
-        Some(Command::Open {
-            auction: first,
-            servers: second,
-            list: third,
-        })
+        Some(tally(alloc, shelf, first, second))
+    } else if command == "trial" {
+        let (bidders, prices) = numbers_of_words(first, second)?;
+        Some(trial(alloc, bidders, prices))
     } else {
         None
     }
 }
 
-/// The job `seal` with its words.
-fn seal_command<'a>(
-    auction: &'a str,
-    bid: &'a str,
-    source: &'a str,
-    out: &'a str,
-) -> Option<Command<'a>>
-    ensures { Knows (seal_of auction.now bid.now source.now out.now) result }
+/// Does the job of a command with three files, if they name one.
+fn do_three<S: Shelf>(
+    alloc: Global,
+    shelf: &mut S,
+    command: &str,
+    first: &str,
+    second: &str,
+    third: &str,
+) -> Option<Result<Reply, Stop>>
+    ensures { DoesNamed (job_of_three command.now first.now second.now third.now) (S.seen shelf.old) (S.seen shelf.new) result }
 {
-    let source = read_source_word(source)?;
-    Some(Command::Seal {
-        auction,
-        bid,
-        source,
-        out,
-    })
+    if !(is_file(first) && is_file(second) && is_file(third)) {
+        None
+    } else if command == "clear" {
+        Some(clear(alloc, shelf, first, second, third))
+    } else if command == "open" {
+        Some(open_envelopes(alloc, shelf, first, second, third))
+    } else {
+        None
+    }
 }
 
-/// The job of a command with four words.
-fn command_of_four<'a>(
+/// Does the job of a command with four words, if they name one.
+fn do_four<S: Shelf>(
+    alloc: Global,
+    shelf: &mut S,
     command: &str,
-    first: &'a str,
-    second: &'a str,
-    third: &'a str,
-    fourth: &'a str,
-) -> Option<Command<'a>>
-    ensures { Knows (job_of_four command.now first.now second.now third.now fourth.now) result }
+    first: &str,
+    second: &str,
+    third: &str,
+    fourth: &str,
+) -> Option<Result<Reply, Stop>>
+    ensures { DoesNamed (job_of_four command.now first.now second.now third.now fourth.now)
+        (S.seen shelf.old) (S.seen shelf.new) result }
 {
     if !(is_file(first) && is_file(second) && is_file(fourth)) {
         None
     } else if command == "seal" {
-        seal_command(first, second, third, fourth)
+        let source = read_source_word(third)?;
+        Some(seal_bid(alloc, shelf, first, second, source, fourth))
     } else if !is_file(third) {
         None
     } else if command == "rehearse" {
-        Some(Command::Rehearse {
-            auction: first,
-            servers: second,
-            book: third,
-            schedule: fourth,
-        })
+        Some(rehearse(alloc, shelf, first, second, third, fourth))
     } else if command == "record" {
-        Some(Command::Record {
-            auction: first,
-            servers: second,
-            book: third,
-            out: fourth,
-        })
+        Some(record(alloc, shelf, first, second, third, fourth))
     } else {
         None
     }
@@ -187,17 +111,20 @@ fn server_in(word: &str) -> Option<Point>
     }
 }
 
-/// The job of a command with six words.
-fn command_of_six<'a>(
+/// Does the job of a command with six words, if they name one.
+fn do_six<S: Shelf>(
+    alloc: Global,
+    shelf: &mut S,
     command: &str,
-    auction: &'a str,
-    servers: &'a str,
-    first: &'a str,
-    second: &'a str,
-    server: &'a str,
-    out: &'a str,
-) -> Option<Command<'a>>
-    ensures { Knows (job_of_six command.now auction.now servers.now first.now second.now server.now out.now) result }
+    auction: &str,
+    servers: &str,
+    first: &str,
+    second: &str,
+    server: &str,
+    out: &str,
+) -> Option<Result<Reply, Stop>>
+    ensures { DoesNamed (job_of_six command.now auction.now servers.now first.now second.now server.now out.now)
+        (S.seen shelf.old) (S.seen shelf.new) result }
 {
     let named = is_file(auction)
         && is_file(servers)
@@ -208,33 +135,35 @@ fn command_of_six<'a>(
         return None;
     }
     let server = server_in(server)?;
-    Some(Command::Worlds {
-        auction,
-        servers,
-        first,
-        second,
-        server,
-        out,
-    })
+    Some(worlds(alloc, shelf, auction, servers, first, second, server, out))
 }
 
-/// The job that the words name.
-pub(crate) fn command_of<'a>(words: &'a [String]) -> Option<Command<'a>>
-    ensures { Knows (job_of (map string_bytes words.now)) result }
+/// Does the job that the words name, if they name one.
+fn do_named<S: Shelf>(alloc: Global, shelf: &mut S, words: &[String]) -> Option<Result<Reply, Stop>>
+    ensures { DoesNamed (job_of (map string_bytes words.now)) (S.seen shelf.old) (S.seen shelf.new) result }
 {
     match words {
-        [command, a, b] => command_of_two(command.as_str(), a.as_str(), b.as_str()),
-        [command, a, b, c] => {
-            command_of_three(command.as_str(), a.as_str(), b.as_str(), c.as_str())
-        }
-        [command, a, b, c, d] => command_of_four(
+        [command, a, b] => do_two(alloc, shelf, command.as_str(), a.as_str(), b.as_str()),
+        [command, a, b, c] => do_three(
+            alloc,
+            shelf,
+            command.as_str(),
+            a.as_str(),
+            b.as_str(),
+            c.as_str(),
+        ),
+        [command, a, b, c, d] => do_four(
+            alloc,
+            shelf,
             command.as_str(),
             a.as_str(),
             b.as_str(),
             c.as_str(),
             d.as_str(),
         ),
-        [command, a, b, c, d, e, f] => command_of_six(
+        [command, a, b, c, d, e, f] => do_six(
+            alloc,
+            shelf,
             command.as_str(),
             a.as_str(),
             b.as_str(),
@@ -265,55 +194,8 @@ pub(crate) fn do_job<S: Shelf>(
 ) -> Result<Reply, Stop>
     ensures { DoesJob (job_of (map string_bytes words.now)) (S.seen shelf.old) (S.seen shelf.new) result }
 {
-    match command_of(words) {
-        Some(command) => do_command(alloc, shelf, command),
+    match do_named(alloc, shelf, words) {
+        Some(result) => result,
         None => Err(usage(alloc)),
-    }
-}
-
-/// Does a job, but for its files and its text, which it answers.
-fn do_command<S: Shelf>(alloc: Global, shelf: &mut S, command: Command<'_>) -> Result<Reply, Stop>
-    requires { IsSized command }
-    ensures { DoesJob (Some (job_in command.entry)) (S.seen shelf.old) (S.seen shelf.new) result }
-{
-    match command {
-        Command::Tally { auction, book } => tally(alloc, shelf, auction, book),
-        Command::Clear {
-            auction,
-            servers,
-            book,
-        } => clear(alloc, shelf, auction, servers, book),
-        Command::Rehearse {
-            auction,
-            servers,
-            book,
-            schedule,
-        } => rehearse(alloc, shelf, auction, servers, book, schedule),
-        Command::Record {
-            auction,
-            servers,
-            book,
-            out,
-        } => record(alloc, shelf, auction, servers, book, out),
-        Command::Worlds {
-            auction,
-            servers,
-            first,
-            second,
-            server,
-            out,
-        } => worlds(alloc, shelf, auction, servers, first, second, server, out),
-        Command::Seal {
-            auction,
-            bid,
-            source,
-            out,
-        } => seal_bid(alloc, shelf, auction, bid, source, out),
-        Command::Open {
-            auction,
-            servers,
-            list,
-        } => open_envelopes(alloc, shelf, auction, servers, list),
-        Command::Trial { bidders, prices } => trial(alloc, bidders, prices),
     }
 }

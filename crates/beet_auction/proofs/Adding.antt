@@ -12,7 +12,7 @@ use Rattle.beet_words.specs.Words.{accepted}
 use Rattle.beet_gates.specs.Each.{each}
 use Rattle.beet_gates.proofs.EachFacts.{length-each, item-each}
 use Rattle.beet_book.specs.Dealing.{points_at, quantities, dealt_points}
-use Rattle.beet_book.specs.Totals.{sums_of, added, none_of}
+use Rattle.beet_book.specs.Totals.{field_sums, added, none_of}
 use Rattle.beet_book.proofs.Pairs.{length-pairwise, item-pairwise}
 use Rattle.beet_book.proofs.Sums.{sums-by_item}
 use Rattle.beet_book.specs.Farmers.{Farmer, point_for, summed_point, summed_points}
@@ -35,7 +35,7 @@ one-more total point = omega arith
 more-points : (prices : ℕ) (farmers : List Farmer) (farmer : Farmer) (i : Point) →
     length (quantities farmer.bidder.curve) ≡ 2 * prices → 2 * prices ≤ length (accepted farmer.words) →
     each (summed_point (farmers ++ farmer ∷ []) i) (2 * prices)
-    ≡ sums_of (each (summed_point farmers i) (2 * prices)) (points_at (quantities farmer.bidder.curve) (accepted farmer.words) i)
+    ≡ field_sums (each (summed_point farmers i) (2 * prices)) (points_at (quantities farmer.bidder.curve) (accepted farmer.words) i)
 more-points prices farmers farmer i h enough =
     let n = 2 * prices in
     let values = quantities farmer.bidder.curve in

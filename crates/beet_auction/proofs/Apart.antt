@@ -17,12 +17,12 @@ use Rattle.beet_gates.specs.declared.Gates.TheVariants.{Chain}
 use Rattle.beet_gates.specs.declared.Linear.{Linear}
 use Rattle.beet_gates.proofs.EachFacts.{length-each, each-same}
 use Rattle.beet_mask.specs.Mask.{mask_wires_of}
-use Rattle.beet_server.specs.Runs.{Opening, Shared, act_among, batch_among, gained, hidden_at, number_drawn, pair_at, product_at, with_batch_lets}
+use Rattle.beet_sharing.specs.Runs.{Setup, Shared, act_among, batch_among, gained, hidden_at, number_drawn, pair_at, product_at, with_batch_lets}
 use Rattle.beet_field.specs.Trio.{trio_of}
-use Rattle.beet_server.specs.Steps.{gained_in}
+use Rattle.beet_sharing.specs.Steps.{gained_in}
 
--- the opening with these points of server 3
-abbrev pub with_third : List ℕ → Opening → Opening
+-- the setup with these points of server 3
+abbrev pub with_third : List ℕ → Setup → Setup
 with_third points o = record o { inputs = record o.inputs { three = points } }
 
 -- the run with these points of server 3
@@ -133,7 +133,7 @@ module _ (start : ℕ) where
     pub is : t ≡ third_in third s
     pub lets : Lets n third s.wires.three
 
-  module _ (o : Opening) (points : List ℕ) where
+  module _ (o : Setup) (points : List ℕ) where
     products-alike : (n : ℕ) (s : Shared) (third : List ℕ) (pairs : List (ℕ × ℕ)) → Lets n third s.wires.three → PairsOwn pairs → (i : Point) →
         gained (with_third points o) (third_in third s) (Mul (record { items = pairs })) i ≡ gained o s (Mul (record { items = pairs })) i
     products-alike n s third pairs a h i =

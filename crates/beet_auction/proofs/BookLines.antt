@@ -1,8 +1,8 @@
 -- The inputs of a book's auction lie on lines with the book's sums.
-use Rattle.std.proofs.Common.{◌≡◌, ℕ, ◌+◌, ◌*◌, ◌-◌, ◌%◌, ◌<◌, ◌≤◌, List, [], ◌∷◌, map, length, slice_index, arith, refl, sym, ◌∙◌, ap, inl, inr, length-append, length-drop}
-use Rattle.std.specs.Prelude.{sum_by, All, take, drop}
+use Rattle.std.proofs.Common.{◌≡◌, ℕ, ◌+◌, ◌*◌, ◌-◌, ◌%◌, ◌<◌, ◌≤◌, List, [], ◌∷◌, map, length, slice_index, arith, refl, sym, ◌∙◌, ap, inl, inr}
+use Rattle.std.specs.Prelude.{sum_by, All}
 use Rattle.std.proofs.lemmas.Bool.{cases_lt}
-use Rattle.std.proofs.lemmas.List.{get_or-append-add, get_or_append_left, length-take-le}
+use Rattle.std.proofs.lemmas.List.{get_or-append-add, get_or_append_left}
 use Rattle.std.proofs.lemmas.List.Elements.{All-head, All-tail, All-get_or}
 use Rattle.std.proofs.lemmas.List.Sums.{sum_by-cons}
 use Rattle.std.proofs.Math.ListN.{get_or-eq_default}
@@ -18,10 +18,10 @@ use Rattle.beet_bids.specs.Grids.{Grid}
 use Rattle.beet_bids.specs.Sums.{supply_at, demand_at, sums_of}
 use Rattle.beet_bids.proofs.BookSums.{length-sums, sums-supply, sums-demand, sums-elements}
 use Rattle.beet_book.specs.Totals.{supply_first}
-use Rattle.beet_book.proofs.Sums.{item-supply, item-demand}
-use Rattle.beet_server.specs.Lines.{OnLines}
-use Rattle.beet_server.proofs.Lined.{member-trio}
-use Rattle.beet_book.specs.Farmers.{Farmer, book_of, book_inputs, summed_point, slope_for}
+use Rattle.beet_book.proofs.Sums.{length-first, item-supply, item-demand}
+use Rattle.beet_sharing.specs.Lines.{OnLines}
+use Rattle.beet_sharing.proofs.Lined.{member-trio}
+use Rattle.beet_book.specs.Farmers.{Farmer, book_with, book_inputs, summed_point, slope_for}
 use Rattle.beet_auction.proofs.Inputs.{points-summed}
 
 module _ (grid : Grid) where
@@ -56,20 +56,16 @@ module _ (grid : Grid) where
   abbrev pub slopes_of : List Farmer → List ℕ
   slopes_of farmers = supply_first grid.prices (each (λ n. sum_by (λ farmer. slope_for farmer n) farmers % p) (2 * grid.prices))
 
-  length-first : (xs : List ℕ) → length xs ≡ 2 * grid.prices → length (supply_first grid.prices xs) ≡ 2 * grid.prices
-  length-first xs h =
-      omega (arith, length-append (drop grid.prices xs) (take grid.prices xs), length-drop grid.prices xs, length-take-le grid.prices xs (omega arith))
-
   past : (xs : List ℕ) (w : ℕ) → length xs ≡ 2 * grid.prices → 2 * grid.prices ≤ w → slice_index xs w ≡ 0
   past xs w h le = get_or-eq_default xs 0 (omega arith)
 
   zero-point : (i : ℕ) → 0 ≡ (0 + (0 * i) % p) % p
   zero-point i = omega arith
 
-  module _ (farmers : List Farmer) (b : IsBook (book_of grid farmers)) where
+  module _ (farmers : List Farmer) (b : IsBook (book_with grid farmers)) where
     on-line : (i : Point) (w : ℕ) →
         slice_index (supply_first grid.prices (each (summed_point farmers i) (2 * grid.prices))) w
-        ≡ point_of (slice_index (sums_of (book_of grid farmers)) w) (slice_index (slopes_of farmers) w) i
+        ≡ point_of (slice_index (sums_of (book_with grid farmers)) w) (slice_index (slopes_of farmers) w) i
     on-line i w =
         let xs = each (summed_point farmers i) (2 * grid.prices) in
         let ss = each (λ n. sum_by (λ farmer. slope_for farmer n) farmers % p) (2 * grid.prices) in
@@ -81,8 +77,8 @@ module _ (grid : Grid) where
               item-supply prices xs w long low ∙ item-each (summed_point farmers i) (2 * prices) (prices + w) (omega arith)
               ∙ points-summed farmers i (prices + w)
               ∙ ap (λ v. point_of v (sum_by (λ farmer. slope_for farmer (prices + w)) farmers % p) i)
-              (sym (supply-quantities farmers w b.of_grid) ∙ sym (sums-supply (book_of grid farmers) w low))
-              ∙ ap (λ s. point_of (slice_index (sums_of (book_of grid farmers)) w) s i)
+              (sym (supply-quantities farmers w b.of_grid) ∙ sym (sums-supply (book_with grid farmers) w low))
+              ∙ ap (λ s. point_of (slice_index (sums_of (book_with grid farmers)) w) s i)
               (sym (item-each (λ n. sum_by (λ farmer. slope_for farmer n) farmers % p) (2 * prices) (prices + w) (omega arith)) ∙ sym (item-supply prices ss w many low))
           | inr high ↦ elim (cases_lt w (2 * prices)) [
             | inl within ↦
@@ -92,30 +88,30 @@ module _ (grid : Grid) where
                 item-demand prices xs w long high within ∙ item-each (summed_point farmers i) (2 * prices) k (omega arith)
                 ∙ points-summed farmers i k
                 ∙ ap (λ v. point_of v (sum_by (λ farmer. slope_for farmer k) farmers % p) i)
-                (sym (demand-quantities farmers k few b.of_grid) ∙ sym (sums-demand (book_of grid farmers) k few) ∙ ap (λ n. slice_index (sums_of (book_of grid farmers)) n) back)
-                ∙ ap (λ s. point_of (slice_index (sums_of (book_of grid farmers)) w) s i)
+                (sym (demand-quantities farmers k few b.of_grid) ∙ sym (sums-demand (book_with grid farmers) k few) ∙ ap (λ n. slice_index (sums_of (book_with grid farmers)) n) back)
+                ∙ ap (λ s. point_of (slice_index (sums_of (book_with grid farmers)) w) s i)
                 (sym (item-each (λ n. sum_by (λ farmer. slope_for farmer n) farmers % p) (2 * prices) k (omega arith)) ∙ sym (item-demand prices ss w many high within))
             | inr beyond ↦
-                past (supply_first prices xs) w (length-first xs long) beyond ∙ zero-point (number_of i)
-                ∙ ap (λ v. point_of v 0 i) (sym (past (sums_of (book_of grid farmers)) w (length-sums (book_of grid farmers)) beyond))
-                ∙ ap (λ s. point_of (slice_index (sums_of (book_of grid farmers)) w) s i) (sym (past (supply_first prices ss) w (length-first ss many) beyond))
+                past (supply_first prices xs) w (length-first grid.prices xs long) beyond ∙ zero-point (number_of i)
+                ∙ ap (λ v. point_of v 0 i) (sym (past (sums_of (book_with grid farmers)) w (length-sums (book_with grid farmers)) beyond))
+                ∙ ap (λ s. point_of (slice_index (sums_of (book_with grid farmers)) w) s i) (sym (past (supply_first prices ss) w (length-first grid.prices ss many) beyond))
           ]
         ]
 
-    element : (w : ℕ) → IsElement (slice_index (sums_of (book_of grid farmers)) w)
+    element : (w : ℕ) → IsElement (slice_index (sums_of (book_with grid farmers)) w)
     element w = elim (cases_lt w (2 * grid.prices)) [
-      | inl within ↦ All-get_or IsElement (sums_of (book_of grid farmers)) w 0 (omega (arith, length-sums (book_of grid farmers))) (sums-elements (book_of grid farmers) b)
-      | inr beyond ↦ rw (past (sums_of (book_of grid farmers)) w (length-sums (book_of grid farmers)) beyond) (omega arith)
+      | inl within ↦ All-get_or IsElement (sums_of (book_with grid farmers)) w 0 (omega (arith, length-sums (book_with grid farmers))) (sums-elements (book_with grid farmers) b)
+      | inr beyond ↦ rw (past (sums_of (book_with grid farmers)) w (length-sums (book_with grid farmers)) beyond) (omega arith)
     ]
 
-    pub book-lines : OnLines (sums_of (book_of grid farmers)) (slopes_of farmers) (book_inputs grid.prices farmers)
+    pub book-lines : OnLines (sums_of (book_with grid farmers)) (slopes_of farmers) (book_inputs grid.prices farmers)
     book-lines =
-        let long = length-sums (book_of grid farmers) in
+        let long = length-sums (book_with grid farmers) in
         let many = length-each (λ n. sum_by (λ farmer. slope_for farmer n) farmers % p) (2 * grid.prices) in
         record {
-          paired = omega (arith, length-first (each (λ n. sum_by (λ farmer. slope_for farmer n) farmers % p) (2 * grid.prices)) many);
+          paired = omega (arith, length-first grid.prices (each (λ n. sum_by (λ farmer. slope_for farmer n) farmers % p) (2 * grid.prices)) many);
           lengths = λ i. ap length (member-trio (λ j. supply_first grid.prices (each (summed_point farmers j) (2 * grid.prices))) i)
-              ∙ (let l = length-first (each (summed_point farmers i) (2 * grid.prices)) (length-each (summed_point farmers i) (2 * grid.prices)) in omega (arith, l));
+              ∙ (let l = length-first grid.prices (each (summed_point farmers i) (2 * grid.prices)) (length-each (summed_point farmers i) (2 * grid.prices)) in omega (arith, l));
           points = λ i w. ap (λ l. slice_index l w) (member-trio (λ j. supply_first grid.prices (each (summed_point farmers j) (2 * grid.prices))) i) ∙ on-line i w;
           elements = element;
         }

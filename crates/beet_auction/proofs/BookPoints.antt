@@ -1,8 +1,6 @@
 -- On points of lines with the sums of a book the search over the points is that of the book.
-use Rattle.std.proofs.Common.{◌≡◌, ◌↔◌, ℕ, ◌+◌, ◌*◌, ◌<◌, ◌≤◌, inl, inr, Bool, true, false, List, slice_index, sym, ◌∙◌, ap, arith}
-use Rattle.std.specs.Prelude.{nat_le, IsTrue}
-use Rattle.std.proofs.lemmas.Bool.{cases_Bool, iff_false}
-use Rattle.std.proofs.lemmas.Bool.Decides.{nat_tests}
+use Rattle.std.proofs.Common.{◌≡◌, ℕ, ◌+◌, ◌*◌, ◌<◌, ◌≤◌, List, slice_index, sym, ◌∙◌, ap, arith}
+use Rattle.std.specs.Prelude.{nat_le}
 use Rattle.std.proofs.lemmas.Grind.{same_number_lists}
 use Rattle.beet_field.specs.Trio.{member}
 use Rattle.beet_field.specs.declared.trio.Trio.{Trio}
@@ -16,22 +14,16 @@ use Rattle.beet_gates.proofs.EachFacts.{length-each, item-each}
 use Rattle.beet_plan.specs.Auction.{Auction, auction_over}
 use Rattle.beet_plan.specs.Runs.{found, place_of_inputs, run_finish, run_rounds}
 use Rattle.beet_plan.specs.Search.{mask_at}
-use Rattle.beet_plan.proofs.AuctionLaw.{below_comparisons}
 use Rattle.beet_plan.proofs.BookFacts.{found-outcome}
 use Rattle.beet_bids.proofs.BookSums.{book-turn, clearing-within, length-sums, sums-supply, sums-demand, small}
 use Rattle.beet_plan.proofs.Searches.{place-turn}
-use Rattle.beet_server.specs.Lines.{OnLines}
-use Rattle.beet_server.specs.Runs.{opened_at}
-use Rattle.beet_server.proofs.Lined.{lined, opened-line}
+use Rattle.beet_sharing.specs.Lines.{OnLines}
+use Rattle.beet_sharing.specs.Runs.{opened_at}
+use Rattle.beet_sharing.proofs.Lined.{lined, opened-line}
 use Rattle.beet_auction.specs.AnyPoints.{points_finish, points_place, points_rounds, values_on}
 use Rattle.beet_auction.specs.Endings.{book_finish, book_rounds}
-
--- two tests agree where both say the same
-pub same_test : (b : Bool) (s d : ℕ) → IsTrue b ↔ (d ≤ s) → b ≡ nat_le d s
-same_test b s d e = elim (cases_Bool b) [
-  | inl t ↦ let h = e.0 t in t ∙ (let le : nat_le d s ≡ true = grind (arith, nat_tests, h) in sym le)
-  | inr f ↦ f ∙ (let h = iff_false e f in let le : nat_le d s ≡ false = grind (arith, nat_tests, h) in sym le)
-]
+use Rattle.beet_plan.proofs.BookRuns.{same_test}
+use Rattle.beet_bids.proofs.GridFacts.{below_comparisons}
 
 module _ (book : Book) where
   abbrev auction : Auction

@@ -12,17 +12,17 @@ use Rattle.beet_bids.specs.Sums.{sums_of}
 use Rattle.beet_plan.specs.Search.{mask_at}
 use Rattle.beet_plan.proofs.BookRuns.{book-run}
 use Rattle.beet_bids.proofs.BookSums.{length-sums}
-use Rattle.beet_server.specs.Runs.{Opening, shared_at, rounds_among}
-use Rattle.beet_server.specs.Lines.{OnLines}
-use Rattle.beet_server.proofs.Rounds.{ends-alike, lawful-rounds}
-use Rattle.beet_server.specs.Events.{after, passed}
+use Rattle.beet_sharing.specs.Runs.{Setup, shared_at, rounds_among}
+use Rattle.beet_sharing.specs.Lines.{OnLines}
+use Rattle.beet_sharing.proofs.Rounds.{ends-alike, lawful-rounds}
+use Rattle.beet_delivery.specs.Events.{after, passed}
 use Rattle.beet_server.specs.Endings.{Ends}
 use Rattle.beet_plan.proofs.AuctionLaw.{auction-law}
 use Rattle.beet_plan.specs.declared.Finish.{Finish}
 use Rattle.beet_auction.specs.Endings.{AuctionEnds, EndsAlways, book_finish, book_rounds}
 
 -- a run on lines ends as the run on their values does
-pub lines-end : (a : Auction) (o : Opening) (values slopes : List ℕ) (z : ℕ) (finish : Finish) → length values ≡ 2 * a.prices →
+pub lines-end : (a : Auction) (o : Setup) (values slopes : List ℕ) (z : ℕ) (finish : Finish) → length values ≡ 2 * a.prices →
     o.next ≡ auction_batch a → OnLines values slopes o.inputs → RunEnds a values o.masks z finish →
     AuctionEnds a o (run_rounds a (mask_at o.masks) z) (run_finish a.prices (mask_at o.masks) z finish)
 lines-end a o values slopes z finish len next lines run =
@@ -38,7 +38,7 @@ lines-end a o values slopes z finish len next lines run =
     }
 
 -- a run on lines with the sums of a book ends with the book's outcome or spent, after its rounds
-pub book-ends : (book : Book) (o : Opening) (slopes : List ℕ) → IsBook book → AreMasks o.masks →
+pub book-ends : (book : Book) (o : Setup) (slopes : List ℕ) → IsBook book → AreMasks o.masks →
     o.next ≡ auction_batch (auction_over book.grid) → OnLines (sums_of book) slopes o.inputs →
     AuctionEnds (auction_over book.grid) o (book_rounds book o.masks) (book_finish book o.masks)
 book-ends book o slopes b m next lines =
@@ -46,7 +46,7 @@ book-ends book o slopes b m next lines =
     (length-sums book) next lines (book-run book o.masks b m)
 
 -- after every list of events a server waits or has ended so
-pub ends-always : (a : Auction) (o : Opening) (rounds : ℕ) (finish : Finish) → AuctionEnds a o rounds finish → EndsAlways a o rounds finish
+pub ends-always : (a : Auction) (o : Setup) (rounds : ℕ) (finish : Finish) → AuctionEnds a o rounds finish → EndsAlways a o rounds finish
 ends-always a o rounds finish e es s = elim (cases_Bool (passed rounds (after rounds es) s == rounds)) [
   | inl there ↦ inr (rw there (ap Ends e.finish_named))
   | inr before ↦ inl (rw before refl)

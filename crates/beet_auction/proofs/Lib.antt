@@ -8,3 +8,4 @@ pub mod OwnBlocks
 pub mod SameOpened
 pub mod OtherPoints
 pub mod BookPoints
+pub mod AddedPoints

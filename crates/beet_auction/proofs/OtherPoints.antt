@@ -1,6 +1,6 @@
 -- A run on any points ends as that whose points of server 3 lie on the lines through the points of servers 1 and 2.
-use Rattle.std.proofs.Common.{◌≡◌, ℕ, zero, suc, ◌+◌, ◌*◌, ◌<◌, List, [], length, slice_index, refl, sym, ◌∙◌, ap, subst, arith, zero-add}
-use Rattle.std.specs.Prelude.{All, if◌then◌else◌}
+use Rattle.std.proofs.Common.{◌≡◌, ℕ, ◌+◌, ◌*◌, ◌<◌, List, [], length, slice_index, refl, sym, ◌∙◌, ap, subst, arith, zero-add}
+use Rattle.std.specs.Prelude.{All}
 use Rattle.std.proofs.lemmas.Grind.{same_number_lists}
 use Rattle.std.proofs.lemmas.List.Elements.{All-from_get_or, All-get_or}
 use Rattle.beet_field.specs.Field.{IsElement, add_of, mul_of, sub_of}
@@ -10,7 +10,7 @@ use Rattle.beet_field.specs.declared.point.Point.TheVariants.{One, Two, Three}
 use Rattle.beet_field.specs.declared.trio.Trio.{Trio}
 use Rattle.beet_shamir.specs.Line.{point_of}
 use Rattle.beet_bids.specs.Grids.{comparisons_of}
-use Rattle.beet_gates.specs.Clear.{is_end}
+use Rattle.beet_gates.specs.Clear.{first_end, is_end}
 use Rattle.beet_gates.specs.Each.{each}
 use Rattle.beet_gates.specs.Plans.{plan_finish}
 use Rattle.beet_gates.proofs.EachFacts.{length-each, item-each}
@@ -20,9 +20,9 @@ use Rattle.beet_plan.specs.Runs.{AreMasks, found}
 use Rattle.beet_plan.specs.declared.Finish.{Finish}
 use Rattle.beet_plan.proofs.AuctionLaw.{follows-itself}
 use Rattle.beet_plan.proofs.AuctionRuns.{auction-run}
-use Rattle.beet_server.specs.Lines.{OnLines}
-use Rattle.beet_server.specs.Runs.{Opening, end_from, opened_at}
-use Rattle.beet_server.proofs.Lined.{lined-each, lined-same, on-lines}
+use Rattle.beet_sharing.specs.Lines.{OnLines}
+use Rattle.beet_sharing.specs.Runs.{Setup, opened_at, rounds_among}
+use Rattle.beet_sharing.proofs.Lined.{lined-each, lined-same, on-lines}
 use Rattle.beet_auction.specs.AnyPoints.{ArePoints, points_finish, points_place, points_rounds, values_on}
 use Rattle.beet_auction.specs.Endings.{AuctionEnds}
 use Rattle.beet_plan.specs.Blocks.{blocks_of}
@@ -32,7 +32,7 @@ use Rattle.beet_auction.proofs.Ends.{lines-end}
 use Rattle.beet_auction.proofs.SameOpened.{SameOpened, search-goes, start-alike}
 
 -- runs of the auction's script that differ in server 3's points of the inputs open the same numbers
-same-opened : (a : Auction) (o : Opening) (points : List ℕ) → o.next ≡ auction_batch a → length points ≡ 2 * a.prices → length o.inputs.three ≡ 2 * a.prices →
+same-opened : (a : Auction) (o : Setup) (points : List ℕ) → o.next ≡ auction_batch a → length points ≡ 2 * a.prices → length o.inputs.three ≡ 2 * a.prices →
     (t : ℕ) → SameOpened o points t
 same-opened a o points next long as_long t =
     subst (SameOpened o points) (zero-add t)
@@ -40,10 +40,10 @@ same-opened a o points next long as_long t =
     (subst (λ n. Follows n 0 [] (auction_plan a)) (sym next) (follows-itself a)) t)
 
 -- and end alike
-module _ (a : Auction) (o : Opening) (points : List ℕ) (same : (t : ℕ) → SameOpened o points t) where
-  end-same : (n t : ℕ) → end_from o n t ≡ end_from (with_third points o) n t
-  end-same zero t = refl
-  end-same (suc n) t = sym (λ j. if is_end (o.next t (same t j)).act then t else sym (end-same n (suc t)) j)
+module _ (a : Auction) (o : Setup) (points : List ℕ) (same : (t : ℕ) → SameOpened o points t) where
+  end-same : (most : ℕ) → rounds_among o most ≡ rounds_among (with_third points o) most
+  unfolding rounds_among
+  end-same most = sym (λ j. first_end (λ t. (o.next t (same t j)).act) most)
 
   same-ending : (rounds : ℕ) (finish : Finish) → AuctionEnds a (with_third points o) rounds finish → AuctionEnds a o rounds finish
   same-ending rounds finish e = record {
@@ -51,7 +51,7 @@ module _ (a : Auction) (o : Opening) (points : List ℕ) (same : (t : ℕ) → S
       ends = sym (ap (λ x. is_end (o.next rounds x).act) (same rounds)) ∙ e.has_rounds.ends;
       goes = λ t lt. sym (ap (λ x. is_end (o.next t x).act) (same t)) ∙ e.has_rounds.goes t lt;
     };
-    counted = end-same (most_rounds a) 0 ∙ e.counted;
+    counted = end-same (most_rounds a) ∙ e.counted;
     finish_named = sym (ap (plan_finish (auction_plan a)) (same rounds)) ∙ e.finish_named;
   }
 
@@ -109,7 +109,7 @@ module _ (a : Auction) (inputs : Trio (List ℕ)) (are : ArePoints a inputs) whe
       subst IsElement (sym (item-each (opened_at inputs) (2 * a.prices) k within)) (small k))
 
 -- a run on any points ends so
-pub any-ends : (a : Auction) (o : Opening) → ArePoints a o.inputs → AreMasks o.masks → o.next ≡ auction_batch a →
+pub any-ends : (a : Auction) (o : Setup) → ArePoints a o.inputs → AreMasks o.masks → o.next ≡ auction_batch a →
     AuctionEnds a o (points_rounds a o.inputs o.masks) (points_finish a o.inputs o.masks)
 any-ends a o are masks next =
     let n = 2 * a.prices in

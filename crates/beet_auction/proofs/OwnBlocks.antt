@@ -1,21 +1,23 @@
 -- The blocks of the auction open the same numbers in two runs that differ in points of server 3.
-use Rattle.std.proofs.Common.{◌≡◌, ℕ, zero, suc, ◌+◌, ◌-◌, ◌*◌, ◌<◌, inl, inr, List, [], ◌∷◌, ◌++◌, length, refl, subst, sym, ◌∙◌, ap, arith, add-zero, mul-zero, mul-suc, eq-eqb, ne_eqb, length-append}
+use Rattle.std.proofs.Common.{◌≡◌, ℕ, zero, suc, ◌+◌, ◌-◌, ◌*◌, ◌/◌, ◌^◌, ◌<◌, ◌≤◌, inl, inr, List, [], ◌∷◌, ◌++◌, length, refl, subst, sym, ◌∙◌, ap, arith, add-zero, mul-zero, mul-suc, pow-suc, eq-eqb, ne_eqb, length-append}
 use Rattle.std.specs.Int.{bit_at}
 use Rattle.std.proofs.lemmas.Bool.{cases_eq}
 use Rattle.beet_field.specs.Field.{p}
 use Rattle.beet_gates.specs.Batches.{deal_batch, mul_batch, reveal_batch}
-use Rattle.beet_gates.specs.Each.{each}
-use Rattle.beet_gates.specs.Linears.{three_terms, two_terms}
+use Rattle.beet_gates.specs.Each.{each, by_turns}
+use Rattle.beet_gates.specs.Levels.{next_length, next_item}
+use Rattle.beet_gates.specs.Linears.{three_terms, two_terms, one_term}
 use Rattle.beet_gates.specs.Scripts.{revealed}
 use Rattle.beet_gates.specs.declared.Batch.{Batch}
 use Rattle.beet_gates.specs.declared.Linear.{Linear}
-use Rattle.beet_gates.proofs.EachFacts.{length-each, each-zero, each-cons, each-suc}
-use Rattle.beet_mask.specs.Mask.{bit_wire_of, mask_batches, xor_let}
-use Rattle.beet_compare.specs.Compare.{compare_wires_of, masked_batch, borrow_batches, same_let, lowest_batch, bit_batch, last_batch, answer_batch}
+use Rattle.beet_gates.proofs.EachFacts.{length-each, each-zero, each-cons, each-suc, turns}
+use Rattle.beet_gates.proofs.LevelRuns.{next_item-has}
+use Rattle.beet_mask.specs.Mask.{bit_lets, bit_wire_of, chain_batches as mask_chain, mask_batches, product_batches, tree_batches as mask_tree, xor_let}
+use Rattle.beet_compare.specs.Compare.{bit_lets as compare_lets, compare_wires_of, chain_batches, last_batches, last_let, level_lets, level_products, masked_batch, next_less, next_same, borrow_batches, product_batch, same_let, lowest_batch, bit_batch, answer_batch, tree_batches}
 use Rattle.beet_compare.proofs.CompareTable.{last_two}
 use Rattle.beet_gates.specs.declared.Gates.{Gates}
 use Rattle.beet_gates.specs.declared.Gates.TheVariants.{Chain, Tree}
-use Rattle.beet_plan.specs.Blocks.{Blocks, after_both, after_mask, blocks_of, chain_blocks}
+use Rattle.beet_plan.specs.Blocks.{Blocks, after_both, after_mask, blocks_of}
 use Rattle.beet_auction.proofs.Apart.{IsOwn, TermsOwn, LetsOwn, PairsOwn, BatchOwn, BlockOwn, mask_wires, wires_after, wires_after_all}
 
 -- the wires of a mask before its bits
@@ -86,41 +88,75 @@ module _ (start : ℕ) where
     | inr e ↦ rw (ne_eqb bit 1 e) (inr own, (inl refl, (inl refl, tt)))
   ]
 
-  -- the block of a mask
-  pub mask-own : BlockOwn start start (mask_batches start) × (wires_after_all start (mask_batches start) ≡ start + mask_wires)
-  mask-own =
-      let p1 : ℕ → ℕ × ℕ = λ k. (start + k, start + 61 + k) in
-      let l2 = λ (k : ℕ). xor_let (start + k) (start + 61 + k) (start + 183 + k) in
-      let p2 : ℕ → ℕ × ℕ = λ k. (start + 244 + k, start + 122 + k) in
-      let l3 = λ (k : ℕ). xor_let (start + 244 + k) (start + 122 + k) (start + 305 + k) in
+  -- the bits of a mask, and the product of a chain
+  bits-own : (n : ℕ) → LetsOwn start n (bit_lets start)
+  bits-own n =
+      lets-each n (λ (k : ℕ). xor_let (start + 244 + k) (start + 122 + k) (start + 305 + k)) 61
+      (λ k l. (inr (omega arith, omega arith), (inr (omega arith, omega arith), (inr (omega arith, omega arith), tt))))
+
+  chain-own : (n : ℕ) → BlockOwn start n (mask_chain start) × (wires_after_all n (mask_chain start) ≡ n + 121)
+  chain-own n =
       let rule = λ (j : ℕ). mul_batch [] ((start + 427 + j, start + 368 + j) ∷ []) in
-      let b2 = mul_batch [] (each p1 61) in
-      let b3 = mul_batch (each l2 61) (each p2 61) in
-      let b4 = mul_batch (each l3 61) ((start + before_bits, start + (before_bits + 1)) ∷ []) in
-      let w1 = wires_after start deal_batch in
-      let w2 = wires_after w1 b2 in
-      let w3 = wires_after w2 b3 in
-      let w4 = wires_after w3 b4 in
+      let batch = mul_batch (bit_lets start) ((start + before_bits, start + (before_bits + 1)) ∷ []) in
+      let now = wires_after n batch in
       let last = reveal_batch [] ((start + 486) ∷ []) in
-      let chain = own-each rule 1 w4 59 (λ k l w. (
+      let chain = own-each rule 1 now 59 (λ k l w. (
         (tt, ((omega arith, omega arith), (omega arith, omega arith), tt)),
         refl,
         omega arith,
       )) in
-      let end : wires_after_all start (mask_batches start) ≡ wires_after (wires_after_all w4 (each rule 59)) last =
-      wires_after_all-append w4 (each rule 59) (last ∷ []) in (
+      let end : wires_after_all n (mask_chain start) ≡ wires_after (wires_after_all now (each rule 59)) last =
+      wires_after_all-append now (each rule 59) (last ∷ []) in (
+        own-cons n batch _ (bits-own n, ((omega arith, omega arith), (omega arith, omega arith), tt)) refl
+            (own-append now (each rule 59) (last ∷ []) chain.0 (own-last _ last (tt, tt) refl)),
+        omega (arith, end, chain.1, length-each (λ (k : ℕ). xor_let (start + 244 + k) (start + 122 + k) (start + 305 + k)) 61),
+      )
+
+  -- the product of a tree
+  tree-own : (levels n : ℕ) (lets : List Linear) (item : ℕ → ℕ) (free w : ℕ) → LetsOwn start w lets → ((k : ℕ) → k < n → IsOwn start (item k)) →
+      n ≤ 2 ^ levels → 2 ^ levels < 2 * n → start ≤ free → free + n ≤ start + (mask_wires + 60) →
+      BlockOwn start w (mask_tree levels lets n item free) × (wires_after_all w (mask_tree levels lets n item free) ≡ w + length lets + (n - 1))
+  tree-own zero n lets item free w below own most least from to =
+      (own-last w (reveal_batch lets (item 0 ∷ [])) (below, tt) refl, omega (arith, most, least))
+  tree-own (suc levels) n lets item free w below own most least from to =
+      let half = n / 2 in
+      let power : 2 ^ suc levels ≡ 2 ^ levels * 2 = pow-suc 2 levels in
+      let pair : ℕ → ℕ × ℕ = λ i. (item (2 * i), item (2 * i + 1)) in
+      let batch = mul_batch lets (each pair half) in
+      let place = λ (i : ℕ). free + i in
+      let m = tree-own levels (next_length n) [] (next_item n item place) (free + half) (wires_after w batch) tt
+      (next_item-has (IsOwn start) n item place own (λ k l. (omega (arith, from), omega (arith, to, l))))
+      (omega (arith, most, power)) (omega (arith, least, power)) (omega (arith, from)) (omega (arith, to)) in (
+        own-cons w batch _ (below, pairs-each pair half (λ k l. (own (2 * k) (omega (arith, l)), own (2 * k + 1) (omega (arith, l))))) refl m.0,
+        omega (arith, m.1, length-each pair half, least, power),
+      )
+
+  product-own : (gates : Gates) (n : ℕ) → BlockOwn start n (product_batches gates start) × (wires_after_all n (product_batches gates start) ≡ n + 121)
+  product-own Chain n = chain-own n
+  product-own Tree n =
+      let m = tree-own 6 61 (bit_lets start) (bit_wire_of start) (start + 427) n (bits-own n) (λ k l. (omega arith, omega (arith, l)))
+      (omega arith) (omega arith) (omega arith) (omega arith) in
+      (m.0, omega (arith, m.1, length-each (λ (k : ℕ). xor_let (start + 244 + k) (start + 122 + k) (start + 305 + k)) 61))
+
+  -- the block of a mask
+  pub mask-own : (gates : Gates) → BlockOwn start start (mask_batches gates start) × (wires_after_all start (mask_batches gates start) ≡ start + mask_wires)
+  mask-own gates =
+      let p1 : ℕ → ℕ × ℕ = λ k. (start + k, start + 61 + k) in
+      let l2 = λ (k : ℕ). xor_let (start + k) (start + 61 + k) (start + 183 + k) in
+      let p2 : ℕ → ℕ × ℕ = λ k. (start + 244 + k, start + 122 + k) in
+      let b2 = mul_batch [] (each p1 61) in
+      let b3 = mul_batch (each l2 61) (each p2 61) in
+      let w1 = wires_after start deal_batch in
+      let w2 = wires_after w1 b2 in
+      let w3 = wires_after w2 b3 in
+      let m = product-own gates w3 in (
         own-cons start deal_batch _ (tt, tt) refl
             (own-cons w1 b2 _ (tt, pairs-each p1 61 (λ k l. ((omega arith, omega arith), (omega arith, omega arith)))) refl
             (own-cons w2 b3 _ (
               lets-each w2 l2 61 (λ k l. (inr (omega arith, omega arith), (inr (omega arith, omega arith), (inr (omega arith, omega arith), tt)))),
               pairs-each p2 61 (λ k l. ((omega arith, omega arith), (omega arith, omega arith))),
-            ) refl
-            (own-cons w3 b4 _ (
-              lets-each w3 l3 61 (λ k l. (inr (omega arith, omega arith), (inr (omega arith, omega arith), (inr (omega arith, omega arith), tt)))),
-              ((omega arith, omega arith), (omega arith, omega arith), tt),
-            ) refl
-            (own-append w4 (each rule 59) (last ∷ []) chain.0 (own-last _ last (tt, tt) refl))))),
-        omega (arith, end, chain.1, length-each p1 61, length-each l2 61, length-each p2 61, length-each l3 61),
+            ) refl m.0)),
+        omega (arith, m.1, length-each p1 61, length-each l2 61, length-each p2 61),
       )
 
   -- the opening of the masked difference
@@ -144,10 +180,27 @@ module _ (start : ℕ) where
         omega (arith, n, length-append (each rule 59) (tail ∷ [])),
       )
 
-  -- the borrows and the answer
-  pub borrow-own : (c : ℕ) → BlockOwn start (start + (mask_wires + 61)) (borrow_batches (start + mask_wires) start c)
-      × (wires_after_all (start + (mask_wires + 61)) (borrow_batches (start + mask_wires) start c) ≡ start + (mask_wires + compare_wires_of Chain))
-  borrow-own c =
+  -- the last two batches of a comparison
+  last-own : (lets : List Linear) (borrow low c n : ℕ) → LetsOwn start n lets → IsOwn start borrow → start + (mask_wires + 61) ≤ low →
+      BlockOwn start n (last_batches lets borrow low start c) × (wires_after_all n (last_batches lets borrow low start c) ≡ n + length lets + 3)
+  last-own lets borrow low c n below own there =
+      let end = same_let (1 - bit_at c 0) (start + before_bits) in
+      let product = product_batch lets borrow low start c in
+      let answer = answer_batch borrow low in
+      let len = length-append lets (end ∷ []) in (
+        own-cons n product (answer ∷ []) (
+          lets-append n lets (end ∷ []) below (λ o. same-own (1 - bit_at c 0) (start + before_bits) (omega arith, omega arith), tt),
+          ((omega (arith, there), omega (arith, there)), own, tt),
+        ) refl
+            (own-last (wires_after n product) answer
+            ((λ o. (inr (omega (arith, there), omega (arith, there)), (inr own, (inr (omega (arith, there), omega (arith, there)), tt))), tt), tt) refl),
+        omega (arith, len),
+      )
+
+  -- the borrows of a chain, and the answer
+  borrows-own : (c : ℕ) → BlockOwn start (start + (mask_wires + 61)) (chain_batches (start + mask_wires) start c)
+      × (wires_after_all (start + (mask_wires + 61)) (chain_batches (start + mask_wires) start c) ≡ start + (mask_wires + compare_wires_of Chain))
+  borrows-own c =
       let first = start + mask_wires in
       let one = lowest_batch first start c in
       let w1 = wires_after (start + (mask_wires + 61)) one in
@@ -163,9 +216,9 @@ module _ (start : ℕ) where
         omega arith,
       )) in
       let w2 = wires_after_all w1 (each (bit_batch first start c) 59) in
-      let product = last_batch first start c in
-      let answer = answer_batch first in
-      let end : wires_after_all (start + (mask_wires + 61)) (borrow_batches first start c) ≡ wires_after (wires_after w2 product) answer =
+      let last = last-own (last_let first start c ∷ []) (first + 241) (first + 242) c w2
+      (λ own. (inr (omega arith, omega arith), (inr (omega arith, omega arith), (inl refl, tt))), tt) (omega arith, omega arith) (omega arith) in
+      let end : wires_after_all (start + (mask_wires + 61)) (chain_batches first start c) ≡ wires_after_all w2 (last_two first start c) =
       wires_after_all-append w1 (each (bit_batch first start c) 59) (last_two first start c) in (
         own-cons (start + (mask_wires + 61)) one _ (
           (
@@ -174,18 +227,56 @@ module _ (start : ℕ) where
           ),
           ((omega arith, omega arith), (omega arith, omega arith), tt),
         ) refl
-            (own-append w1 (each (bit_batch first start c) 59) (last_two first start c) chain.0
-            (own-cons w2 product (answer ∷ []) (
-              (
-                λ own. (inr (omega arith, omega arith), (inr (omega arith, omega arith), (inl refl, tt))),
-                (λ own. same-own (1 - bit_at c 0) (start + before_bits) (omega arith, omega arith), tt),
-              ),
-              ((omega arith, omega arith), (omega arith, omega arith), tt),
-            ) refl
-            (own-last (wires_after w2 product) answer
-            ((λ own. (inr (omega arith, omega arith), (inr (omega arith, omega arith), (inr (omega arith, omega arith), tt))), tt), tt) refl))),
-        omega (arith, end, chain.1),
+            (own-append w1 (each (bit_batch first start c) 59) (last_two first start c) chain.0 last.0),
+        omega (arith, end, chain.1, last.1),
       )
+
+  -- the levels of a tree, and the answer
+  levels-own : (levels n : ℕ) (lets : List Linear) (g q : ℕ → ℕ) (free c w : ℕ) → LetsOwn start w lets → ((k : ℕ) → k < n → IsOwn start (g k)) →
+      ((k : ℕ) → k < n → IsOwn start (q k)) → n ≤ 2 ^ levels → 2 ^ levels < 2 * n → start + (mask_wires + 61) ≤ free →
+      BlockOwn start w (tree_batches levels start c lets n g q free) × (wires_after_all w (tree_batches levels start c lets n g q free) ≡ w + length lets + 3 * n)
+  levels-own zero n lets g q free c w below less equal most least from =
+      let m = last-own lets (g 0) free c w below (less 0 (omega (arith, least))) from in
+      (m.0, omega (arith, m.1, most, least))
+  levels-own (suc levels) n lets g q free c w below less equal most least from =
+      let half = n / 2 in
+      let power : 2 ^ suc levels ≡ 2 ^ levels * 2 = pow-suc 2 levels in
+      let f : ℕ → ℕ × ℕ = λ i. (q (2 * i + 1), g (2 * i)) in
+      let h : ℕ → ℕ × ℕ = λ i. (q (2 * i + 1), q (2 * i)) in
+      let batch = mul_batch lets (level_products half g q) in
+      let rule = λ (i : ℕ). two_terms 0 (1, g (2 * i + 1)) (1, free + 2 * i) in
+      let now = wires_after w batch in
+      let sums : LetsOwn start now (level_lets half g free) =
+      lets-each now rule half (λ k l. (inr (less (2 * k + 1) (omega (arith, l))), (inr (omega (arith, from), omega (arith, from)), (inl refl, tt)))) in
+      let m = levels-own levels (next_length n) (level_lets half g free) (next_less n g free) (next_same n q free) (free + 2 * half + half) c now sums
+      (next_item-has (IsOwn start) n g (λ i. free + 2 * half + i) less (λ k l. (omega (arith, from), omega (arith, from))))
+      (next_item-has (IsOwn start) n q (λ i. free + 1 + 2 * i) equal (λ k l. (omega (arith, from), omega (arith, from))))
+      (omega (arith, most, power)) (omega (arith, least, power)) (omega (arith, from)) in
+      let pairs = pairs-each (by_turns f h) (2 * half)
+      (turns (λ k pair. IsOwn start pair.0 × IsOwn start pair.1) f h half
+      (λ i l. (equal (2 * i + 1) (omega (arith, l)), less (2 * i) (omega (arith, l))))
+      (λ i l. (equal (2 * i + 1) (omega (arith, l)), equal (2 * i) (omega (arith, l))))) in (
+        own-cons w batch _ (below, pairs) refl m.0,
+        omega (arith, m.1, length-each (by_turns f h) (2 * half), length-each rule half),
+      )
+
+  -- the batches after the opened number
+  pub borrow-own : (gates : Gates) (c : ℕ) → BlockOwn start (start + (mask_wires + 61)) (borrow_batches gates (start + mask_wires) start c)
+      × (wires_after_all (start + (mask_wires + 61)) (borrow_batches gates (start + mask_wires) start c) ≡ start + (mask_wires + compare_wires_of gates))
+  borrow-own Chain c = borrows-own c
+  borrow-own Tree c =
+      let first = start + mask_wires in
+      let n = start + (mask_wires + 61) in
+      let less = λ (k : ℕ). one_term 0 (1 - bit_at c k, start + 366 + k) in
+      let equal = λ (k : ℕ). same_let (bit_at c k) (start + 366 + k) in
+      let lets : LetsOwn start n (compare_lets start c) =
+      lets-each n (by_turns less equal) (2 * 61)
+      (turns (λ k rule. TermsOwn start rule.terms) less equal 61
+      (λ i l. (inr (omega arith, omega (arith, l)), (inl refl, (inl refl, tt))))
+      (λ i l. same-own (bit_at c i) (start + 366 + i) (omega arith, omega (arith, l)))) in
+      let m = levels-own 6 61 (compare_lets start c) (λ k. first + 61 + 2 * k) (λ k. first + 62 + 2 * k) (first + 183) c n lets
+      (λ k l. (omega arith, omega arith)) (λ k l. (omega arith, omega arith)) (omega arith) (omega arith) (omega arith) in
+      (m.0, omega (arith, m.1, length-each (by_turns less equal) (2 * 61)))
 
 -- blocks of such batches
 pub record AreOwn (g : Blocks) : Type 0 where
@@ -195,15 +286,12 @@ pub record AreOwn (g : Blocks) : Type 0 where
       (let n = wires_after_all (after_mask g start) (g.masked (after_mask g start) start supply demand ∷ []) in
       BlockOwn start n (g.answer (after_mask g start) start c) × (wires_after_all n (g.answer (after_mask g start) start c) ≡ after_both g start))
 
-chain-own : AreOwn chain_blocks
-chain-own = record {
-  mask = mask-own;
+pub own-blocks : (gates : Gates) → AreOwn (blocks_of gates)
+own-blocks gates = record {
+  mask = λ start. mask-own start gates;
   masked = λ start supply demand. (masked-own start supply demand).0;
   answer = λ start supply demand c.
-      subst (λ n. BlockOwn start n (borrow_batches (start + mask_wires) start c) × (wires_after_all n (borrow_batches (start + mask_wires) start c) ≡ start + (mask_wires + compare_wires_of Chain)))
-      (sym (masked-own start supply demand).1) (borrow-own start c);
+      subst (λ n. BlockOwn start n (borrow_batches gates (start + mask_wires) start c)
+      × (wires_after_all n (borrow_batches gates (start + mask_wires) start c) ≡ start + (mask_wires + compare_wires_of gates)))
+      (sym (masked-own start supply demand).1) (borrow-own start gates c);
 }
-
-pub own-blocks : (gates : Gates) → AreOwn (blocks_of gates)
-own-blocks Chain = chain-own
-own-blocks Tree = chain-own

@@ -8,24 +8,16 @@ use Rattle.beet_gates.specs.Scripts.{revealed}
 use Rattle.beet_gates.specs.declared.Act.{Act}
 use Rattle.beet_gates.specs.declared.Act.TheVariants.{Deal, Mul, Reveal, End}
 use Rattle.beet_gates.specs.declared.Batch.{Batch}
-use Rattle.beet_gates.proofs.PlanFacts.{Follows, follows-last, follows-now, follows-next, follows-tail}
+use Rattle.beet_gates.proofs.PlanFacts.{Follows, follows-last, follows-now, follows-next, follows-tail, now-block, now-last}
 use Rattle.beet_plan.specs.Blocks.{Blocks, after_both, after_mask}
 use Rattle.beet_plan.specs.Auction.{search_plan, end_plan, compare_plan, after_answer, after_product}
 use Rattle.beet_plan.specs.declared.Finish.{Finish}
 use Rattle.beet_plan.specs.declared.Finish.TheVariants.{Price, NoPrice, MasksSpent}
-use Rattle.beet_server.specs.Runs.{Opening, Shared, batch_among, opened_at, opened_by, shared_at, with_batch_lets}
+use Rattle.beet_sharing.specs.Runs.{Setup, Shared, batch_among, opened_at, opened_by, shared_at, with_batch_lets}
 use Rattle.beet_auction.proofs.Apart.{Agree, Alike, BatchOwn, BlockOwn, batch-alike, wires_after, wires_after_all, with_third}
 use Rattle.beet_auction.proofs.OwnBlocks.{AreOwn}
 
 module _ {F : Type 0} where
-  now-block : (b : Batch) (bs : List Batch) (k : ℕ → Plan F) → plan_batch (Block (b ∷ bs) k) 0 [] ≡ b
-  unfolding plan_batch
-  now-block b bs k = refl
-
-  now-last : (b : Batch) (n : ℕ) (named : List ℕ → F) → plan_batch (Last b n named) 0 [] ≡ b
-  unfolding plan_batch
-  now-last b n named = refl
-
   ended-batch : (f : F) (done : ℕ) (opened : List ℕ) → plan_batch (Ended f) done opened ≡ end_batch
   unfolding plan_batch
   ended-batch f done opened = refl
@@ -36,7 +28,7 @@ module _ {F : Type 0} where
   follows-if next t opened true p q f first second = first f
   follows-if next t opened false p q f first second = second f
 
-module _ (o : Opening) where
+module _ (o : Setup) where
   -- a batch that opens no number, and one that opens one
   opened-none : (b : Batch) (s : Shared) → revealed b.act ≡ 0 → (batch_among o b s).opened ≡ s.opened
   opened-none b s h = by_act b.act h where
@@ -78,7 +70,7 @@ renew start n s t a = record {
   };
 }
 
-module _ (o : Opening) (points : List ℕ) where
+module _ (o : Setup) (points : List ℕ) where
   -- the numbers opened are the same after t batches
   abbrev pub SameOpened : ℕ → Type 0
   SameOpened t = (shared_at (with_third points o) t).opened ≡ (shared_at o t).opened

@@ -10,14 +10,14 @@ use Rattle.beet_plan.specs.Runs.{AreMasks}
 use Rattle.beet_bids.specs.Sums.{sums_of}
 use Rattle.beet_plan.specs.declared.Finish.{Finish}
 use Rattle.beet_server.specs.Cores.{Core}
-use Rattle.beet_server.specs.Events.{passed}
-use Rattle.beet_server.specs.Lines.{OnLines}
-use Rattle.beet_server.specs.Runs.{Opening, shared_at}
+use Rattle.beet_delivery.specs.Events.{passed}
+use Rattle.beet_sharing.specs.Lines.{OnLines}
+use Rattle.beet_sharing.specs.Runs.{Setup, shared_at}
 use Rattle.beet_server.proofs.Passing.{at_passed, ended_at}
 use Rattle.beet_world.specs.Worlds.{World, delivered_in}
 use Rattle.beet_auction.specs.Endings.{AuctionEnds, book_finish, book_rounds}
-use Rattle.beet_auction.specs.Openings.{book_opening}
-use Rattle.beet_book.specs.Farmers.{Farmer, book_of}
+use Rattle.beet_auction.specs.Setups.{book_setup}
+use Rattle.beet_book.specs.Farmers.{Farmer, book_with}
 use Rattle.beet_auction.specs.WorldEnds.{IsAuctionCore, StandsBy, auction_in}
 use Rattle.beet_auction.proofs.BookLines.{book-lines, slopes_of}
 use Rattle.beet_auction.proofs.Ends.{book-ends}
@@ -26,7 +26,7 @@ use Rattle.beet_auction.proofs.Ends.{book-ends}
 pub stands-by : (w : World Auction) (s : Point) (c : Core Auction) → IsAuctionCore w s c →
     (rounds : ℕ) (finish : Finish) → AuctionEnds w.start.one.script (auction_in w) rounds finish → StandsBy rounds finish w s c
 stands-by w s c h rounds finish e =
-    let run : Opening = auction_in w in
+    let run : Setup = auction_in w in
     let x = delivered_in w in
     let at : c.round ≡ passed rounds x s = at_passed auction_batch run x c rounds e.has_rounds h.fits h.quiet ∙ ap (passed rounds x) h.name in
     let over = ended_at auction_batch run x c rounds e.has_rounds h.fits in
@@ -52,15 +52,15 @@ stands-by-book book slopes w s c b m script lines h =
 
 -- and so it does on the points that the bidders of a book deal
 pub stands-by-bids : (grid : Grid) (farmers : List Farmer) (masks coefficients : Trio (List ℕ)) (w : World Auction) (s : Point) (c : Core Auction) →
-    IsBook (book_of grid farmers) → AreMasks masks → w.start.one.script ≡ auction_over grid →
-    auction_in w ≡ book_opening grid farmers masks coefficients → IsAuctionCore w s c →
-    StandsBy (book_rounds (book_of grid farmers) masks) (book_finish (book_of grid farmers) masks) w s c
-stands-by-bids grid farmers masks coefficients w s c b m script opening h =
-    let book = book_of grid farmers in
-    let o = book_opening grid farmers masks coefficients in
+    IsBook (book_with grid farmers) → AreMasks masks → w.start.one.script ≡ auction_over grid →
+    auction_in w ≡ book_setup grid farmers masks coefficients → IsAuctionCore w s c →
+    StandsBy (book_rounds (book_with grid farmers) masks) (book_finish (book_with grid farmers) masks) w s c
+stands-by-bids grid farmers masks coefficients w s c b m script setup h =
+    let book = book_with grid farmers in
+    let o = book_setup grid farmers masks coefficients in
     let rounds = book_rounds book masks in
     let finish = book_finish book masks in
     stands-by w s c h rounds finish
     (subst (λ a. AuctionEnds a (auction_in w) rounds finish) (sym script)
-    (subst (λ r. AuctionEnds (auction_over grid) r rounds finish) (sym opening)
+    (subst (λ r. AuctionEnds (auction_over grid) r rounds finish) (sym setup)
     (book-ends book o (slopes_of grid farmers) b m refl (book-lines grid farmers b))))

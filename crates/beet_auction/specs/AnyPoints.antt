@@ -9,7 +9,7 @@ use Rattle.beet_plan.specs.Auction.{Auction}
 use Rattle.beet_plan.specs.Runs.{found, place_of_inputs, run_finish, run_rounds}
 use Rattle.beet_plan.specs.Search.{mask_at}
 use Rattle.beet_plan.specs.declared.Finish.{Finish}
-use Rattle.beet_server.specs.Runs.{opened_at}
+use Rattle.beet_sharing.specs.Runs.{opened_at}
 
 -- each server has as many points as the auction has inputs, and all are numbers of the field
 pub record ArePoints (a : Auction) (inputs : Trio (List ℕ)) : Type 0 where

@@ -9,8 +9,8 @@ use Rattle.beet_plan.specs.Auction.{Auction, auction_over, auction_plan, most_ro
 use Rattle.beet_plan.specs.Runs.{run_finish, run_rounds, finish_of}
 use Rattle.beet_plan.specs.Search.{mask_at}
 use Rattle.beet_plan.specs.declared.Finish.{Finish}
-use Rattle.beet_server.specs.Runs.{Opening, HasRounds, shared_at, rounds_among}
-use Rattle.beet_server.specs.Events.{Triple, after, passed}
+use Rattle.beet_sharing.specs.Runs.{Setup, HasRounds, shared_at, rounds_among}
+use Rattle.beet_delivery.specs.Events.{Triple, after, passed}
 use Rattle.beet_server.specs.Endings.{Ends, Waits, ending_of}
 
 -- how the auction of a book ends with these mask words: with the book's outcome, or spent where the third rejected mask comes first
@@ -22,13 +22,13 @@ abbrev pub book_rounds : Book → Trio (List ℕ) → ℕ
 book_rounds book masks = run_rounds (auction_over book.grid) (mask_at masks) (clearing_place book)
 
 -- the run of an auction has these rounds, and the script names this finish after the numbers opened in them
-pub record AuctionEnds (a : Auction) (o : Opening) (rounds : ℕ) (finish : Finish) : Type 0 where
+pub record AuctionEnds (a : Auction) (o : Setup) (rounds : ℕ) (finish : Finish) : Type 0 where
   pub has_rounds : HasRounds o rounds
   pub counted : rounds_among o (most_rounds a) ≡ rounds
   pub finish_named : plan_finish (auction_plan a) (shared_at o rounds).opened ≡ Some finish
 
 -- after every list of events each server waits in a round that it has not passed, or has ended with this finish
-abbrev pub EndsAlways : Auction → Opening → ℕ → Finish → Type 0
+abbrev pub EndsAlways : Auction → Setup → ℕ → Finish → Type 0
 EndsAlways a o rounds finish =
     (es : List Triple) (s : Point) →
     (ending_of (plan_finish (auction_plan a)) o rounds (after rounds es) s ≡ Waits (passed rounds (after rounds es) s))

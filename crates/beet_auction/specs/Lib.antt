@@ -1,4 +1,4 @@
-pub mod Openings
+pub mod Setups
 pub mod Endings
 pub mod AnyPoints
 pub mod WorldEnds

@@ -5,14 +5,14 @@ use Rattle.beet_gates.specs.Plans.{plan_finish}
 use Rattle.beet_plan.specs.Auction.{Auction, auction_batch, auction_plan, most_rounds}
 use Rattle.beet_plan.specs.declared.Finish.{Finish}
 use Rattle.beet_server.specs.Cores.{Core, has_ended}
-use Rattle.beet_server.specs.Events.{passed}
-use Rattle.beet_server.specs.Runs.{Opening}
-use Rattle.beet_world.specs.Worlds.{IsCoreOf, World, delivered_in, opening_in}
-use Rattle.beet_auction.specs.Openings.{inputs_of}
+use Rattle.beet_delivery.specs.Events.{passed}
+use Rattle.beet_sharing.specs.Runs.{Setup}
+use Rattle.beet_world.specs.Worlds.{IsCoreOf, World, delivered_in, setup_in}
+use Rattle.beet_auction.specs.Setups.{inputs_of}
 
--- the opening of a world that runs an auction
-abbrev pub auction_in : World Auction → Opening
-auction_in w = opening_in auction_batch inputs_of most_rounds w
+-- the setup of a world that runs an auction
+abbrev pub auction_in : World Auction → Setup
+auction_in w = setup_in auction_batch inputs_of most_rounds w
 
 -- this is the core of a server in a world that runs an auction, as it is lent after some list of events
 abbrev pub IsAuctionCore : World Auction → Point → Core Auction → Type 0

@@ -1,6 +1,6 @@
 //! The auction of a book among three servers: what they begin with, and how they end.
 //!
-//! There is no code here but a constant: the laws are contracts of functions that do nothing.
+//! There is no code here: the laws are contracts of functions that do nothing.
 #![tactic(auto)]
 
 ghost use Rattle.std.specs.Prelude.{◌≡◌, ◌≤◌, ◌*◌, ◌++◌, ◌∷◌, [], ℕ, List, length};
@@ -15,11 +15,11 @@ ghost use Rattle.beet_plan.specs.Auction.{Auction, auction_batch, auction_over};
 ghost use Rattle.beet_plan.specs.Runs.{AreMasks};
 ghost use Rattle.beet_bids.specs.Sums.{sums_of};
 ghost use Rattle.beet_server.specs.Cores.{Core};
-ghost use Rattle.beet_server.specs.Runs.{Opening};
-ghost use Rattle.beet_server.specs.Lines.{OnLines};
+ghost use Rattle.beet_sharing.specs.Runs.{Setup};
+ghost use Rattle.beet_sharing.specs.Lines.{OnLines};
 ghost use Rattle.beet_world.specs.Worlds.{World};
-ghost use Rattle.beet_auction.specs.Openings.{book_opening};
-ghost use Rattle.beet_book.specs.Farmers.{Farmer, book_inputs, book_of, summed_points};
+ghost use Rattle.beet_auction.specs.Setups.{book_setup};
+ghost use Rattle.beet_book.specs.Farmers.{Farmer, book_inputs, book_with, summed_points};
 ghost use Rattle.beet_auction.specs.AnyPoints.{ArePoints, points_finish, points_rounds};
 ghost use Rattle.beet_auction.specs.Endings.{AuctionEnds, EndsAlways, book_finish, book_rounds};
 ghost use Rattle.beet_auction.specs.WorldEnds.{IsAuctionCore, StandsBy, auction_in};
@@ -27,7 +27,7 @@ ghost use Rattle.beet_auction.specs.WorldEnds.{IsAuctionCore, StandsBy, auction_
 /// Where the inputs are points of lines with a book's sums, the run ends with the book's outcome, or spent exactly where
 /// the mask words say so, after the number of rounds that the book and the mask words tell.
 pub fn runs_end_with_the_outcome()
-    ensures { (book : Book) (o : Opening) (slopes : List ℕ) → IsBook book → AreMasks o.masks →
+    ensures { (book : Book) (o : Setup) (slopes : List ℕ) → IsBook book → AreMasks o.masks →
         o.next ≡ auction_batch (auction_over book.grid) → OnLines (sums_of book) slopes o.inputs →
         AuctionEnds (auction_over book.grid) o (book_rounds book o.masks) (book_finish book o.masks) }
 {}
@@ -36,13 +36,13 @@ pub fn runs_end_with_the_outcome()
 /// ended with the book's outcome, or spent. So it is for every order, repeat or delay of the messages.
 pub fn an_opened_outcome_is_the_books()
     ensures ends { (grid : Grid) (farmers : List Farmer) (masks coefficients : Trio (List ℕ)) →
-        IsBook (book_of grid farmers) → AreMasks masks →
-        AuctionEnds (auction_over grid) (book_opening grid farmers masks coefficients)
-        (book_rounds (book_of grid farmers) masks) (book_finish (book_of grid farmers) masks) }
+        IsBook (book_with grid farmers) → AreMasks masks →
+        AuctionEnds (auction_over grid) (book_setup grid farmers masks coefficients)
+        (book_rounds (book_with grid farmers) masks) (book_finish (book_with grid farmers) masks) }
     ensures always { (grid : Grid) (farmers : List Farmer) (masks coefficients : Trio (List ℕ)) →
-        IsBook (book_of grid farmers) → AreMasks masks →
-        EndsAlways (auction_over grid) (book_opening grid farmers masks coefficients)
-        (book_rounds (book_of grid farmers) masks) (book_finish (book_of grid farmers) masks) }
+        IsBook (book_with grid farmers) → AreMasks masks →
+        EndsAlways (auction_over grid) (book_setup grid farmers masks coefficients)
+        (book_rounds (book_with grid farmers) masks) (book_finish (book_with grid farmers) masks) }
 {}
 
 /// After every list of events the core of a server in a world of the auction waits, or has ended, and then the script names the book's
@@ -54,19 +54,19 @@ pub fn cores_open_the_books_outcome()
         OnLines (sums_of book) slopes (auction_in w).inputs → IsAuctionCore w s c →
         StandsBy (book_rounds book (auction_in w).masks) (book_finish book (auction_in w).masks) w s c }
     ensures dealt { (grid : Grid) (farmers : List Farmer) (masks coefficients : Trio (List ℕ)) (w : World Auction)
-        (s : Point) (c : Core Auction) → IsBook (book_of grid farmers) → AreMasks masks →
-        w.start.one.script ≡ auction_over grid → auction_in w ≡ book_opening grid farmers masks coefficients →
+        (s : Point) (c : Core Auction) → IsBook (book_with grid farmers) → AreMasks masks →
+        w.start.one.script ≡ auction_over grid → auction_in w ≡ book_setup grid farmers masks coefficients →
         IsAuctionCore w s c →
-        StandsBy (book_rounds (book_of grid farmers) masks) (book_finish (book_of grid farmers) masks) w s c }
+        StandsBy (book_rounds (book_with grid farmers) masks) (book_finish (book_with grid farmers) masks) w s c }
 {}
 
 /// The points of the inputs need lie on no line: on any points below p the run ends with what the search over them finds,
 /// or spent exactly where the mask words say so. So it is after every list of events.
 pub fn any_points_end_with_what_they_open()
-    ensures ends { (a : Auction) (o : Opening) → ArePoints a o.inputs → AreMasks o.masks →
+    ensures ends { (a : Auction) (o : Setup) → ArePoints a o.inputs → AreMasks o.masks →
         o.next ≡ auction_batch a →
         AuctionEnds a o (points_rounds a o.inputs o.masks) (points_finish a o.inputs o.masks) }
-    ensures always { (a : Auction) (o : Opening) → ArePoints a o.inputs → AreMasks o.masks →
+    ensures always { (a : Auction) (o : Setup) → ArePoints a o.inputs → AreMasks o.masks →
         o.next ≡ auction_batch a →
         EndsAlways a o (points_rounds a o.inputs o.masks) (points_finish a o.inputs o.masks) }
 {}
@@ -81,13 +81,13 @@ pub fn points_of_a_book_end_with_its_outcome()
         OnLines (sums_of book) slopes inputs →
         points_rounds (auction_over book.grid) inputs masks ≡ book_rounds book masks }
     ensures dealt_finish { (grid : Grid) (farmers : List Farmer) (masks : Trio (List ℕ)) →
-        IsBook (book_of grid farmers) →
+        IsBook (book_with grid farmers) →
         points_finish (auction_over grid) (book_inputs grid.prices farmers) masks
-        ≡ book_finish (book_of grid farmers) masks }
+        ≡ book_finish (book_with grid farmers) masks }
     ensures dealt_rounds { (grid : Grid) (farmers : List Farmer) (masks : Trio (List ℕ)) →
-        IsBook (book_of grid farmers) →
+        IsBook (book_with grid farmers) →
         points_rounds (auction_over grid) (book_inputs grid.prices farmers) masks
-        ≡ book_rounds (book_of grid farmers) masks }
+        ≡ book_rounds (book_with grid farmers) masks }
 {}
 
 /// The points of bidders that are dealt and added one after another are the points that the auction of their book begins with.

@@ -1,8 +1,8 @@
 -- Which lines are accepted, and what is known of them.
-use Rattle.std.proofs.Common.{append_assoc, codes, ◌++◌, drop, ◌≡◌, ℕ, ◌+◌, ◌-◌, ◌<◌, ◌≤◌, ◌==◌, ◌||◌, min, not, Bool, true, false, nat_lt, nat_le, is_none, is_some, IsTrue, if◌then◌else◌, List, [], ◌∷◌, map, zip, filter_map, length, All, AllPairs, Option, Some, None, Ok, Err, option_map, refl, ap, sym, subst, ◌∙◌, arith, inl, inr}
+use Rattle.std.proofs.Common.{append_assoc, codes, ◌++◌, drop, ◌≡◌, ℕ, ◌+◌, ◌-◌, ◌<◌, ◌≤◌, ◌==◌, min, not, Bool, true, false, nat_lt, nat_le, is_none, is_some, IsTrue, if◌then◌else◌, List, [], ◌∷◌, map, zip, filter_map, length, All, AllPairs, Option, Some, None, Ok, Err, option_map, refl, ap, sym, subst, ◌∙◌, arith, inl, inr}
 use Rattle.std.specs.Option.{option_or}
 use Rattle.std.specs.List.{cons_option}
-use Rattle.std.proofs.lemmas.Bool.{cases_lt, ltb-false, leb-false, eqb-true, lt-ltb, or_parts, not-false, true≢false}
+use Rattle.std.proofs.lemmas.Bool.{cases_lt, ltb-false, leb-false, eqb-true, lt-ltb, or_parts, not-false, true≢false, or_right}
 use Rattle.std.proofs.lemmas.Nat.{mul-le}
 use Rattle.std.proofs.lemmas.List.Elements.{All-nil, All-cons, All-weaker}
 use Rattle.std.proofs.lemmas.List.Kept.{AllPairs-cons}
@@ -41,12 +41,8 @@ reason_large grid (Some before) price a b c d one other = rw (one, other) refl
 large_buy : (price a b : ℕ) → LARGEST_QUANTITY < a → is_large (record { price = price; buy = a; sell = b }) ≡ true
 large_buy price a b h = rw (lt-ltb LARGEST_QUANTITY a h) refl
 
-or_right_true : (x y : Bool) → y ≡ true → (x || y) ≡ true
-or_right_true true y e = refl
-or_right_true false y e = e
-
 large_sell : (price a b : ℕ) → LARGEST_QUANTITY < b → is_large (record { price = price; buy = a; sell = b }) ≡ true
-large_sell price a b h = or_right_true (nat_lt LARGEST_QUANTITY a) _ (lt-ltb LARGEST_QUANTITY b h)
+large_sell price a b h = or_right (nat_lt LARGEST_QUANTITY a) _ (lt-ltb LARGEST_QUANTITY b h)
 
 -- a line of these numbers
 abbrev line_with : ℕ → ℕ → ℕ → Line

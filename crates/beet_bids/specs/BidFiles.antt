@@ -7,8 +7,8 @@ use Rattle.beet_forms.specs.declared.row.Row.{Row}
 use Rattle.beet_bids.specs.Grids.{Grid, price_of, place_of, places_of}
 use Rattle.beet_bids.specs.declared.curve.TheConstants.{LARGEST_QUANTITY}
 use Rattle.beet_bids.specs.Curves.{Curve}
-use Rattle.beet_bids.specs.declared.bid_file.TheConstants.{BAD_HEADER}
-use Rattle.beet_bids.specs.declared.lines.TheConstants.{BAD_ROW, OFF_GRID, NOT_ASCENDING, BUY_RISES, SELL_FALLS, TOO_LARGE, NO_BASE}
+use Rattle.beet_forms.specs.declared.faults.TheConstants.{BAD_HEADER, BAD_ROW}
+use Rattle.beet_bids.specs.declared.lines.TheConstants.{OFF_GRID, NOT_ASCENDING, BUY_RISES, SELL_FALLS, TOO_LARGE, NO_BASE}
 use Rattle.beet_bids.specs.Reasons.{first_fault}
 use Rattle.beet_bids.specs.declared.lines.Line.{Line}
 

@@ -3,28 +3,24 @@
 ghost use Rattle.std.specs.Prelude.{◌≡◌, ◌≤◌, ◌∷◌, IfOk, OnOk, length, option_map, slice_get, codes};
 ghost use Rattle.beet_forms.specs.Faults.{Answers, row_reading};
 ghost use Rattle.beet_forms.specs.Rows.{two_of};
-ghost use Rattle.beet_gates.specs.declared.Gates.TheVariants.{Chain};
-ghost use Rattle.beet_bids.specs.AuctionFiles.{auction_in, auction_of, gates_reason, number_in, number_reason, value_in, value_of, version_reason};
+ghost use Rattle.beet_bids.specs.AuctionFiles.{auction_in, auction_of, gates_in, gates_reason, number_in, number_reason, value_in, value_of, version_reason};
 
 use crate::grid::{Grid, LARGEST_BASE, LARGEST_TICK, MOST_PRICES};
-use beet_forms::{ReadFault, Row, RowReader, two_fields};
+use beet_forms::{BAD_HEADER, LONGEST_FILE, ReadFault, Row, RowReader, two_fields};
 use beet_gates::Gates;
 use std::alloc::Global;
 
 /// The most bytes of an auction file.
 pub const AUCTION_LIMIT: u64 = 4_096;
 
-/// The reason against a row 1 that is missing, has not two fields, or is of another kind.
-const BAD_HEADER: u32 = 1;
-
 /// The reason against a row that is missing, has not two fields, has another key, or is a sixth one.
-const BAD_KEY: u32 = 2;
+pub const BAD_KEY: u32 = 2;
 
 /// The reason against a value that is no number within its limits, or no kind of gates.
-const BAD_VALUE: u32 = 3;
+pub const BAD_VALUE: u32 = 3;
 
 /// The reason against another version.
-const WRONG_VERSION: u32 = 4;
+pub const WRONG_VERSION: u32 = 4;
 
 /// The reason against more prices than one, where one is wanted.
 pub const NOT_ONE_PRICE: u32 = 5;
@@ -83,7 +79,7 @@ fn read_number(
 /// Takes row 5, which has the kind of gates.
 fn read_gates(rows: &mut RowReader, row: &mut Row) -> Result<Gates, ReadFault>
     ensures reads { let kind = value_of (codes "gates") (slice_get rows.old 0) in
-        Answers (λ gates. gates) (row_reading 5 (gates_reason kind) Chain) result }
+        Answers (λ gates. gates) (row_reading 5 (gates_reason kind) (gates_in kind)) result }
     ensures row { OnOk result (rows.old ≡ row.new ∷ rows.new) }
 {
     if !rows.next(row)? {
@@ -94,6 +90,8 @@ fn read_gates(rows: &mut RowReader, row: &mut Row) -> Result<Gates, ReadFault>
     };
     if kind == b"chain".as_slice() {
         Ok(Gates::Chain)
+    } else if kind == b"tree".as_slice() {
+        Ok(Gates::Tree)
     } else {
         Err(ReadFault::at_row(5, BAD_VALUE))
     }
@@ -117,11 +115,11 @@ fn read_grid(rows: &mut RowReader, row: &mut Row) -> Result<Grid, ReadFault>
     }
 }
 
-/// The grid of an auction file: the rows `beet-auction,1`, `base,N`, `tick,N`, `prices,N` and `gates,chain`. The first
-/// row that breaks this is named: row 1 as [`BAD_HEADER`] or [`WRONG_VERSION`], each other one as [`BAD_KEY`] or
-/// [`BAD_VALUE`].
+/// The grid of an auction file: the rows `beet-auction,1`, `base,N`, `tick,N`, `prices,N`, and `gates,chain` or
+/// `gates,tree`. The first row that breaks this is named: row 1 as [`BAD_HEADER`] or [`WRONG_VERSION`], each other one
+/// as [`BAD_KEY`] or [`BAD_VALUE`].
 pub fn read_auction(alloc: Global, bytes: &[u8]) -> Result<Grid, ReadFault>
-    requires { length bytes.now ≤ 67108864 }
+    requires { length bytes.now ≤ LONGEST_FILE }
     ensures { Answers (λ grid. grid) (auction_of bytes.now) result }
 {
     let mut rows = RowReader::new(alloc, bytes);

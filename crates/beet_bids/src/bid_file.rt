@@ -8,21 +8,18 @@ ghost use Rattle.beet_bids.specs.BidFiles.{bid_of};
 use crate::curve::Curve;
 use crate::grid::Grid;
 use crate::lines::{curve_of, read_lines};
-use beet_forms::{ReadFault, Row, RowReader};
+use beet_forms::{BAD_HEADER, LONGEST_FILE, ReadFault, Row, RowReader};
 use std::alloc::Global;
 
 /// The most bytes of a bid file.
 pub const BID_LIMIT: u64 = 1_048_576;
-
-/// The reason against a row 1 that is missing or another one.
-const BAD_HEADER: u32 = 1;
 
 /// The curve of a bid file: the row `beet-bid,1`, and rows `PRICE,BUY,SELL` from the base on, in rising order. Between two
 /// rows the quantities of the earlier one hold. The first row that breaks this is named. Its reason is [`BAD_HEADER`] for
 /// row 1, and for a further row the first that stands against it of [`BAD_ROW`], [`OFF_GRID`], [`NO_BASE`],
 /// [`NOT_ASCENDING`], [`TOO_LARGE`], [`BUY_RISES`] and [`SELL_FALLS`].
 pub fn read_bid(alloc: Global, grid: &Grid, bytes: &[u8]) -> Result<Curve, ReadFault>
-    requires { length bytes.now ≤ 67108864 }
+    requires { length bytes.now ≤ LONGEST_FILE }
     ensures reads { Answers (λ curve. curve) (bid_of grid.now bytes.now) result }
     ensures of_grid { IfOk result (λ curve. IsOfGrid grid.now curve) }
 {

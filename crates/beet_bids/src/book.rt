@@ -5,10 +5,8 @@ ghost use Rattle.std.specs.Prelude.{◌≡◌, ◌≤◌, All, IfSome, SomeIff, 
 use crate::curve::Curve;
 use crate::grid::Grid;
 use beet_field::Point;
+use beet_words::MOST_BIDDERS;
 use std::marker::Model;
-
-/// The largest number of bidders.
-pub const MOST_BIDDERS: usize = 2_000;
 
 /// A bidder, and the one server that knows its curve, if there is one.
 #[derive(Debug, Drop)]

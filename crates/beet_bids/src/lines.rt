@@ -10,29 +10,26 @@ ghost use Rattle.beet_bids.specs.BidFiles.{curve_in, first_reason, is_large, is_
 
 use crate::curve::{Curve, LARGEST_QUANTITY};
 use crate::grid::Grid;
-use beet_forms::{NumberFault, ReadFault, Row, RowReader, number, three_fields};
+use beet_forms::{BAD_ROW, NumberFault, ReadFault, Row, RowReader, number, three_fields};
 use std::alloc::{AllocError, Global};
 
-/// The reason against a row that has not three fields, each of them a number.
-const BAD_ROW: u32 = 2;
-
 /// The reason against a price that the grid has not.
-const OFF_GRID: u32 = 3;
+pub const OFF_GRID: u32 = 3;
 
 /// The reason against a price that is not above the one of the row before.
-const NOT_ASCENDING: u32 = 4;
+pub const NOT_ASCENDING: u32 = 4;
 
 /// The reason against a quantity to buy above the one of the row before.
-const BUY_RISES: u32 = 5;
+pub const BUY_RISES: u32 = 5;
 
 /// The reason against a quantity to sell below the one of the row before.
-const SELL_FALLS: u32 = 6;
+pub const SELL_FALLS: u32 = 6;
 
 /// The reason against a quantity above the largest.
-const TOO_LARGE: u32 = 7;
+pub const TOO_LARGE: u32 = 7;
 
 /// The reason against row 2 where it is missing or not at the base.
-const NO_BASE: u32 = 8;
+pub const NO_BASE: u32 = 8;
 
 /// A line of a bid: from this price on, these quantities.
 #[derive(Clone, Copy, Drop)]

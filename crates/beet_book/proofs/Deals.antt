@@ -1,24 +1,19 @@
 -- Dealing, one number after another.
-use Rattle.std.proofs.Common.{◌≡◌, ℕ, ◌+◌, ◌<◌, ◌≤◌, List, [], ◌∷◌, ◌++◌, length, get_or, take, drop, arith, refl, sym, ◌∙◌, ap}
-use Rattle.std.proofs.lemmas.List.{take_more, drop-drop, get_or-drop, take_all, length-take-le}
+use Rattle.std.proofs.Common.{◌≡◌, ℕ, ◌+◌, ◌<◌, ◌≤◌, List, [], ◌∷◌, ◌++◌, length, get_or, take, arith, refl, sym, ◌∙◌, ap}
+use Rattle.std.proofs.lemmas.List.{take_more, get_or-drop, take_all, length-take-le, length-drop}
 use Rattle.beet_field.specs.declared.point.Point.{Point}
 use Rattle.beet_field.specs.declared.point.Point.TheVariants.{One, Two, Three}
 use Rattle.beet_field.specs.declared.trio.Trio.{Trio}
 use Rattle.beet_shamir.specs.Line.{point_of, points_of}
-use Rattle.beet_words.specs.Tapes.{Tape, left_of, DrawsMany}
+use Rattle.beet_words.specs.Tapes.{Tape, drawn_from, left_of}
+use Rattle.beet_words.proofs.DrawnFrom.{left-drawn}
 use Rattle.beet_book.specs.Columns.{Columns, front, pushed}
 use Rattle.beet_book.specs.Dealing.{points_at, shares_of, AreShares, HasLengths}
 use Rattle.beet_book.proofs.Pairs.{length-pairwise, item-pairwise, pairwise-front}
 
--- one number more is drawn
-pub drawn-more : (old mid new : Tape) (n : ℕ) → DrawsMany old mid n → DrawsMany mid new 1 → DrawsMany old new (n + 1)
-drawn-more old mid new n first last = record {
-  words = last.words ∙ first.words;
-  left = last.left ∙ ap (drop 1) first.left ∙ drop-drop 1 n (left_of old);
-  forward = omega (arith, first.forward, last.forward);
-  none = λ zero. omega (arith, zero);
-  last = λ _. rw (← first.words) (last.last (omega arith));
-}
+-- a number is left where fewer are drawn than there were
+pub some-left : (old mid : Tape) (n : ℕ) → mid ≡ drawn_from old n → n < length (left_of old) → 0 < length (left_of mid)
+some-left old mid n drawn h = rw (drawn, left-drawn old n) (omega (arith, length-drop n (left_of old)))
 
 -- the points of one place more
 points-more : (values slopes : List ℕ) (n value slope : ℕ) (at : Point) →
@@ -32,14 +27,14 @@ points-more values slopes n value slope at h i e f =
 
 -- one value more is dealt
 pub collected-more : (values : List ℕ) (old mid new : Tape) (before after : Columns) (n value : ℕ) →
-    before.points ≡ front n (shares_of values (left_of old)) → DrawsMany old mid n →
+    before.points ≡ front n (shares_of values (left_of old)) → mid ≡ drawn_from old n →
     after ≡ pushed before (points_of value (get_or (left_of mid) 0 0)) → value ≡ get_or values n 0 →
     n < length values → n < length (left_of old) →
     after.points ≡ front (n + 1) (shares_of values (left_of old))
 collected-more values old mid new before after n value e drawn f g h i =
     let numbers = left_of old in
     let slope : get_or (left_of mid) 0 0 ≡ get_or numbers n 0 =
-    rw drawn.left (get_or-drop n numbers 0 0 ∙ ap (λ k. get_or numbers k 0) (omega arith)) in
+    rw (drawn, left-drawn old n) (get_or-drop n numbers 0 0 ∙ ap (λ k. get_or numbers k 0) (omega arith)) in
     rw (
       f,
       e,

@@ -1,11 +1,11 @@
 -- Dealing straight into sums.
-use Rattle.std.proofs.Common.{◌≡◌, ℕ, ◌+◌, ◌*◌, ◌%◌, ◌<◌, ◌≤◌, List, [], ◌∷◌, ◌++◌, length, get_or, take, drop, arith, refl, sym, ◌∙◌, ap, length-append}
+use Rattle.std.proofs.Common.{◌≡◌, ℕ, ◌+◌, ◌<◌, ◌≤◌, List, [], ◌∷◌, ◌++◌, length, get_or, take, drop, arith, refl, sym, ◌∙◌, ap, length-append}
 use Rattle.std.proofs.lemmas.List.{length-take-le, take-append-drop}
-use Rattle.beet_field.specs.Field.{p, add_of, mul_of}
+use Rattle.beet_field.specs.Field.{add_of, mul_of}
 use Rattle.beet_field.specs.declared.trio.Trio.{Trio}
 use Rattle.beet_bids.specs.Curves.{Curve}
 use Rattle.beet_book.specs.Dealing.{pairwise, points_by, quantities, dealt_points}
-use Rattle.beet_book.specs.Totals.{Totals, added, sums_of, AddsQuantities}
+use Rattle.beet_book.specs.Totals.{Totals, added, field_sums, AddsQuantities}
 use Rattle.beet_book.proofs.Deals.{dealt-shares}
 use Rattle.beet_book.proofs.Pairs.{length-pairwise, item-pairwise, pairwise-front}
 use Rattle.beet_book.proofs.Sums.{added-values, sums-by_item}
@@ -21,19 +21,19 @@ pairwise-append f (x ∷ xs) ys (u ∷ us) vs e = ap (λ zs. f x u ∷ zs) (pair
 
 -- the points of joined lists are added to joined sums
 pub sums-append : (i : ℕ) (s t v w a b : List ℕ) → length s ≡ length v → length s ≡ length a →
-    sums_of s (points_by i v a) ++ sums_of t (points_by i w b) ≡ sums_of (s ++ t) (points_by i (v ++ w) (a ++ b))
+    field_sums s (points_by i v a) ++ field_sums t (points_by i w b) ≡ field_sums (s ++ t) (points_by i (v ++ w) (a ++ b))
 sums-append i s t v w a b e f =
     let point = λ (value slope : ℕ). add_of value (mul_of slope i) in
     let long = length-pairwise point v a in
-    sym (ap (λ points. sums_of (s ++ t) points) (pairwise-append point v w a b (omega arith))
+    sym (ap (λ points. field_sums (s ++ t) points) (pairwise-append point v w a b (omega arith))
     ∙ pairwise-append add_of s t (points_by i v a) (points_by i w b) (omega arith))
 
 -- the points of a curve are added in two parts
 pub curve-added : (i : ℕ) (sums slopes : List ℕ) (curve : Curve) (bought sold buy : List ℕ) → length (quantities curve) ≡ length sums →
     length slopes ≡ length sums → buy ≡ curve.buy →
-    bought ≡ sums_of (take (length buy) sums) (points_by i curve.buy (take (length buy) slopes)) →
-    sold ≡ sums_of (drop (length buy) sums) (points_by i curve.sell (drop (length buy) slopes)) →
-    bought ++ sold ≡ sums_of sums (points_by i (quantities curve) slopes)
+    bought ≡ field_sums (take (length buy) sums) (points_by i curve.buy (take (length buy) slopes)) →
+    sold ≡ field_sums (drop (length buy) sums) (points_by i curve.sell (drop (length buy) slopes)) →
+    bought ++ sold ≡ field_sums sums (points_by i (quantities curve) slopes)
 curve-added i sums slopes curve bought sold buy e f g b s =
     let count = length-append curve.buy curve.sell in
     let n = length buy in
@@ -42,15 +42,11 @@ curve-added i sums slopes curve bought sold buy e f g b s =
     (length-take-le n sums (omega arith) ∙ long) (length-take-le n sums (omega arith) ∙ sym (length-take-le n slopes (omega arith))) in
     rw (b, s) (joined ∙ rw (take-append-drop n sums, take-append-drop n slopes) refl)
 
--- one fold is the sum with the point
-pub sum-folded : (sum value slope i : ℕ) → (sum + value + i * slope) % p ≡ add_of sum (add_of value (mul_of slope i))
-sum-folded sum value slope i = omega arith
-
 -- the sums are those of all points
 pub sums-folded : (i : ℕ) (sums values slopes now : List ℕ) → length values ≡ length sums → length slopes ≡ length sums →
     length now ≡ length sums →
     ((k : ℕ) → k < length sums → get_or now k 0 ≡ add_of (get_or sums k 0) (add_of (get_or values k 0) (mul_of (get_or slopes k 0) i))) →
-    now ≡ sums_of sums (points_by i values slopes)
+    now ≡ field_sums sums (points_by i values slopes)
 sums-folded i sums values slopes now e f g each =
     let point = λ (value slope : ℕ). add_of value (mul_of slope i) in
     sums-by_item sums (points_by i values slopes) now (omega (arith, e, f, length-pairwise point values slopes)) g
@@ -65,9 +61,9 @@ points-drawn i values numbers slopes count e f h =
 -- the points of a bidder are added at each server
 pub dealt-directly : (curve : Curve) (numbers slopes : List ℕ) (before : Trio (List ℕ)) (one two three : List ℕ) →
     slopes ≡ take (length (quantities curve)) numbers → length (quantities curve) ≤ length numbers →
-    one ≡ sums_of before.one (points_by 1 (quantities curve) slopes) →
-    two ≡ sums_of before.two (points_by 2 (quantities curve) slopes) →
-    three ≡ sums_of before.three (points_by 3 (quantities curve) slopes) →
+    one ≡ field_sums before.one (points_by 1 (quantities curve) slopes) →
+    two ≡ field_sums before.two (points_by 2 (quantities curve) slopes) →
+    three ≡ field_sums before.three (points_by 3 (quantities curve) slopes) →
     record { one = one; two = two; three = three } ≡ added before (dealt_points curve numbers)
 dealt-directly curve numbers slopes before one two three e h f g k =
     let drawn = λ (i : ℕ). points-drawn i (quantities curve) numbers slopes (length (quantities curve)) e refl h in

@@ -7,3 +7,4 @@ pub mod Begins
 pub mod NamedRows
 pub mod Summed
 pub mod Direct
+pub mod FarmerLists

@@ -8,7 +8,7 @@ use Rattle.std.proofs.lemmas.Bool.{eqb-false}
 use Rattle.std.proofs.lemmas.List.Folds.{list_any-append}
 use Rattle.beet_forms.specs.declared.row.Row.{Row}
 use Rattle.beet_forms.specs.Faults.{first_row_fault}
-use Rattle.beet_bids.specs.declared.book.TheConstants.{MOST_BIDDERS}
+use Rattle.beet_words.specs.declared.bundle.TheConstants.{MOST_BIDDERS}
 use Rattle.beet_book.specs.declared.named_file.TheConstants.{TOO_MANY, ONE_TOO_MANY}
 use Rattle.beet_book.specs.NamedRows.{reading_at, first_field, has_name, untaken, named_in, reason_against}
 

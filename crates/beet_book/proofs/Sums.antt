@@ -1,7 +1,7 @@
 -- Points of lines, added up.
-use Rattle.std.proofs.Common.{◌≡◌, ℕ, ◌+◌, ◌*◌, ◌-◌, ◌%◌, ◌<◌, ◌≤◌, List, length, get_or, take, drop, arith, refl, sym, ◌∙◌, ap, length-drop, inl, inr}
+use Rattle.std.proofs.Common.{◌≡◌, ℕ, ◌+◌, ◌*◌, ◌-◌, ◌%◌, ◌<◌, ◌≤◌, List, length, get_or, take, drop, arith, refl, sym, ◌∙◌, ap, length-drop, inl, inr, length-append}
 use Rattle.std.proofs.lemmas.Bool.{cases_lt}
-use Rattle.std.proofs.lemmas.List.{get_or_append_left, get_or-append_right, get_or-drop, get_or-take}
+use Rattle.std.proofs.lemmas.List.{get_or_append_left, get_or-append_right, get_or-drop, get_or-take, length-take-le}
 use Rattle.std.proofs.lemmas.Grind.{same_number_lists}
 use Rattle.beet_field.specs.Field.{p, add_of, mul_of}
 use Rattle.beet_field.specs.Point.{number_of}
@@ -10,14 +10,19 @@ use Rattle.beet_field.specs.declared.point.Point.TheVariants.{One, Two, Three}
 use Rattle.beet_field.specs.declared.trio.Trio.{Trio}
 use Rattle.beet_shamir.specs.Line.{point_of, recombined}
 use Rattle.beet_book.specs.Dealing.{points_at}
-use Rattle.beet_book.specs.Totals.{sums_of, plain_sums, supply_first, wires_of, AddsValues, CarriesValues, Totals}
+use Rattle.beet_book.specs.Totals.{field_sums, plain_sums, supply_first, wires_of, AddsValues, CarriesValues, Totals}
 use Rattle.beet_book.proofs.Pairs.{length-pairwise, item-pairwise}
+
+-- a list with supply first is as long
+pub length-first : (prices : ℕ) (xs : List ℕ) → length xs ≡ 2 * prices → length (supply_first prices xs) ≡ 2 * prices
+length-first prices xs h =
+    omega (arith, length-append (drop prices xs) (take prices xs), length-drop prices xs, length-take-le prices xs (omega arith), h)
 
 -- a list is the sums where each item is
 pub sums-by_item : (xs ys zs : List ℕ) → length ys ≡ length xs → length zs ≡ length xs →
-    ((k : ℕ) → k < length xs → get_or zs k 0 ≡ add_of (get_or xs k 0) (get_or ys k 0)) → zs ≡ sums_of xs ys
+    ((k : ℕ) → k < length xs → get_or zs k 0 ≡ add_of (get_or xs k 0) (get_or ys k 0)) → zs ≡ field_sums xs ys
 sums-by_item xs ys zs h i each =
-    same_number_lists zs (sums_of xs ys) (omega (arith, length-pairwise add_of xs ys))
+    same_number_lists zs (field_sums xs ys) (omega (arith, length-pairwise add_of xs ys))
     (λ k lt. each k (omega arith) ∙ sym (item-pairwise add_of xs ys k (omega arith) (omega arith)))
 
 -- the sum of two points of lines
@@ -26,7 +31,7 @@ point-sum v w s t i = omega arith
 
 -- points of lines, added at one server
 pub points_at-sums : (v w s t : List ℕ) (at : Point) → length s ≡ length v → length t ≡ length w →
-    sums_of (points_at v s at) (points_at w t at) ≡ points_at (plain_sums v w) (plain_sums s t) at
+    field_sums (points_at v s at) (points_at w t at) ≡ points_at (plain_sums v w) (plain_sums s t) at
 points_at-sums v w s t at h i =
     let f = λ (value slope : ℕ). point_of value slope at in
     let plus = λ (x y : ℕ). x + y in
@@ -36,7 +41,7 @@ points_at-sums v w s t at h i =
     let d = length-pairwise plus s t in
     let e = length-pairwise add_of (points_at v s at) (points_at w t at) in
     let g = length-pairwise f (plain_sums v w) (plain_sums s t) in
-    same_number_lists (sums_of (points_at v s at) (points_at w t at)) (points_at (plain_sums v w) (plain_sums s t) at) (omega arith)
+    same_number_lists (field_sums (points_at v s at) (points_at w t at)) (points_at (plain_sums v w) (plain_sums s t) at) (omega arith)
     (λ k lt.
     item-pairwise add_of (points_at v s at) (points_at w t at) k (omega arith) (omega arith)
     ∙ ap (λ x. add_of x (get_or (points_at w t at) k 0)) (item-pairwise f v s k (omega arith) (omega arith))
@@ -48,7 +53,7 @@ points_at-sums v w s t at h i =
 
 -- points of lines, added at each server
 pub added-values : (a b : Trio (List ℕ)) (one two three : List ℕ) →
-    one ≡ sums_of a.one b.one → two ≡ sums_of a.two b.two → three ≡ sums_of a.three b.three →
+    one ≡ field_sums a.one b.one → two ≡ field_sums a.two b.two → three ≡ field_sums a.three b.three →
     AddsValues a b (record { one = one; two = two; three = three })
 added-values a b one two three e f g v w x y = record {
   slopes = plain_sums x.slopes y.slopes;

@@ -6,7 +6,7 @@ use Rattle.beet_field.specs.declared.point.Point.{Point}
 use Rattle.beet_field.specs.declared.point.Point.TheVariants.{One, Two, Three}
 use Rattle.beet_field.specs.declared.trio.Trio.{Trio}
 use Rattle.beet_shamir.specs.Line.{point_of}
-use Rattle.beet_words.specs.Tapes.{Tape, left_of, DrawsMany}
+use Rattle.beet_words.specs.Tapes.{Tape, drawn_from, left_of}
 use Rattle.beet_bids.specs.Curves.{Curve}
 
 -- a function of two lists, item by item
@@ -40,7 +40,7 @@ dealt_points curve numbers = shares_of (quantities curve) numbers
 -- the curve was dealt by numbers drawn from the tape
 pub record DealsBidder (curve : Curve) (old new : Tape) (dealt : Trio (List ℕ)) : Type 0 where
   pub points : dealt ≡ dealt_points curve (left_of old)
-  pub drawn : DrawsMany old new (length (quantities curve))
+  pub drawn : new ≡ drawn_from old (length (quantities curve))
 
 -- each curve was dealt by numbers drawn from its own tape
 pub record DealsEach (curves : List Curve) (old new : List Tape) (dealt : List (Trio (List ℕ))) : Type 0 where

@@ -7,7 +7,7 @@ use Rattle.beet_forms.specs.declared.row.Row.{Row}
 use Rattle.beet_forms.specs.Names.{is_name_of}
 use Rattle.beet_forms.specs.Rows.{five_of}
 use Rattle.beet_words.specs.Seeds.{seed_of}
-use Rattle.beet_book.specs.declared.named_file.TheConstants.{BAD_ROW}
+use Rattle.beet_forms.specs.declared.faults.TheConstants.{BAD_ROW}
 use Rattle.beet_book.specs.declared.entries.TheConstants.{BAD_SOURCE}
 use Rattle.beet_book.specs.declared.entries.Entry.{Entry}
 use Rattle.beet_book.specs.declared.entries.BidderSource.{BidderSource}

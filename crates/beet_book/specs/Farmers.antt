@@ -25,8 +25,8 @@ farmers_of (bidder ∷ bidders) [] = []
 farmers_of (bidder ∷ bidders) (list ∷ words) = record { bidder = bidder; words = list } ∷ farmers_of bidders words
 
 -- the book of these bidders
-abbrev pub book_of : Grid → List Farmer → Book
-book_of grid farmers = record { grid = grid; bidders = map (λ farmer. farmer.bidder) farmers }
+abbrev pub book_with : Grid → List Farmer → Book
+book_with grid farmers = record { grid = grid; bidders = map (λ farmer. farmer.bidder) farmers }
 
 -- the slope for the n-th quantity of a bidder: the n-th number drawn from its words
 abbrev pub slope_for : Farmer → ℕ → ℕ

@@ -6,3 +6,4 @@ pub mod Dealing
 pub mod Columns
 pub mod Totals
 pub mod Farmers
+pub mod PointSums

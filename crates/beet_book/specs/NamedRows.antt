@@ -5,7 +5,8 @@ use Rattle.std.specs.Result.{result_ok, result_err}
 use Rattle.beet_forms.specs.declared.row.Row.{Row}
 use Rattle.beet_forms.specs.Faults.{Reading, at_row, reading_of, first_row_fault}
 use Rattle.beet_forms.specs.Rows.{begins_with}
-use Rattle.beet_book.specs.declared.named_file.TheConstants.{BAD_HEADER, SAME_NAME, TOO_MANY, ONE_TOO_MANY}
+use Rattle.beet_forms.specs.declared.faults.TheConstants.{BAD_HEADER}
+use Rattle.beet_book.specs.declared.named_file.TheConstants.{SAME_NAME, TOO_MANY, ONE_TOO_MANY}
 
 -- what one row reads as, by its number
 abbrev pub reading_at : {A : Type 0} → ℕ → Result A ℕ → Reading A

@@ -10,7 +10,9 @@ use Rattle.beet_book.specs.declared.sources.ServerSource.{ServerSource}
 use Rattle.beet_book.specs.declared.sources.ServerSource.TheVariants.{Seed, Tapes}
 use Rattle.beet_book.specs.declared.sources.Servers.{Servers}
 use Rattle.beet_book.specs.declared.sources.Servers.TheVariants.{Three, Bundle}
-use Rattle.beet_book.specs.declared.server_file.TheConstants.{BAD_HEADER, BAD_ROW, BAD_SOURCE, TOO_MANY}
+use Rattle.beet_forms.specs.declared.faults.TheConstants.{BAD_HEADER, BAD_ROW}
+use Rattle.beet_book.specs.declared.entries.TheConstants.{BAD_SOURCE}
+use Rattle.beet_book.specs.declared.named_file.TheConstants.{TOO_MANY}
 use Rattle.beet_book.specs.Entries.{name_of}
 use Rattle.beet_book.specs.NamedRows.{reading_at}
 

@@ -13,12 +13,12 @@ pub record Totals : Type 0 where
   pub points : Trio (List ℕ)
 
 -- the sums place by place, modulo p
-abbrev pub sums_of : List ℕ → List ℕ → List ℕ
-sums_of xs ys = pairwise add_of xs ys
+abbrev pub field_sums : List ℕ → List ℕ → List ℕ
+field_sums xs ys = pairwise add_of xs ys
 
 -- the sums at each server
 abbrev pub added : Trio (List ℕ) → Trio (List ℕ) → Trio (List ℕ)
-added a b = record { one = sums_of a.one b.one; two = sums_of a.two b.two; three = sums_of a.three b.three }
+added a b = record { one = field_sums a.one b.one; two = field_sums a.two b.two; three = field_sums a.three b.three }
 
 -- no points yet
 abbrev pub none_of : ℕ → Totals

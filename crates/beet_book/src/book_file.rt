@@ -2,12 +2,12 @@
 
 ghost use Rattle.std.specs.Prelude.{◌≤◌, length, IfOk};
 ghost use Rattle.beet_forms.specs.Faults.{Answers};
-ghost use Rattle.beet_bids.specs.declared.book.TheConstants.{MOST_BIDDERS};
 ghost use Rattle.beet_book.specs.BookFiles.{book_of};
 
 use crate::entries::{Entry, read_entry};
 use crate::named_file::{NamedRow, read_named};
-use beet_forms::{Name, ReadFault, Row};
+use beet_forms::{LONGEST_FILE, Name, ReadFault, Row};
+use beet_words::MOST_BIDDERS;
 use std::alloc::Global;
 
 /// The most bytes of a book file.
@@ -41,7 +41,7 @@ impl NamedRow for Entry {
 /// BID is no name, or whose KNOWN is not `0`, `1`, `2` or `3`; and as [`BAD_SOURCE`] where the source is neither `seed`
 /// with 64 hexadecimal digits nor `tape` with a name.
 pub fn read_book(alloc: Global, bytes: &[u8]) -> Result<Vec<Entry>, ReadFault>
-    requires { length bytes.now ≤ 67108864 }
+    requires { length bytes.now ≤ LONGEST_FILE }
     ensures reads { Answers (λ entries. entries.items) (book_of bytes.now) result }
     ensures few { IfOk result (λ entries. length entries.items ≤ MOST_BIDDERS) }
 {

@@ -38,11 +38,7 @@ impl Columns {
     {
         Ok(Columns {
             room,
-            points: Trio {
-                one: Vec::with_capacity(alloc, room as usize)?,
-                two: Vec::with_capacity(alloc, room as usize)?,
-                three: Vec::with_capacity(alloc, room as usize)?,
-            },
+            points: Trio::try_of(|_| Vec::with_capacity(alloc, room as usize))?,
         })
     }
 
@@ -60,11 +56,6 @@ impl Columns {
     pub(crate) fn into_points(self) -> Trio<FeList>
         ensures { result ≡ self.points }
     {
-        let points = self.points;
-        Trio {
-            one: FeList::of(points.one),
-            two: FeList::of(points.two),
-            three: FeList::of(points.three),
-        }
+        self.points.map(|_, points| FeList::of(points))
     }
 }

@@ -2,7 +2,7 @@
 
 ghost use Rattle.std.specs.Prelude.{◌≡◌, ◌≤◌, ◌<◌, ◌*◌, slice_index, length, All, IfOk, OnErr};
 ghost use Rattle.beet_field.specs.Trio.{member};
-ghost use Rattle.beet_words.specs.Tapes.{left_of, DrawsMany};
+ghost use Rattle.beet_words.specs.Tapes.{drawn_from, left_of};
 ghost use Rattle.beet_bids.specs.Curves.{IsOfGrid};
 ghost use Rattle.beet_shamir.specs.Line.{points_of};
 ghost use Rattle.beet_book.specs.Columns.{HasRoom, pushed};
@@ -62,7 +62,7 @@ fn deal_next(columns: &mut Columns, value: u64, tape: &mut Tape)
 
     ensures points { columns.new ≡
         pushed columns.old (points_of value (slice_index (left_of tape.old) 0)) }
-    ensures drawn { DrawsMany tape.old tape.new 1 }
+    ensures drawn { tape.new ≡ drawn_from tape.old 1 }
 {
     let slope = tape.draw();
     columns.push(deal(Fe::reduce(value as u128), slope));

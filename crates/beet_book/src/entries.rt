@@ -5,14 +5,13 @@ ghost use Rattle.beet_forms.specs.Faults.{Answers};
 ghost use Rattle.beet_book.specs.Entries.{entry_in, known_of, source_of};
 ghost use Rattle.beet_book.specs.NamedRows.{first_field, reading_at};
 
-use crate::named_file::BAD_ROW;
 use beet_field::Point;
-use beet_forms::{Name, ReadFault, Row, five_fields};
+use beet_forms::{BAD_ROW, Name, ReadFault, Row, five_fields};
 use beet_words::read_seed;
 use std::alloc::{AllocError, Global};
 
-/// The reason against a source that is neither a seed nor a tape.
-const BAD_SOURCE: u32 = 3;
+/// The reason against a source that is none of those that its row may have.
+pub const BAD_SOURCE: u32 = 3;
 
 /// Where a bidder's words come from.
 #[derive(Debug, Drop)]

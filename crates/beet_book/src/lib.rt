@@ -13,11 +13,8 @@ mod summing;
 
 pub use book_file::{BOOK_LIMIT, MOST_PRODUCT, OVER_PRODUCT, read_book};
 pub use dealing::{Dealt, deal_bidder, deal_many};
-pub use entries::{BidderSource, Entry};
-pub use named_file::{BAD_ROW, NamedRow, read_named};
+pub use entries::{BAD_SOURCE, BidderSource, Entry};
+pub use named_file::{NamedRow, ONE_TOO_MANY, SAME_NAME, TOO_MANY, read_named};
 pub use server_file::{SERVERS_LIMIT, read_servers};
 pub use sources::{ServerSource, Servers};
 pub use summing::Totals;
-
-#[cfg(test)]
-mod tests;

@@ -7,25 +7,19 @@ ghost use Rattle.beet_forms.specs.Rows.{rows_of};
 ghost use Rattle.beet_book.specs.NamedRows.{first_field, named_file, named_in, named_rows, reading_at};
 
 use crate::naming::add_name;
-use beet_bids::MOST_BIDDERS;
-use beet_forms::{Name, ReadFault, Row, RowReader};
+use beet_forms::{BAD_HEADER, Name, ReadFault, Row, RowReader};
+use beet_words::MOST_BIDDERS;
 use std::alloc::Global;
 use std::collections::BTreeSet;
 
-/// The reason against a row 1 that is missing or another one.
-const BAD_HEADER: u32 = 1;
-
-/// The reason against a row that has another number of fields, or a field that is not of its form.
-pub const BAD_ROW: u32 = 2;
-
 /// The reason against a name that stands in an earlier row after the first.
-const SAME_NAME: u32 = 4;
+pub const SAME_NAME: u32 = 4;
 
-/// The reason against a row that is one bidder too many.
-const TOO_MANY: u32 = 5;
+/// The reason against a row after the last that a file may have.
+pub const TOO_MANY: u32 = 5;
 
 /// The number of the first row that is one bidder too many.
-const ONE_TOO_MANY: u32 = MOST_BIDDERS as u32 + 2;
+pub const ONE_TOO_MANY: u32 = MOST_BIDDERS as u32 + 2;
 
 /// What a row that begins with a name is read as.
 pub trait NamedRow: Drop {

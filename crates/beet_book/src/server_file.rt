@@ -5,26 +5,19 @@ ghost use Rattle.beet_forms.specs.Faults.{Answers};
 ghost use Rattle.beet_book.specs.NamedRows.{reading_at};
 ghost use Rattle.beet_book.specs.ServerFiles.{begins, bundle_in, last_before, servers_of, server_in, source_in, sources_in, three_in};
 
+use crate::entries::BAD_SOURCE;
+use crate::named_file::TOO_MANY;
 use crate::sources::{ServerSource, Servers};
 use beet_field::Trio;
-use beet_forms::{Name, ReadFault, Row, RowReader, four_fields, three_fields, two_fields};
+use beet_forms::{
+    BAD_HEADER, BAD_ROW, LONGEST_FILE, Name, ReadFault, Row, RowReader, four_fields, three_fields,
+    two_fields,
+};
 use beet_words::read_seed;
 use std::alloc::{AllocError, Global};
 
 /// The most bytes of a servers file.
 pub const SERVERS_LIMIT: u64 = 4_096;
-
-/// The reason against a row 1 that is missing or another one.
-const BAD_HEADER: u32 = 1;
-
-/// The reason against a row that is missing, or does not begin with its server's number.
-const BAD_ROW: u32 = 2;
-
-/// The reason against a source that is neither a seed nor two tapes, or a bundle without one name.
-const BAD_SOURCE: u32 = 3;
-
-/// The reason against a row after the third server or after a bundle.
-const TOO_MANY: u32 = 5;
 
 /// Whether the first field of a row is this text.
 fn begins_with(row: &Row, text: &[u8]) -> bool
@@ -159,7 +152,7 @@ fn read_sources(alloc: Global, rows: &mut RowReader, row: &mut Row) -> Result<Se
 /// The first row with a fault is named. Its reason is [`BAD_HEADER`] for row 1, and for a further row the first that stands
 /// against it of [`BAD_ROW`], [`BAD_SOURCE`] and [`TOO_MANY`].
 pub fn read_servers(alloc: Global, bytes: &[u8]) -> Result<Servers, ReadFault>
-    requires { length bytes.now ≤ 67108864 }
+    requires { length bytes.now ≤ LONGEST_FILE }
     ensures { Answers (λ servers. servers) (servers_of bytes.now) result }
 {
     let mut rows = RowReader::new(alloc, bytes);

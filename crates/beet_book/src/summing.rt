@@ -2,10 +2,10 @@
 
 ghost use Rattle.std.specs.Prelude.{◌≡◌, ◌≤◌, ◌*◌, All, IfOk, length};
 ghost use Rattle.beet_field.specs.Field.{add_of, mul_of};
-ghost use Rattle.beet_words.specs.Tapes.{left_of, DrawsMany};
+ghost use Rattle.beet_words.specs.Tapes.{drawn_from, left_of};
 ghost use Rattle.beet_bids.specs.declared.curve.TheConstants.{LARGEST_QUANTITY};
 ghost use Rattle.beet_book.specs.Dealing.{dealt_points, points_by, quantities, HasLengths};
-ghost use Rattle.beet_book.specs.Totals.{added, sums_of, none_of, wires_of, AddsQuantities, AddsValues, CarriesValues};
+ghost use Rattle.beet_book.specs.Totals.{added, field_sums, none_of, wires_of, AddsQuantities, AddsValues, CarriesValues};
 
 use crate::dealing::Dealt;
 use beet_bids::{Curve, Grid};
@@ -44,7 +44,7 @@ impl Model for Totals {
 /// Adds the points to the sums, place by place.
 fn add_each(sums: &mut [Fe], points: &[Fe])
     requires { length points.now ≡ length sums.old }
-    ensures { sums.new ≡ sums_of sums.old points.now }
+    ensures { sums.new ≡ field_sums sums.old points.now }
 {
     for (i, sum) in sums.iter_mut().enumerate() {
         *sum = sum.add(points[i]);
@@ -66,7 +66,7 @@ fn add_lines<const AT: u64>(sums: &mut [Fe], values: &[u64], slopes: &[Fe])
     requires values { length values.now ≡ length sums.old }
     requires slopes { length slopes.now ≡ length sums.old }
     requires limit { All (λ value. value ≤ LARGEST_QUANTITY) values.now }
-    ensures { sums.new ≡ sums_of sums.old (points_by AT values.now slopes.now) }
+    ensures { sums.new ≡ field_sums sums.old (points_by AT values.now slopes.now) }
 {
     for (i, sum) in sums.iter_mut().enumerate() {
         *sum = with_point::<AT>(*sum, values[i], slopes[i]);
@@ -78,7 +78,7 @@ fn add_curve<const AT: u64>(sums: &mut [Fe], curve: &Curve, slopes: &[Fe])
     requires at { AT ≤ 3 }
     requires sums { length (quantities curve.now) ≡ length sums.old }
     requires slopes { length slopes.now ≡ length sums.old }
-    ensures { sums.new ≡ sums_of sums.old (points_by AT (quantities curve.now) slopes.now) }
+    ensures { sums.new ≡ field_sums sums.old (points_by AT (quantities curve.now) slopes.now) }
 {
     let prices = curve.bought().len();
     let (buying, selling) = slopes.split_at(prices);
@@ -96,11 +96,7 @@ impl Totals {
         let count = 2 * prices as usize;
         Ok(Totals {
             prices,
-            points: Trio {
-                one: vec![in alloc; Fe::default(); count]?,
-                two: vec![in alloc; Fe::default(); count]?,
-                three: vec![in alloc; Fe::default(); count]?,
-            },
+            points: Trio::try_of(|_| vec![in alloc; Fe::default(); count])?,
             slopes: vec![in alloc; Fe::default(); count]?,
         })
     }
@@ -127,7 +123,7 @@ impl Totals {
           points = added self.old.points (dealt_points curve.now (left_of tape.old));
         } }
         ensures values { AddsQuantities curve.now self.old.points self.new.points }
-        ensures drawn { DrawsMany tape.old tape.new (2 * self.old.prices) }
+        ensures drawn { tape.new ≡ drawn_from tape.old (2 * self.old.prices) }
     {
         tape.draw_each(&mut self.slopes);
         add_curve::<1>(&mut self.points.one, curve, &self.slopes);
@@ -145,10 +141,6 @@ impl Totals {
         points.one.rotate_left(middle);
         points.two.rotate_left(middle);
         points.three.rotate_left(middle);
-        Trio {
-            one: FeList::of(points.one),
-            two: FeList::of(points.two),
-            three: FeList::of(points.three),
-        }
+        points.map(|_, points| FeList::of(points))
     }
 }

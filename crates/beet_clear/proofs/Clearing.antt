@@ -1,6 +1,6 @@
 -- What the job `clear` tells, once its run has ended.
 use Rattle.std.proofs.Common.{◌≡◌, ℕ, refl}
-use Rattle.beet_book.specs.Farmers.{book_of as book_with}
+use Rattle.beet_book.specs.Farmers.{book_with}
 use Rattle.beet_load.specs.Loading.{IsKeptOf, Kept, Loaded}
 use Rattle.beet_plan.specs.declared.Finish.{Finish}
 use Rattle.beet_run.specs.Outcomes.{outcome_answer}

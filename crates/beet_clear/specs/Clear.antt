@@ -1,7 +1,7 @@
 -- The job `clear`: the outcome of a book, and the rounds in which three servers find it.
 use Rattle.std.specs.Prelude.{ℕ, List}
 use Rattle.beet_auction.specs.Endings.{book_finish, book_rounds}
-use Rattle.beet_book.specs.Farmers.{book_of as book_with}
+use Rattle.beet_book.specs.Farmers.{book_with}
 use Rattle.beet_errand.specs.Errands.{Answer, Errand, Ends, Step, ◌>>=◌, gives}
 use Rattle.beet_load.specs.Loading.{Loaded, loaded_errand}
 use Rattle.beet_load.specs.Servers.{masks_of}

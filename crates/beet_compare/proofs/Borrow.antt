@@ -1,40 +1,49 @@
 -- The borrow from bit to bit, and the parity of the difference.
-use Rattle.std.proofs.Common.{◌≡◌, ℕ, suc, ◌+◌, ◌-◌, ◌*◌, ◌/◌, ◌%◌, ◌^◌, ◌<◌, inl, inr, refl, arith, one-add}
+use Rattle.std.proofs.Common.{◌≡◌, ℕ, suc, ◌+◌, ◌-◌, ◌*◌, ◌/◌, ◌%◌, ◌^◌, ◌<◌, inl, inr, refl, sym, ◌∙◌, arith, add-one}
 use Rattle.std.specs.Prelude.{nat_lt, if◌then◌else◌, ◌==◌}
 use Rattle.std.specs.Int.{bit_at}
 use Rattle.std.proofs.lemmas.Bool.Decides.{nat_tests}
-use Rattle.std.proofs.lemmas.Nat.{mod-pow-add, pow_pos, mod_below, shr-shr}
+use Rattle.std.proofs.lemmas.Nat.{shr-shr}
 use Rattle.std.proofs.lemmas.Nat.Bits.{bit_at-lt}
+use Rattle.beet_gates.proofs.Between.{less_between, same_between, less-splits, less-one, same-one}
 use Rattle.beet_gates.proofs.Bits.{bit_cases}
 
 -- 1 where the n lowest bits of c are below those of r, else 0
 abbrev pub borrow : ℕ → ℕ → ℕ → ℕ
-borrow c r n = if nat_lt (c % 2 ^ n) (r % 2 ^ n) then 1 else 0
+borrow c r n = less_between c r 0 n
 
 -- the value of the wire where the bit is 1, and 1 less it where it is 0
 abbrev pub same : ℕ → ℕ → ℕ
 same c r = if c == 1 then r else 1 - r
 
--- one bit more
-bits-suc : (n k : ℕ) → n % 2 ^ suc k ≡ bit_at n k * 2 ^ k + n % 2 ^ k
-bits-suc n k = rw one-add at (mod-pow-add n 1 k)
+pub same-lt : (c x : ℕ) → c < 2 → x < 2 → same c x < 2
+same-lt c x hc hx = elim (bit_cases c hc) [ inl e ↦ rw e (omega arith) | inr e ↦ rw e hx ]
 
-borrow-step : (c r p a b : ℕ) → c < 2 → r < 2 → a < p → b < p →
-    (if nat_lt (c * p + a) (r * p + b) then 1 else 0) ≡ (1 - c) * r + same c r * (if nat_lt a b then 1 else 0)
-borrow-step c r p a b hc hr ha hb = elim (bit_cases c hc) [
-  | inl e ↦ rw e (elim (bit_cases r hr) [ inl f ↦ rw f (grind (arith, nat_tests)) | inr f ↦ rw f (grind (arith, nat_tests)) ])
-  | inr e ↦ rw e (elim (bit_cases r hr) [ inl f ↦ rw f (grind (arith, nat_tests)) | inr f ↦ rw f (grind (arith, nat_tests)) ])
+-- of one bit
+less-of_bits : (c r : ℕ) → c < 2 → r < 2 → (if nat_lt c r then 1 else 0) ≡ (1 - c) * r
+less-of_bits c r hc hr = elim (bit_cases c hc) [
+  | inl e ↦ rw e (elim (bit_cases r hr) [ inl f ↦ rw f refl | inr f ↦ rw f refl ])
+  | inr e ↦ rw e (elim (bit_cases r hr) [ inl f ↦ rw f refl | inr f ↦ rw f refl ])
 ]
+
+same-of_bits : (c r : ℕ) → c < 2 → r < 2 → (if c == r then 1 else 0) ≡ same c r
+same-of_bits c r hc hr = elim (bit_cases c hc) [
+  | inl e ↦ rw e (elim (bit_cases r hr) [ inl f ↦ rw f refl | inr f ↦ rw f refl ])
+  | inr e ↦ rw e (elim (bit_cases r hr) [ inl f ↦ rw f refl | inr f ↦ rw f refl ])
+]
+
+pub less-bit_at : (c r k : ℕ) → less_between c r k (k + 1) ≡ (1 - bit_at c k) * bit_at r k
+less-bit_at c r k = less-one c r k ∙ less-of_bits (bit_at c k) (bit_at r k) (bit_at-lt c k) (bit_at-lt r k)
+
+pub same-bit_at : (c r k : ℕ) → same_between c r k (k + 1) ≡ same (bit_at c k) (bit_at r k)
+same-bit_at c r k = same-one c r k ∙ same-of_bits (bit_at c k) (bit_at r k) (bit_at-lt c k) (bit_at-lt r k)
 
 -- the borrow of one bit more
 pub borrow-suc : (c r k : ℕ) → borrow c r (suc k) ≡ (1 - bit_at c k) * bit_at r k + same (bit_at c k) (bit_at r k) * borrow c r k
 borrow-suc c r k =
-    rw (bits-suc c k, bits-suc r k)
-    (borrow-step (bit_at c k) (bit_at r k) (2 ^ k) (c % 2 ^ k) (r % 2 ^ k) (bit_at-lt c k) (bit_at-lt r k)
-    (mod_below c (2 ^ k) (pow_pos k)) (mod_below r (2 ^ k) (pow_pos k)))
-
-pub borrow-lt : (c r n : ℕ) → borrow c r n < 2
-borrow-lt c r n = grind (arith, nat_tests)
+    let e : less_between c r k (k + 1) + same_between c r k (k + 1) * less_between c r 0 k ≡ less_between c r 0 (k + 1) =
+    less-splits c r 0 k (k + 1) (omega arith) (omega arith) in
+    sym (rw (less-bit_at c r k, same-bit_at c r k, add-one) at e)
 
 -- the difference is odd where exactly one or all of the low bits and the borrow are 1
 pub parity : (y r : ℕ) → y < 2305843009213693951 → r < 2305843009213693951 →

@@ -1,4 +1,4 @@
--- What the batches after the opened c do in a clear run: the borrow goes from bit to bit, and the answer is opened.
+-- What the batches of a chain after the opened c do in a clear run: the borrow goes from bit to bit, and the answer is opened.
 use Rattle.std.proofs.Common.{◌≡◌, ℕ, zero, suc, ◌+◌, ◌-◌, ◌*◌, ◌%◌, ◌<◌, inl, inr, List, [], ◌∷◌, ◌++◌, length, slice_index, refl, ap, sym, ◌∙◌, arith, length-append, append_assoc, add-zero, add_assoc}
 use Rattle.std.specs.Int.{bit_at}
 use Rattle.std.proofs.lemmas.List.{get_or-append-add}
@@ -8,26 +8,20 @@ use Rattle.beet_gates.specs.declared.Linear.{Linear}
 use Rattle.beet_gates.specs.Batches.{mul_batch}
 use Rattle.beet_gates.specs.Clear.{Values, let_of, batch_on, batches_on}
 use Rattle.beet_gates.specs.Each.{each}
-use Rattle.beet_gates.specs.Linears.{three_terms, two_terms, one_term}
+use Rattle.beet_gates.specs.declared.Gates.{Gates}
+use Rattle.beet_gates.specs.declared.Gates.TheVariants.{Chain}
+use Rattle.beet_gates.specs.Linears.{two_terms, one_term}
+use Rattle.beet_gates.proofs.Between.{less-bit}
 use Rattle.beet_gates.proofs.Bits.{bit_cases, mul_of-bits}
 use Rattle.beet_gates.proofs.EachFacts.{each-zero, each-suc}
 use Rattle.beet_gates.proofs.Segments.{Holds, holds-append, index-append, index-new, batches_on-append}
 use Rattle.beet_gates.proofs.Sums.{value-three_terms}
-use Rattle.beet_compare.specs.Compare.{borrow_batches, same_let, lowest_batch, bit_batch, last_batch, answer_batch}
-use Rattle.beet_compare.proofs.Borrow.{borrow, same, borrow-suc, borrow-lt, same-value, other-value, borrow-value, answer-value, first-value}
-
-same-lt : (c x : ℕ) → c < 2 → x < 2 → same c x < 2
-same-lt c x hc hx = elim (bit_cases c hc) [ inl e ↦ rw e (omega arith) | inr e ↦ rw e hx ]
+use Rattle.beet_compare.specs.Compare.{chain_batches, compare_wires_of, same_let, lowest_batch, bit_batch, last_batches, last_let}
+use Rattle.beet_compare.proofs.Borrow.{borrow, same, same-lt, borrow-suc, borrow-value, first-value}
+use Rattle.beet_compare.proofs.AnswerRun.{same_let-value, last-run}
 
 product-lt : (x y : ℕ) → x < 2 → y < 2 → x * y < 2
 product-lt x y hx hy = elim (bit_cases x hx) [ inl e ↦ rw e (omega arith) | inr e ↦ rw e (omega arith) ]
-
--- the two combinations of a bit
-same_let-value : (wires : List ℕ) (i bit x : ℕ) → bit < 2 → x < 2 → slice_index wires i ≡ x → let_of wires (same_let bit i) ≡ same bit x
-same_let-value wires i bit x hb hx e = elim (bit_cases bit hb) [
-  | inl f ↦ rw f (value-three_terms wires 1 (2305843009213693950, i) (0, 0) (0, 0) ∙ rw e (other-value x (slice_index wires 0) hx))
-  | inr f ↦ rw f (value-three_terms wires 0 (1, i) (0, 0) (0, 0) ∙ rw e (same-value 1 x (slice_index wires 0) (omega arith) hx))
-]
 
 no_product : (c x b : ℕ) → c ≡ 0 → x ≡ 1 → same c x * b ≡ 0
 no_product c x b e f = rw (e, f) (omega arith)
@@ -38,13 +32,9 @@ borrow_let-value : (wires : List ℕ) (i m c r k : ℕ) → slice_index wires i 
 borrow_let-value wires i m c r k e f =
     value-three_terms wires 0 (1 - bit_at c k, i) (1, m) (0, 0)
     ∙ rw (e, f) (borrow-value (bit_at c k) (bit_at r k) (same (bit_at c k) (bit_at r k) * borrow c r k) (slice_index wires 0) (bit_at-lt c k) (bit_at-lt r k)
-    (product-lt (same (bit_at c k) (bit_at r k)) (borrow c r k) (same-lt (bit_at c k) (bit_at r k) (bit_at-lt c k) (bit_at-lt r k)) (borrow-lt c r k))
+    (product-lt (same (bit_at c k) (bit_at r k)) (borrow c r k) (same-lt (bit_at c k) (bit_at r k) (bit_at-lt c k) (bit_at-lt r k)) (less-bit c r 0 k))
     (no_product (bit_at c k) (bit_at r k) (borrow c r k)))
     ∙ sym (borrow-suc c r k)
-
--- three wires more
-three_more : List ℕ → ℕ → ℕ → List ℕ
-three_more wires g q = wires ++ g ∷ q ∷ q * g ∷ []
 
 -- a batch of one bit: the borrow, the equality and their product
 bit-run : (deals : ℕ → List ℕ) (v : Values) (start g q : ℕ) (lg lq : Linear) → length v.wires ≡ start → g < 2 → q < 2 →
@@ -91,7 +81,7 @@ first-bit deals first mask c r v len bits =
     same_let-value (v.wires ++ g ∷ []) (mask + 367) (bit_at c 1) (bit_at r 1) (bit_at-lt c 1) (bit_at-lt r 1)
     (index-append v.wires (g ∷ []) (mask + 367) (omega (arith, bits.room)) ∙ at1) in
     let e : first + 61 + 1 ≡ first + 62 = omega arith in
-    let run = rw e at (bit-run deals v (first + 61) g q (one_term 0 (1 - bit_at c 0, mask + 366)) (same_let (bit_at c 1) (mask + 367)) len (borrow-lt c r 1) hq eg eq) in
+    let run = rw e at (bit-run deals v (first + 61) g q (one_term 0 (1 - bit_at c 0, mask + 366)) (same_let (bit_at c 1) (mask + 367)) len (less-bit c r 0 1) hq eg eq) in
     rw run (record {
       more = g ∷ q ∷ q * g ∷ [];
       wires = refl;
@@ -119,7 +109,7 @@ next-bit deals first mask c r j v now bits h at =
     ((holds-append now.wires (g ∷ []) (mask + 366) 61 _ bits_now).at (suc (suc j)) (omega arith)) in
     let run = bit-run deals now (first + 64 + 3 * j) g q
     (two_terms 0 (1 - bit_at c (suc j), mask + 366 + suc j) (1, first + 63 + 3 * j))
-    (same_let (bit_at c (suc (suc j))) (mask + 366 + suc (suc j))) at.len (borrow-lt c r (suc (suc j))) hq eg eq in
+    (same_let (bit_at c (suc (suc j))) (mask + 366 + suc (suc j))) at.len (less-bit c r 0 (suc (suc j))) hq eg eq in
     rw (one, two, start, run) (record {
       more = at.more ++ g ∷ q ∷ q * g ∷ [];
       wires = rw at.wires (append_assoc v.wires at.more (g ∷ q ∷ q * g ∷ []));
@@ -139,63 +129,37 @@ bits-run deals first mask c r v now bits at (suc j) h =
     (bits-run deals first mask c r v now bits at j (omega arith)))
 
 -- what the batches after the opened c leave
-pub record AfterBorrow (first c r : ℕ) (v after : Values) : Type 0 where
+pub record AfterBorrow (gates : Gates) (first c r : ℕ) (v after : Values) : Type 0 where
   pub more : List ℕ
   pub wires : after.wires ≡ v.wires ++ more
-  pub len : length after.wires ≡ first + 245
+  pub len : length after.wires ≡ first + compare_wires_of gates
   pub opened : after.opened ≡ v.opened ++ (1 + same (1 - bit_at c 0) (bit_at r 0) + borrow c r 61) % 2 ∷ []
   pub dealt : after.dealt ≡ v.dealt
 
-pub borrow-run : (deals : ℕ → List ℕ) (first mask c r : ℕ) (v : Values) → length v.wires ≡ first + 61 → Holds v.wires (mask + 366) 61 (bit_at r) →
-    AfterBorrow first c r v (batches_on deals (borrow_batches first mask c) v)
-borrow-run deals first mask c r v len bits =
+pub chain-run : (deals : ℕ → List ℕ) (first mask c r : ℕ) (v : Values) → length v.wires ≡ first + 61 → Holds v.wires (mask + 366) 61 (bit_at r) →
+    AfterBorrow Chain first c r v (batches_on deals (chain_batches first mask c) v)
+chain-run deals first mask c r v len bits =
     let rule = bit_batch first mask c in
-    let front = lowest_batch first mask c in
-    let last_product = last_batch first mask c in
-    let answer = answer_batch first in
-    let begun = batch_on deals front v in
+    let begun = batch_on deals (lowest_batch first mask c) v in
     let now = batches_on deals (each rule 59) begun in
     let at = bits-run deals first mask c r v begun bits (first-bit deals first mask c r v len bits) 59 (omega arith) in
     let g = borrow c r 61 in
-    let b = same (1 - bit_at c 0) (bit_at r 0) in
-    let flip_lt : 1 - bit_at c 0 < 2 = omega arith in
-    let hb : b < 2 = same-lt (1 - bit_at c 0) (bit_at r 0) flip_lt (bit_at-lt r 0) in
     let bits_now : Holds now.wires (mask + 366) 61 (bit_at r) = rw at.wires (holds-append v.wires at.more (mask + 366) 61 _ bits) in
     let len_now : length now.wires ≡ first + 241 = omega (arith, at.len) in
     let m : slice_index now.wires (first + 240) ≡ same (bit_at c 60) (bit_at r 60) * borrow c r 60 =
     let e : first + 63 + 3 * 59 ≡ first + 240 = omega arith in rw e at at.product in
     let r60 : slice_index now.wires (mask + 426) ≡ bit_at r 60 = rw add_assoc at (bits_now.at 60 (omega arith)) in
-    let eg : let_of now.wires (two_terms 0 (1 - bit_at c 60, mask + 426) (1, first + 240)) ≡ g =
-    borrow_let-value now.wires (mask + 426) (first + 240) c r 60 r60 m in
-    let r0 : slice_index (now.wires ++ g ∷ []) (mask + 366) ≡ bit_at r 0 =
-    rw add-zero at ((holds-append now.wires (g ∷ []) (mask + 366) 61 _ bits_now).at 0 (omega arith)) in
-    let eb : let_of (now.wires ++ g ∷ []) (same_let (1 - bit_at c 0) (mask + 366)) ≡ b =
-    same_let-value (now.wires ++ g ∷ []) (mask + 366) (1 - bit_at c 0) (bit_at r 0) flip_lt (bit_at-lt r 0) r0 in
-    let start : first + 241 + 1 ≡ first + 242 = omega arith in
-    let run = rw start at (bit-run deals now (first + 241) g b
-    (two_terms 0 (1 - bit_at c 60, mask + 426) (1, first + 240)) (same_let (1 - bit_at c 0) (mask + 366)) len_now (borrow-lt c r 61) hb eg eb) in
-    let full = now.wires ++ g ∷ b ∷ b * g ∷ [] in
-    let len_full : length full ≡ first + 244 = omega (arith, length-append now.wires (g ∷ b ∷ b * g ∷ [])) in
-    let at_g : slice_index full (first + 241) ≡ g =
-    let e : first + 241 ≡ length now.wires + 0 = omega arith in rw e (get_or-append-add now.wires (g ∷ b ∷ b * g ∷ []) 0 0) in
-    let at_b : slice_index full (first + 242) ≡ b =
-    let e : first + 242 ≡ length now.wires + 1 = omega arith in rw e (get_or-append-add now.wires (g ∷ b ∷ b * g ∷ []) 1 0) in
-    let at_f : slice_index full (first + 243) ≡ b * g = third now.wires g b (b * g) (first + 243) (omega arith) in
-    let o = (1 + b + g) % 2 in
-    let eo : let_of full (three_terms 1 (2305843009213693950, first + 242) (2305843009213693950, first + 241) (2, first + 243)) ≡ o =
-    value-three_terms full 1 (2305843009213693950, first + 242) (2305843009213693950, first + 241) (2, first + 243)
-    ∙ rw (at_g, at_b, at_f) (answer-value b g hb (borrow-lt c r 61)) in
-    let shown : slice_index (full ++ o ∷ []) (first + 244) ≡ o = index-new full o (first + 244) len_full in
-    let answered : batch_on deals answer (record now { wires = full }) ≡ record now { wires = full ++ o ∷ []; opened = now.opened ++ o ∷ [] } =
-    rw (eo, shown) refl in
-    let e : batches_on deals (borrow_batches first mask c) v ≡ record now { wires = full ++ o ∷ []; opened = now.opened ++ o ∷ [] } =
-    batches_on-append deals (each rule 59) (last_product ∷ answer ∷ []) begun
-    ∙ ap (λ (s : Values). batch_on deals answer s) run
-    ∙ answered in
+    let eg : let_of now.wires (last_let first mask c) ≡ g = borrow_let-value now.wires (mask + 426) (first + 240) c r 60 r60 m in
+    let wires = now.wires ++ g ∷ [] in
+    let made : now.wires ++ let_of now.wires (last_let first mask c) ∷ [] ≡ wires = ap (λ (n : ℕ). now.wires ++ n ∷ []) eg in
+    let len_wires : length wires ≡ first + 242 = omega (arith, len_now, length-append now.wires (g ∷ [])) in
+    let w = last-run deals (last_let first mask c ∷ []) (first + 241) (first + 242) mask r c g wires now made len_wires
+    (holds-append now.wires (g ∷ []) (mask + 366) 61 _ bits_now) (omega arith) (index-new now.wires g (first + 241) len_now) (less-bit c r 0 61) in
+    let e = batches_on-append deals (each rule 59) (last_batches (last_let first mask c ∷ []) (first + 241) (first + 242) mask c) begun in
     rw e (record {
-      more = at.more ++ (g ∷ b ∷ b * g ∷ o ∷ []);
-      wires = append_assoc now.wires (g ∷ b ∷ b * g ∷ []) (o ∷ []) ∙ rw at.wires (append_assoc v.wires at.more (g ∷ b ∷ b * g ∷ o ∷ []));
-      len = omega (arith, length-append full (o ∷ []));
-      opened = ap (λ (l : List ℕ). l ++ o ∷ []) at.opened;
-      dealt = at.dealt;
+      more = at.more ++ (g ∷ w.more);
+      wires = w.wires_are ∙ append_assoc now.wires (g ∷ []) w.more ∙ ap (λ (l : List ℕ). l ++ (g ∷ w.more)) at.wires ∙ append_assoc v.wires at.more (g ∷ w.more);
+      len = rw w.wires_are (omega (arith, length-append wires w.more, len_wires, w.three));
+      opened = w.opened ∙ ap (λ (l : List ℕ). l ++ (1 + same (1 - bit_at c 0) (bit_at r 0) + g) % 2 ∷ []) at.opened;
+      dealt = w.dealt ∙ at.dealt;
     })

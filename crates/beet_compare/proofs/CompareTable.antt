@@ -1,47 +1,44 @@
 -- The batch at each step of the block of a comparison.
-use Rattle.std.proofs.Common.{◌≡◌, ◌↔◌, ℕ, zero, suc, ◌-◌, ◌<◌, ◌≤◌, List, [], ◌∷◌, length, slice_get, Some, None, refl, ap, ◌∙◌, arith, length-append}
-use Rattle.std.specs.Prelude.{IsNone}
+use Rattle.std.proofs.Common.{◌≡◌, ℕ, suc, ◌+◌, ◌-◌, ◌<◌, ◌≤◌, List, [], ◌∷◌, length, slice_get, Some, None, refl, ap, ◌∙◌, arith, length-append}
 use Rattle.beet_gates.specs.declared.Batch.{Batch}
+use Rattle.beet_gates.specs.declared.Gates.{Gates}
+use Rattle.beet_gates.specs.declared.Gates.TheVariants.{Chain, Tree}
 use Rattle.beet_gates.specs.Each.{each}
 use Rattle.beet_gates.proofs.EachFacts.{length-each, get-front, get-back, get-past}
 use Rattle.beet_gates.specs.Plans.{batch_at}
 use Rattle.beet_gates.proofs.PlanFacts.{batch-there}
-use Rattle.beet_compare.specs.Compare.{compare_batches, bit_batch, last_batch, answer_batch}
+use Rattle.beet_compare.specs.Compare.{compare_batches, compare_rounds_of, bit_batch, chain_batches, last_batches, last_let}
 
--- there is no item exactly past the end
-none-past : {A : Type 0} → (xs : List A) (k : ℕ) → IsNone (slice_get xs k) ↔ (length xs ≤ k)
-none-past [] k = (λ h. omega arith, λ h. refl)
-none-past (x ∷ xs) zero = (λ h. cc h, λ h. absurd (omega arith))
-none-past (x ∷ xs) (suc k) = let e = none-past xs k in (λ h. omega (arith, e.0 h), λ h. e.1 (omega arith))
-
--- the two batches after the bits
+-- the two batches after the bits of a chain
 abbrev pub last_two : ℕ → ℕ → ℕ → List Batch
-last_two first mask c = last_batch first mask c ∷ answer_batch first ∷ []
+last_two first mask c = last_batches (last_let first mask c ∷ []) (first + 241) (first + 242) mask c
+
+module _ (first mask c : ℕ) where
+  length-chain_batches : length (chain_batches first mask c) ≡ 62
+  length-chain_batches = omega (arith, length-append (each (bit_batch first mask c) 59) (last_two first mask c), length-each (bit_batch first mask c) 59)
+
+  pub chain-bit : (step : ℕ) → 1 ≤ step → step ≤ 59 → slice_get (chain_batches first mask c) step ≡ Some (bit_batch first mask c (step - 1))
+  chain-bit step low high =
+      let e : step ≡ suc (step - 1) = omega arith in
+      ap (slice_get (chain_batches first mask c)) e ∙ get-front (bit_batch first mask c) 59 (last_two first mask c) (step - 1) (omega arith)
+
+  pub chain-last : slice_get (chain_batches first mask c) 60 ≡ slice_get (last_two first mask c) 0
+  chain-last = get-back (bit_batch first mask c) 59 (last_two first mask c) 0
+
+  pub chain-answer : slice_get (chain_batches first mask c) 61 ≡ slice_get (last_two first mask c) 1
+  chain-answer = get-back (bit_batch first mask c) 59 (last_two first mask c) 1
+
+  pub chain-past : (step : ℕ) → 62 ≤ step → slice_get (chain_batches first mask c) step ≡ None
+  chain-past step h = get-past (chain_batches first mask c) step (omega (arith, length-chain_batches))
 
 module _ (first mask supply demand c : ℕ) where
-  pub length-compare_batches : length (compare_batches first mask supply demand c) ≡ 63
-  length-compare_batches = omega (arith, length-append (each (bit_batch first mask c) 59) (last_two first mask c), length-each (bit_batch first mask c) 59)
+  pub length-compare_batches : (gates : Gates) → length (compare_batches gates first mask supply demand c) ≡ compare_rounds_of gates
+  length-compare_batches Chain = omega (arith, length-chain_batches first mask c)
+  length-compare_batches Tree = refl
 
-  pub compare-bit : (step : ℕ) → 2 ≤ step → step ≤ 60 →
-      slice_get (compare_batches first mask supply demand c) step ≡ Some (bit_batch first mask c (step - 2))
-  compare-bit step low high =
-      let e : step ≡ suc (suc (step - 2)) = omega arith in
-      ap (slice_get (compare_batches first mask supply demand c)) e ∙ get-front (bit_batch first mask c) 59 (last_two first mask c) (step - 2) (omega arith)
+  pub compare-past : (gates : Gates) (step : ℕ) → compare_rounds_of gates ≤ step → slice_get (compare_batches gates first mask supply demand c) step ≡ None
+  compare-past gates step h = get-past (compare_batches gates first mask supply demand c) step (omega (arith, h, length-compare_batches gates))
 
-  pub compare-last : slice_get (compare_batches first mask supply demand c) 61 ≡ slice_get (last_two first mask c) 0
-  compare-last = get-back (bit_batch first mask c) 59 (last_two first mask c) 0
-
-  pub compare-answer : slice_get (compare_batches first mask supply demand c) 62 ≡ slice_get (last_two first mask c) 1
-  compare-answer = get-back (bit_batch first mask c) 59 (last_two first mask c) 1
-
-  pub compare-past : (step : ℕ) → 63 ≤ step → slice_get (compare_batches first mask supply demand c) step ≡ None
-  compare-past step h = get-past (compare_batches first mask supply demand c) step (omega (arith, length-compare_batches))
-
-  pub compare-none : (step : ℕ) → IsNone (slice_get (compare_batches first mask supply demand c) step) ↔ (63 ≤ step)
-  compare-none step =
-      let e = none-past (compare_batches first mask supply demand c) step in
-      (λ h. omega (arith, e.0 h, length-compare_batches), λ h. e.1 (omega (arith, length-compare_batches)))
-
-  pub compare-there : (step : ℕ) → step < 63 →
-      Some (batch_at (compare_batches first mask supply demand c) step) ≡ slice_get (compare_batches first mask supply demand c) step
-  compare-there step h = batch-there (compare_batches first mask supply demand c) step (omega (arith, length-compare_batches))
+  pub compare-there : (gates : Gates) (step : ℕ) → step < compare_rounds_of gates →
+      Some (batch_at (compare_batches gates first mask supply demand c) step) ≡ slice_get (compare_batches gates first mask supply demand c) step
+  compare-there gates step h = batch-there (compare_batches gates first mask supply demand c) step (omega (arith, h, length-compare_batches gates))

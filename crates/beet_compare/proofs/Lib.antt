@@ -1,7 +1,10 @@
 pub mod Borrow
 pub mod MaskedRun
+pub mod AnswerRun
 pub mod BorrowRun
+pub mod TreeRun
 pub mod Parity
 pub mod CompareTable
+pub mod TreeTable
 pub mod CompareStands
 pub mod CompareRun

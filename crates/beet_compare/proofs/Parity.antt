@@ -4,6 +4,7 @@ use Rattle.std.specs.Prelude.{nat_lt, if◌then◌else◌, ◌↔◌, IsTrue}
 use Rattle.std.specs.Int.{bit_at}
 use Rattle.std.proofs.lemmas.Bool.Decides.{nat_tests}
 use Rattle.std.proofs.lemmas.Nat.Bits.{bit_at-lt, bit_at_lowest}
+use Rattle.beet_gates.proofs.Between.{part-all}
 use Rattle.beet_gates.proofs.Bits.{bit_cases}
 use Rattle.beet_field.specs.Field.{IsElement}
 use Rattle.beet_compare.specs.Compare.{doubled, is_doubled_even}
@@ -16,10 +17,7 @@ same-flipped c x hc hx = elim (bit_cases c hc) [
 ]
 
 whole_borrow : (c r : ℕ) → c < 2305843009213693951 → r < 2305843009213693951 → borrow c r 61 ≡ (if nat_lt c r then 1 else 0)
-whole_borrow c r hc hr =
-    let e : c % 2305843009213693952 ≡ c = omega arith in
-    let f : r % 2305843009213693952 ≡ r = omega arith in
-    rw (e, f) refl
+whole_borrow c r hc hr = rw (part-all c (omega arith), part-all r (omega arith)) refl
 
 -- the answer is 1 where the masked number is even, else 0
 pub answer-parity : (y r : ℕ) → y < 2305843009213693951 → r < 2305843009213693951 →

@@ -1,5 +1,4 @@
 pub mod TextAfter
-pub mod Summed
 pub mod SealSteps
 pub mod GatherSteps
 pub mod OpenSteps

@@ -1,4 +1,4 @@
--- Opening the envelopes of a list, step by step.
+-- Setup the envelopes of a list, step by step.
 use Rattle.std.proofs.Common.{◌≡◌, ℕ, ◌*◌, List, length, ◌∙◌, ap, refl, subst, sym}
 use Rattle.beet_field.specs.Trio.{member}
 use Rattle.beet_field.specs.declared.point.Point.{Point}
@@ -9,13 +9,13 @@ use Rattle.beet_plan.specs.declared.Finish.{Finish}
 use Rattle.beet_plan.specs.Auction.{auction_over}
 use Rattle.beet_load.specs.Servers.{ServerWords, masks_of}
 use Rattle.beet_run.specs.Outcomes.{outcome_answer}
-use Rattle.beet_run.specs.Runs.{EndsAuction, opening_with}
+use Rattle.beet_run.specs.Runs.{EndsAuction, setup_with}
 use Rattle.beet_run.proofs.BookRuns.{one-end}
 use Rattle.beet_auction.specs.AnyPoints.{points_finish, points_rounds}
-use Rattle.beet_envelopes.specs.Gather.{AddsUp, inputs_at}
+use Rattle.beet_book.specs.PointSums.{AddsUp, inputs_at}
 use Rattle.beet_envelopes.specs.Open.{opened_answer}
 use Rattle.beet_auction.proofs.OtherPoints.{any-ends}
-use Rattle.beet_envelopes.proofs.Summed.{inputs-many, are-points}
+use Rattle.beet_auction.proofs.AddedPoints.{inputs-many, are-points}
 
 -- a run on the points of the bidders ends with what they open
 run-opened : (grid : Grid) (bidders : List (Trio (List ℕ))) (words : Trio ServerWords) (finish : Finish) (rounds : ℕ) →
@@ -25,8 +25,8 @@ run-opened grid bidders words finish rounds h =
     let a = auction_over grid in
     let inputs = inputs_at grid.prices bidders in
     let masks = masks_of words in
-    let same = one-end a (opening_with grid inputs words) rounds (points_rounds a inputs masks) finish (points_finish a inputs masks) h.ends
-    (any-ends a (opening_with grid inputs words) (are-points grid bidders) h.masks refl) in
+    let same = one-end a (setup_with grid inputs words) rounds (points_rounds a inputs masks) finish (points_finish a inputs masks) h.ends
+    (any-ends a (setup_with grid inputs words) (are-points grid bidders) h.masks refl) in
     λ j. outcome_answer grid (same.0 j) (same.1 j)
 
 module _ (grid : Grid) (totals : Totals) (bidders : List (Trio (List ℕ))) (inputs : Trio (List ℕ)) (sums : AddsUp grid totals bidders)

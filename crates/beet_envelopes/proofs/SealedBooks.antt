@@ -22,14 +22,14 @@ use Rattle.beet_farmer.specs.Envelopes.{envelope_bytes, envelope_of}
 use Rattle.beet_farmer.proofs.EnvelopeAgain.{envelope_of-bytes, envelope-size}
 use Rattle.beet_auction.specs.Endings.{book_finish, book_rounds}
 use Rattle.beet_plan.specs.Auction.{auction_over}
-use Rattle.beet_book.specs.Farmers.{Farmer, book_inputs, book_of, point_for, summed_point}
+use Rattle.beet_book.specs.Farmers.{Farmer, book_inputs, book_with, point_for, summed_point}
 use Rattle.beet_auction.proofs.BookLines.{book-lines, slopes_of}
 use Rattle.beet_auction.proofs.BookPoints.{points-finish, points-rounds}
 use Rattle.beet_load.specs.Farmers.{words_wanted}
 use Rattle.beet_load.specs.Servers.{ServerWords, masks_of}
 use Rattle.beet_run.specs.Outcomes.{outcome_answer}
 use Rattle.beet_auction.specs.AnyPoints.{points_finish, points_rounds}
-use Rattle.beet_envelopes.specs.Gather.{sum_at, inputs_at}
+use Rattle.beet_book.specs.PointSums.{sum_at, inputs_at}
 use Rattle.beet_envelopes.specs.Open.{opened_answer}
 use Rattle.beet_envelopes.specs.Seal.{sealed_envelope}
 use Rattle.beet_envelopes.specs.SealedBooks.{HaveWords, sealed_points}
@@ -102,7 +102,7 @@ sealed-sum grid (farmer ∷ farmers) s k lt of_grid enough =
     ∙ ap (λ n. point_for farmer s k + n) rest
     ∙ sym (sum_by-cons (λ farmer. point_for farmer s k) farmer farmers)
 
-sealed-at : (grid : Grid) (farmers : List Farmer) (s : Point) → IsBook (book_of grid farmers) → HaveWords grid farmers →
+sealed-at : (grid : Grid) (farmers : List Farmer) (s : Point) → IsBook (book_with grid farmers) → HaveWords grid farmers →
     supply_first grid.prices (each (sum_at (map sealed_points farmers) s) (2 * grid.prices))
     ≡ supply_first grid.prices (each (summed_point farmers s) (2 * grid.prices))
 sealed-at grid farmers s b enough =
@@ -110,7 +110,7 @@ sealed-at grid farmers s b enough =
     (λ k lt. ap (λ n. n % p) (sealed-sum grid farmers s k lt b.of_grid enough)))
 
 -- the inputs are those of the book
-pub inputs-sealed : (grid : Grid) (farmers : List Farmer) → IsBook (book_of grid farmers) → HaveWords grid farmers →
+pub inputs-sealed : (grid : Grid) (farmers : List Farmer) → IsBook (book_with grid farmers) → HaveWords grid farmers →
     inputs_at grid.prices (map sealed_points farmers) ≡ book_inputs grid.prices farmers
 inputs-sealed grid farmers b enough = λ j. record {
   one = sealed-at grid farmers One b enough j;
@@ -119,13 +119,13 @@ inputs-sealed grid farmers b enough = λ j. record {
 }
 
 -- and the answer is its outcome
-pub outcome-sealed : (grid : Grid) (farmers : List Farmer) (servers : Trio ServerWords) → IsBook (book_of grid farmers) → HaveWords grid farmers →
+pub outcome-sealed : (grid : Grid) (farmers : List Farmer) (servers : Trio ServerWords) → IsBook (book_with grid farmers) → HaveWords grid farmers →
     opened_answer grid servers (map sealed_points farmers)
-    ≡ outcome_answer grid (book_finish (book_of grid farmers) (masks_of servers)) (book_rounds (book_of grid farmers) (masks_of servers))
+    ≡ outcome_answer grid (book_finish (book_with grid farmers) (masks_of servers)) (book_rounds (book_with grid farmers) (masks_of servers))
 outcome-sealed grid farmers servers b enough =
     let a = auction_over grid in
     let masks = masks_of servers in
-    let book = book_of grid farmers in
+    let book = book_with grid farmers in
     let inputs = book_inputs grid.prices farmers in
     let slopes = slopes_of grid farmers in
     let lines = book-lines grid farmers b in

@@ -14,7 +14,7 @@ use Rattle.beet_farmer.specs.declared.list_file.ListEntry.{ListEntry}
 use Rattle.beet_farmer.specs.Envelopes.{envelope_of}
 use Rattle.beet_farmer.specs.Sealing.{points_in}
 use Rattle.beet_bids.specs.Books.{IsBook}
-use Rattle.beet_book.specs.Farmers.{Farmer, book_of}
+use Rattle.beet_book.specs.Farmers.{Farmer, book_with}
 use Rattle.beet_errand.specs.Errands.{Errand, reads}
 use Rattle.beet_errand.specs.Fetches.{Leads}
 use Rattle.beet_load.specs.Farmers.{words_wanted}
@@ -82,6 +82,6 @@ module _ (files : List File) (grid : Grid) (limits : IsGrid grid) where
 
 -- files of sealed envelopes lead to the points that were sealed
 pub sealed-files : (files : List File) (grid : Grid) (entries : List ListEntry) (farmers : List Farmer) (next : List (Trio (List ℕ)) → Errand) →
-    IsGrid grid → IsBook (book_of grid farmers) → HaveWords grid farmers → HoldEachSealed files grid entries farmers →
+    IsGrid grid → IsBook (book_with grid farmers) → HaveWords grid farmers → HoldEachSealed files grid entries farmers →
     Leads files (envelope_fetches entries) (bidders_errand grid [] entries next) (next (map sealed_points farmers))
 sealed-files files grid entries farmers next limits b enough held = bidders-on files grid limits [] entries farmers next b.of_grid enough held

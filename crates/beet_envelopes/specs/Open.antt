@@ -12,7 +12,8 @@ use Rattle.beet_errand.specs.Errands.{Answer, Errand, Ends, Step, ◌>>=◌, giv
 use Rattle.beet_load.specs.Servers.{ServerWords, all_words_errand, masks_of}
 use Rattle.beet_run.specs.Outcomes.{outcome_answer}
 use Rattle.beet_auction.specs.AnyPoints.{points_finish, points_rounds}
-use Rattle.beet_envelopes.specs.Gather.{inputs_at, bidders_errand}
+use Rattle.beet_envelopes.specs.Gather.{bidders_errand}
+use Rattle.beet_book.specs.PointSums.{inputs_at}
 use Rattle.beet_bids.specs.declared.auction_file.TheConstants.{AUCTION_LIMIT}
 use Rattle.beet_book.specs.declared.server_file.TheConstants.{SERVERS_LIMIT}
 use Rattle.beet_farmer.specs.declared.list_file.TheConstants.{LIST_LIMIT}

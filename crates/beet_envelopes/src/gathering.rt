@@ -5,7 +5,8 @@ ghost use Rattle.beet_book.specs.Dealing.{HasLengths};
 ghost use Rattle.beet_farmer.specs.Envelopes.{envelope_of};
 ghost use Rattle.beet_errand.specs.Errands.{reads};
 ghost use Rattle.beet_errand.specs.Fetches.{Reads, ReadsFor};
-ghost use Rattle.beet_envelopes.specs.Gather.{AddsUp, bidders_errand, envelopes_errand};
+ghost use Rattle.beet_envelopes.specs.Gather.{bidders_errand, envelopes_errand};
+ghost use Rattle.beet_book.specs.PointSums.{AddsUp};
 ghost use Rattle.beet_farmer.specs.declared.envelope.TheConstants.{ENVELOPE_LIMIT};
 
 use beet_bids::Grid;

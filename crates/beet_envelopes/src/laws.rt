@@ -15,11 +15,12 @@ ghost use Rattle.beet_farmer.specs.declared.list_file.ListEntry.{ListEntry};
 ghost use Rattle.beet_errand.specs.Errands.{Errand};
 ghost use Rattle.beet_errand.specs.Fetches.{Leads};
 ghost use Rattle.beet_auction.specs.Endings.{book_finish, book_rounds};
-ghost use Rattle.beet_book.specs.Farmers.{Farmer, book_inputs, book_of};
+ghost use Rattle.beet_book.specs.Farmers.{Farmer, book_inputs, book_with};
 ghost use Rattle.beet_load.specs.Farmers.{words_wanted};
 ghost use Rattle.beet_load.specs.Servers.{ServerWords, masks_of};
 ghost use Rattle.beet_run.specs.Outcomes.{outcome_answer};
-ghost use Rattle.beet_envelopes.specs.Gather.{bidders_errand, inputs_at};
+ghost use Rattle.beet_envelopes.specs.Gather.{bidders_errand};
+ghost use Rattle.beet_book.specs.PointSums.{inputs_at};
 ghost use Rattle.beet_envelopes.specs.Open.{opened_answer};
 ghost use Rattle.beet_envelopes.specs.Seal.{sealed_envelope};
 ghost use Rattle.beet_envelopes.specs.SealedBooks.{HaveWords, HoldEachSealed, envelope_fetches, sealed_points};
@@ -43,18 +44,18 @@ pub fn sealed_books_open_their_outcome()
     // with the points that the farmers sealed.
     ensures files { (files : List File) (grid : Grid) (entries : List ListEntry) (farmers : List Farmer)
         (next : List (Trio (List ℕ)) → Errand) →
-        IsGrid grid → IsBook (book_of grid farmers) → HaveWords grid farmers →
+        IsGrid grid → IsBook (book_with grid farmers) → HaveWords grid farmers →
         HoldEachSealed files grid entries farmers →
         Leads files (envelope_fetches entries) (bidders_errand grid [] entries next)
         (next (map sealed_points farmers)) }
 
     ensures inputs { (grid : Grid) (farmers : List Farmer) →
-        IsBook (book_of grid farmers) → HaveWords grid farmers →
+        IsBook (book_with grid farmers) → HaveWords grid farmers →
         inputs_at grid.prices (map sealed_points farmers) ≡ book_inputs grid.prices farmers }
 
     ensures outcome { (grid : Grid) (farmers : List Farmer) (servers : Trio ServerWords) →
-        IsBook (book_of grid farmers) → HaveWords grid farmers →
+        IsBook (book_with grid farmers) → HaveWords grid farmers →
         opened_answer grid servers (map sealed_points farmers)
-        ≡ outcome_answer grid (book_finish (book_of grid farmers) (masks_of servers))
-        (book_rounds (book_of grid farmers) (masks_of servers)) }
+        ≡ outcome_answer grid (book_finish (book_with grid farmers) (masks_of servers))
+        (book_rounds (book_with grid farmers) (masks_of servers)) }
 {}

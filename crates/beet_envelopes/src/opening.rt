@@ -1,7 +1,6 @@
 //! The job `open`.
 
-ghost use Rattle.std.specs.Prelude.{◌≡◌, IfOk};
-ghost use Rattle.beet_gates.specs.declared.Gates.TheVariants.{Chain};
+ghost use Rattle.std.specs.Prelude.{IfOk};
 ghost use Rattle.beet_bids.specs.Grids.{IsGrid};
 ghost use Rattle.beet_farmer.specs.Lists.{list_of};
 ghost use Rattle.beet_errand.specs.Errands.{reads};
@@ -36,8 +35,7 @@ fn open_entries<S: Shelf>(
     sources: &Servers,
     entries: &[ListEntry],
 ) -> Result<Reply, Stop>
-    requires limits { IsGrid grid.now }
-    requires gates { grid.now.gates ≡ Chain }
+    requires { IsGrid grid.now }
     ensures done { IfOk result (λ reply. IsDone reply.status) }
     ensures reads { Reads (λ reply. reply) (S.seen shelf.old) (S.seen shelf.new)
         (entries_job grid.now sources.now entries.now) result }

@@ -1,15 +1,12 @@
 -- Steps of an errand.
-use Rattle.std.proofs.Common.{◌≡◌, ◌<◌, ◌≤◌, ℕ, List, [], ◌∷◌, ◌++◌, Option, Some, None, Result, Ok, Err, Vec, Global, true, false, refl, sym, ap, ◌∙◌, arith, append-nil, append_assoc, nat_lt, length}
+use Rattle.std.proofs.Common.{◌≡◌, ◌<◌, ◌≤◌, ℕ, List, [], ◌∷◌, ◌++◌, Option, Some, None, Ok, Err, Vec, Global, true, false, refl, sym, ap, ◌∙◌, arith, append-nil, append_assoc, nat_lt, length}
 use Rattle.std.specs.Prelude.{IsSomeAnd}
 use Rattle.std.proofs.lemmas.Grind.{common_steps}
 use Rattle.beet_store.specs.Files.{File, Fetch, Told, TellsFetch, bytes_of, fetch_of}
 use Rattle.beet_store.specs.declared.shelf.FetchFault.TheVariants.{Failed, TooLong, OutOfMemory as NoMemory}
 use Rattle.beet_errand.specs.declared.fetching.TheConstants.{TOO_LONG}
-use Rattle.beet_errand.specs.Errands.{Errand, Ends, Wants, FetchAnswer, Bytes, Longer, Nothing, unread, bad_file, too_long, after_fetch, after_answer, judged, reads}
-use Rattle.beet_errand.specs.Fetches.{Leads, LeadsBy, Went, Stops, Gives, Judges, Refuses}
-use Rattle.beet_forms.specs.Faults.{Reading, Answers}
-use Rattle.beet_forms.specs.declared.faults.ReadFault.{ReadFault}
-use Rattle.beet_forms.specs.declared.faults.ReadFault.TheVariants.{Bad, OutOfMemory as MemoryOut}
+use Rattle.beet_errand.specs.Errands.{Errand, Ends, Wants, FetchAnswer, Bytes, Longer, Nothing, unread, bad_file, too_long, after_fetch, after_answer}
+use Rattle.beet_errand.specs.Fetches.{Leads, LeadsBy, Went, Stops, Refuses}
 use Rattle.beet_errand.specs.Texts.{read_fault_text}
 use Rattle.beet_forms.specs.FaultLines.{fault_line_of}
 use Rattle.beet_forms.specs.declared.faults.Place.TheVariants.{Row}
@@ -124,36 +121,6 @@ went_on None middle now errand half rest (e, first, l) w = after_silence middle 
 went_on (Some told) middle now errand half rest (first, e, l) w =
     after_telling told middle now errand half rest first e l w
 
--- a step that reads a file by its grammar: it is fetched, read and judged
-pub reads_gives : {A T : Type 0} (view : T → A) (grammar : List ℕ → Reading A) (old now : Option Told) (name : List ℕ) (limit : ℕ)
-    (bytes : List ℕ) (read : Result T ReadFault) (result : Result T Stop) →
-    ((next : List ℕ → Errand) → Went old now (Wants name limit next) (next bytes)) →
-    Answers view (grammar bytes) read → Judges name read result →
-    Gives {A = A} view old now (reads name limit grammar) result
-reads_gives view grammar old now name limit bytes (Ok value) (Ok v) w a j = λ next.
-    let way = w (λ b. judged name (grammar b) next) in
-    let same : value ≡ v = cc in
-    rw (a, same) at way
-reads_gives view grammar old now name limit bytes (Ok value) (Err stop) w a j = absurd j
-reads_gives view grammar old now name limit bytes (Err (Bad place reason)) (Ok v) w a j = absurd cc
-reads_gives view grammar old now name limit bytes (Err MemoryOut) (Ok v) w a j = absurd cc
-reads_gives view grammar old now name limit bytes (Err (Bad place reason)) (Err (Refused status line)) w a j = λ next.
-    let way = w (λ b. judged name (grammar b) next) in
-    rw (j.0, j.1) (rw a at way)
-reads_gives view grammar old now name limit bytes (Err (Bad place reason)) (Err OutOfMemory) w a j = λ next. (judged name (grammar bytes) next, w (λ b. judged name (grammar b) next))
-reads_gives view grammar old now name limit bytes (Err MemoryOut) (Err (Refused status line)) w a j = absurd cc
-reads_gives view grammar old now name limit bytes (Err MemoryOut) (Err OutOfMemory) w a j = λ next. (judged name (grammar bytes) next, w (λ b. judged name (grammar b) next))
-
--- a step whose file cannot be fetched stops
-pub reads_stops : {A : Type 0} (grammar : List ℕ → Reading A) (old now : Option Told) (name : List ℕ) (limit : ℕ) (stop : Stop) →
-    Stops old now (Wants name limit) stop → Stops {A = A} old now (reads name limit grammar) stop
-reads_stops grammar old now name limit (Refused status line) s = λ next. s (λ bytes. judged name (grammar bytes) next)
-reads_stops grammar old now name limit OutOfMemory s = λ next. s (λ bytes. judged name (grammar bytes) next)
-
--- a step that stops before it does anything
-pub nothing_stops : {A : Type 0} (told : Option Told) (step : (A → Errand) → Errand) → Stops {A = A} told told step OutOfMemory
-nothing_stops told step = λ next. (step next, went_none told (step next))
-
 -- a step that stops, before another that would take its value
 pub stops_before : {A B : Type 0} (old now : Option Told) (step : (A → Errand) → Errand) (inner : A → (B → Errand) → Errand) (stop : Stop) →
     Stops old now step stop → Stops {A = B} old now (λ next. step (λ a. inner a next)) stop
@@ -168,9 +135,3 @@ stops_after old middle now step inner value (Refused status line) w s = λ next.
     went_on old middle now _ _ _ (w (λ a. inner a next)) (s next)
 stops_after old middle now step inner value OutOfMemory w s = λ next.
     let (rest, went) = s next in (rest, went_on old middle now _ _ _ (w (λ a. inner a next)) went)
-
--- two steps that give their values
-pub gives_after : {A B : Type 0} (old middle now : Option Told) (step : (A → Errand) → Errand) (inner : A → (B → Errand) → Errand) (value : A) (last : B) →
-    ((next : A → Errand) → Went old middle (step next) (next value)) → ((next : B → Errand) → Went middle now (inner value next) (next last)) →
-    (next : B → Errand) → Went old now (step (λ a. inner a next)) (next last)
-gives_after old middle now step inner value last w v = λ next. went_on old middle now _ _ _ (w (λ a. inner a next)) (v next)

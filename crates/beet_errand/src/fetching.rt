@@ -19,7 +19,7 @@ fn read_fault_line(alloc: Global, name: &str) -> Result<Vec<u8>, AllocError>
 }
 
 /// The reason of a file that is longer than its limit, at row 0.
-const TOO_LONG: u32 = 20;
+pub const TOO_LONG: u32 = 20;
 
 /// Refuses a job whose file cannot be fetched.
 fn unread(alloc: Global, name: &str) -> Stop

@@ -6,4 +6,4 @@ mod answer;
 mod fetching;
 
 pub use answer::{NewFile, Reply, Status, Stop};
-pub use fetching::{fetch_file, judge, refuse};
+pub use fetching::{TOO_LONG, fetch_file, judge, refuse};

@@ -11,7 +11,8 @@ use Rattle.beet_words.specs.Fields.{number_bytes, number_at, times, after_magic,
 use Rattle.beet_words.proofs.FieldsAgain.{StandsAt, StandsAt-left, StandsAt-right, number_at-number, times-parts}
 use Rattle.beet_bids.specs.declared.grid.TheConstants.{LARGEST_BASE}
 use Rattle.beet_bids.specs.Grids.{Grid, IsGrid}
-use Rattle.beet_farmer.specs.declared.envelope.TheConstants.{BAD_MAGIC, WRONG_GRID, TRAILING, WRONG_SERVER}
+use Rattle.beet_words.specs.declared.bundle.TheConstants.{BAD_MAGIC}
+use Rattle.beet_farmer.specs.declared.envelope.TheConstants.{WRONG_GRID, TRAILING, WRONG_SERVER}
 use Rattle.beet_farmer.specs.declared.envelope.Envelope.{Envelope}
 use Rattle.beet_farmer.specs.Envelopes.{magic, only, below_p, point_at, after_header, envelope_of, header_bytes, envelope_bytes}
 

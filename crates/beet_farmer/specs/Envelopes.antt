@@ -8,7 +8,8 @@ use Rattle.beet_forms.specs.Faults.{Reading}
 use Rattle.beet_words.specs.declared.fields.Allowed.{Allowed}
 use Rattle.beet_words.specs.Fields.{◌>>=◌, Part, number_bytes, number_at, times, after_magic, ended}
 use Rattle.beet_bids.specs.Grids.{Grid}
-use Rattle.beet_farmer.specs.declared.envelope.TheConstants.{BAD_MAGIC, WRONG_GRID, TRUNCATED, BAD_NUMBER, TRAILING, WRONG_SERVER}
+use Rattle.beet_words.specs.declared.bundle.TheConstants.{BAD_MAGIC}
+use Rattle.beet_farmer.specs.declared.envelope.TheConstants.{WRONG_GRID, TRUNCATED, BAD_NUMBER, TRAILING, WRONG_SERVER}
 use Rattle.beet_farmer.specs.declared.envelope.Envelope.{Envelope}
 
 -- the text that an envelope begins with

@@ -3,7 +3,7 @@ use Rattle.std.specs.Prelude.{ℕ, List, [], ◌∷◌, Option, Some, None, Resu
 use Rattle.beet_forms.specs.declared.row.Row.{Row}
 use Rattle.beet_forms.specs.Faults.{Reading}
 use Rattle.beet_forms.specs.Rows.{rows_of, four_of}
-use Rattle.beet_book.specs.declared.named_file.TheConstants.{BAD_ROW}
+use Rattle.beet_forms.specs.declared.faults.TheConstants.{BAD_ROW}
 use Rattle.beet_book.specs.Entries.{name_of}
 use Rattle.beet_book.specs.NamedRows.{named_file}
 use Rattle.beet_farmer.specs.declared.list_file.ListEntry.{ListEntry}

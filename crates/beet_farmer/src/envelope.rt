@@ -12,7 +12,9 @@ ghost use Rattle.beet_farmer.specs.Envelopes.{only as only_number, below_p, afte
 use beet_bids::Grid;
 use beet_field::{Fe, P, Point};
 use beet_forms::ReadFault;
-use beet_words::{Allowed, FeList, push_number, read_end, read_magic, read_number, read_points};
+use beet_words::{
+    Allowed, BAD_MAGIC, FeList, push_number, read_end, read_magic, read_number, read_points,
+};
 use std::alloc::{AllocError, Global};
 
 /// The points of a bidder for one server.
@@ -27,23 +29,20 @@ pub struct Envelope {
 /// The most bytes of an envelope.
 pub const ENVELOPE_LIMIT: u64 = 131_072;
 
-/// The reason against another text at the front.
-const BAD_MAGIC: u32 = 1;
-
 /// The reason against a base, a tick or a number of prices that is not the grid's.
-const WRONG_GRID: u32 = 2;
+pub const WRONG_GRID: u32 = 2;
 
 /// The reason against a field that is cut off.
-const TRUNCATED: u32 = 3;
+pub const TRUNCATED: u32 = 3;
 
 /// The reason against a point of 2^61 - 1 or more.
-const BAD_NUMBER: u32 = 4;
+pub const BAD_NUMBER: u32 = 4;
 
 /// The reason against bytes after the last point.
-const TRAILING: u32 = 5;
+pub const TRAILING: u32 = 5;
 
 /// The reason against another server.
-const WRONG_SERVER: u32 = 6;
+pub const WRONG_SERVER: u32 = 6;
 
 /// The text that an envelope begins with.
 const MAGIC: &[u8] = b"BEETENV1";

@@ -5,9 +5,9 @@ mod envelope;
 mod list_file;
 mod sealing;
 
-pub use envelope::{ENVELOPE_LIMIT, Envelope, read_envelope, write_envelope};
+pub use envelope::{
+    BAD_NUMBER, ENVELOPE_LIMIT, Envelope, TRAILING, TRUNCATED, WRONG_GRID, WRONG_SERVER,
+    read_envelope, write_envelope,
+};
 pub use list_file::{LIST_LIMIT, ListEntry, read_list};
 pub use sealing::seal;
-
-#[cfg(test)]
-mod tests;

@@ -4,14 +4,14 @@ ghost use Rattle.std.specs.Prelude.{◌≡◌, ◌≤◌, length, IfOk};
 ghost use Rattle.std.specs.Option.{ok_or};
 ghost use Rattle.beet_forms.specs.Faults.{Answers};
 ghost use Rattle.beet_forms.specs.declared.faults.TheConstants.{LONGEST_FILE};
-ghost use Rattle.beet_bids.specs.declared.book.TheConstants.{MOST_BIDDERS};
+ghost use Rattle.beet_words.specs.declared.bundle.TheConstants.{MOST_BIDDERS};
 ghost use Rattle.beet_book.specs.Entries.{name_of};
 ghost use Rattle.beet_book.specs.NamedRows.{first_field, reading_at};
 ghost use Rattle.beet_farmer.specs.Lists.{entry_in, list_of};
 
-use beet_book::{BAD_ROW, NamedRow, read_named};
+use beet_book::{NamedRow, read_named};
 use beet_field::Trio;
-use beet_forms::{Name, ReadFault, Row, four_fields};
+use beet_forms::{BAD_ROW, Name, ReadFault, Row, four_fields};
 use std::alloc::Global;
 
 /// The most bytes of a list of envelopes.

@@ -9,7 +9,7 @@ ghost use Rattle.beet_farmer.specs.Sealing.{AreAddressed, points_in};
 use crate::envelope::Envelope;
 use beet_bids::{Curve, Grid};
 use beet_book::deal_bidder;
-use beet_field::{Point, Trio};
+use beet_field::Trio;
 use beet_words::Tape;
 use std::alloc::{AllocError, Global};
 
@@ -34,18 +34,5 @@ pub fn seal(
     ensures refused { OnErr result (tape.new ≡ tape.old) }
 {
     let points = deal_bidder(alloc, grid, curve, tape)?.into_points();
-    Ok(Trio {
-        one: Envelope {
-            server: Point::One,
-            points: points.one,
-        },
-        two: Envelope {
-            server: Point::Two,
-            points: points.two,
-        },
-        three: Envelope {
-            server: Point::Three,
-            points: points.three,
-        },
-    })
+    Ok(points.map(|server, points| Envelope { server, points }))
 }

@@ -19,6 +19,12 @@ pub use trio::Trio;
 /// The modulus, `2^61 - 1`.
 pub const P: u64 = 2_305_843_009_213_693_951;
 
+/// 1 less than the modulus, the factor that takes a number away.
+pub const MINUS_ONE: u128 = P as u128 - 1;
+
+/// 2 less than the modulus, the factor that takes a number away twice.
+pub const MINUS_TWO: u128 = P as u128 - 2;
+
 /// The inverse of 2, which is `2^60`.
 const HALF: u64 = 1_152_921_504_606_846_976;
 

@@ -1,8 +1,9 @@
 //! One value for each point.
 
-ghost use Rattle.std.specs.Prelude.{◌≡◌};
+ghost use Rattle.std.specs.Prelude.{◌≡◌, Err, IfErr, IfOk, Ok};
 ghost use Rattle.std.specs.Borrow.{sem};
 ghost use Rattle.beet_field.specs.Trio.{member};
+ghost use Rattle.beet_field.specs.declared.point.Point.{Point as Server};
 ghost use Rattle.beet_field.specs.TrioLends.{LendsMember};
 
 use crate::point::Point;
@@ -37,5 +38,50 @@ impl<T> Trio<T> {
             Point::Two => &mut self.two,
             Point::Three => &mut self.three,
         }
+    }
+
+    /// What `f` makes of each value and its point.
+    pub fn map<U, F: Fn(Point, T) -> U>(self, f: F) -> Trio<U>
+        requires { F.IsAlwaysCallable f }
+        ensures one { F.post f Point.One self.one result.one }
+        ensures two { F.post f Point.Two self.two result.two }
+        ensures three { F.post f Point.Three self.three result.three }
+    {
+        Trio {
+            one: f(Point::One, self.one),
+            two: f(Point::Two, self.two),
+            three: f(Point::Three, self.three),
+        }
+    }
+
+    /// What `f` makes of each point.
+    pub fn of<F: Fn(Point) -> T>(f: F) -> Trio<T>
+        requires { F.IsAlwaysCallable f }
+        ensures one { F.post f Point.One result.one }
+        ensures two { F.post f Point.Two result.two }
+        ensures three { F.post f Point.Three result.three }
+    {
+        Trio {
+            one: f(Point::One),
+            two: f(Point::Two),
+            three: f(Point::Three),
+        }
+    }
+}
+
+impl<T: Drop> Trio<T> {
+    /// What `f` makes of each point in order, or the first fault that it answers.
+    pub fn try_of<E, F: Fn(Point) -> Result<T, E>>(f: F) -> Result<Trio<T>, E>
+        requires { F.IsAlwaysCallable f }
+        ensures one { IfOk result (λ made. F.post f Point.One (Ok made.one)) }
+        ensures two { IfOk result (λ made. F.post f Point.Two (Ok made.two)) }
+        ensures three { IfOk result (λ made. F.post f Point.Three (Ok made.three)) }
+        ensures fault { IfErr result (λ fault. (at : Server) × F.post f at (Err fault)) }
+    {
+        Ok(Trio {
+            one: f(Point::One)?,
+            two: f(Point::Two)?,
+            three: f(Point::Three)?,
+        })
     }
 }

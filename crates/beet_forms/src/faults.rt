@@ -11,6 +11,12 @@ use thiserror::Error;
 /// The most bytes of a file of any format.
 pub const LONGEST_FILE: u64 = 67_108_864;
 
+/// The reason of a text file against a row 1 that is missing or another one.
+pub const BAD_HEADER: u32 = 1;
+
+/// The reason of a text file against a row that is missing, has another number of fields, or has a field that is not of its form.
+pub const BAD_ROW: u32 = 2;
+
 /// Where a file breaks its format.
 #[derive(Clone, Copy, Debug, PartialEq, Eq)]
 pub enum Place {

@@ -9,11 +9,8 @@ mod row;
 mod shapes;
 
 pub use decimals::{NumberFault, number, push_decimal};
-pub use faults::{LONGEST_FILE, Place, ReadFault, fault_line};
-pub use names::{Name, is_name};
+pub use faults::{BAD_HEADER, BAD_ROW, LONGEST_FILE, Place, ReadFault, fault_line};
+pub use names::{LONGEST_NAME, Name, is_name};
 pub use reader::RowReader;
 pub use row::{Row, rows};
 pub use shapes::{five_fields, four_fields, is_header, three_fields, two_fields};
-
-#[cfg(test)]
-mod tests;

@@ -10,7 +10,7 @@ use std::marker::Model;
 use std::str;
 
 /// The most bytes of a name.
-const LONGEST_NAME: usize = 200;
+pub const LONGEST_NAME: usize = 200;
 
 /// Whether no byte is a control byte.
 fn are_plain(bytes: &[u8]) -> bool

@@ -4,9 +4,10 @@ use Rattle.std.specs.List.{range_with_len}
 use Rattle.std.proofs.lemmas.List.FromFn.{get_or-range_with_len, length-range_with_len}
 use Rattle.std.proofs.lemmas.List.Sums.{position_or_len_is}
 use Rattle.beet_field.specs.declared.trio.Trio.{Trio}
+use Rattle.beet_gates.specs.declared.Act.{Act}
 use Rattle.beet_gates.specs.declared.Batch.{Batch}
 use Rattle.beet_gates.specs.Deals.{deals_of}
-use Rattle.beet_gates.specs.Clear.{is_end, clear_at, clear_act, rounds_run, EndsAfter}
+use Rattle.beet_gates.specs.Clear.{is_end, clear_at, clear_act, first_end, rounds_run, EndsAfter}
 use Rattle.beet_gates.specs.Scripts.{Standing, LawFrom, start_of}
 use Rattle.beet_gates.proofs.ClearFacts.{Underway, begins, goes-on, ends-at-last}
 
@@ -24,16 +25,19 @@ module _ (next : ℕ → List ℕ → Batch) (deals : ℕ → List ℕ) (inputs 
     ]
   ]
 
+-- the end comes first where no act before it is one
+pub first-end : (acts : ℕ → Act) (most r : ℕ) → r ≤ most → is_end (acts r) ≡ true → ((k : ℕ) → k < r → is_end (acts k) ≡ false) → first_end acts most ≡ r
+first-end acts most r le ends goes =
+    let at : (k : ℕ) → k < most → get_or (range_with_len 0 most) k 0 ≡ k = λ k l. get_or-range_with_len 0 most k 0 l ∙ zero-add k in
+    position_or_len_is (λ t. is_end (acts t)) (range_with_len 0 most) r 0 (rw length-range_with_len le)
+    (λ k l. rw (at k (omega arith)) (goes k l))
+    (λ l. rw (at r (rw length-range_with_len at l)) ends)
+
 module _ (next : ℕ → List ℕ → Batch) (words : Trio (List ℕ)) (inputs : List ℕ) where
   -- a run that ends after r batches has r rounds
   pub rounds-are : (most r : ℕ) → EndsAfter next (deals_of words) inputs r → r ≤ most → rounds_run next most inputs words ≡ r
   unfolding rounds_run
-  rounds-are most r h le =
-      let test : ℕ → Bool = λ t. is_end (clear_act next (deals_of words) inputs t) in
-      let at : (k : ℕ) → k < most → get_or (range_with_len 0 most) k 0 ≡ k = λ k l. get_or-range_with_len 0 most k 0 l ∙ zero-add k in
-      position_or_len_is test (range_with_len 0 most) r 0 (rw length-range_with_len le)
-      (λ k l. rw (at k (omega arith)) (h.1 k l))
-      (λ l. rw (at r (rw length-range_with_len at l)) h.0)
+  rounds-are most r h le = first-end (clear_act next (deals_of words) inputs) most r le h.0 h.1
 
   -- a run of which at most n batches are left comes to its end
   reaches : (bounds : Standing) (n t : ℕ) → Underway next words bounds inputs n t (clear_at next (deals_of words) inputs t) →

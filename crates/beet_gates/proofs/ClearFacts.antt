@@ -72,7 +72,8 @@ module _ (words : Trio (List ℕ)) where
   pub opened-more : (b : Batch) (v : Values) → (new : List ℕ) × (length new ≡ revealed b.act) × ((batch_on (deals_of words) b v).opened ≡ v.opened ++ new)
   opened-more = opens-more (deals_of words)
 
-done-after : (s : Standing) (b : Batch) → is_end b.act ≡ false → (after s b).done ≡ s.done + 1
+-- a batch that is not the end is one more
+pub done-after : (s : Standing) (b : Batch) → is_end b.act ≡ false → (after s b).done ≡ s.done + 1
 done-after s b h = by_act b.act h where
   by_act : (a : Act) → is_end a ≡ false → (acted (record s { wires = s.wires + length b.lets.items }) a).done ≡ s.done + 1
   by_act Deal h = refl

@@ -1,4 +1,8 @@
 pub mod EachFacts
+pub mod Pairs
+pub mod LevelFacts
+pub mod LevelRuns
+pub mod Between
 pub mod Segments
 pub mod Sums
 pub mod Bits

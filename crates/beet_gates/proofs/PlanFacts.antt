@@ -13,7 +13,7 @@ use Rattle.beet_gates.specs.Batches.{end_batch}
 use Rattle.beet_gates.specs.Clear.{Values, batch_on, batches_on, act_on, with_lets, is_end, start_values, clear_at, clear_act, clear_values, rounds_run}
 use Rattle.beet_gates.specs.Deals.{deals_of}
 use Rattle.beet_gates.proofs.ClearAt.{rounds-are}
-use Rattle.beet_gates.proofs.ClearFacts.{opens-more}
+use Rattle.beet_gates.proofs.ClearFacts.{opens-more, done-after}
 use Rattle.beet_gates.specs.Scripts.{Standing, BatchStands, IsWithin, LawFrom, after, acted, revealed}
 use Rattle.beet_gates.specs.Plans.{Plan, Ended, Block, Last, all_opened_by, plan_batch, plan_run, plan_rounds, plan_end, opened_by, BlockStands, PlanStands, after_all, plan_length, plan_after, plan_finish, batch_at}
 
@@ -21,22 +21,24 @@ use Rattle.beet_gates.specs.Plans.{Plan, Ended, Block, Last, all_opened_by, plan
 pub record Follows {F : Type 0} (next : ℕ → List ℕ → Batch) (done : ℕ) (opened : List ℕ) (plan : Plan F) : Type 0 where
   pub batch : (d : ℕ) (more : List ℕ) → next (done + d) (opened ++ more) ≡ plan_batch plan d more
 
+-- the batch with which a plan begins
+module _ {F : Type 0} where
+  pub now-block : (b : Batch) (bs : List Batch) (k : ℕ → Plan F) → plan_batch (Block (b ∷ bs) k) 0 [] ≡ b
+  unfolding plan_batch
+  now-block b bs k = refl
+
+  pub now-ended : (f : F) → plan_batch (Ended f) 0 [] ≡ end_batch
+  unfolding plan_batch
+  now-ended f = refl
+
+  pub now-last : (b : Batch) (n : ℕ) (named : List ℕ → F) → plan_batch (Last b n named) 0 [] ≡ b
+  unfolding plan_batch
+  now-last b n named = refl
+
 module _ {F : Type 0} (next : ℕ → List ℕ → Batch) where
   -- the batch that comes now
   pub follows-now : (done : ℕ) (opened : List ℕ) (plan : Plan F) → Follows next done opened plan → next done opened ≡ plan_batch plan 0 []
   follows-now done opened plan f = rw (add-zero, append-nil opened) at (f.batch 0 [])
-
-  now-block : (b : Batch) (bs : List Batch) (k : ℕ → Plan F) → plan_batch (Block (b ∷ bs) k) 0 [] ≡ b
-  unfolding plan_batch
-  now-block b bs k = refl
-
-  now-ended : (f : F) → plan_batch (Ended f) 0 [] ≡ end_batch
-  unfolding plan_batch
-  now-ended f = refl
-
-  now-last : (b : Batch) (n : ℕ) (named : List ℕ → F) → plan_batch (Last b n named) 0 [] ≡ b
-  unfolding plan_batch
-  now-last b n named = refl
 
   -- after the last batch comes the end
   past-last : (b : Batch) (n : ℕ) (named : List ℕ → F) (d : ℕ) (more : List ℕ) → plan_batch (Last b n named) (suc d) more ≡ end_batch
@@ -86,14 +88,6 @@ module _ {F : Type 0} (next : ℕ → List ℕ → Batch) where
         rw (e, append_assoc opened (x ∷ []) more) (f.batch (suc d) (x ∷ more) ∙ last-block b k d x more);
   }
 
-done-after : (s : Standing) (b : Batch) → is_end b.act ≡ false → (after s b).done ≡ s.done + 1
-done-after s b h = by_act b.act h where
-  by_act : (a : Act) → is_end a ≡ false → (acted (record s { wires = s.wires + length b.lets.items }) a).done ≡ s.done + 1
-  by_act Deal h = refl
-  by_act (Mul pairs) h = refl
-  by_act (Reveal shown) h = refl
-  by_act End h = cc h
-
 -- a batch that opens numbers is not the end
 pub opens-some : (a : Act) → 1 ≤ revealed a → is_end a ≡ false
 opens-some Deal h = absurd (omega arith)
@@ -125,7 +119,14 @@ opened-one deals b v h = by_act b.act (record v { wires = with_lets v.wires b.le
     by_list (x ∷ y ∷ ys) h = absurd (omega arith)
   by_act End w h = absurd (omega arith)
 
-opened-last : (xs : List ℕ) (x : ℕ) → slice_index (xs ++ x ∷ []) (length xs) ≡ x
+-- a list of one number
+pub single : (xs : List ℕ) → length xs ≡ 1 → (x : ℕ) × (xs ≡ x ∷ [])
+single [] h = absurd (omega arith)
+single (x ∷ []) h = (x, refl)
+single (x ∷ y ∷ ys) h = absurd (omega arith)
+
+-- the number that was opened last
+pub opened-last : (xs : List ℕ) (x : ℕ) → slice_index (xs ++ x ∷ []) (length xs) ≡ x
 opened-last xs x = let e : length xs ≡ length xs + 0 = omega arith in rw e (get_or-append-add xs (x ∷ []) 0 0)
 
 -- the run of a block on the values after `done` batches: none of its batches is the end, and then comes what follows
@@ -151,7 +152,7 @@ module _ (next : ℕ → List ℕ → Batch) (deals : ℕ → List ℕ) (inputs 
   unfolding BlockStands
   block-clear [] k s done v is h f = absurd h
   block-clear (b ∷ []) k s done v is h f =
-      let now : next done v.opened ≡ b = follows-now next done v.opened (Block (b ∷ []) k) f ∙ now-block next b [] k in
+      let now : next done v.opened ≡ b = follows-now next done v.opened (Block (b ∷ []) k) f ∙ now-block b [] k in
       let one = opened-one deals b v h.1 in
       record {
         values = stepped done v b is now;
@@ -161,7 +162,7 @@ module _ (next : ℕ → List ℕ → Batch) (deals : ℕ → List ℕ) (inputs 
         follows = rw (one.1, opened-last v.opened one.0) (follows-next next done v.opened b k one.0 f);
       }
   block-clear (b ∷ c ∷ bs) k s done v is h f =
-      let now : next done v.opened ≡ b = follows-now next done v.opened (Block (b ∷ c ∷ bs) k) f ∙ now-block next b (c ∷ bs) k in
+      let now : next done v.opened ≡ b = follows-now next done v.opened (Block (b ∷ c ∷ bs) k) f ∙ now-block b (c ∷ bs) k in
       let step = batch_on deals b v in
       let same : step.opened ≡ v.opened = opened-none deals b v h.2 in
       let rest = block-clear (c ∷ bs) k (after s b) (done + 1) step (stepped done v b is now) h.3
@@ -198,7 +199,7 @@ plan-clear : {F : Type 0} (next : ℕ → List ℕ → Batch) (deals : ℕ → L
     v ≡ clear_at next deals inputs done → PlanStands bounds n s plan → Follows next done v.opened plan → AfterPlan next deals inputs plan n done v
 unfolding plan_run plan_rounds
 plan-clear next deals inputs bounds (Ended f) s n done v is h g =
-    let now : next done v.opened ≡ end_batch = follows-now next done v.opened (Ended f) g ∙ now-ended next f in
+    let now : next done v.opened ≡ end_batch = follows-now next done v.opened (Ended f) g ∙ now-ended f in
     let none : done + 0 ≡ done = add-zero done in
     record {
       values = rw none (rw add-one at (stepped next deals inputs done v end_batch is now));
@@ -208,12 +209,12 @@ plan-clear next deals inputs bounds (Ended f) s n done v is h g =
     }
 plan-clear next deals inputs bounds (Last b k named) s n done v is h g =
     let q = plan-last bounds s n b k named h in
-    let now : next done v.opened ≡ b = follows-now next done v.opened (Last b k named) g ∙ now-last next b k named in
+    let now : next done v.opened ≡ b = follows-now next done v.opened (Last b k named) g ∙ now-last b k named in
     let w = batch_on deals b v in
     let o = opens-more deals b v in
     let there : w ≡ clear_at next deals inputs (done + 1) = stepped next deals inputs done v b is now in
     let later : Follows next (done + 1) w.opened (Ended (named o.0)) = rw o.2 (follows-last next done v.opened o.0 b k named g) in
-    let end : next (done + 1) w.opened ≡ end_batch = follows-now next (done + 1) w.opened (Ended (named o.0)) later ∙ now-ended next (named o.0) in
+    let end : next (done + 1) w.opened ≡ end_batch = follows-now next (done + 1) w.opened (Ended (named o.0)) later ∙ now-ended (named o.0) in
     record {
       values = rw add-one at (stepped next deals inputs (done + 1) w end_batch there end);
       ends = ap is_end (act-is next deals inputs (done + 1) w end_batch there end);
@@ -280,7 +281,7 @@ unfolding BlockStands
 block-law next bounds [] k s n opened h w f l rest = absurd h
 block-law next bounds (b ∷ []) k s zero opened h w f l rest = absurd (omega arith)
 block-law next bounds (b ∷ []) k s (suc n) opened h w f l rest =
-    let now : next s.done opened ≡ b = follows-now next s.done opened (Block (b ∷ []) k) f ∙ now-block next b [] k in
+    let now : next s.done opened ≡ b = follows-now next s.done opened (Block (b ∷ []) k) f ∙ now-block b [] k in
     let m : suc n - 1 ≡ n = omega arith in
     let go : (new : List ℕ) → length new ≡ 1 → LawFrom next bounds n (after s b) (opened ++ new) = by_list in
     rw now (h.0, w, inr (rw h.1 go)) where
@@ -293,7 +294,7 @@ block-law next bounds (b ∷ []) k s (suc n) opened h w f l rest =
       by_list (x ∷ y ∷ ys) e = absurd (omega arith)
 block-law next bounds (b ∷ c ∷ bs) k s zero opened h w f l rest = absurd (omega arith)
 block-law next bounds (b ∷ c ∷ bs) k s (suc n) opened h w f l rest =
-    let now : next s.done opened ≡ b = follows-now next s.done opened (Block (b ∷ c ∷ bs) k) f ∙ now-block next b (c ∷ bs) k in
+    let now : next s.done opened ≡ b = follows-now next s.done opened (Block (b ∷ c ∷ bs) k) f ∙ now-block b (c ∷ bs) k in
     let m : suc n - suc (suc (length bs)) ≡ n - suc (length bs) = omega arith in
     let d = done-after s b h.1 in
     let there : LawFrom next bounds n (after s b) opened =
@@ -316,14 +317,14 @@ pub plan-law : {F : Type 0} (next : ℕ → List ℕ → Batch) (bounds : Standi
     PlanStands bounds n s plan → Follows next s.done opened plan → LawFrom next bounds n s opened
 unfolding PlanStands
 plan-law next bounds (Ended f) s n opened h g =
-    law-ended next bounds s n opened (follows-now next s.done opened (Ended f) g ∙ now-ended next f) h
+    law-ended next bounds s n opened (follows-now next s.done opened (Ended f) g ∙ now-ended f) h
 plan-law next bounds (Last b k named) s zero opened h g = absurd (omega (arith, h.4))
 plan-law next bounds (Last b k named) s (suc n) opened h g =
-    let now : next s.done opened ≡ b = follows-now next s.done opened (Last b k named) g ∙ now-last next b k named in
+    let now : next s.done opened ≡ b = follows-now next s.done opened (Last b k named) g ∙ now-last b k named in
     let d = done-after s b (opens-some b.act (omega (arith, h.2, h.3))) in
     let end : (new : List ℕ) → next (after s b).done (opened ++ new) ≡ end_batch = λ new.
     let later = follows-last next s.done opened new b k named g in
-    rw d (follows-now next (s.done + 1) (opened ++ new) (Ended (named new)) later ∙ now-ended next (named new)) in
+    rw d (follows-now next (s.done + 1) (opened ++ new) (Ended (named new)) later ∙ now-ended (named new)) in
     rw now (h.0, h.1, inr (λ new len. law-ended next bounds (after s b) n (opened ++ new) (end new) h.1))
 plan-law next bounds (Block bs k) s n opened h g =
     block-law next bounds bs k s n opened h.0 h.1 g h.2

@@ -76,9 +76,13 @@ abbrev pub EndsAfter : (ℕ → List ℕ → Batch) → (ℕ → List ℕ) → L
 EndsAfter next deals inputs r =
     (is_end (clear_act next deals inputs r) ≡ true) × ((k : ℕ) → k < r → is_end (clear_act next deals inputs k) ≡ false)
 
+-- of acts, the place of the first that is the end, among so many; their number where none is
+abbrev pub first_end : (ℕ → Act) → ℕ → ℕ
+first_end acts most = position_or_len (λ t. is_end (acts t)) (range_with_len 0 most)
+
 -- the rounds of the run of a script of at most so many, on inputs and mask words: the batches before the first end
 unfoldable pub rounds_run : (ℕ → List ℕ → Batch) → ℕ → List ℕ → Trio (List ℕ) → ℕ
-rounds_run next most inputs words = position_or_len (λ t. is_end (clear_act next (deals_of words) inputs t)) (range_with_len 0 most)
+rounds_run next most inputs words = first_end (clear_act next (deals_of words) inputs) most
 
 -- the values at its end; the lets of the end are appended too
 abbrev pub clear_values : (ℕ → List ℕ → Batch) → ℕ → List ℕ → Trio (List ℕ) → Values

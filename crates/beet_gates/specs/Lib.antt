@@ -1,4 +1,5 @@
 pub mod Each
+pub mod Levels
 pub mod Linears
 pub mod Batches
 pub mod Deals

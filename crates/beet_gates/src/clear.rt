@@ -54,8 +54,8 @@ fn weigh(wires: &[Fe], terms: &[(Fe, u32)]) -> Fe
     sum
 }
 
-/// The value of a let.
-fn evaluate(wires: &[Fe], linear: &Linear) -> Fe
+/// The value of a let, or its point where the wires are points.
+pub fn evaluate(wires: &[Fe], linear: &Linear) -> Fe
     requires { TermsBelow (length wires.now) linear.now.terms }
     ensures { result ≡ let_of wires.now linear.now }
 {

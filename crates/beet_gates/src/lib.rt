@@ -12,11 +12,13 @@ ghost use Rattle.beet_gates.specs.Scripts.{LawFrom, start_of, bounds_of};
 
 mod clear;
 mod filling;
+mod levels;
 mod product;
 
 use arrayvec::ArrayVec;
 use beet_field::Fe;
-pub use clear::{ClearRun, clear_run};
+pub use clear::{ClearRun, clear_run, evaluate};
+pub use levels::{LevelItems, level_law, level_pairs};
 pub use product::Product;
 
 /// The most numbers that a server sends another in one round: pairs that are multiplied, or wires that are opened.
@@ -24,6 +26,12 @@ pub const MOST_NUMBERS: usize = 64;
 
 /// The most lets of one batch.
 pub const MOST_LETS: usize = 128;
+
+/// The wires of the block of a mask.
+pub const MASK_WIRES: u32 = 487;
+
+/// The wires of the block of a mask that stand before the bits of its mask.
+pub const WIRES_BEFORE_BITS: u32 = 366;
 
 /// How the product of many bits, and a comparison, are built from products of two.
 #[derive(Clone, Copy, PartialEq, Eq, Debug)]
@@ -114,6 +122,3 @@ pub trait Script: Copy {
     ghost lawful: { (s : Self) →
         LawFrom (batch_of s) (bounds_of (wires_of s) (masks_of s) (coefficients_of s)) (rounds_of s) (start_of (inputs_of s)) [] };
 }
-
-#[cfg(test)]
-mod tests;

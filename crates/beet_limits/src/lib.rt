@@ -1,27 +1,33 @@
 //! The numbers of the formats and of the blocks of gates, as laws: functions that do nothing, whose contracts say what each
-//! named number is. The crates below take a limit by its name, in the code as in the definitions; so no contract there would
-//! notice another value.
+//! named number is. The crates below take a limit or a reason by its name, in the code as in the definitions; so no contract
+//! there would notice another value.
 #![tactic(auto)]
 
 ghost use Rattle.std.specs.Prelude.{◌≡◌, ◌*◌, ◌^◌, ◌+◌, ◌-◌};
-ghost use Rattle.beet_forms.specs.declared.faults.TheConstants.{LONGEST_FILE};
-ghost use Rattle.beet_words.specs.declared.bundle.TheConstants.{BAD_MAGIC, BAD_NUMBER, BUNDLE_LIMIT, MOST_WORDS, TRAILING, TRUNCATED, WRONG_COUNT};
+ghost use Rattle.beet_forms.specs.declared.faults.TheConstants.{BAD_HEADER, BAD_ROW, LONGEST_FILE};
+ghost use Rattle.beet_forms.specs.declared.names.TheConstants.{LONGEST_NAME};
+ghost use Rattle.beet_words.specs.declared.bundle.TheConstants.{BAD_MAGIC, BAD_NUMBER, BUNDLE_LIMIT, MOST_BIDDERS, MOST_WORDS, TRAILING, TRUNCATED, WRONG_COUNT};
 ghost use Rattle.beet_words.specs.declared.tape_file.TheConstants.{BAD_LINE, TAPE_LIMIT, TOO_LARGE};
 ghost use Rattle.beet_gates.specs.declared.Gates.TheVariants.{Chain, Tree};
-ghost use Rattle.beet_gates.specs.declared.TheConstants.{MOST_LETS, MOST_NUMBERS};
-ghost use Rattle.beet_bids.specs.declared.auction_file.TheConstants.{AUCTION_LIMIT, NOT_ONE_PRICE};
+ghost use Rattle.beet_gates.specs.declared.TheConstants.{MOST_LETS, MOST_NUMBERS, WIRES_BEFORE_BITS};
+ghost use Rattle.beet_bids.specs.declared.auction_file.TheConstants.{AUCTION_LIMIT, BAD_KEY, BAD_VALUE, NOT_ONE_PRICE, WRONG_VERSION};
 ghost use Rattle.beet_bids.specs.declared.bid_file.TheConstants.{BID_LIMIT};
-ghost use Rattle.beet_bids.specs.declared.book.TheConstants.{MOST_BIDDERS};
 ghost use Rattle.beet_bids.specs.declared.curve.TheConstants.{LARGEST_QUANTITY};
 ghost use Rattle.beet_bids.specs.declared.grid.TheConstants.{LARGEST_BASE, LARGEST_TICK, MOST_PRICES};
+ghost use Rattle.beet_bids.specs.declared.lines.TheConstants.{BUY_RISES, NO_BASE, NOT_ASCENDING, OFF_GRID, SELL_FALLS, TOO_LARGE as QUANTITY_TOO_LARGE};
 ghost use Rattle.beet_mask.specs.Mask.{mask_rounds_of, mask_wires_of};
 ghost use Rattle.beet_compare.specs.Compare.{compare_rounds_of, compare_wires_of};
-ghost use Rattle.beet_plan.specs.declared.TheConstants.{MASK_COEFFICIENTS, SPARE_WORDS};
+ghost use Rattle.beet_plan.specs.declared.TheConstants.{MASK_COEFFICIENTS, SPARE_MASKS, SPARE_WORDS};
 ghost use Rattle.beet_book.specs.declared.book_file.TheConstants.{BOOK_LIMIT, MOST_PRODUCT, OVER_PRODUCT};
+ghost use Rattle.beet_book.specs.declared.entries.TheConstants.{BAD_SOURCE};
+ghost use Rattle.beet_book.specs.declared.named_file.TheConstants.{ONE_TOO_MANY, SAME_NAME, TOO_MANY};
 ghost use Rattle.beet_book.specs.declared.server_file.TheConstants.{SERVERS_LIMIT};
-ghost use Rattle.beet_world.specs.declared.schedule.TheConstants.{SCHEDULE_LIMIT};
-ghost use Rattle.beet_farmer.specs.declared.envelope.TheConstants.{ENVELOPE_LIMIT};
+ghost use Rattle.beet_world.specs.declared.schedule.TheConstants.{BAD_ROW as BAD_DELIVERY, LATEST_ROUND, MOST_DELIVERIES, ONE_TOO_MANY as ONE_DELIVERY_TOO_MANY, SCHEDULE_LIMIT, TOO_MANY as TOO_MANY_DELIVERIES};
+ghost use Rattle.beet_view.specs.declared.reading.TheConstants.{MOST_ROUNDS};
+ghost use Rattle.beet_farmer.specs.declared.envelope.TheConstants.{BAD_NUMBER as BAD_POINT, ENVELOPE_LIMIT, TRAILING as TRAILING_POINTS, TRUNCATED as TRUNCATED_ENVELOPE, WRONG_GRID, WRONG_SERVER};
 ghost use Rattle.beet_farmer.specs.declared.list_file.TheConstants.{LIST_LIMIT};
+ghost use Rattle.beet_errand.specs.declared.fetching.TheConstants.{TOO_LONG};
+ghost use Rattle.beet_trial.specs.declared.rules.TheConstants.{BASE, FIRST_SEED, TICK};
 
 /// The limits of files in bytes.
 pub fn files_have_these_limits()
@@ -47,6 +53,24 @@ pub fn auctions_have_these_limits()
     ensures quantity { LARGEST_QUANTITY ≡ 2 ^ 48 - 1 }
     ensures words { MOST_WORDS ≡ 16384 }
     ensures spare { SPARE_WORDS ≡ 8 }
+    ensures spare_masks { SPARE_MASKS ≡ 2 }
+    ensures name { LONGEST_NAME ≡ 200 }
+    ensures one_bidder_too_many { ONE_TOO_MANY ≡ 2002 }
+{}
+
+/// The limits of schedules and transcripts.
+pub fn runs_have_these_limits()
+    ensures deliveries { MOST_DELIVERIES ≡ 10 ^ 6 }
+    ensures one_delivery_too_many { ONE_DELIVERY_TOO_MANY ≡ 10 ^ 6 + 2 }
+    ensures latest_round { LATEST_ROUND ≡ 10 ^ 6 - 1 }
+    ensures rounds { MOST_ROUNDS ≡ 4096 }
+{}
+
+/// The rule of a trial.
+pub fn trials_have_these_numbers()
+    ensures base { BASE ≡ 1000 }
+    ensures tick { TICK ≡ 10 }
+    ensures first_seed { FIRST_SEED ≡ 256 }
 {}
 
 /// The sizes of messages and of the blocks of each kind of gates.
@@ -57,6 +81,7 @@ pub fn blocks_have_these_sizes()
     ensures mask_tree { mask_rounds_of Tree ≡ 10 }
     ensures mask_wires { mask_wires_of Chain ≡ 487 }
     ensures mask_tree_wires { mask_wires_of Tree ≡ 487 }
+    ensures mask_bits { WIRES_BEFORE_BITS ≡ 366 }
     ensures compare_chain { compare_rounds_of Chain ≡ 63 }
     ensures compare_tree { compare_rounds_of Tree ≡ 9 }
     ensures compare_wires { compare_wires_of Chain ≡ 245 }
@@ -64,8 +89,31 @@ pub fn blocks_have_these_sizes()
     ensures coefficients { MASK_COEFFICIENTS ≡ 512 }
 {}
 
-/// The reasons that more than one crate names.
-pub fn reasons_have_these_numbers()
+/// The reasons of text files.
+pub fn text_reasons_have_these_numbers()
+    ensures too_long { TOO_LONG ≡ 20 }
+    ensures bad_header { BAD_HEADER ≡ 1 }
+    ensures bad_row { BAD_ROW ≡ 2 }
+    ensures bad_key { BAD_KEY ≡ 2 }
+    ensures bad_value { BAD_VALUE ≡ 3 }
+    ensures wrong_version { WRONG_VERSION ≡ 4 }
+    ensures not_one_price { NOT_ONE_PRICE ≡ 5 }
+    ensures bad_source { BAD_SOURCE ≡ 3 }
+    ensures same_name { SAME_NAME ≡ 4 }
+    ensures too_many { TOO_MANY ≡ 5 }
+    ensures over_product { OVER_PRODUCT ≡ 6 }
+    ensures off_grid { OFF_GRID ≡ 3 }
+    ensures not_ascending { NOT_ASCENDING ≡ 4 }
+    ensures buy_rises { BUY_RISES ≡ 5 }
+    ensures sell_falls { SELL_FALLS ≡ 6 }
+    ensures quantity_too_large { QUANTITY_TOO_LARGE ≡ 7 }
+    ensures no_base { NO_BASE ≡ 8 }
+    ensures bad_delivery { BAD_DELIVERY ≡ 1 }
+    ensures too_many_deliveries { TOO_MANY_DELIVERIES ≡ 2 }
+{}
+
+/// The reasons of tapes, bundles, transcripts and envelopes.
+pub fn binary_reasons_have_these_numbers()
     ensures bad_line { BAD_LINE ≡ 1 }
     ensures too_large { TOO_LARGE ≡ 2 }
     ensures bad_magic { BAD_MAGIC ≡ 1 }
@@ -73,6 +121,9 @@ pub fn reasons_have_these_numbers()
     ensures bad_number { BAD_NUMBER ≡ 3 }
     ensures trailing { TRAILING ≡ 4 }
     ensures wrong_count { WRONG_COUNT ≡ 5 }
-    ensures over_product { OVER_PRODUCT ≡ 6 }
-    ensures not_one_price { NOT_ONE_PRICE ≡ 5 }
+    ensures wrong_grid { WRONG_GRID ≡ 2 }
+    ensures truncated_envelope { TRUNCATED_ENVELOPE ≡ 3 }
+    ensures bad_point { BAD_POINT ≡ 4 }
+    ensures trailing_points { TRAILING_POINTS ≡ 5 }
+    ensures wrong_server { WRONG_SERVER ≡ 6 }
 {}

@@ -1,5 +1,6 @@
 //! The jobs of the program over real files: each line of the file `lines` is one command, and what it says and its status
-//! are printed below it. A line `same ONE OTHER` compares two files, and its status is 0 where they hold the same bytes.
+//! are printed below it. A line `same ONE OTHER` compares two files, and its status is 0 where they hold the same bytes. A line
+//! `size FILE` says how many bytes a file holds.
 #![tactic(auto)]
 
 use beet_store::{Desk, HostDesk, HostShelf, Shelf};
@@ -10,7 +11,7 @@ use std::str;
 /// The limit of the file of commands in bytes.
 const LINES_LIMIT: u64 = 65_536;
 
-/// The limit of a file that is compared, in bytes.
+/// The limit of a file that is compared or measured, in bytes.
 const FILE_LIMIT: u64 = 1_048_576;
 
 /// The words of a line.
@@ -33,7 +34,20 @@ fn compare<S: Shelf>(alloc: Global, shelf: &mut S, one: &str, other: &str) -> u8
     if one == other { 0 } else { 1 }
 }
 
-/// Does the job of these words, or compares the files that they name. Answers the status.
+/// Says how many bytes a file holds. Answers 0, or 1 where the file or memory is wanting.
+fn say_size<S: Shelf, K: Desk>(alloc: Global, shelf: &mut S, desk: &mut K, name: &str) -> u8 {
+    let Ok(bytes) = shelf.fetch(alloc, name, FILE_LIMIT) else {
+        return 1;
+    };
+    let size = bytes.len();
+    let Ok(text) = format!(in alloc; "{size}\n") else {
+        return 1;
+    };
+    let _said = desk.say(text.as_bytes());
+    0
+}
+
+/// Does the job of these words, or compares or measures the files that they name. Answers the status.
 fn run_words<S: Shelf, K: Desk>(
     alloc: Global,
     shelf: &mut S,
@@ -42,6 +56,8 @@ fn run_words<S: Shelf, K: Desk>(
 ) -> u8 {
     if words.len() == 3 && words[0].as_str() == "same" {
         compare(alloc, shelf, words[1].as_str(), words[2].as_str())
+    } else if words.len() == 2 && words[0].as_str() == "size" {
+        say_size(alloc, shelf, desk, words[1].as_str())
     } else {
         beet_app::run(alloc, words, shelf, desk)
     }

@@ -1,27 +1,16 @@
 -- Words are no more than are kept.
-use Rattle.std.proofs.Common.{◌≡◌, ◌≤◌, ℕ, zero, suc, List, [], ◌∷◌, length, take, Option, Some, None, Result, Ok, Err, IfOk, arith, ap}
+use Rattle.std.proofs.Common.{◌≡◌, ◌≤◌, ℕ, zero, suc, List, [], ◌∷◌, length, take, arith, ap}
 use Rattle.std.proofs.lemmas.List.FromFn.{length-map-range_with_len}
-use Rattle.beet_forms.specs.Faults.{Answers, Fault, reading_of}
-use Rattle.beet_forms.specs.declared.faults.ReadFault.{ReadFault}
 use Rattle.beet_words.specs.Seeds.{seed_word, seed_words}
 use Rattle.beet_words.specs.Tapes.{Tape}
-use Rattle.beet_words.specs.TapeFiles.{tape_of}
-use Rattle.beet_field.specs.declared.trio.Trio.{Trio}
-use Rattle.beet_words.specs.Bundles.{Words}
 use Rattle.beet_bids.specs.Grids.{Grid}
 use Rattle.beet_plan.specs.Kept.{coefficients_kept}
-use Rattle.beet_load.specs.Servers.{ServerWords, IsCut, AreCut, masks_wanted, seeded, cut_servers}
-use Rattle.beet_errand.specs.Fetches.{Judges}
-use Rattle.beet_errand.specs.declared.answer.Stop.{Stop}
+use Rattle.beet_load.specs.Servers.{ServerWords, IsCut, masks_wanted, seeded}
 
 pub take-few : {A : Type 0} (n : ℕ) (xs : List A) → length (take n xs) ≤ n
 take-few zero xs = omega arith
 take-few (suc n) [] = omega arith
 take-few (suc n) (x ∷ xs) = omega (arith, take-few n xs)
-
-read_few : (fault : Option Fault) (kept : ℕ) (all words : List ℕ) → reading_of fault (take kept all) ≡ Ok words → length words ≤ kept
-read_few None kept all words e = let same : take kept all ≡ words = cc in rw same at (take-few kept all)
-read_few (Some fault) kept all words e = absurd cc
 
 -- the words of a seed
 pub seed_cut : (tape : Tape) (seed : List ℕ) (stream kept : ℕ) → tape ≡ record { words = seed_words seed stream kept; passed = 0 } → length tape.words ≤ kept

@@ -4,7 +4,7 @@ use Rattle.beet_forms.specs.declared.faults.ReadFault.{ReadFault}
 use Rattle.beet_book.specs.declared.entries.Entry.{Entry}
 use Rattle.beet_errand.specs.Fetches.{Judges}
 use Rattle.beet_errand.specs.declared.answer.Stop.{Stop}
-use Rattle.beet_bids.specs.declared.book.TheConstants.{MOST_BIDDERS}
+use Rattle.beet_words.specs.declared.bundle.TheConstants.{MOST_BIDDERS}
 
 pub few_judged : (name : List ℕ) (read : Result (Vec Entry Global) ReadFault) (result : Result (Vec Entry Global) Stop) →
     IfOk read (λ entries. length entries.items ≤ MOST_BIDDERS) → Judges name read result →

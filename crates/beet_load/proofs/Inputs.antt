@@ -1,11 +1,11 @@
 -- The inputs of the servers are points of lines with the sums of the book.
-use Rattle.std.proofs.Common.{◌≡◌, ◌≤◌, ◌<◌, ℕ, ◌+◌, ◌*◌, ◌-◌, List, length, get_or, take, drop, All, inl, inr, arith, refl, sym, ap, ◌∙◌, length-append, length-drop, subst}
+use Rattle.std.proofs.Common.{◌≡◌, ◌≤◌, ◌<◌, ℕ, ◌+◌, ◌*◌, ◌-◌, List, length, get_or, All, inl, inr, arith, refl, sym, ap, ◌∙◌, subst}
 use Rattle.std.specs.Prelude.{slice_index, sum_by}
 use Rattle.std.proofs.lemmas.List.FromFn.{length-map-range_with_len}
 use Rattle.std.proofs.lemmas.List.Elements.{All-map}
 use Rattle.std.proofs.lemmas.Bool.{cases_lt}
 use Rattle.std.proofs.lemmas.Grind.{same_number_lists}
-use Rattle.std.proofs.lemmas.List.{length-take-le, get_or-map}
+use Rattle.std.proofs.lemmas.List.{get_or-map}
 use Rattle.beet_field.specs.declared.point.Point.{Point}
 use Rattle.beet_field.specs.declared.point.Point.TheVariants.{One, Two, Three}
 use Rattle.beet_field.specs.declared.trio.Trio.{Trio}
@@ -17,21 +17,17 @@ use Rattle.beet_book.specs.Dealing.{points_at, AreShares}
 use Rattle.beet_book.specs.Totals.{Totals, supply_first, summed_quantities, wires_of}
 use Rattle.beet_book.specs.declared.entries.Entry.{Entry}
 use Rattle.beet_book.proofs.Pairs.{length-pairwise, item-pairwise}
-use Rattle.beet_book.proofs.Sums.{item-supply, item-demand}
+use Rattle.beet_book.proofs.Sums.{length-first, item-supply, item-demand}
 use Rattle.beet_book.proofs.Summed.{supply-summed, demand-summed, length-summed}
 use Rattle.beet_bids.specs.Sums.{sums_of}
 use Rattle.beet_bids.proofs.BookSums.{length-sums, sums-supply, sums-demand}
 use Rattle.beet_load.specs.Collecting.{curves_of, AreCollected}
 use Rattle.beet_load.specs.Farmers.{bidders_of}
 use Rattle.beet_load.specs.Loading.{IsKeptOf}
-use Rattle.beet_book.specs.Farmers.{Farmer, book_of as book_with}
+use Rattle.beet_book.specs.Farmers.{Farmer, book_with}
 use Rattle.beet_load.specs.Servers.{ServerWords}
 use Rattle.beet_load.proofs.Summing.{sum_of_bidders, map_length}
-use Rattle.beet_bids.specs.declared.book.TheConstants.{MOST_BIDDERS}
-
-pub length-first : (prices : ℕ) (xs : List ℕ) → length xs ≡ 2 * prices → length (supply_first prices xs) ≡ 2 * prices
-length-first prices xs h =
-    omega (arith, length-append (drop prices xs) (take prices xs), length-drop prices xs, length-take-le prices xs (omega arith), h)
+use Rattle.beet_words.specs.declared.bundle.TheConstants.{MOST_BIDDERS}
 
 -- the points of lines, with supply first
 points-first : (prices : ℕ) (v s : List ℕ) (at : Point) → length v ≡ 2 * prices → length s ≡ 2 * prices →

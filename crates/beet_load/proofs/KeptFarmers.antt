@@ -4,7 +4,6 @@ use Rattle.std.proofs.lemmas.List.{length-map}
 use Rattle.std.proofs.lemmas.List.Elements.{All-append, All-map, All-nil, All-cons}
 use Rattle.beet_store.specs.Files.{Seen}
 use Rattle.beet_words.specs.Bundles.{Words}
-use Rattle.beet_gates.specs.declared.Gates.TheVariants.{Chain}
 use Rattle.beet_bids.specs.Books.{Book}
 use Rattle.beet_bids.specs.Curves.{Curve, IsOfGrid}
 use Rattle.beet_bids.specs.BidFiles.{bid_of}
@@ -80,12 +79,12 @@ module _ (grid : Grid) (entries : List Entry) (kept farmers : List Farmer) (h : 
       (All-map (λ bidder. IsOfGrid grid bidder.curve) (λ farmer. farmer.bidder) kept (λ i d lt. (h.each i d lt).of_grid))
 
   pub kept-runs : (words : AllWords) (all : List (List ℕ)) (book : Book) (made : Words) → all ≡ map (λ farmer. farmer.words) kept →
-      book ≡ record { grid = grid; bidders = bidders } → made ≡ all_words words.servers all → grid.gates ≡ Chain →
+      book ≡ record { grid = grid; bidders = bidders } → made ≡ all_words words.servers all →
       HaveEnough grid words.servers → AreCut grid words.servers → CanRun book made
-  kept-runs words all book made these b m gates enough cut =
+  kept-runs words all book made these b m enough cut =
       let many : length all ≡ length bidders = ap length these ∙ length-map kept (λ farmer. farmer.words) ∙ sym (ap length is ∙ length-map kept (λ farmer. farmer.bidder)) in
       let each : All (CanDeal grid) all = subst (All (CanDeal grid)) (sym these) (All-map (CanDeal grid) (λ farmer. farmer.words) kept (λ i d lt. (h.each i d lt).words)) in
-      rw (b, m) (record { gates = gates; servers = enough; cut = cut; lists = many; bidders = each })
+      rw (b, m) (record { servers = enough; cut = cut; lists = many; bidders = each })
 
 abbrev loaded_with : Grid → AllWords → List Farmer → Loaded
 loaded_with grid words farmers = record { grid = grid; servers = words.servers; farmers = farmers }

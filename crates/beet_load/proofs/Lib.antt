@@ -3,7 +3,5 @@ pub mod Summing
 pub mod FewBidders
 pub mod ServerSteps
 pub mod Inputs
-pub mod ChainGates
-pub mod FarmerLists
 pub mod Cuts
 pub mod KeptFarmers

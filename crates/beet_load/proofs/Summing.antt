@@ -23,7 +23,7 @@ use Rattle.beet_book.specs.Farmers.{Farmer}
 use Rattle.beet_errand.specs.Fetches.{ReadsFor}
 use Rattle.beet_errand.specs.declared.answer.Stop.{Stop}
 use Rattle.beet_errand.proofs.Frame.{reached_none, reached_more, reached_last, stopped}
-use Rattle.beet_bids.specs.declared.book.TheConstants.{MOST_BIDDERS}
+use Rattle.beet_words.specs.declared.bundle.TheConstants.{MOST_BIDDERS}
 
 -- no bidder is read yet
 pub collects_none : (grid : Grid) (lists : Option (List (List ℕ))) (entries : List Entry) (seen : Seen) →

@@ -1,7 +1,6 @@
 -- Reading an auction, its servers and its book: what three servers begin with.
 use Rattle.std.specs.Prelude.{◌≡◌, ℕ, List, [], length, Some}
 use Rattle.beet_field.specs.declared.trio.Trio.{Trio}
-use Rattle.beet_gates.specs.declared.Gates.TheVariants.{Chain}
 use Rattle.beet_bids.specs.Grids.{Grid}
 use Rattle.beet_bids.specs.AuctionFiles.{auction_of}
 use Rattle.beet_bids.specs.Books.{IsBook}
@@ -10,9 +9,9 @@ use Rattle.beet_book.specs.ServerFiles.{servers_of}
 use Rattle.beet_book.specs.Dealing.{AreShares}
 use Rattle.beet_bids.specs.Sums.{sums_of}
 use Rattle.beet_errand.specs.Errands.{Step, ◌>>=◌, gives, reads}
-use Rattle.beet_book.specs.Farmers.{Farmer, book_of as book_with}
+use Rattle.beet_book.specs.Farmers.{Farmer, book_with}
 use Rattle.beet_load.specs.Farmers.{farmers_errand}
-use Rattle.beet_load.specs.Servers.{ServerWords, HaveEnough, all_words_errand}
+use Rattle.beet_load.specs.Servers.{ServerWords, all_words_errand}
 use Rattle.beet_bids.specs.declared.auction_file.TheConstants.{AUCTION_LIMIT}
 use Rattle.beet_book.specs.declared.server_file.TheConstants.{SERVERS_LIMIT}
 use Rattle.beet_book.specs.declared.book_file.TheConstants.{BOOK_LIMIT}
@@ -38,11 +37,6 @@ pub record Kept : Type 0 where
   pub grid : Grid
   pub servers : Trio ServerWords
   pub inputs : Trio (List ℕ)
-
--- three servers can begin: the gates are those that the script knows, and each server has enough words
-pub record CanBegin (kept : Kept) : Type 0 where
-  pub gates : kept.grid.gates ≡ Chain
-  pub enough : HaveEnough kept.grid kept.servers
 
 -- what is kept of an auction that is read: the inputs are points of lines with the sums of its book
 pub record IsKeptOf (kept : Kept) (loaded : Loaded) : Type 0 where

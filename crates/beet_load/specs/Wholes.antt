@@ -4,7 +4,6 @@ use Rattle.beet_field.specs.declared.trio.Trio.{Trio}
 use Rattle.beet_store.specs.Files.{Seen}
 use Rattle.beet_words.specs.Words.{accepted}
 use Rattle.beet_words.specs.Bundles.{Words}
-use Rattle.beet_gates.specs.declared.Gates.TheVariants.{Chain}
 use Rattle.beet_bids.specs.Grids.{Grid}
 use Rattle.beet_bids.specs.AuctionFiles.{auction_of}
 use Rattle.beet_bids.specs.BidFiles.{bid_of}
@@ -71,7 +70,6 @@ pub record CanDeal (grid : Grid) (words : List ℕ) : Type 0 where
 
 -- three servers can run the auction of a book with these words
 pub record CanRun (book : Book) (words : Words) : Type 0 where
-  pub gates : book.grid.gates ≡ Chain
   pub servers : HaveEnough book.grid (by_server words)
   pub cut : AreCut book.grid (by_server words)
   pub lists : length words.bidders ≡ length book.bidders

@@ -1,13 +1,12 @@
 //! Reading the grid of an auction and the entries of a book.
 
-ghost use Rattle.std.specs.Prelude.{◌≡◌, ◌≤◌, IfOk, length};
-ghost use Rattle.beet_gates.specs.declared.Gates.TheVariants.{Chain};
+ghost use Rattle.std.specs.Prelude.{◌≤◌, IfOk, length};
 ghost use Rattle.beet_bids.specs.AuctionFiles.{auction_of};
 ghost use Rattle.beet_book.specs.BookFiles.{book_of};
 ghost use Rattle.beet_errand.specs.Errands.{reads};
 ghost use Rattle.beet_errand.specs.Fetches.{Reads};
 ghost use Rattle.beet_bids.specs.declared.auction_file.TheConstants.{AUCTION_LIMIT};
-ghost use Rattle.beet_bids.specs.declared.book.TheConstants.{MOST_BIDDERS};
+ghost use Rattle.beet_words.specs.declared.bundle.TheConstants.{MOST_BIDDERS};
 ghost use Rattle.beet_book.specs.declared.book_file.TheConstants.{BOOK_LIMIT};
 
 use beet_bids::{AUCTION_LIMIT, Grid, read_auction};
@@ -18,8 +17,7 @@ use std::alloc::Global;
 
 /// The grid of an auction file.
 pub fn read_grid<S: Shelf>(alloc: Global, shelf: &mut S, name: &str) -> Result<Grid, Stop>
-    ensures gates { IfOk result (λ grid. grid.gates ≡ Chain) }
-    ensures reads { Reads (λ grid. grid) (S.seen shelf.old) (S.seen shelf.new)
+    ensures { Reads (λ grid. grid) (S.seen shelf.old) (S.seen shelf.new)
         (reads name.now AUCTION_LIMIT auction_of) result }
 {
     let bytes = fetch_file(alloc, shelf, name, AUCTION_LIMIT)?;

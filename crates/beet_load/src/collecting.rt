@@ -4,7 +4,7 @@ ghost use Rattle.std.specs.Prelude.{◌≡◌, ◌≤◌, [], length, option_map
 ghost use Rattle.beet_load.specs.Collecting.{AddsFarmer, AreCollected};
 ghost use Rattle.beet_load.specs.Farmers.{farmer_errand, farmers_errand, list_at};
 ghost use Rattle.beet_errand.specs.Fetches.{ReadsFor};
-ghost use Rattle.beet_bids.specs.declared.book.TheConstants.{MOST_BIDDERS};
+ghost use Rattle.beet_words.specs.declared.bundle.TheConstants.{MOST_BIDDERS};
 
 use crate::farmers::read_farmer;
 use beet_bids::Grid;

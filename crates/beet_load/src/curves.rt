@@ -4,7 +4,7 @@ ghost use Rattle.std.specs.Prelude.{◌≡◌, ◌≤◌, ◌*◌, [], IfOk, len
 ghost use Rattle.beet_bids.specs.Books.{IsBook};
 ghost use Rattle.beet_errand.specs.Fetches.{Reads};
 ghost use Rattle.beet_load.specs.Wholes.{bids_errand, curves_errand};
-ghost use Rattle.beet_bids.specs.declared.book.TheConstants.{MOST_BIDDERS};
+ghost use Rattle.beet_words.specs.declared.bundle.TheConstants.{MOST_BIDDERS};
 ghost use Rattle.beet_book.specs.declared.book_file.TheConstants.{MOST_PRODUCT};
 
 use crate::books::read_entries;

@@ -82,10 +82,7 @@ pub fn read_tape_file<S: Shelf>(
 pub fn front(alloc: Global, words: &WordList, kept: u32) -> Result<Tape, AllocError>
     ensures { IfOk result (λ tape. tape ≡ record { words = take kept words.now; passed = 0 }) }
 {
-    let words = words.as_slice();
-    let count = words.len().min(kept as usize);
-    let words = Vec::from_slice(alloc, &words[..count])?;
-    Ok(Tape::of_words(WordList::of(words)))
+    Ok(Tape::of_words(words.front(alloc, kept as usize)?))
 }
 
 /// The tape of a source, at its first word.

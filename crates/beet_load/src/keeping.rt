@@ -4,7 +4,7 @@ ghost use Rattle.std.specs.Prelude.{◌≡◌, ◌≤◌, ◌++◌, ◌∷◌, [
 ghost use Rattle.beet_errand.specs.Fetches.{ReadsFor};
 ghost use Rattle.beet_load.specs.Farmers.{farmer_errand, farmers_errand};
 ghost use Rattle.beet_load.specs.Wholes.{AreKept, KeepsFarmer};
-ghost use Rattle.beet_bids.specs.declared.book.TheConstants.{MOST_BIDDERS};
+ghost use Rattle.beet_words.specs.declared.bundle.TheConstants.{MOST_BIDDERS};
 
 use crate::collecting::list_of;
 use crate::farmers::read_farmer;

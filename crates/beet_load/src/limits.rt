@@ -3,7 +3,7 @@
 ghost use Rattle.std.specs.Prelude.{◌≡◌, ◌≤◌, ◌*◌, ℕ, IfErr, IfOk};
 ghost use Rattle.beet_errand.specs.Fetches.{Tests};
 ghost use Rattle.beet_load.specs.Limits.{within_product};
-ghost use Rattle.beet_bids.specs.declared.book.TheConstants.{MOST_BIDDERS};
+ghost use Rattle.beet_words.specs.declared.bundle.TheConstants.{MOST_BIDDERS};
 ghost use Rattle.beet_book.specs.declared.book_file.TheConstants.{MOST_PRODUCT};
 
 use beet_bids::Grid;

@@ -25,13 +25,14 @@ pub struct Loaded {
 }
 
 impl Model for Loaded {
-    ghost use Rattle.beet_load.specs.Loading.{CanBegin, Kept};
+    ghost use Rattle.beet_load.specs.Loading.{Kept};
+    ghost use Rattle.beet_load.specs.Servers.{HaveEnough};
 
     ghost Value = { Kept };
 
     ghost view = { λ a. record { grid = a.grid; servers = a.servers; inputs = a.inputs } };
 
-    ghost invariant = { λ a. CanBegin (record { grid = a.grid; servers = a.servers; inputs = a.inputs }) };
+    ghost invariant = { λ a. HaveEnough a.grid a.servers };
 }
 
 /// The lists of the bidders, where a bundle has them.

@@ -21,14 +21,11 @@ use beet_book::{SERVERS_LIMIT, ServerSource, Servers, read_servers};
 use beet_errand::{Status, Stop, fetch_file, judge};
 use beet_field::Trio;
 use beet_forms::{Name, ReadFault};
-use beet_plan::{MASK_COEFFICIENTS, SPARE_WORDS};
+use beet_plan::{MASK_COEFFICIENTS, SPARE_MASKS, SPARE_WORDS};
 use beet_store::Shelf;
 use beet_words::{BUNDLE_LIMIT, Tape, WRONG_COUNT, WordList, Words, read_bundle};
 use std::alloc::{AllocError, Global};
 use std::marker::Model;
-
-/// Masks that may be rejected beside those that are used.
-const SPARE_MASKS: u32 = 2;
 
 /// The two tapes of a server, at their first words.
 #[derive(Drop)]

@@ -15,10 +15,10 @@ use Rattle.beet_gates.specs.declared.Act.{Act}
 use Rattle.beet_gates.specs.declared.Act.TheVariants.{Deal, Mul, Reveal, End}
 use Rattle.beet_gates.specs.declared.Batch.{Batch}
 use Rattle.beet_gates.proofs.EachFacts.{each-same}
-use Rattle.beet_server.proofs.LinesLaw.{at-one}
-use Rattle.beet_server.specs.Lines.{OnLines, IsAtOne, slopes_at}
-use Rattle.beet_server.specs.Runs.{Opening, Shared, act_among, coming, draws_in, gained, hidden_at, message, number_drawn, pair_at, product_at, secret_hidden, sent_for, shared_at, standing_at, with_batch_lets}
-use Rattle.beet_map.specs.Worlds.{World, begin_in, shares_of, slopes_of, values_of}
+use Rattle.beet_sharing.proofs.LinesLaw.{at-one}
+use Rattle.beet_sharing.specs.Lines.{OnLines, IsAtOne, slopes_at}
+use Rattle.beet_sharing.specs.Runs.{Setup, Shared, act_among, coming, draws_in, gained, hidden_at, message, number_drawn, pair_at, product_at, secret_hidden, sent_for, shared_at, standing_at, with_batch_lets}
+use Rattle.beet_map.specs.Secrets.{Secrets, begin_in, shares_of, slopes_of, values_of}
 use Rattle.beet_map.specs.Mapped.{GateMapped, moved_of, number_at, secret_at}
 use Rattle.beet_map.proofs.Moves.{moved_same, reshared_point, same_or, secret_small, slope_same}
 use Rattle.beet_map.specs.Premise.{MayMap, clear_of, standing_of}
@@ -59,7 +59,7 @@ over_wires (w ∷ ws) f f' g g' step e =
     let rest = over_wires ws f f' g g' step others in λ i. first i ∷ rest i
 
 -- one batch, whose lets are among the wires
-module _ (me : Point) (o o' : Opening) (s s' : Shared) (alike : Alike me s s') where
+module _ (me : Point) (o o' : Setup) (s s' : Shared) (alike : Alike me s s') where
   -- where the same numbers are gained and opened, the runs stay alike
   pub alike_act : (a : Act) → gained o' s' a me ≡ gained o s a me → (act_among o' a s').opened ≡ (act_among o a s).opened →
       Alike me (act_among o a s) (act_among o' a s')
@@ -104,7 +104,7 @@ module _ (me : Point) (o o' : Opening) (s s' : Shared) (alike : Alike me s s') w
       same
 
 -- an opening adds no wires
-lines_before : (o : Opening) (s : Shared) (shown values slopes : List ℕ) →
+lines_before : (o : Setup) (s : Shared) (shown values slopes : List ℕ) →
     OnLines values slopes (trio_of (λ i. member s.wires i ++ [])) → OnLines values slopes s.wires
 lines_before o s shown values slopes g =
     let is : (i : Point) → member (trio_of (λ i. member s.wires i ++ [])) i ≡ member s.wires i =
@@ -117,11 +117,11 @@ lines_before o s shown values slopes g =
     }
 
 -- a run and its values, before and after an act
-pub record Stands (o : Opening) (s : Shared) (a : Act) (v : Values) : Type 0 where
+pub record Stands (o : Setup) (s : Shared) (a : Act) (v : Values) : Type 0 where
   pub slopes : List ℕ
   pub lines : OnLines (act_on (deals_of o.masks) a v).wires slopes (act_among o a s).wires
 
-module _ (me : Point) (o o' : Opening) (s s' : Shared) (alike : Alike me s s') (v v' : Values) where
+module _ (me : Point) (o o' : Setup) (s s' : Shared) (alike : Alike me s s') (v v' : Values) where
   -- each message to `me`
   pub sent_same : (a : Act) → SameHidden me o o' s s' alike a → Stands o s a v → Stands o' s' a v' →
       v'.opened ≡ v.opened → (act_on (deals_of o'.masks) a v').opened ≡ (act_on (deals_of o.masks) a v).opened →
@@ -136,7 +136,7 @@ module _ (me : Point) (o o' : Opening) (s s' : Shared) (alike : Alike me s s') (
   sent_same End h g g' before after j = refl
 
 -- the numbers of one batch
-module _ (me : Point) (o o' : Opening) (s s' : Shared) (alike : Alike me s s') (own : member o'.numbers me ≡ member o.numbers me) where
+module _ (me : Point) (o o' : Setup) (s s' : Shared) (alike : Alike me s s') (own : member o'.numbers me ≡ member o.numbers me) where
   abbrev pub SameWord : Act → Type 0
   SameWord a = 0 < deals_in a → slice_index (member o'.masks me) s'.dealt ≡ slice_index (member o.masks me) s.dealt
 
@@ -161,12 +161,12 @@ module _ (me : Point) (o o' : Opening) (s s' : Shared) (alike : Alike me s s') (
       (same_or j me)
 
 -- the whole run
-module _ (next : ℕ → List ℕ → Batch) (me : Point) (w w' : World) (numbers numbers' : Trio (List ℕ)) (rounds : ℕ) (may : MayMap next me rounds w w')
+module _ (next : ℕ → List ℕ → Batch) (me : Point) (w w' : Secrets) (numbers numbers' : Trio (List ℕ)) (rounds : ℕ) (may : MayMap next me rounds w w')
     (mapped : GateMapped me rounds (begin_in next w numbers) (begin_in next w' numbers')) where
-  abbrev first : Opening
+  abbrev first : Setup
   first = begin_in next w numbers
 
-  abbrev second : Opening
+  abbrev second : Setup
   second = begin_in next w' numbers'
 
   at_one : (t : ℕ) → IsAtOne first (values_of w.inputs) (slopes_of w.inputs) t

@@ -4,14 +4,14 @@ use Rattle.beet_field.specs.Trio.{member}
 use Rattle.beet_field.specs.declared.point.Point.{Point}
 use Rattle.beet_field.specs.declared.trio.Trio.{Trio}
 use Rattle.beet_gates.specs.declared.Batch.{Batch}
-use Rattle.beet_server.specs.Runs.{Opening, act_among, coming, draws_in, secret_hidden, shared_at, standing_at, with_batch_lets}
-use Rattle.beet_map.specs.Worlds.{World, begin_in}
+use Rattle.beet_sharing.specs.Runs.{Setup, act_among, coming, draws_in, secret_hidden, shared_at, standing_at, with_batch_lets}
+use Rattle.beet_map.specs.Secrets.{Secrets, begin_in}
 use Rattle.beet_map.specs.Mapped.{GateMapped, moved_of, number_at, secret_at}
 use Rattle.beet_map.specs.Premise.{MayMap}
 use Rattle.beet_map.proofs.Alike.{Alike, alike_at}
 use Rattle.beet_map.proofs.Unique.{act_alike, split_at}
 
-pub drawn_le : (o : Opening) (u t : ℕ) → u ≤ t → (shared_at o u).drawn ≤ (shared_at o t).drawn
+pub drawn_le : (o : Setup) (u t : ℕ) → u ≤ t → (shared_at o u).drawn ≤ (shared_at o t).drawn
 drawn_le o u zero le = let e : u ≡ 0 = omega arith in subst (λ x. (shared_at o x).drawn ≤ (shared_at o 0).drawn) (sym e) (omega arith)
 drawn_le o u (suc t) le = ⊎_elim
     (λ (h : u < suc t).
@@ -21,18 +21,18 @@ drawn_le o u (suc t) le = ⊎_elim
     (split_at u (suc t))
 
 -- two runs whose numbers agree as far as they were drawn
-pub runs_agree : (next : ℕ → List ℕ → Batch) (w : World) (d e : Trio (List ℕ)) (t : ℕ) →
+pub runs_agree : (next : ℕ → List ℕ → Batch) (w : Secrets) (d e : Trio (List ℕ)) (t : ℕ) →
     ((j : Point) (n : ℕ) → n < (shared_at (begin_in next w d) t).drawn → slice_index (member e j) n ≡ slice_index (member d j) n) →
     shared_at (begin_in next w e) t ≡ shared_at (begin_in next w d) t
 runs_agree next w d e zero agree = refl
 runs_agree next w d e (suc t) agree =
-    let o : Opening = begin_in next w d in
+    let o : Setup = begin_in next w d in
     let more : (shared_at o (suc t)).drawn ≡ (shared_at o t).drawn + draws_in (coming o t).act = refl in
     let same = runs_agree next w d e t (λ j n lt. agree j n (omega arith)) in
     (λ i. act_among (begin_in next w e) (next t (same i).opened).act (with_batch_lets (next t (same i).opened) (same i)))
     ∙ act_alike next w d e (standing_at o t) (coming o t).act (λ j k below. agree j ((shared_at o t).drawn + k) (omega arith))
 
-pub may_until : (next : ℕ → List ℕ → Batch) (me : Point) (rounds t : ℕ) (w w' : World) → t ≤ rounds → MayMap next me rounds w w' → MayMap next me t w w'
+pub may_until : (next : ℕ → List ℕ → Batch) (me : Point) (rounds t : ℕ) (w w' : Secrets) → t ≤ rounds → MayMap next me rounds w w' → MayMap next me t w w'
 may_until next me rounds t w w' le m = record {
   lines = m.lines;
   lines' = m.lines';
@@ -41,8 +41,8 @@ may_until next me rounds t w w' le m = record {
   words = λ u h some. m.words u (omega arith) some;
 }
 
--- `e` is the numbers of the second opening, with those of batch t moved
-pub record Extends (me : Point) (first second : Opening) (t : ℕ) (e : Trio (List ℕ)) : Type 0 where
+-- `e` is the numbers of the second setup, with those of batch t moved
+pub record Extends (me : Point) (first second : Setup) (t : ℕ) (e : Trio (List ℕ)) : Type 0 where
   pub own : member e me ≡ member second.numbers me
   pub lengths : (j : Point) → length (member e j) ≡ length (member second.numbers j)
   pub moves : (j : Point) → j ≢ me → (k : ℕ) → k < draws_in (coming first t).act →
@@ -50,11 +50,11 @@ pub record Extends (me : Point) (first second : Opening) (t : ℕ) (e : Trio (Li
   pub below : (j : Point) (n : ℕ) → n < (shared_at first t).drawn → slice_index (member e j) n ≡ slice_index (member second.numbers j) n
   pub beyond : (j : Point) (n : ℕ) → (shared_at first t).drawn + draws_in (coming first t).act ≤ n → slice_index (member e j) n ≡ slice_index (member second.numbers j) n
 
-module _ (next : ℕ → List ℕ → Batch) (me : Point) (rounds : ℕ) (w w' : World) (may : MayMap next me rounds w w') (numbers d : Trio (List ℕ)) (t : ℕ) (here : t < rounds) where
-  abbrev first : Opening
+module _ (next : ℕ → List ℕ → Batch) (me : Point) (rounds : ℕ) (w w' : Secrets) (may : MayMap next me rounds w w') (numbers d : Trio (List ℕ)) (t : ℕ) (here : t < rounds) where
+  abbrev first : Setup
   first = begin_in next w numbers
 
-  abbrev second : Trio (List ℕ) → Opening
+  abbrev second : Trio (List ℕ) → Setup
   second x = begin_in next w' x
 
   pub stands_alike : GateMapped me t first (second d) → (u : ℕ) → u ≤ t → Alike me (shared_at first u) (shared_at (second d) u)

@@ -12,9 +12,9 @@ use Rattle.beet_gates.specs.Scripts.{deals_in}
 use Rattle.beet_gates.specs.declared.Act.{Act}
 use Rattle.beet_gates.specs.declared.Act.TheVariants.{Deal, Mul, Reveal, End}
 use Rattle.beet_gates.proofs.EachFacts.{map-each}
-use Rattle.beet_server.specs.Runs.{Shared, act_among, draws_in, gained, opened_by}
+use Rattle.beet_sharing.specs.Runs.{Shared, act_among, draws_in, gained, opened_by}
 use Rattle.beet_map.specs.Steps.{dealing, hidden_line, lines_gained, product_line}
-use Rattle.beet_map.specs.Worlds.{shares_of}
+use Rattle.beet_map.specs.Secrets.{shares_of}
 
 pub shares_gained : (a : Act) (masks numbers : Trio (List ℕ)) (s : Shared) (i : Point) →
     shares_of (lines_gained a masks numbers s) i ≡ gained (dealing masks numbers) s a i

@@ -13,11 +13,11 @@ use Rattle.beet_gates.specs.Deals.{deals_of}
 use Rattle.beet_gates.specs.Scripts.{HasWords, LawFrom, bounds_of, deals_in, start_of}
 use Rattle.beet_gates.specs.declared.Batch.{Batch}
 use Rattle.beet_gates.proofs.ClearAt.{ends-once, run-ends}
-use Rattle.beet_server.specs.Lines.{OnLines}
-use Rattle.beet_server.specs.Runs.{HasRounds, Opening, coming, shared_at}
-use Rattle.beet_server.proofs.LinesLaw.{at-one, same-act, same-rounds}
-use Rattle.beet_server.proofs.Walk.{Walks, deals-fit, draws-fit, walks}
-use Rattle.beet_map.specs.Worlds.{World, begin_in, shares_of, slopes_of, values_of}
+use Rattle.beet_sharing.specs.Lines.{OnLines}
+use Rattle.beet_sharing.specs.Runs.{HasRounds, Setup, coming, shared_at}
+use Rattle.beet_sharing.proofs.LinesLaw.{at-one, same-act, same-rounds}
+use Rattle.beet_sharing.proofs.Walk.{Walks, deals-fit, draws-fit, walks}
+use Rattle.beet_map.specs.Secrets.{Secrets, begin_in, shares_of, slopes_of, values_of}
 use Rattle.beet_map.specs.Premise.{HasRoom, clear_of, standing_of}
 use Rattle.beet_map.specs.Refused.{HasSecrets, LookSame, opened_in}
 use Rattle.beet_map.proofs.Alike.{member_trio}
@@ -56,7 +56,7 @@ each_enough numbers h Three = h.2
 
 module _ (next : ℕ → List ℕ → Batch) (most inputs masks wires coefficients : ℕ) (law : LawFrom next (bounds_of wires masks coefficients) most (start_of inputs) []) where
   -- the numbers that are opened at the end
-  module _ (w : World) (has : HasSecrets inputs masks w) where
+  module _ (w : Secrets) (has : HasSecrets inputs masks w) where
     law_here : LawFrom next (bounds_of wires masks coefficients) most (start_of (length (values_of w.inputs))) []
     law_here =
         subst (λ n. LawFrom next (bounds_of wires masks coefficients) most (start_of n) [])
@@ -80,7 +80,7 @@ module _ (next : ℕ → List ℕ → Batch) (most inputs masks wires coefficien
     pub rounds_are : (r : ℕ) → EndsAfter next (deals_of w.masks) (values_of w.inputs) r → r ≡ rounds_run next most (values_of w.inputs) w.masks
     rounds_are r h = ends-once next (deals_of w.masks) (values_of w.inputs) r (rounds_run next most (values_of w.inputs) w.masks) h ends_there
 
-  module _ (me : Point) (w w' : World) (has : HasSecrets inputs masks w) (has' : HasSecrets inputs masks w') (few : (k : ℕ) → IsElement (slice_index (values_of w.inputs) k))
+  module _ (me : Point) (w w' : Secrets) (has : HasSecrets inputs masks w) (has' : HasSecrets inputs masks w') (few : (k : ℕ) → IsElement (slice_index (values_of w.inputs) k))
       (few' : (k : ℕ) → IsElement (slice_index (values_of w'.inputs) k)) (same : LookSame next most masks me w w')
       (rounds : ℕ) (run : rounds ≡ rounds_run next most (values_of w.inputs) w.masks) where
     ends : EndsAfter next (deals_of w.masks) (values_of w.inputs) rounds
@@ -94,7 +94,7 @@ module _ (next : ℕ → List ℕ → Batch) (most inputs masks wires coefficien
         ends (ends_there w' has') t le
 
     module _ (numbers : Trio (List ℕ)) where
-      o : Opening
+      o : Setup
       o = begin_in next w numbers
 
       pub stands : (t : ℕ) → t ≤ rounds → Walks (begin_in next w numbers) (bounds_of wires masks coefficients) most t
@@ -110,7 +110,7 @@ module _ (next : ℕ → List ℕ → Batch) (most inputs masks wires coefficien
     words_same : (t : ℕ) → t < rounds → 0 < deals_in (next t (clear_of next w t).opened).act →
         slice_index (member w'.masks me) (clear_of next w t).dealt ≡ slice_index (member w.masks me) (clear_of next w t).dealt
     words_same t lt some =
-        let first : Opening = begin_in next w no_numbers in
+        let first : Setup = begin_in next w no_numbers in
         let lines = on_lines w.inputs few in
         let dealt : (shared_at first t).dealt ≡ (clear_of next w t).dealt = (at-one first (values_of w.inputs) (slopes_of w.inputs) lines t).dealt in
         let act : (coming first t).act ≡ (next t (clear_of next w t).opened).act = same-act first (values_of w.inputs) (slopes_of w.inputs) lines t in

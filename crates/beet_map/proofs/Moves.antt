@@ -6,7 +6,7 @@ use Rattle.beet_field.specs.declared.point.Point.TheVariants.{One, Two, Three}
 use Rattle.beet_shamir.specs.Line.{point_of, reshared}
 use Rattle.beet_gates.specs.declared.Act.{Act}
 use Rattle.beet_gates.specs.declared.Act.TheVariants.{Deal, Mul, Reveal, End}
-use Rattle.beet_server.specs.Runs.{secret_of}
+use Rattle.beet_sharing.specs.Runs.{secret_of}
 use Rattle.beet_field.specs.Trio.{trio_of}
 use Rattle.beet_map.specs.Mapped.{moved_of}
 

@@ -8,7 +8,7 @@ use Rattle.beet_gates.specs.declared.Act.{Act}
 use Rattle.beet_gates.specs.declared.Act.TheVariants.{Deal, Mul, Reveal, End}
 use Rattle.beet_gates.specs.declared.Batch.{Batch}
 use Rattle.beet_gates.proofs.ClearFacts.{opened-more}
-use Rattle.beet_map.specs.Worlds.{World, values_of}
+use Rattle.beet_map.specs.Secrets.{Secrets, values_of}
 use Rattle.beet_map.specs.Premise.{clear_of}
 use Rattle.beet_map.proofs.Unique.{split_at}
 
@@ -23,7 +23,7 @@ record Grows (xs ys : List ℕ) : Type 0 where
   more : List ℕ
   is : ys ≡ xs ++ more
 
-module _ (next : ℕ → List ℕ → Batch) (w : World) where
+module _ (next : ℕ → List ℕ → Batch) (w : Secrets) where
   grows_by : (t n : ℕ) → Grows (clear_of next w t).opened (clear_of next w (n + t)).opened
   grows_by t zero =
       let s : zero + t ≡ t = omega arith in
@@ -46,7 +46,7 @@ module _ (next : ℕ → List ℕ → Batch) (w : World) where
 pub fronts : (xs ys m n : List ℕ) → length ys ≡ length xs → ys ++ n ≡ xs ++ m → ys ≡ xs
 fronts xs ys m n len e = sym (take-append_seam ys n) ∙ (λ i. take (len i) (e i)) ∙ take-append_seam xs m
 
-module _ (next : ℕ → List ℕ → Batch) (w w' : World) (r r' : ℕ) (all : (clear_of next w' r').opened ≡ (clear_of next w r).opened) where
+module _ (next : ℕ → List ℕ → Batch) (w w' : Secrets) (r r' : ℕ) (all : (clear_of next w' r').opened ≡ (clear_of next w r).opened) where
   along : (t : ℕ) → t ≤ r → t ≤ r' → (clear_of next w' t).opened ≡ (clear_of next w t).opened
   along zero le le' = refl
   along (suc t) le le' =

@@ -10,8 +10,8 @@ use Rattle.beet_gates.specs.Scripts.{deals_in}
 use Rattle.beet_gates.specs.declared.Act.{Act}
 use Rattle.beet_gates.specs.declared.Act.TheVariants.{Deal, Mul, Reveal, End}
 use Rattle.beet_gates.specs.declared.Batch.{Batch}
-use Rattle.beet_server.specs.Runs.{Opening, coming, draws_in, shared_at, standing_at}
-use Rattle.beet_map.specs.Worlds.{World, begin_in}
+use Rattle.beet_sharing.specs.Runs.{Setup, coming, draws_in, shared_at, standing_at}
+use Rattle.beet_map.specs.Secrets.{Secrets, begin_in}
 use Rattle.beet_map.specs.Mapped.{GateMapped, moved_of, number_at, secret_at}
 use Rattle.beet_map.proofs.Moves.{moved_back, secret_small}
 use Rattle.beet_map.specs.Premise.{MayMap, clear_of, standing_of}
@@ -25,18 +25,18 @@ level_act deals deals' (Reveal shown) v v' e = e
 level_act deals deals' End v v' e = e
 
 -- runs on values that have come as far, with the same numbers opened, deal as many words in the next batch
-pub level_next : (next : ℕ → List ℕ → Batch) (w w' : World) (t : ℕ) → (clear_of next w' t).opened ≡ (clear_of next w t).opened →
+pub level_next : (next : ℕ → List ℕ → Batch) (w w' : Secrets) (t : ℕ) → (clear_of next w' t).opened ≡ (clear_of next w t).opened →
     (clear_of next w' t).dealt ≡ (clear_of next w t).dealt → (clear_of next w' (suc t)).dealt ≡ (clear_of next w (suc t)).dealt
 level_next next w w' t opens e =
     (λ i. (act_on (deals_of w'.masks) (next t (opens i)).act (standing_of next w' t)).dealt)
     ∙ level_act (deals_of w.masks) (deals_of w'.masks) (next t (clear_of next w t).opened).act (standing_of next w t) (standing_of next w' t) e
 
-level_at : (next : ℕ → List ℕ → Batch) (rounds : ℕ) (w w' : World) → ((t : ℕ) → t ≤ rounds → (clear_of next w' t).opened ≡ (clear_of next w t).opened) →
+level_at : (next : ℕ → List ℕ → Batch) (rounds : ℕ) (w w' : Secrets) → ((t : ℕ) → t ≤ rounds → (clear_of next w' t).opened ≡ (clear_of next w t).opened) →
     (t : ℕ) → t ≤ rounds → (clear_of next w' t).dealt ≡ (clear_of next w t).dealt
 level_at next rounds w w' opens zero le = refl
 level_at next rounds w w' opens (suc t) le = level_next next w w' t (opens t (omega arith)) (level_at next rounds w w' opens t (omega arith))
 
-pub may_back : (next : ℕ → List ℕ → Batch) (me : Point) (rounds : ℕ) (w w' : World) → MayMap next me rounds w w' → MayMap next me rounds w' w
+pub may_back : (next : ℕ → List ℕ → Batch) (me : Point) (rounds : ℕ) (w w' : Secrets) → MayMap next me rounds w w' → MayMap next me rounds w' w
 may_back next me rounds w w' m = record {
   lines = m.lines';
   lines' = m.lines;
@@ -53,11 +53,11 @@ may_back next me rounds w w' m = record {
 abbrev pub AreElements : Trio (List ℕ) → Type 0
 AreElements numbers = (j : Point) (n : ℕ) → IsElement (slice_index (member numbers j) n)
 
-pub map_back : (next : ℕ → List ℕ → Batch) (me : Point) (rounds : ℕ) (w w' : World) → MayMap next me rounds w w' → (d d' : Trio (List ℕ)) → AreElements d →
+pub map_back : (next : ℕ → List ℕ → Batch) (me : Point) (rounds : ℕ) (w w' : Secrets) → MayMap next me rounds w w' → (d d' : Trio (List ℕ)) → AreElements d →
     GateMapped me rounds (begin_in next w d) (begin_in next w' d') → GateMapped me rounds (begin_in next w' d') (begin_in next w d)
 map_back next me rounds w w' may d d' small m =
-    let first : Opening = begin_in next w d in
-    let second : Opening = begin_in next w' d' in
+    let first : Setup = begin_in next w d in
+    let second : Setup = begin_in next w' d' in
     record {
       own = sym m.own;
       lengths = λ j. sym (m.lengths j);
@@ -74,7 +74,7 @@ map_back next me rounds w w' may d d' small m =
     }
 
 -- the numbers of the first world are the only ones that lead to those of the second
-pub only_one_back : (next : ℕ → List ℕ → Batch) (me : Point) (rounds : ℕ) (w w' : World) → MayMap next me rounds w w' → (d e d' : Trio (List ℕ)) →
+pub only_one_back : (next : ℕ → List ℕ → Batch) (me : Point) (rounds : ℕ) (w w' : Secrets) → MayMap next me rounds w w' → (d e d' : Trio (List ℕ)) →
     AreElements d → AreElements e → GateMapped me rounds (begin_in next w d) (begin_in next w' d') →
     GateMapped me rounds (begin_in next w e) (begin_in next w' d') → e ≡ d
 only_one_back next me rounds w w' may d e d' small small' m m' =

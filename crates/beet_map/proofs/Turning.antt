@@ -6,8 +6,8 @@ use Rattle.beet_field.specs.declared.point.Point.TheVariants.{One, Two, Three}
 use Rattle.beet_field.specs.declared.trio.Trio.{Trio}
 use Rattle.beet_gates.specs.Scripts.{deals_in}
 use Rattle.beet_gates.specs.declared.Batch.{Batch}
-use Rattle.beet_server.specs.Runs.{Opening, Shared, act_among, coming, draws_in, secret_of, shared_at, standing_at, with_batch_lets}
-use Rattle.beet_map.specs.Worlds.{World, begin_in}
+use Rattle.beet_sharing.specs.Runs.{Setup, Shared, act_among, coming, draws_in, secret_of, shared_at, standing_at, with_batch_lets}
+use Rattle.beet_map.specs.Secrets.{Secrets, begin_in}
 use Rattle.beet_map.specs.Mapped.{GateMapped, moved_of}
 use Rattle.beet_map.specs.Premise.{MayMap, HasRoom}
 use Rattle.beet_map.specs.Steps.{HasEnough, MovesBatch, dealing}
@@ -15,13 +15,13 @@ use Rattle.beet_map.proofs.Moves.{same_or}
 use Rattle.beet_map.proofs.Alike.{Alike}
 use Rattle.beet_map.proofs.Extending.{Extends, stands_alike, stays_at, extended}
 
-module _ (next : ℕ → List ℕ → Batch) (me : Point) (rounds : ℕ) (w w' : World) (may : MayMap next me rounds w w') (drawn numbers : Trio (List ℕ)) (t : ℕ) (lt : t < rounds)
+module _ (next : ℕ → List ℕ → Batch) (me : Point) (rounds : ℕ) (w w' : Secrets) (may : MayMap next me rounds w w') (drawn numbers : Trio (List ℕ)) (t : ℕ) (lt : t < rounds)
     (room : HasRoom rounds (begin_in next w drawn) w') (mapped : GateMapped me t (begin_in next w drawn) (begin_in next w' numbers)) (here there : Shared)
     (first : here ≡ shared_at (begin_in next w drawn) t) (second : there ≡ shared_at (begin_in next w' numbers) t) (b : Batch) (is : b ≡ next t here.opened) where
-  abbrev o : Opening
+  abbrev o : Setup
   o = begin_in next w drawn
 
-  abbrev o' : Opening
+  abbrev o' : Setup
   o' = begin_in next w' numbers
 
   alike : Alike me (shared_at o t) (shared_at o' t)

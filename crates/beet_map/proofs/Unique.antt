@@ -12,8 +12,8 @@ use Rattle.beet_gates.specs.declared.Act.{Act}
 use Rattle.beet_gates.specs.declared.Act.TheVariants.{Deal, Mul, Reveal, End}
 use Rattle.beet_gates.specs.declared.Batch.{Batch}
 use Rattle.beet_gates.proofs.EachFacts.{each-same}
-use Rattle.beet_server.specs.Runs.{Opening, Shared, act_among, coming, draws_in, gained, hidden_at, opened_by, product_at, secret_hidden, shared_at, standing_at, with_batch_lets}
-use Rattle.beet_map.specs.Worlds.{World, begin_in}
+use Rattle.beet_sharing.specs.Runs.{Setup, Shared, act_among, coming, draws_in, gained, hidden_at, opened_by, product_at, secret_hidden, shared_at, standing_at, with_batch_lets}
+use Rattle.beet_map.specs.Secrets.{Secrets, begin_in}
 use Rattle.beet_map.specs.Mapped.{GateMapped, moved_of, number_at, secret_at}
 use Rattle.beet_map.proofs.Moves.{same_or}
 use Rattle.beet_map.specs.Premise.{MayMap}
@@ -23,11 +23,11 @@ pub split_at : (n u : ℕ) → (n < u) ⊎ (u ≤ n)
 split_at n u = grind arith
 
 -- a batch depends on its own draws alone
-module _ (next : ℕ → List ℕ → Batch) (w : World) (numbers numbers' : Trio (List ℕ)) (s : Shared) where
-  abbrev old : Opening
+module _ (next : ℕ → List ℕ → Batch) (w : Secrets) (numbers numbers' : Trio (List ℕ)) (s : Shared) where
+  abbrev old : Setup
   old = begin_in next w numbers
 
-  abbrev new : Opening
+  abbrev new : Setup
   new = begin_in next w numbers'
 
   abbrev pub SameDraws : Act → Type 0
@@ -57,14 +57,14 @@ module _ (next : ℕ → List ℕ → Batch) (w : World) (numbers numbers' : Tri
       }
 
 -- each number below the count of those drawn was drawn in some batch
-pub record DrawnIn (o : Opening) (rounds n : ℕ) : Type 0 where
+pub record DrawnIn (o : Setup) (rounds n : ℕ) : Type 0 where
   pub batch : ℕ
   pub place : ℕ
   pub early : batch < rounds
   pub within : place < draws_in (coming o batch).act
   pub there : (shared_at o batch).drawn + place ≡ n
 
-pub drawn_in : (o : Opening) (t n : ℕ) → n < (shared_at o t).drawn → DrawnIn o t n
+pub drawn_in : (o : Setup) (t n : ℕ) → n < (shared_at o t).drawn → DrawnIn o t n
 drawn_in o zero n lt = absurd (omega arith)
 drawn_in o (suc t) n lt =
     let u : ℕ = (shared_at o t).drawn in
@@ -83,11 +83,11 @@ drawn_in o (suc t) n lt =
     (split_at n u)
 
 -- two lists of numbers that both follow from the first world are the same
-module _ (next : ℕ → List ℕ → Batch) (me : Point) (rounds : ℕ) (w w' : World) (may : MayMap next me rounds w w') (numbers : Trio (List ℕ)) where
-  abbrev first : Opening
+module _ (next : ℕ → List ℕ → Batch) (me : Point) (rounds : ℕ) (w w' : Secrets) (may : MayMap next me rounds w w') (numbers : Trio (List ℕ)) where
+  abbrev first : Setup
   first = begin_in next w numbers
 
-  abbrev second : Trio (List ℕ) → Opening
+  abbrev second : Trio (List ℕ) → Setup
   second d = begin_in next w' d
 
   module _ (d e : Trio (List ℕ)) (m : GateMapped me rounds first (second d)) (m' : GateMapped me rounds first (second e)) where

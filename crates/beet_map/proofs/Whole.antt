@@ -9,10 +9,10 @@ use Rattle.beet_words.specs.Words.{accepted}
 use Rattle.beet_gates.specs.Clear.{EndsAfter, is_end}
 use Rattle.beet_gates.specs.Deals.{deals_of}
 use Rattle.beet_gates.specs.declared.Batch.{Batch}
-use Rattle.beet_server.specs.Runs.{HasRounds, Opening, coming, numbers_of, rounds_among}
-use Rattle.beet_server.proofs.LinesLaw.{same-rounds}
-use Rattle.beet_server.proofs.Rounds.{among-rounds}
-use Rattle.beet_map.specs.Worlds.{World, begin_in, slopes_of, values_of}
+use Rattle.beet_sharing.specs.Runs.{HasRounds, Setup, coming, numbers_of, rounds_among}
+use Rattle.beet_sharing.proofs.LinesLaw.{same-rounds}
+use Rattle.beet_sharing.proofs.Rounds.{among-rounds}
+use Rattle.beet_map.specs.Secrets.{Secrets, begin_in, slopes_of, values_of}
 use Rattle.beet_map.specs.Mapped.{AreWords, GateMapped, IsOnlyImage, IsOnlySource, LooksAlike, WordsLookAlike, WordsMapped, ones_in}
 use Rattle.beet_map.specs.Premise.{FitBack, MayMap, SamePlaces}
 use Rattle.beet_map.proofs.Alike.{alike_at, messages_at, same_batch, standing_alike_at}
@@ -35,7 +35,7 @@ all_same c d places same = λ i. record {
   three = words_same d.three c.three (places Three) (λ k. (same k).three) i;
 }
 
-pub fit_back : (me : Point) (rounds : ℕ) (first second : Opening) (c m : Trio (List ℕ)) → first.numbers ≡ numbers_of c → second.numbers ≡ m →
+pub fit_back : (me : Point) (rounds : ℕ) (first second : Setup) (c m : Trio (List ℕ)) → first.numbers ≡ numbers_of c → second.numbers ≡ m →
     GateMapped me rounds first second → FitBack c m
 fit_back me rounds first second c m is is' g =
     let each : (j : Point) → length (member m j) ≡ length (member (numbers_of c) j) =
@@ -43,12 +43,12 @@ fit_back me rounds first second c m is is' g =
     record { one = each One; two = each Two; three = each Three }
 
 -- two worlds that look alike to a server, and the rounds of their runs
-pub record AreAlike (next : ℕ → List ℕ → Batch) (most : ℕ) (me : Point) (rounds : ℕ) (w w' : World) : Type 0 where
+pub record AreAlike (next : ℕ → List ℕ → Batch) (most : ℕ) (me : Point) (rounds : ℕ) (w w' : Secrets) : Type 0 where
   pub may : MayMap next me rounds w w'
   pub ends : EndsAfter next (deals_of w.masks) (values_of w.inputs) rounds
   pub few : rounds ≤ most
 
-module _ (next : ℕ → List ℕ → Batch) (most : ℕ) (me : Point) (rounds : ℕ) (w w' : World) (a : AreAlike next most me rounds w w') where
+module _ (next : ℕ → List ℕ → Batch) (most : ℕ) (me : Point) (rounds : ℕ) (w w' : Secrets) (a : AreAlike next most me rounds w w') where
   has_rounds : (numbers : Trio (List ℕ)) → HasRounds (begin_in next w numbers) rounds
   has_rounds numbers = (same-rounds (begin_in next w numbers) (values_of w.inputs) (slopes_of w.inputs) a.may.lines rounds).1 a.ends
 
@@ -60,8 +60,8 @@ module _ (next : ℕ → List ℕ → Batch) (most : ℕ) (me : Point) (rounds :
 
   looks : (n m : Trio (List ℕ)) → GateMapped me rounds (begin_in next w n) (begin_in next w' m) → LooksAlike me rounds (begin_in next w n) (begin_in next w' m)
   looks n m g =
-      let first : Opening = begin_in next w n in
-      let second : Opening = begin_in next w' m in
+      let first : Setup = begin_in next w n in
+      let second : Setup = begin_in next w' m in
       let coming_same : (t : ℕ) → t ≤ rounds → coming second t ≡ coming first t =
       λ t le. same_batch next me w w' n m rounds a.may g t (alike_at next me w w' n m rounds a.may g t le) in
       record {

@@ -1,4 +1,4 @@
-pub mod Worlds
+pub mod Secrets
 pub mod Mapped
 pub mod Refused
 pub mod Steps

@@ -8,21 +8,21 @@ use Rattle.beet_gates.specs.Clear.{Values, clear_at, with_lets}
 use Rattle.beet_gates.specs.Deals.{deals_of}
 use Rattle.beet_gates.specs.Scripts.{deals_in}
 use Rattle.beet_gates.specs.declared.Batch.{Batch}
-use Rattle.beet_server.specs.Lines.{OnLines}
-use Rattle.beet_server.specs.Runs.{Opening, coming, draws_in, shared_at}
+use Rattle.beet_sharing.specs.Lines.{OnLines}
+use Rattle.beet_sharing.specs.Runs.{Setup, coming, draws_in, shared_at}
 use Rattle.beet_map.specs.Mapped.{ones_in}
-use Rattle.beet_map.specs.Worlds.{World, shares_of, slopes_of, values_of}
+use Rattle.beet_map.specs.Secrets.{Secrets, shares_of, slopes_of, values_of}
 
 -- the run on the values of a world
-abbrev pub clear_of : (ℕ → List ℕ → Batch) → World → ℕ → Values
+abbrev pub clear_of : (ℕ → List ℕ → Batch) → Secrets → ℕ → Values
 clear_of next w t = clear_at next (deals_of w.masks) (values_of w.inputs) t
 
 -- the values in the batch that comes, once its lets are there
-abbrev pub standing_of : (ℕ → List ℕ → Batch) → World → ℕ → Values
+abbrev pub standing_of : (ℕ → List ℕ → Batch) → Secrets → ℕ → Values
 standing_of next w t = let v = clear_of next w t in record v { wires = with_lets v.wires (next t v.opened).lets.items }
 
 -- it speaks of runs on plain values alone, so that it holds before any number is drawn
-pub record MayMap (next : ℕ → List ℕ → Batch) (me : Point) (rounds : ℕ) (w w' : World) : Type 0 where
+pub record MayMap (next : ℕ → List ℕ → Batch) (me : Point) (rounds : ℕ) (w w' : Secrets) : Type 0 where
   pub lines : OnLines (values_of w.inputs) (slopes_of w.inputs) (trio_of (shares_of w.inputs))
   pub lines' : OnLines (values_of w'.inputs) (slopes_of w'.inputs) (trio_of (shares_of w'.inputs))
   pub inputs : shares_of w'.inputs me ≡ shares_of w.inputs me
@@ -31,7 +31,7 @@ pub record MayMap (next : ℕ → List ℕ → Batch) (me : Point) (rounds : ℕ
       slice_index (member w'.masks me) (clear_of next w t).dealt ≡ slice_index (member w.masks me) (clear_of next w t).dealt
 
 -- there are numbers and words for each batch of a run, and words for it in the second world
-pub record HasRoom (rounds : ℕ) (o : Opening) (w' : World) : Type 0 where
+pub record HasRoom (rounds : ℕ) (o : Setup) (w' : Secrets) : Type 0 where
   pub numbers : (t : ℕ) (j : Point) → t < rounds → (shared_at o t).drawn + draws_in (coming o t).act ≤ length (member o.numbers j)
   pub words : (t : ℕ) → t < rounds → (shared_at o t).dealt + deals_in (coming o t).act ≤ length o.masks.one
   pub words' : (t : ℕ) → t < rounds → (shared_at o t).dealt + deals_in (coming o t).act ≤ length w'.masks.one

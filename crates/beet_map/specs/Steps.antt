@@ -11,12 +11,12 @@ use Rattle.beet_gates.specs.Each.{each}
 use Rattle.beet_gates.specs.Scripts.{deals_in}
 use Rattle.beet_gates.specs.declared.Act.{Act}
 use Rattle.beet_gates.specs.declared.Act.TheVariants.{Deal, Mul, Reveal, End}
-use Rattle.beet_server.specs.Runs.{Opening, Shared, draws_in, pair_at, secret_of}
+use Rattle.beet_sharing.specs.Runs.{Setup, Shared, draws_in, pair_at, secret_of}
 use Rattle.beet_map.specs.Mapped.{moved_of}
-use Rattle.beet_map.specs.Worlds.{World}
+use Rattle.beet_map.specs.Secrets.{Secrets}
 
--- an opening with these words and numbers: an act looks at no more of it
-abbrev pub dealing : Trio (List ℕ) → Trio (List ℕ) → Opening
+-- a setup with these words and numbers: an act looks at no more of it
+abbrev pub dealing : Trio (List ℕ) → Trio (List ℕ) → Setup
 dealing masks numbers = record { next = λ done opened. end_batch; inputs = trio_of (λ i. []); masks = masks; numbers = numbers }
 
 -- the line with the k-th secret of a server as its value and the number that hides it as its slope
@@ -56,12 +56,12 @@ pub record MovesList (me : Point) (a : Act) (first : List ℕ) (word : ℕ) (sec
   pub same_length : length new ≡ length old
 
 -- the same of server j, from what two worlds' runs have come to
-abbrev pub MovesAt : Point → Act → World → Shared → World → Shared → Point → List ℕ → List ℕ → Type 0
+abbrev pub MovesAt : Point → Act → Secrets → Shared → Secrets → Shared → Point → List ℕ → List ℕ → Type 0
 MovesAt me a first here second there j old new =
     MovesList me a (member here.wires j) (slice_index (member first.masks j) here.dealt) (member there.wires j)
     (slice_index (member second.masks j) there.dealt) here.drawn old new
 
 -- the same of all servers but me
-pub record MovesBatch (me : Point) (a : Act) (first : World) (here : Shared) (second : World) (there : Shared) (old new : Trio (List ℕ)) : Type 0 where
+pub record MovesBatch (me : Point) (a : Act) (first : Secrets) (here : Shared) (second : Secrets) (there : Shared) (old new : Trio (List ℕ)) : Type 0 where
   pub own : member new me ≡ member old me
   pub others : (j : Point) → j ≢ me → MovesAt me a first here second there j (member old j) (member new j)

@@ -21,6 +21,3 @@ pub use numbers::number_at;
 pub use refusals::GateFault;
 pub use secrets::Secrets;
 pub use words::{numbers_in, word_of};
-
-#[cfg(test)]
-mod tests;

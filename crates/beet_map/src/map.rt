@@ -2,7 +2,7 @@
 
 ghost use Rattle.std.specs.Prelude.{IfErr, IfOk};
 ghost use Rattle.beet_gates.specs.Scripts.{HasWords};
-ghost use Rattle.beet_server.specs.Runs.{numbers_of};
+ghost use Rattle.beet_sharing.specs.Runs.{numbers_of};
 ghost use Rattle.beet_map.specs.Mapped.{IsOnlyImage, IsOnlySource, WordsLookAlike, WordsMapped};
 ghost use Rattle.beet_map.specs.Refused.{HasSecrets, LookSame, Refuses};
 

@@ -4,7 +4,7 @@ ghost use Rattle.std.specs.Prelude.{◌≡◌, ◌≤◌, ◌<◌, ℕ, IfErr, I
 ghost use Rattle.beet_field.specs.Field.{IsElement};
 ghost use Rattle.beet_gates.specs.Clear.{rounds_run};
 ghost use Rattle.beet_map.specs.Refused.{DifferFirst, HasSecrets, LookSame, Refuses, opened_in};
-ghost use Rattle.beet_map.specs.Worlds.{values_of};
+ghost use Rattle.beet_map.specs.Secrets.{values_of};
 ghost use Rattle.beet_map.specs.declared.refusals.GateFault.TheVariants.{OutOfMemory};
 
 use crate::secrets::Secrets;

@@ -1,11 +1,11 @@
-//! What the servers of a world hold.
+//! What a script hides.
 
 use beet_field::Trio;
 use beet_shamir::Line;
 use beet_words::WordList;
 use std::marker::Model;
 
-/// A world of a script: the inputs with their lines, and the mask words of each server.
+/// The secrets of a script: the inputs with their lines, and the mask words of each server.
 #[derive(Drop)]
 pub struct Secrets {
     pub inputs: Vec<Line>,
@@ -13,9 +13,9 @@ pub struct Secrets {
 }
 
 impl Model for Secrets {
-    ghost use Rattle.beet_map.specs.Worlds.{World};
+    ghost use Rattle.beet_map.specs.Secrets.{Secrets as Seen};
 
-    ghost Value = { World };
+    ghost Value = { Seen };
 
     ghost view = { λ a. record { inputs = a.inputs.items; masks = a.masks } };
 }

@@ -3,9 +3,9 @@
 ghost use Rattle.std.specs.Prelude.{◌≡◌, ◌≤◌, ◌<◌, ◌+◌, ◌++◌, [], IfOk, OnOk, length, map};
 ghost use Rattle.beet_field.specs.Trio.{member, trio_of};
 ghost use Rattle.beet_gates.specs.Scripts.{deals_in};
-ghost use Rattle.beet_server.specs.Runs.{act_among, draws_in, opened_at, opened_by, with_batch_lets};
+ghost use Rattle.beet_sharing.specs.Runs.{act_among, draws_in, opened_at, opened_by, with_batch_lets};
 ghost use Rattle.beet_map.specs.Steps.{dealing, lines_gained, HasEnough};
-ghost use Rattle.beet_map.specs.Worlds.{shares_of};
+ghost use Rattle.beet_map.specs.Secrets.{shares_of};
 
 use crate::moving::{draws, word_at};
 use crate::numbers::{Numbers, number_at};
@@ -28,7 +28,7 @@ pub(crate) struct Stage {
 }
 
 impl Model for Stage {
-    ghost use Rattle.beet_server.specs.Runs.{Shared};
+    ghost use Rattle.beet_sharing.specs.Runs.{Shared};
 
     ghost Value = { Shared };
 
@@ -65,11 +65,7 @@ fn append_opened(opened: &mut Vec<Fe>, wires: &Numbers, shown: &[u32]) -> Result
 {
     for wire in shown {
         let place = *wire as usize;
-        opened.push(recombine(Trio {
-            one: number_at(wires.one.as_slice(), place),
-            two: number_at(wires.two.as_slice(), place),
-            three: number_at(wires.three.as_slice(), place),
-        }))?;
+        opened.push(recombine(Trio::of(|at| number_at(wires.at(at), place))))?;
     }
     Ok(())
 }

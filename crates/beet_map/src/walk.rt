@@ -1,98 +1,42 @@
 //! The walk through both worlds, batch by batch.
 
 ghost use Rattle.std.specs.Prelude.{◌≡◌, ◌≤◌, ◌+◌, IfOk, length};
-ghost use Rattle.beet_field.specs.declared.point.Point.TheVariants.{One, Two, Three};
-ghost use Rattle.beet_server.specs.Runs.{draws_in};
+ghost use Rattle.beet_sharing.specs.Runs.{draws_in};
 ghost use Rattle.beet_map.specs.Mapped.{GateMapped};
 ghost use Rattle.beet_map.specs.Premise.{MayMap, HasRoom};
 ghost use Rattle.beet_map.specs.Steps.{HasEnough, MovesAt, MovesBatch};
-ghost use Rattle.beet_map.specs.Worlds.{begin_in};
+ghost use Rattle.beet_map.specs.Secrets.{begin_in};
 
 use crate::moving::{move_numbers, word_at};
 use crate::numbers::Numbers;
 use crate::secrets::Secrets;
 use crate::stage::Stage;
-use beet_field::Point;
+use beet_field::{Fe, Point};
 use beet_gates::{Act, Batch, Script};
 use std::alloc::{AllocError, Global};
 
-/// Moves the numbers that server 1 draws for an act.
-fn move_one(
+/// Moves the numbers that a server draws for an act, in its list.
+fn move_list(
     me: Point,
     act: &Act,
     first: &Secrets,
     here: &Stage,
     second: &Secrets,
     there: &Stage,
-    numbers: &mut Numbers,
+    server: Point,
+    list: &mut [Fe],
 )
-    requires { here.now.drawn + draws_in act.now ≤ length numbers.old.one }
-    ensures moved { MovesAt me act.now first.now here.now second.now there.now One
-        numbers.old.one numbers.new.one }
-    ensures others { numbers.new ≡ record numbers.old { one = numbers.new.one } }
+    requires { here.now.drawn + draws_in act.now ≤ length list.old }
+    ensures { MovesAt me act.now first.now here.now second.now there.now server list.old list.new }
 {
     move_numbers(
         me,
         act,
-        here.wires.one.as_slice(),
-        word_at(first.masks.one.as_slice(), here.dealt),
-        there.wires.one.as_slice(),
-        word_at(second.masks.one.as_slice(), there.dealt),
-        numbers.one.as_mut_slice(),
-        here.drawn,
-    );
-}
-
-/// Moves the numbers that server 2 draws for an act.
-fn move_two(
-    me: Point,
-    act: &Act,
-    first: &Secrets,
-    here: &Stage,
-    second: &Secrets,
-    there: &Stage,
-    numbers: &mut Numbers,
-)
-    requires { here.now.drawn + draws_in act.now ≤ length numbers.old.two }
-    ensures moved { MovesAt me act.now first.now here.now second.now there.now Two
-        numbers.old.two numbers.new.two }
-    ensures others { numbers.new ≡ record numbers.old { two = numbers.new.two } }
-{
-    move_numbers(
-        me,
-        act,
-        here.wires.two.as_slice(),
-        word_at(first.masks.two.as_slice(), here.dealt),
-        there.wires.two.as_slice(),
-        word_at(second.masks.two.as_slice(), there.dealt),
-        numbers.two.as_mut_slice(),
-        here.drawn,
-    );
-}
-
-/// Moves the numbers that server 3 draws for an act.
-fn move_three(
-    me: Point,
-    act: &Act,
-    first: &Secrets,
-    here: &Stage,
-    second: &Secrets,
-    there: &Stage,
-    numbers: &mut Numbers,
-)
-    requires { here.now.drawn + draws_in act.now ≤ length numbers.old.three }
-    ensures moved { MovesAt me act.now first.now here.now second.now there.now Three
-        numbers.old.three numbers.new.three }
-    ensures others { numbers.new ≡ record numbers.old { three = numbers.new.three } }
-{
-    move_numbers(
-        me,
-        act,
-        here.wires.three.as_slice(),
-        word_at(first.masks.three.as_slice(), here.dealt),
-        there.wires.three.as_slice(),
-        word_at(second.masks.three.as_slice(), there.dealt),
-        numbers.three.as_mut_slice(),
+        here.wires.at(server),
+        word_at(first.masks.get(server).as_slice(), here.dealt),
+        there.wires.at(server),
+        word_at(second.masks.get(server).as_slice(), there.dealt),
+        list,
         here.drawn,
     );
 }
@@ -111,18 +55,21 @@ fn move_batch(
     requires { HasEnough act.now first.now.masks numbers.old here.now }
     ensures { MovesBatch me act.now first.now here.now second.now there.now numbers.old numbers.new }
 {
+    let moved = |server: Point, list: &mut [Fe]| {
+        move_list(me, act, first, here, second, there, server, list);
+    };
     match me {
         Point::One => {
-            move_two(me, act, first, here, second, there, numbers);
-            move_three(me, act, first, here, second, there, numbers);
+            moved(Point::Two, numbers.two.as_mut_slice());
+            moved(Point::Three, numbers.three.as_mut_slice());
         }
         Point::Two => {
-            move_one(me, act, first, here, second, there, numbers);
-            move_three(me, act, first, here, second, there, numbers);
+            moved(Point::One, numbers.one.as_mut_slice());
+            moved(Point::Three, numbers.three.as_mut_slice());
         }
         Point::Three => {
-            move_one(me, act, first, here, second, there, numbers);
-            move_two(me, act, first, here, second, there, numbers);
+            moved(Point::One, numbers.one.as_mut_slice());
+            moved(Point::Two, numbers.two.as_mut_slice());
         }
     }
 }

@@ -4,9 +4,9 @@ ghost use Rattle.std.specs.Prelude.{◌≡◌, ◌≤◌, ◌<◌, ◌+◌, ◌%
 ghost use Rattle.beet_field.specs.Field.{p};
 ghost use Rattle.beet_gates.specs.Clear.{let_of, weighed, with_lets};
 ghost use Rattle.beet_gates.specs.Each.{each};
-ghost use Rattle.beet_server.specs.Runs.{draws_in, pair_at};
+ghost use Rattle.beet_sharing.specs.Runs.{draws_in, pair_at};
 ghost use Rattle.beet_map.specs.Steps.{hidden_line, product_line};
-ghost use Rattle.beet_map.specs.Worlds.{shares_of};
+ghost use Rattle.beet_map.specs.Secrets.{shares_of};
 
 use crate::moving::{draws, multiply, secret};
 use crate::numbers::{Numbers, number_at};
@@ -90,19 +90,11 @@ fn product(pairs: &[(u32, u32)], wires: &Numbers, numbers: &Numbers, drawn: usiz
 {
     let pair = pairs[k];
     // The list has this place, so a usize counts it.
-    let first = numbers.one.as_slice();
+    let _first = numbers.one.as_slice();
     let place = drawn + k;
     Line {
-        value: reshare(Trio {
-            one: multiply(wires.one.as_slice(), pair),
-            two: multiply(wires.two.as_slice(), pair),
-            three: multiply(wires.three.as_slice(), pair),
-        }),
-        slope: reshare(Trio {
-            one: number_at(first, place),
-            two: number_at(numbers.two.as_slice(), place),
-            three: number_at(numbers.three.as_slice(), place),
-        }),
+        value: reshare(Trio::of(|at| multiply(wires.at(at), pair))),
+        slope: reshare(Trio::of(|at| number_at(numbers.at(at), place))),
     }
 }
 

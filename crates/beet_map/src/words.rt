@@ -3,7 +3,7 @@
 ghost use Rattle.std.specs.Prelude.{◌≡◌, ◌∷◌, ◌++◌, [], ℕ, IfOk, OnOk, length, slice_index};
 ghost use Rattle.beet_field.specs.Field.{IsElement};
 ghost use Rattle.beet_words.specs.Words.{IsWord, accepted};
-ghost use Rattle.beet_server.specs.Runs.{numbers_of};
+ghost use Rattle.beet_sharing.specs.Runs.{numbers_of};
 ghost use Rattle.beet_map.specs.Mapped.{AreWords, ones_in};
 ghost use Rattle.beet_map.specs.Premise.{FitBack, SamePlaces};
 
@@ -66,7 +66,7 @@ fn put_back(alloc: Global, words: &[Word], numbers: &[Fe]) -> Result<WordList, A
     ensures numbers { IfOk result (λ back. accepted back ≡ numbers.now) }
     ensures places { IfOk result (λ back. ones_in back ≡ ones_in words.now) }
 {
-    let mut back = Vec::with_capacity(alloc, words.len())?;
+    let mut back = WordList::with_capacity(alloc, words.len())?;
     let mut place = 0;
     for word in words {
         if word.is_ones() {
@@ -76,7 +76,7 @@ fn put_back(alloc: Global, words: &[Word], numbers: &[Fe]) -> Result<WordList, A
             place += 1;
         }
     }
-    Ok(WordList::of(back))
+    Ok(back)
 }
 
 /// The words of each server with these numbers in the places of those that are not all ones.

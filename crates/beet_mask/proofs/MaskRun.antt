@@ -1,20 +1,20 @@
 -- What the block of a mask does in a clear run.
-use Rattle.std.proofs.Common.{◌≡◌, ℕ, zero, suc, ◌+◌, ◌*◌, ◌%◌, ◌^◌, ◌<◌, List, [], ◌∷◌, ◌++◌, map, length, slice_index, refl, ap, sym, ◌∙◌, arith, length-append, append_assoc, add-zero, add_assoc, one-mul}
+use Rattle.std.proofs.Common.{◌≡◌, ℕ, ◌+◌, ◌*◌, ◌%◌, ◌^◌, ◌<◌, List, [], ◌∷◌, ◌++◌, map, length, slice_index, refl, ap, sym, ◌∙◌, arith, length-append, append_assoc}
 use Rattle.std.specs.Prelude.{bit_xor}
 use Rattle.std.specs.Int.{bit_at}
 use Rattle.std.proofs.lemmas.Nat.{xor_lt}
 use Rattle.std.proofs.lemmas.Nat.Bits.{bit_at-lt, bit_at_xor}
-use Rattle.beet_gates.specs.declared.Batch.{Batch}
-use Rattle.beet_gates.specs.Batches.{deal_batch, mul_batch, reveal_batch}
+use Rattle.beet_gates.specs.Batches.{deal_batch, mul_batch}
 use Rattle.beet_gates.specs.Clear.{Values, with_lets, let_of, product_of, batches_on}
 use Rattle.beet_gates.specs.Deals.{dealt_bits}
 use Rattle.beet_gates.specs.Each.{each}
-use Rattle.beet_gates.proofs.EachFacts.{length-each, each-one, each-zero, each-suc, each-same}
-use Rattle.beet_gates.proofs.Segments.{Holds, holds-append, holds-new, holds-dealt, with_lets-each, products-each, batches_on-append}
+use Rattle.beet_gates.proofs.EachFacts.{length-each, each-same}
+use Rattle.beet_gates.proofs.Segments.{Holds, holds-append, holds-new, holds-dealt, with_lets-each, products-each}
 use Rattle.beet_gates.proofs.Sums.{value-three_terms}
 use Rattle.beet_gates.proofs.Bits.{mul_of-bits, xor_sum}
-use Rattle.beet_mask.specs.Mask.{mask_batches, mask_of, xor_let, AfterMask}
-use Rattle.beet_mask.proofs.MaskMeaning.{ones_below, ones_below-lt, product-of_bits}
+use Rattle.beet_gates.specs.declared.Gates.{Gates}
+use Rattle.beet_mask.specs.Mask.{mask_batches, mask_of, product_batches, xor_let, AfterMask}
+use Rattle.beet_mask.proofs.ProductRun.{product-run}
 
 -- a combination x + y - 2xy of wires that hold bits
 xor_let-value : (wires : List ℕ) (i j k x y : ℕ) → x < 2 → y < 2 →
@@ -44,45 +44,21 @@ lets-xor wires i j m n f g hf hg ef eg em =
     ((holds-append wires _ j n g eg).at k l)
     ((holds-append wires _ m n _ em).at k l))
 
--- the chain of products: the item at i is the product of the bits 0 to i + 1
-abbrev chain : ℕ → ℕ → ℕ
-chain r i = ones_below r (suc (suc i))
-
--- one product
-chain_batch : ℕ → ℕ → Batch
-chain_batch first j = mul_batch [] ((first + 427 + j, first + 368 + j) ∷ [])
-
-chain-run : (deals : ℕ → List ℕ) (first r : ℕ) (v : Values) (wires : List ℕ) → length wires ≡ first + 427 →
-    Holds wires (first + 366) 61 (bit_at r) → v.wires ≡ wires ++ each (chain r) 1 → (n : ℕ) → n < 60 →
-    batches_on deals (each (λ j. mul_batch [] ((first + 427 + j, first + 368 + j) ∷ [])) n) v ≡ record v { wires = wires ++ each (chain r) (suc n) }
-chain-run deals first r v wires len bits now zero h =
-    rw (each-zero (λ (j : ℕ). mul_batch [] ((first + 427 + j, first + 368 + j) ∷ []))) (ap (λ (l : List ℕ). record v { wires = l }) now)
-chain-run deals first r v wires len bits now (suc n) h =
-    let rule = λ (j : ℕ). mul_batch [] ((first + 427 + j, first + 368 + j) ∷ []) in
-    let m : batches_on deals (each rule n) v ≡ record v { wires = wires ++ each (chain r) (suc n) } =
-    chain-run deals first r v wires len bits now n (omega arith) in
-    let before = wires ++ each (chain r) (suc n) in
-    let t : slice_index before (first + 427 + n) ≡ chain r n = (holds-new wires (first + 427) (suc n) (chain r) len).at n (omega arith) in
-    let place : first + 368 + n ≡ first + 366 + suc (suc n) = omega arith in
-    let b : slice_index before (first + 368 + n) ≡ bit_at r (suc (suc n)) =
-    rw place ((holds-append wires _ (first + 366) 61 _ bits).at (suc (suc n)) (omega arith)) in
-    let product : product_of before (first + 427 + n, first + 368 + n) ≡ chain r (suc n) =
-    rw (t, b) (mul_of-bits (chain r n) (bit_at r (suc (suc n))) (ones_below-lt r (suc (suc n))) (bit_at-lt r (suc (suc n)))) in
-    rw (each-suc rule n, batches_on-append deals (each rule n) (rule n ∷ []) v, m, product)
-    (ap (λ (l : List ℕ). record v { wires = l })
-    (append_assoc wires (each (chain r) (suc n)) (chain r (suc n) ∷ []) ∙ ap (λ (l : List ℕ). wires ++ l) (sym (each-suc (chain r) (suc n)))))
+-- one segment more
+len-segment : (wires : List ℕ) (f : ℕ → ℕ) (start n : ℕ) → length wires ≡ start → length (wires ++ each f n) ≡ start + n
+len-segment wires f start n e = omega (arith, length-append wires (each f n), length-each f n)
 
 -- the exclusive or of the bits is the bit of the mask
 mask-bit : (a b c k : ℕ) → ((bit_at a k + bit_at b k) % 2 + bit_at c k) % 2 ≡ bit_at (mask_of a b c) k
 mask-bit a b c k = sym (bit_at_xor (bit_xor a b) c k ∙ ap (λ n. (n + bit_at c k) % 2) (bit_at_xor a b k))
 
--- one segment more
-len-segment : (wires : List ℕ) (f : ℕ → ℕ) (start n : ℕ) → length wires ≡ start → length (wires ++ each f n) ≡ start + n
-len-segment wires f start n e = omega (arith, length-append wires (each f n), length-each f n)
+-- seven lists one after another
+joined : (w a b c d e f : List ℕ) → w ++ a ++ b ++ c ++ d ++ (e ++ f) ≡ w ++ (a ++ (b ++ (c ++ (d ++ (e ++ f)))))
+joined w a b c d e f = simp append_assoc
 
-pub mask-run : (deals : ℕ → List ℕ) (first a b c : ℕ) (v : Values) → a < 2 ^ 61 → b < 2 ^ 61 → c < 2 ^ 61 → length v.wires ≡ first → deals v.dealt ≡ dealt_bits a b c →
-    AfterMask first (mask_of a b c) v (batches_on deals (mask_batches first) v)
-mask-run deals first a b c v small_a small_b small_c len dealt =
+pub mask-run : (deals : ℕ → List ℕ) (gates : Gates) (first a b c : ℕ) (v : Values) → a < 2 ^ 61 → b < 2 ^ 61 → c < 2 ^ 61 → length v.wires ≡ first → deals v.dealt ≡ dealt_bits a b c →
+    AfterMask first (mask_of a b c) v (batches_on deals (mask_batches gates first) v)
+mask-run deals gates first a b c v small_a small_b small_c len dealt =
     let r = mask_of a b c in
     let W = λ (k : ℕ). (bit_at a k + bit_at b k) % 2 in
     let small : (k : ℕ) → W k < 2 = λ k. omega arith in
@@ -116,39 +92,26 @@ mask-run deals first a b c v small_a small_b small_c len dealt =
     lets-xor four (first + 244) (first + 122) (first + 305) 61 W (bit_at c) small (bit_at-lt c)
     (holds-append three _ (first + 244) 61 _ w_here) (holds-append three _ (first + 122) 61 _ z_here) (holds-new three (first + 305) 61 V len_three)
     ∙ ap (λ (l : List ℕ). four ++ l) same in
-    let five = four ++ each (bit_at r) 61 in
-    let len_five : length five ≡ first + 427 = omega (arith, len-segment four (bit_at r) (first + 366) 61 len_four) in
-    let bits = holds-new four (first + 366) 61 (bit_at r) len_four in
-    -- the products of the first bits
-    let x0 : slice_index five (first + 366) ≡ bit_at r 0 = rw add-zero at (bits.at 0 (omega arith)) in
-    let x1 : slice_index five (first + 367) ≡ bit_at r 1 = rw add_assoc at (bits.at 1 (omega arith)) in
-    let x : product_of five (first + 366, first + 367) ≡ chain r 0 =
-    rw (x0, x1) (mul_of-bits (bit_at r 0) (bit_at r 1) (bit_at-lt r 0) (bit_at-lt r 1) ∙ ap (λ n. n * bit_at r 1) (sym (one-mul (bit_at r 0)))) in
-    let six : Values = record { wires = five ++ chain r 0 ∷ []; opened = v.opened; dealt = v.dealt + 1 } in
-    let y : batches_on deals (each (λ j. mul_batch [] ((first + 427 + j, first + 368 + j) ∷ [])) 59) six ≡ record six { wires = five ++ each (chain r) 60 } =
-    chain-run deals first r six five len_five bits (ap (λ (l : List ℕ). five ++ l) (sym (each-one (chain r)))) 59 (omega arith) in
-    let z : slice_index (five ++ each (chain r) 60) (first + 486) ≡ ones_below r 61 =
-    rw add_assoc at ((holds-new five (first + 427) 60 (chain r) len_five).at 59 (omega arith)) in
+    -- their product
+    let begun : Values = record { wires = four; opened = v.opened; dealt = v.dealt + 1 } in
+    let small_r : r < 2 ^ 61 = xor_lt 61 (bit_xor a b) c (xor_lt 61 a b small_a small_b) small_c in
+    let m = product-run deals gates first r begun (record { len = len_four; lets = t; small = small_r }) in
+    let len_five = len-segment four (bit_at r) (first + 366) 61 len_four in
+    let bits = holds-append (four ++ each (bit_at r) 61) m.more (first + 366) 61 (bit_at r) (holds-new four (first + 366) 61 (bit_at r) len_four) in
     let front =
     deal_batch
     ∷ mul_batch [] (each (λ (k : ℕ). (first + k, first + 61 + k)) 61)
     ∷ mul_batch (each (λ (k : ℕ). xor_let (first + k) (first + 61 + k) (first + 183 + k)) 61) (each (λ (k : ℕ). (first + 244 + k, first + 122 + k)) 61)
-    ∷ mul_batch (each (λ (k : ℕ). xor_let (first + 244 + k) (first + 122 + k) (first + 305 + k)) 61) ((first + 366, first + 367) ∷ [])
     ∷ [] in
-    let rule = λ (j : ℕ). mul_batch [] ((first + 427 + j, first + 368 + j) ∷ []) in
-    let last = reveal_batch [] ((first + 486) ∷ []) ∷ [] in
-    let begun : batches_on deals front v ≡ six = rw (dealt, p, q, s, t, x) refl in
-    let e : batches_on deals (mask_batches first) v ≡ record { wires = five ++ each (chain r) 60; opened = v.opened ++ ones_below r 61 ∷ []; dealt = v.dealt + 1 } =
-    batches_on-append deals front (each rule 59 ++ last) v
-    ∙ ap (batches_on deals (each rule 59 ++ last)) begun
-    ∙ batches_on-append deals (each rule 59) last six
-    ∙ ap (batches_on deals last) y
-    ∙ ap (λ (n : ℕ). record { wires = five ++ each (chain r) 60; opened = v.opened ++ n ∷ []; dealt = v.dealt + 1 }) z in
+    let start : batches_on deals front v ≡ begun = rw (dealt, p, q, s) refl in
+    let e : batches_on deals (mask_batches gates first) v ≡ batches_on deals (product_batches gates first) begun =
+    ap (batches_on deals (product_batches gates first)) start in
+    let wires = m.wires ∙ sym (append_assoc four (each (bit_at r) 61) m.more) in
     rw e (record {
-      more = dealt_bits a b c ++ (each U 61 ++ (each W 61 ++ (each V 61 ++ (each (bit_at r) 61 ++ each (chain r) 60))));
-      wires = simp append_assoc;
-      len = omega (arith, len-segment five (chain r) (first + 427) 60 len_five);
-      bits = (holds-append five _ (first + 366) 61 _ bits).at;
-      opened = ap (λ (n : ℕ). v.opened ++ n ∷ []) (product-of_bits r (xor_lt 61 (bit_xor a b) c (xor_lt 61 a b small_a small_b) small_c));
-      dealt = refl;
+      more = dealt_bits a b c ++ (each U 61 ++ (each W 61 ++ (each V 61 ++ (each (bit_at r) 61 ++ m.more))));
+      wires = m.wires ∙ joined v.wires (dealt_bits a b c) (each U 61) (each W 61) (each V 61) (each (bit_at r) 61) m.more;
+      len = rw wires (omega (arith, length-append (four ++ each (bit_at r) 61) m.more, len_five, m.len));
+      bits = rw wires bits.at;
+      opened = m.opened;
+      dealt = m.dealt;
     })

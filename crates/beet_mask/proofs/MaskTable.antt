@@ -1,45 +1,58 @@
 -- The batch at each step of the block of a mask.
-use Rattle.std.proofs.Common.{◌≡◌, ◌↔◌, ℕ, zero, suc, ◌+◌, ◌-◌, ◌<◌, ◌≤◌, List, [], ◌∷◌, length, slice_get, Some, None, refl, ap, ◌∙◌, arith, length-append}
-use Rattle.std.specs.Prelude.{IsNone}
+use Rattle.std.proofs.Common.{◌≡◌, ℕ, suc, ◌+◌, ◌-◌, ◌*◌, ◌/◌, ◌<◌, ◌≤◌, [], ◌∷◌, length, slice_get, true, Some, None, refl, ap, ◌∙◌, arith, length-append}
+use Rattle.std.specs.Prelude.{nat_lt}
+use Rattle.std.proofs.lemmas.Bool.Decides.{nat_tests}
 use Rattle.beet_gates.specs.Batches.{mul_batch, reveal_batch}
 use Rattle.beet_gates.specs.Each.{each}
+use Rattle.beet_gates.specs.Levels.{next_item}
+use Rattle.beet_gates.proofs.LevelRuns.{next_item-result, pairs-same}
+use Rattle.beet_gates.specs.declared.Gates.{Gates}
+use Rattle.beet_gates.specs.declared.Gates.TheVariants.{Chain, Tree}
 use Rattle.beet_gates.proofs.EachFacts.{length-each, get-front, get-back, get-past}
 use Rattle.beet_gates.specs.Plans.{batch_at}
 use Rattle.beet_gates.proofs.PlanFacts.{batch-there}
-use Rattle.beet_mask.specs.Mask.{mask_batches}
+use Rattle.beet_mask.specs.Mask.{chain_batches, level_wire, mask_batches, mask_rounds_of}
 
-pub length-mask_batches : (first : ℕ) → length (mask_batches first) ≡ 64
-length-mask_batches first =
+length-chain_batches : (first : ℕ) → length (chain_batches first) ≡ 61
+length-chain_batches first =
     let rule = λ (j : ℕ). mul_batch [] ((first + 427 + j, first + 368 + j) ∷ []) in
     omega (arith, length-append (each rule 59) (reveal_batch [] ((first + 486) ∷ []) ∷ []), length-each rule 59)
 
-pub mask-chain : (first step : ℕ) → 4 ≤ step → step ≤ 62 → slice_get (mask_batches first) step ≡ Some (mul_batch [] ((first + 423 + step, first + 364 + step) ∷ []))
-mask-chain first step low high =
-    let rule = λ (j : ℕ). mul_batch [] ((first + 427 + j, first + 368 + j) ∷ []) in
-    let k = step - 4 in
-    let e : step ≡ suc (suc (suc (suc k))) = omega arith in
-    let a : first + 423 + step ≡ first + 427 + k = omega arith in
-    let b : first + 364 + step ≡ first + 368 + k = omega arith in
-    rw (a, b) (ap (slice_get (mask_batches first)) e ∙ get-front rule 59 (reveal_batch [] ((first + 486) ∷ []) ∷ []) k (omega arith))
+pub length-mask_batches : (gates : Gates) (first : ℕ) → length (mask_batches gates first) ≡ mask_rounds_of gates
+length-mask_batches Chain first = omega (arith, length-chain_batches first)
+length-mask_batches Tree first = refl
 
-pub mask-last : (first : ℕ) → slice_get (mask_batches first) 63 ≡ Some (reveal_batch [] ((first + 486) ∷ []))
-mask-last first =
+pub chain-next : (first step : ℕ) → 1 ≤ step → step ≤ 59 → slice_get (chain_batches first) step ≡ Some (mul_batch [] ((first + 426 + step, first + 366 + (step + 1)) ∷ []))
+chain-next first step low high =
+    let rule = λ (j : ℕ). mul_batch [] ((first + 427 + j, first + 368 + j) ∷ []) in
+    let k = step - 1 in
+    let e : step ≡ suc k = omega arith in
+    let a : first + 426 + step ≡ first + 427 + k = omega arith in
+    let b : first + 366 + (step + 1) ≡ first + 368 + k = omega arith in
+    rw (a, b) (ap (slice_get (chain_batches first)) e ∙ get-front rule 59 (reveal_batch [] ((first + 486) ∷ []) ∷ []) k (omega arith))
+
+pub chain-last : (first : ℕ) → slice_get (chain_batches first) 60 ≡ Some (reveal_batch [] ((first + 486) ∷ []))
+chain-last first =
     let rule = λ (j : ℕ). mul_batch [] ((first + 427 + j, first + 368 + j) ∷ []) in
     get-back rule 59 (reveal_batch [] ((first + 486) ∷ []) ∷ []) 0
 
--- there is no item exactly past the end
-none-past : {A : Type 0} → (xs : List A) (k : ℕ) → IsNone (slice_get xs k) ↔ (length xs ≤ k)
-none-past [] k = (λ h. omega arith, λ h. refl)
-none-past (x ∷ xs) zero = (λ h. cc h, λ h. absurd (omega arith))
-none-past (x ∷ xs) (suc k) = let e = none-past xs k in (λ h. omega (arith, e.0 h), λ h. e.1 (omega arith))
+pub chain-past : (first step : ℕ) → 61 ≤ step → slice_get (chain_batches first) step ≡ None
+chain-past first step h = get-past (chain_batches first) step (omega (arith, length-chain_batches first))
 
-pub mask-none : (first step : ℕ) → IsNone (slice_get (mask_batches first) step) ↔ (64 ≤ step)
-mask-none first step =
-    let e = none-past (mask_batches first) step in
-    (λ h. omega (arith, e.0 h, length-mask_batches first), λ h. e.1 (omega (arith, length-mask_batches first)))
+-- a level of a tree whose pairs reach no carried item
+pub level-plain : (first start results n free : ℕ) (item : ℕ → ℕ) (pairs : ℕ) → 2 * pairs ≤ results → 2 * pairs ≤ n / 2 → start ≡ free →
+    each {A = ℕ × ℕ} (λ i. (level_wire first start results (2 * i), level_wire first start results (2 * i + 1))) pairs
+    ≡ each {A = ℕ × ℕ} (λ i. (next_item n item (λ k. free + k) (2 * i), next_item n item (λ k. free + k) (2 * i + 1))) pairs
+level-plain first start results n free item pairs few most e =
+    let pair : ℕ → ℕ → ℕ × ℕ = λ left right. (left, right) in
+    pairs-same pair (level_wire first start results) (next_item n item (λ k. free + k)) pairs
+    (λ k l.
+    let t : nat_lt k results ≡ true = grind (arith, nat_tests) in
+    rw (t, next_item-result n k item (λ i. free + i) (omega (arith, l, most)), e) refl)
 
-pub mask-past : (first step : ℕ) → 64 ≤ step → slice_get (mask_batches first) step ≡ None
-mask-past first step h = get-past (mask_batches first) step (omega (arith, length-mask_batches first))
+module _ (gates : Gates) (first step : ℕ) where
+  pub mask-past : mask_rounds_of gates ≤ step → slice_get (mask_batches gates first) step ≡ None
+  mask-past h = get-past (mask_batches gates first) step (omega (arith, h, length-mask_batches gates first))
 
-pub mask-there : (first step : ℕ) → step < 64 → Some (batch_at (mask_batches first) step) ≡ slice_get (mask_batches first) step
-mask-there first step h = batch-there (mask_batches first) step (omega (arith, length-mask_batches first))
+  pub mask-there : step < mask_rounds_of gates → Some (batch_at (mask_batches gates first) step) ≡ slice_get (mask_batches gates first) step
+  mask-there h = batch-there (mask_batches gates first) step (omega (arith, h, length-mask_batches gates first))

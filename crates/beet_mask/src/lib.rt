@@ -3,33 +3,27 @@
 //! The product of the bits of the mask is opened. Where it is 1, all bits are 1 and the mask is to be rejected.
 #![tactic(auto)]
 
-ghost use Rattle.std.specs.Prelude.{◌≡◌, ◌<◌, ◌≤◌, ◌+◌, ◌-◌, ◌^◌, ◌↔◌, ℕ, List, [], ◌∷◌, length, slice_get, IsNone};
+ghost use Rattle.std.specs.Prelude.{◌≡◌, ◌<◌, ◌≤◌, ◌+◌, ◌-◌, ◌*◌, ◌^◌, ◌↔◌, ℕ, List, [], ◌∷◌, length, slice_get, IsNone};
 ghost use Rattle.beet_field.specs.Field.{p};
 ghost use Rattle.beet_gates.specs.Batches.{mul_batch};
 ghost use Rattle.beet_gates.specs.Plans.{batch_at};
 ghost use Rattle.beet_gates.specs.Clear.{Values, batches_on};
 ghost use Rattle.beet_gates.specs.Deals.{dealt_bits};
 ghost use Rattle.beet_gates.specs.Each.{each};
-ghost use Rattle.beet_mask.specs.Mask.{bit_wire_of, mask_rounds_of, mask_wires_of, mask_batches, mask_of, xor_let, AfterMask};
+ghost use Rattle.beet_gates.specs.Levels.{pair_at, wire_of};
+ghost use Rattle.beet_mask.specs.Mask.{bit_wire_of, level_wire, mask_rounds_of, mask_wires_of, bit_lets, chain_batches, product_batches, mask_batches, mask_of, xor_let, AfterMask};
 
 use arrayvec::ArrayVec;
-use beet_field::Fe;
-use beet_gates::{Act, Batch, Gates, Linear};
+use beet_field::{Fe, MINUS_TWO};
+use beet_gates::{
+    Act, Batch, Gates, LevelItems, Linear, MASK_WIRES, WIRES_BEFORE_BITS, level_pairs,
+};
 
-/// 2 less than the modulus.
-const MINUS_TWO: u128 = 2_305_843_009_213_693_949;
-
-/// The rounds of a block with chain gates: the deal, three products of words, one for each bit from the third on, and the opening.
+/// The rounds of a block with chain gates: the deal, two products of words, one for each bit from the second on, and the opening.
 const CHAIN_ROUNDS: u32 = 64;
 
-/// The rounds of a block with tree gates.
+/// The rounds of a block with tree gates: the deal, two products of words, one for each level of the tree, and the opening.
 const TREE_ROUNDS: u32 = 10;
-
-/// The wires of a block.
-const WIRES: u32 = 487;
-
-/// The wires of a block that stand before the bits of its mask.
-const WIRES_BEFORE_BITS: u32 = 366;
 
 /// How many rounds a block takes.
 pub fn mask_rounds(gates: Gates) -> u32
@@ -46,13 +40,13 @@ pub fn mask_wires(gates: Gates) -> u32
     ensures { result ≡ mask_wires_of gates }
 {
     match gates {
-        Gates::Chain | Gates::Tree => WIRES,
+        Gates::Chain | Gates::Tree => MASK_WIRES,
     }
 }
 
 /// The wire of bit `k` of the mask whose block begins at the wire `first`.
 pub fn bit_wire(first: u32, k: u32) -> u32
-    requires first { first + WIRES < 2 ^ 32 }
+    requires first { first + MASK_WIRES < 2 ^ 32 }
     requires bit { k < 61 }
     ensures { result ≡ bit_wire_of first k }
 {
@@ -112,10 +106,99 @@ fn set_words_product(batch: &mut Batch, left: u32, right: u32)
     batch.act = Act::Mul(bit_pairs(left, right));
 }
 
-/// Makes a batch the one at this step of a block with chain gates, or the end past it.
+/// Appends the bits of the mask.
+fn add_mask_bits(batch: &mut Batch, first: u32)
+    requires none { batch.old.lets.items ≡ [] }
+    requires first { first + MASK_WIRES < 2 ^ 32 }
+    ensures { batch.new ≡ record batch.old { lets = record { items = bit_lets first } } }
+{
+    add_bit_sums(first + 244, first + 122, first + 305, &mut batch.lets);
+}
+
+/// Makes a batch the one at this step after the products of words, with chain gates, or the end past it.
 fn refill_chain(step: u32, first: u32, batch: &mut Batch)
-    requires { first + mask_wires_of Gates.Chain < 2 ^ 32 }
-    ensures { batch.new ≡ batch_at (mask_batches first) step }
+    requires none { batch.old.lets.items ≡ [] }
+    requires first { first + MASK_WIRES < 2 ^ 32 }
+    ensures { batch.new ≡ batch_at (chain_batches first) step }
+{
+    match step {
+        0 => {
+            add_mask_bits(batch, first);
+            batch.set_product(bit_wire(first, 0), bit_wire(first, 1));
+        }
+        1..=59 => batch.set_product(first + 426 + step, bit_wire(first, step + 1)),
+        60 => batch.set_opening(first + 486),
+        _ => batch.set_end(),
+    }
+}
+
+/// `K` products of a list in pairs.
+fn products_in_pairs<const K: usize>(items: LevelItems) -> ArrayVec<(u32, u32), 64>
+    requires few { K ≤ 64 }
+    requires wires { items.start + items.step * items.results ≤ 2 ^ 32 }
+    ensures { result.items ≡ each (λ i. (wire_of items (pair_at i).0, wire_of items (pair_at i).1)) K }
+{
+    let places = level_pairs::<K>();
+    let mut pairs = ArrayVec::new();
+    for (left, right) in &places {
+        pairs.push((items.wire(*left), items.wire(*right)));
+    }
+    pairs
+}
+
+/// Multiplies a level of a tree, whose list has so many results from a wire on, after the same lets. What is carried is the last bit.
+fn set_level<const K: usize>(batch: &mut Batch, first: u32, start: u32, results: u32)
+    requires few { K ≤ 64 }
+    requires first { first + MASK_WIRES < 2 ^ 32 }
+    requires start { start + results ≤ first + MASK_WIRES }
+    ensures { batch.new ≡ mul_batch batch.old.lets.items
+        (each (λ i. (level_wire first start results (pair_at i).0, level_wire first start results (pair_at i).1)) K) }
+{
+    batch.act = Act::Mul(products_in_pairs::<K>(LevelItems {
+        start,
+        step: 1,
+        results,
+        carried: bit_wire(first, 60),
+    }));
+}
+
+/// Makes a batch the one at this step after the products of words, with tree gates, or the end past it.
+fn refill_tree(step: u32, first: u32, batch: &mut Batch)
+    requires none { batch.old.lets.items ≡ [] }
+    requires first { first + MASK_WIRES < 2 ^ 32 }
+    ensures { batch.new ≡ batch_at (product_batches Gates.Tree first) step }
+{
+    match step {
+        0 => {
+            add_mask_bits(batch, first);
+            set_level::<30>(batch, first, first + WIRES_BEFORE_BITS, 61);
+        }
+        1 => set_level::<15>(batch, first, first + 427, 30),
+        2 => set_level::<8>(batch, first, first + 457, 15),
+        3 => set_level::<4>(batch, first, first + 472, 8),
+        4 => set_level::<2>(batch, first, first + 480, 4),
+        5 => set_level::<1>(batch, first, first + 484, 2),
+        6 => batch.set_opening(first + 486),
+        _ => batch.set_end(),
+    }
+}
+
+/// Makes a batch the one at this step after the products of words, or the end past it.
+fn refill_product(gates: Gates, step: u32, first: u32, batch: &mut Batch)
+    requires none { batch.old.lets.items ≡ [] }
+    requires first { first + MASK_WIRES < 2 ^ 32 }
+    ensures { batch.new ≡ batch_at (product_batches gates first) step }
+{
+    match gates {
+        Gates::Chain => refill_chain(step, first, batch),
+        Gates::Tree => refill_tree(step, first, batch),
+    }
+}
+
+/// Makes a batch the one at this step of a block whose first wire is `first`, or the end past it.
+pub fn refill_mask(gates: Gates, step: u32, first: u32, batch: &mut Batch)
+    requires { first + mask_wires_of gates < 2 ^ 32 }
+    ensures { batch.new ≡ batch_at (mask_batches gates first) step }
 {
     batch.lets.clear();
     match step {
@@ -125,33 +208,14 @@ fn refill_chain(step: u32, first: u32, batch: &mut Batch)
             add_bit_sums(first, first + 61, first + 183, &mut batch.lets);
             set_words_product(batch, first + 244, first + 122);
         }
-        3 => {
-            add_bit_sums(first + 244, first + 122, first + 305, &mut batch.lets);
-            batch.set_product(bit_wire(first, 0), bit_wire(first, 1));
-        }
-        4..=62 => batch.set_product(first + 423 + step, bit_wire(first, step - 2)),
-        63 => batch.set_opening(first + 486),
-        _ => batch.set_end(),
+        _ => refill_product(gates, step - 3, first, batch),
     }
 }
 
-/// Makes a batch the one at this step of a block whose first wire is `first`, or the end past it. The gates are to be a chain.
-pub fn refill_mask(gates: Gates, step: u32, first: u32, batch: &mut Batch)
-    requires chain { gates ≡ Gates.Chain }
-    requires first { first + mask_wires_of gates < 2 ^ 32 }
-    ensures { batch.new ≡ batch_at (mask_batches first) step }
-{
-    match gates {
-        Gates::Chain => refill_chain(step, first, batch),
-        Gates::Tree => unreachable!(),
-    }
-}
-
-/// The batch at this step of a block whose first wire is `first`, or none past its end. The gates are to be a chain.
+/// The batch at this step of a block whose first wire is `first`, or none past its end.
 pub fn mask_batch(gates: Gates, step: u32, first: u32) -> Option<Batch>
-    requires chain { gates ≡ Gates.Chain }
-    requires first { first + mask_wires_of gates < 2 ^ 32 }
-    ensures batch { result ≡ slice_get (mask_batches first) step }
+    requires { first + mask_wires_of gates < 2 ^ 32 }
+    ensures batch { result ≡ slice_get (mask_batches gates first) step }
     ensures past { IsNone result ↔ (mask_rounds_of gates ≤ step) }
 {
     if step >= mask_rounds(gates) {
@@ -165,8 +229,8 @@ pub fn mask_batch(gates: Gates, step: u32, first: u32) -> Option<Batch>
 /// What a block does on plain values, wherever it stands and whatever was opened before it: where three words are dealt, the
 /// wires of the mask are the bits of their exclusive or, and the opened number is 1 exactly where all 61 are 1.
 pub fn mask_law()
-    ensures { (deals : ℕ → List ℕ) (first a b c : ℕ) (before : Values) →
+    ensures { (deals : ℕ → List ℕ) (gates : Gates) (first a b c : ℕ) (before : Values) →
         a < 2 ^ 61 → b < 2 ^ 61 → c < 2 ^ 61 →
         length before.wires ≡ first → deals before.dealt ≡ dealt_bits a b c →
-        AfterMask first (mask_of a b c) before (batches_on deals (mask_batches first) before) }
+        AfterMask first (mask_of a b c) before (batches_on deals (mask_batches gates first) before) }
 {}

@@ -21,6 +21,12 @@ use Rattle.beet_plan.specs.declared.Finish.{Finish}
 use Rattle.beet_plan.specs.declared.Finish.TheVariants.{MasksSpent}
 use Rattle.beet_plan.proofs.BlockSteps.{Stands, Deals, AreElements, mask-step, compare-step, after_masked}
 
+-- the last batch opens the demand at the place of the price
+pub volume-opened : (deals : ℕ → List ℕ) (prices : ℕ) (supply demand : ℕ → ℕ) (first i z : ℕ) (v : Values) → Stands prices supply demand first i v → z < prices →
+    all_opened_by v (batch_on deals (reveal_batch [] ((prices + z) ∷ [])) v) ≡ demand z ∷ []
+volume-opened deals prices supply demand first i z v s h =
+    drop-append_seam v.opened (slice_index v.wires (prices + z) ∷ []) ∙ ap (λ n. n ∷ []) (s.demands.at z h)
+
 -- the end, where the search ends at z
 end-at : (deals : ℕ → List ℕ) (prices : ℕ) (supply demand : ℕ → ℕ) (first i z : ℕ) (v : Values) → Stands prices supply demand first i v →
     plan_end deals (end_plan prices z) v ≡ found prices demand z
@@ -28,10 +34,7 @@ unfolding plan_end
 end-at deals prices supply demand first i z v s = elim (cases_lt z prices) [
   | inl h ↦
       let t : nat_lt z prices ≡ true = grind (arith, nat_tests) in
-      let e : slice_index v.wires (prices + z) ≡ demand z = s.demands.at z h in
-      let o : all_opened_by v (batch_on deals (reveal_batch [] ((prices + z) ∷ [])) v) ≡ slice_index v.wires (prices + z) ∷ [] =
-      drop-append_seam v.opened (slice_index v.wires (prices + z) ∷ []) in
-      rw (t, o, e) refl
+      rw (t, volume-opened deals prices supply demand first i z v s h) refl
   | inr h ↦
       let t : nat_lt z prices ≡ false = grind (arith, nat_tests) in
       rw t refl

@@ -1,7 +1,5 @@
--- The law of the auction's script, and how many comparisons it makes.
-use Rattle.std.proofs.Common.{◌≡◌, ℕ, ◌+◌, ◌*◌, ◌/◌, ◌^◌, ◌<◌, ◌≤◌, [], refl, arith, mul-le-mul_right, zero-add}
-use Rattle.std.specs.Int.Digits.{digits_of}
-use Rattle.std.proofs.lemmas.Int.Digits.{number_lt, number_digits_of, all_below_base_digits_of, length-digits_of-le, length-digits_of_step}
+-- The law of the auction's script.
+use Rattle.std.proofs.Common.{◌+◌, ◌*◌, ◌≤◌, [], refl, arith, mul-le-mul_right, zero-add}
 use Rattle.beet_gates.specs.Scripts.{LawFrom, start_of, bounds_of}
 use Rattle.beet_gates.specs.Plans.{PlanStands}
 use Rattle.beet_gates.proofs.PlanFacts.{Follows, plan-law}
@@ -13,25 +11,7 @@ use Rattle.beet_plan.specs.declared.TheConstants.{MASK_COEFFICIENTS}
 use Rattle.beet_plan.proofs.BlockLaws.{are-blocks}
 use Rattle.beet_plan.specs.Auction.{Auction, auction_plan, auction_batch, most_rounds, most_masks, most_coefficients, most_wires}
 use Rattle.beet_plan.proofs.AuctionStands.{search-stands, Room}
-
-pub below_comparisons : (n : ℕ) → n < 2 ^ comparisons_of n
-unfolding comparisons_of
-below_comparisons n =
-    let two : 2 ≤ 2 = omega arith in
-    let h = number_lt 2 (digits_of 2 n) (all_below_base_digits_of 2 n two) in
-    rw (number_digits_of 2 n two) at h
-
-pub comparisons-le : (n k : ℕ) → n < 2 ^ k → comparisons_of n ≤ k
-unfolding comparisons_of
-comparisons-le n k h = length-digits_of-le 2 k n (omega arith) h
-
-pub comparisons-zero : comparisons_of 0 ≡ 0
-unfolding comparisons_of
-comparisons-zero = refl
-
-pub comparisons-half : (n : ℕ) → 0 < n → comparisons_of n ≡ comparisons_of (n / 2) + 1
-unfolding comparisons_of
-comparisons-half n h = length-digits_of_step 2 n (omega arith) h
+use Rattle.beet_bids.proofs.GridFacts.{below_comparisons}
 
 pub follows-itself : (a : Auction) → Follows (auction_batch a) 0 [] (auction_plan a)
 follows-itself a = record { batch = λ d more. rw zero-add refl }

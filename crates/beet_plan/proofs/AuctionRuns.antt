@@ -23,18 +23,36 @@ use Rattle.beet_plan.specs.Runs.{AreMasks, RunEnds, found, run_rounds, place_of_
 use Rattle.beet_plan.specs.declared.Finish.{Finish}
 use Rattle.beet_plan.specs.declared.Finish.TheVariants.{MasksSpent}
 use Rattle.beet_plan.proofs.AuctionEnd.{search-end}
-use Rattle.beet_plan.proofs.AuctionLaw.{below_comparisons, auction-stands, follows-itself}
+use Rattle.beet_plan.proofs.AuctionLaw.{auction-stands, follows-itself}
 use Rattle.beet_plan.proofs.AuctionRounds.{Rounds, search-rounds, volume_round}
 use Rattle.beet_plan.proofs.BlockSteps.{Stands, Deals, AreElements}
 use Rattle.beet_plan.proofs.Counts.{spent_from, dealt_until_accepted, spent-start, dealt-spent, dealt-three, dealt-found}
 use Rattle.beet_plan.proofs.Searches.{tested-path}
+use Rattle.beet_bids.proofs.GridFacts.{below_comparisons}
 
 -- a word at any place, past the end too, where it is read as 0
-word-small : (words : List ℕ) → All IsWord words → (i : ℕ) → slice_index words i < 2 ^ 61
+pub word-small : (words : List ℕ) → All IsWord words → (i : ℕ) → slice_index words i < 2 ^ 61
 word-small words all i = elim (cases_lt i (length words)) [
   | inl h ↦ All-get_or IsWord words i 0 h all
   | inr past ↦ rw (get_or_past words i 0 past) (omega arith)
 ]
+
+pub mask-small : (words : Trio (List ℕ)) → AreMasks words → (i : ℕ) → mask_at words i < 2 ^ 61
+mask-small words m i = xor_lt 61 _ _ (xor_lt 61 _ _ (word-small words.one m.one i) (word-small words.two m.two i)) (word-small words.three m.three i)
+
+-- each deal hands out the bits of three words
+pub deals-words : (words : Trio (List ℕ)) → AreMasks words → Deals (deals_of words) (mask_at words)
+deals-words words m = record {
+  one = slice_index words.one;
+  two = slice_index words.two;
+  three = slice_index words.three;
+  bits = λ i. refl;
+  mask = λ i. refl;
+  small_one = word-small words.one m.one;
+  small_two = word-small words.two m.two;
+  small_three = word-small words.three m.three;
+  small = mask-small words m;
+}
 
 -- the rounds of a run from the first mask on, by the places of the rejected and the accepted masks
 rounds-whole : (a : Auction) (masks : ℕ → ℕ) (z rounds : ℕ) →
@@ -59,19 +77,6 @@ rounds-whole a masks z rounds r =
     ]
 
 module _ (a : Auction) (inputs : List ℕ) (words : Trio (List ℕ)) where
-  deals-words : AreMasks words → Deals (deals_of words) (mask_at words)
-  deals-words m = record {
-    one = slice_index words.one;
-    two = slice_index words.two;
-    three = slice_index words.three;
-    bits = λ i. refl;
-    mask = λ i. refl;
-    small_one = word-small words.one m.one;
-    small_two = word-small words.two m.two;
-    small_three = word-small words.three m.three;
-    small = λ i. xor_lt 61 _ _ (xor_lt 61 _ _ (word-small words.one m.one i) (word-small words.two m.two i)) (word-small words.three m.three i);
-  }
-
   pub auction-run : length inputs ≡ 2 * a.prices → All IsElement inputs → AreMasks words →
       RunEnds a inputs words (place_of_inputs a inputs) (found a.prices (λ k. slice_index inputs (a.prices + k)) (place_of_inputs a inputs))
   auction-run len all m =
@@ -87,7 +92,7 @@ module _ (a : Auction) (inputs : List ℕ) (words : Trio (List ℕ)) where
       let start = start_values inputs in
       let bounds = bounds_of (most_wires a) (most_masks a) (most_coefficients a) in
       let stands = auction-stands a in
-      let d = deals-words m in
+      let d = deals-words words m in
       let elements : AreElements prices supply demand = record {
         supply_element = λ k h. All-get_or IsElement inputs k 0 (omega arith) all;
         demand_element = λ k h. All-get_or IsElement inputs (prices + k) 0 (omega arith) all;

@@ -1,4 +1,4 @@
--- What is asked of the blocks of a kind of gates, and that the chain's keep it.
+-- What is asked of the blocks of a kind of gates, and that both kinds keep it.
 use Rattle.std.proofs.Common.{◌≡◌, ℕ, ◌+◌, ◌^◌, ◌<◌, ◌≤◌, List, [], ◌∷◌, ◌++◌, length, slice_index, refl, sym, ap, ◌∙◌, arith, append_assoc}
 use Rattle.std.specs.Prelude.{if◌then◌else◌, ◌==◌}
 use Rattle.std.specs.Int.{bit_at}
@@ -11,16 +11,16 @@ use Rattle.beet_gates.specs.declared.Gates.{Gates}
 use Rattle.beet_gates.specs.declared.Gates.TheVariants.{Chain, Tree}
 use Rattle.beet_gates.proofs.Segments.{Holds}
 use Rattle.beet_gates.proofs.Standings.{Moved}
-use Rattle.beet_mask.specs.Mask.{mask_of}
+use Rattle.beet_mask.specs.Mask.{mask_draws_of, mask_of}
 use Rattle.beet_mask.proofs.MaskRun.{mask-run}
 use Rattle.beet_mask.proofs.MaskStands.{mask-stands}
 use Rattle.beet_mask.proofs.MaskTable.{length-mask_batches}
-use Rattle.beet_compare.specs.Compare.{masked_batch, compare_wires_of, doubled, is_doubled_even}
+use Rattle.beet_compare.specs.Compare.{masked_batch, compare_draws_of, compare_wires_of, doubled, is_doubled_even}
 use Rattle.beet_compare.proofs.CompareRun.{compare-run}
 use Rattle.beet_compare.proofs.CompareStands.{masked-stands, borrow-stands}
 use Rattle.beet_compare.proofs.CompareTable.{length-compare_batches}
 use Rattle.beet_compare.proofs.MaskedRun.{masked-run}
-use Rattle.beet_plan.specs.Blocks.{Blocks, blocks_of, chain_blocks}
+use Rattle.beet_plan.specs.Blocks.{Blocks, blocks_of}
 use Rattle.beet_plan.specs.declared.TheConstants.{MASK_COEFFICIENTS}
 
 -- what a mask leaves on plain values: the bits of the mask r have their wires, and the opened number is 1 where all 61 are 1, else 0
@@ -83,28 +83,33 @@ pub record AreBlocks (g : Blocks) : Type 0 where
   pub few_wires : g.compare_wires ≤ compare_wires_of Tree
   pub few_draws : g.mask_draws + g.compare_draws ≤ MASK_COEFFICIENTS
 
-chain-masks : MaskLaw chain_blocks
-chain-masks = record {
-  rounds = length-mask_batches;
-  stands = λ s. (mask-stands s.wires s refl).0;
-  moves = λ s. (mask-stands s.wires s refl).1;
+mask-laws : (gates : Gates) → MaskLaw (blocks_of gates)
+mask-laws gates = record {
+  rounds = length-mask_batches gates;
+  stands = λ s. (mask-stands gates s.wires s refl).0;
+  moves = λ s. (mask-stands gates s.wires s refl).1;
   runs = λ deals first x y z before hx hy hz len dealt.
-      let a = mask-run deals first x y z before hx hy hz len dealt in
+      let a = mask-run deals gates first x y z before hx hy hz len dealt in
       record { more = a.more; wires = a.wires; len = a.len; bits = a.bits; opened = a.opened; dealt = a.dealt };
 }
 
-chain-compares : CompareLaw chain_blocks
-chain-compares = record {
-  rounds = λ first mask c. omega (arith, length-compare_batches first mask 0 0 c);
+-- the wires of a comparison after the opened number are the others
+wires-enough : (gates : Gates) → 61 ≤ compare_wires_of gates
+wires-enough Chain = omega arith
+wires-enough Tree = omega arith
+
+compare-laws : (gates : Gates) → CompareLaw (blocks_of gates)
+compare-laws gates = record {
+  rounds = λ first mask c. omega (arith, length-compare_batches first mask 0 0 c gates);
   masked_stands = λ mask supply demand s h hs hd. (masked-stands s.wires mask supply demand s refl h hs hd).0;
   answer_stands = λ mask supply demand c s h hs hd.
       let a = masked-stands s.wires mask supply demand s refl h hs hd in
-      (borrow-stands s.wires mask c (after_all s (masked_batch s.wires mask supply demand ∷ [])) a.1.more_wires h).0;
+      (borrow-stands gates s.wires mask c (after_all s (masked_batch s.wires mask supply demand ∷ [])) a.1.more_wires h).0;
   moves = λ mask supply demand c s h hs hd.
       let a = masked-stands s.wires mask supply demand s refl h hs hd in
-      let b = borrow-stands s.wires mask c (after_all s (masked_batch s.wires mask supply demand ∷ [])) a.1.more_wires h in
+      let b = borrow-stands gates s.wires mask c (after_all s (masked_batch s.wires mask supply demand ∷ [])) a.1.more_wires h in
       record {
-        more_wires = omega (arith, a.1.more_wires, b.1.more_wires);
+        more_wires = omega (arith, a.1.more_wires, b.1.more_wires, wires-enough gates);
         more_masks = omega (arith, a.1.more_masks, b.1.more_masks);
         more_coefficients = omega (arith, a.1.more_coefficients, b.1.more_coefficients);
       };
@@ -112,7 +117,7 @@ chain-compares = record {
       let bits : Holds before.wires (mask + 366) 61 (bit_at r) = record { room = omega (arith, h.len, h.room); at = h.bits } in
       let m = masked-run deals first mask supply demand r s d before h.len h.accepted h.supply_element h.demand_element bits
       h.supply_before h.demand_before h.supply_is h.demand_is in
-      let w = compare-run deals first mask supply demand r s d before (record {
+      let w = compare-run deals gates first mask supply demand r s d before (record {
         len = h.len;
         accepted = h.accepted;
         room = h.room;
@@ -135,9 +140,13 @@ chain-compares = record {
       };
 }
 
-chain-are : AreBlocks chain_blocks
-chain-are = record { masks = chain-masks; comparisons = chain-compares; few_wires = omega arith; few_draws = omega arith }
+few-wires : (gates : Gates) → compare_wires_of gates ≤ compare_wires_of Tree
+few-wires Chain = omega arith
+few-wires Tree = omega arith
+
+few-draws : (gates : Gates) → mask_draws_of gates + compare_draws_of gates ≤ MASK_COEFFICIENTS
+few-draws Chain = omega arith
+few-draws Tree = omega arith
 
 pub are-blocks : (gates : Gates) → AreBlocks (blocks_of gates)
-are-blocks Chain = chain-are
-are-blocks Tree = chain-are
+are-blocks gates = record { masks = mask-laws gates; comparisons = compare-laws gates; few_wires = few-wires gates; few_draws = few-draws gates }

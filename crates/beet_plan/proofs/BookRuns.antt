@@ -13,14 +13,14 @@ use Rattle.beet_compare.proofs.Parity.{doubled_even-≤}
 use Rattle.beet_plan.specs.Auction.{auction_over}
 use Rattle.beet_plan.specs.Search.{place_found}
 use Rattle.beet_plan.specs.Runs.{AreMasks, RunEnds, found, finish_of}
-use Rattle.beet_plan.proofs.AuctionLaw.{below_comparisons}
 use Rattle.beet_plan.proofs.AuctionRuns.{auction-run}
 use Rattle.beet_plan.proofs.BookFacts.{found-outcome}
 use Rattle.beet_bids.proofs.BookSums.{book-turn, clearing-within, length-sums, sums-supply, sums-demand, sums-elements, small}
 use Rattle.beet_plan.proofs.Searches.{place-turn}
+use Rattle.beet_bids.proofs.GridFacts.{below_comparisons}
 
 -- two tests agree where both say the same
-same_test : (b : Bool) (s d : ℕ) → IsTrue b ↔ (d ≤ s) → b ≡ nat_le d s
+pub same_test : (b : Bool) (s d : ℕ) → IsTrue b ↔ (d ≤ s) → b ≡ nat_le d s
 same_test b s d e = elim (cases_Bool b) [
   | inl t ↦ let h = e.0 t in t ∙ (let le : nat_le d s ≡ true = grind (arith, nat_tests, h) in sym le)
   | inr f ↦ f ∙ (let h = iff_false e f in let le : nat_le d s ≡ false = grind (arith, nat_tests, h) in sym le)

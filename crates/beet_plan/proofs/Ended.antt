@@ -8,8 +8,9 @@ use Rattle.beet_gates.specs.Batches.{end_batch}
 use Rattle.beet_gates.specs.Clear.{is_end}
 use Rattle.beet_gates.specs.Plans.{Plan, Ended, Block, Last, plan_batch, plan_finish, BlockStands, PlanStands, after_all}
 use Rattle.beet_gates.specs.Scripts.{Standing, after, revealed}
-use Rattle.beet_gates.proofs.PlanFacts.{Follows, finish-last, follows-last, opens-some, follows-now, follows-tail, follows-next}
+use Rattle.beet_gates.proofs.PlanFacts.{Follows, finish-last, follows-last, opens-some, follows-now, follows-tail, follows-next, now-block, now-ended, now-last, single}
 use Rattle.beet_plan.specs.Ends.{ComesTo, TellsEnd}
+use Rattle.std.proofs.lemmas.List.{nil_from_length}
 
 -- each block has batches, of which the last and no other opens a number, whatever numbers are opened
 unfoldable Opens : List Batch → Type 0
@@ -47,27 +48,6 @@ module _ {F : Type 0} (next : ℕ → List ℕ → Batch) (whole : Plan F) where
   not_end (Reveal shown) h = λ e. cc e
   not_end End h = cc h
 
-  none : (xs : List ℕ) → length xs ≡ 0 → xs ≡ []
-  none [] h = refl
-  none (x ∷ xs) h = absurd (omega arith)
-
-  one : (xs : List ℕ) → length xs ≡ 1 → (x : ℕ) × (xs ≡ x ∷ [])
-  one [] h = absurd (omega arith)
-  one (x ∷ []) h = (x, refl)
-  one (x ∷ y ∷ ys) h = absurd (omega arith)
-
-  now-block : (b : Batch) (bs : List Batch) (k : ℕ → Plan F) → plan_batch (Block (b ∷ bs) k) 0 [] ≡ b
-  unfolding plan_batch
-  now-block b bs k = refl
-
-  now-ended : (f : F) → plan_batch (Ended f) 0 [] ≡ end_batch
-  unfolding plan_batch
-  now-ended f = refl
-
-  now-last : (b : Batch) (n : ℕ) (named : List ℕ → F) → plan_batch (Last b n named) 0 [] ≡ b
-  unfolding plan_batch
-  now-last b n named = refl
-
   finish-ended : (f : F) (more : List ℕ) → plan_finish (Ended f) more ≡ Some f
   unfolding plan_finish
   finish-ended f more = refl
@@ -104,18 +84,18 @@ module _ {F : Type 0} (next : ℕ → List ℕ → Batch) (whole : Plan F) where
   left-step done opened new (Block [] k) l more len = absurd l.opens.0
   left-step done opened new (Block (b ∷ []) k) l more len =
       let now : next done opened ≡ b = follows-now next done opened (Block (b ∷ []) k) l.follows ∙ now-block b [] k in
-      let single = one new (len ∙ ap (λ (b : Batch). revealed b.act) now ∙ l.opens.0) in
-      rw single.1 (
-        k single.0,
+      let one = single new (len ∙ ap (λ (b : Batch). revealed b.act) now ∙ l.opens.0) in
+      rw one.1 (
+        k one.0,
         record {
-          follows = follows-next next done opened b k single.0 l.follows;
-          opens = l.opens.1 single.0;
-          finish = λ xs. rw (append_assoc opened (single.0 ∷ []) xs) (l.finish (single.0 ∷ xs) ∙ finish-next b k single.0 xs);
+          follows = follows-next next done opened b k one.0 l.follows;
+          opens = l.opens.1 one.0;
+          finish = λ xs. rw (append_assoc opened (one.0 ∷ []) xs) (l.finish (one.0 ∷ xs) ∙ finish-next b k one.0 xs);
         },
       )
   left-step done opened new (Block (b ∷ c ∷ bs) k) l more len =
       let now : next done opened ≡ b = follows-now next done opened (Block (b ∷ c ∷ bs) k) l.follows ∙ now-block b (c ∷ bs) k in
-      let empty = none new (len ∙ ap (λ (b : Batch). revealed b.act) now ∙ l.opens.0.1) in
+      let empty = nil_from_length new (len ∙ ap (λ (b : Batch). revealed b.act) now ∙ l.opens.0.1) in
       rw (empty, append-nil opened) (
         Block (c ∷ bs) k,
         record {

@@ -2,7 +2,6 @@
 use Rattle.std.specs.Prelude.{◌+◌, ℕ, List}
 use Rattle.beet_gates.specs.declared.Batch.{Batch}
 use Rattle.beet_gates.specs.declared.Gates.{Gates}
-use Rattle.beet_gates.specs.declared.Gates.TheVariants.{Chain, Tree}
 use Rattle.beet_mask.specs.Mask.{bit_wire_of, mask_batches, mask_draws_of, mask_rounds_of, mask_wires_of}
 use Rattle.beet_compare.specs.Compare.{borrow_batches, compare_draws_of, compare_rounds_of, compare_wires_of, masked_batch}
 
@@ -22,25 +21,20 @@ pub record Blocks : Type 0 where
   pub compare_wires : ℕ
   pub compare_draws : ℕ
 
--- one gate after another
-abbrev pub chain_blocks : Blocks
-chain_blocks = record {
-  mask = mask_batches;
+-- the blocks of a kind of gates
+abbrev pub blocks_of : Gates → Blocks
+blocks_of gates = record {
+  mask = mask_batches gates;
   bit = bit_wire_of;
   masked = masked_batch;
-  answer = borrow_batches;
-  mask_rounds = mask_rounds_of Chain;
-  mask_wires = mask_wires_of Chain;
-  mask_draws = mask_draws_of Chain;
-  compare_rounds = compare_rounds_of Chain;
-  compare_wires = compare_wires_of Chain;
-  compare_draws = compare_draws_of Chain;
+  answer = borrow_batches gates;
+  mask_rounds = mask_rounds_of gates;
+  mask_wires = mask_wires_of gates;
+  mask_draws = mask_draws_of gates;
+  compare_rounds = compare_rounds_of gates;
+  compare_wires = compare_wires_of gates;
+  compare_draws = compare_draws_of gates;
 }
-
--- the blocks of a kind of gates; trees have none of their own yet, and no script is made with them
-abbrev pub blocks_of : Gates → Blocks
-blocks_of Chain = chain_blocks
-blocks_of Tree = chain_blocks
 
 -- the first free wire after a mask that begins at a wire, and after a comparison that follows it
 abbrev pub after_mask : Blocks → ℕ → ℕ

@@ -1,12 +1,9 @@
 -- How the auction's run on plain values ends, and after how many rounds.
-use Rattle.std.specs.Prelude.{◌≡◌, ◌+◌, ◌-◌, ◌*◌, ℕ, List, ◌++◌, map, length, slice_index, All, Option, Some, nat_lt, if◌then◌else◌}
+use Rattle.std.specs.Prelude.{◌≡◌, ◌+◌, ◌-◌, ◌*◌, ℕ, List, length, slice_index, All, Option, Some, nat_lt, if◌then◌else◌}
 use Rattle.beet_field.specs.declared.trio.Trio.{Trio}
 use Rattle.beet_words.specs.Words.{IsWord}
 use Rattle.beet_gates.specs.Clear.{clear_values, rounds_run}
 use Rattle.beet_gates.specs.Plans.{plan_finish}
-use Rattle.beet_bids.specs.Books.{Book}
-use Rattle.beet_bids.specs.Grids.{places_of}
-use Rattle.beet_bids.specs.Sums.{supply_at, demand_at}
 use Rattle.beet_bids.specs.declared.outcomes.Outcome.{Outcome}
 use Rattle.beet_bids.specs.declared.outcomes.Outcome.TheVariants.{Price as OutcomePrice, No}
 use Rattle.beet_compare.specs.Compare.{is_doubled_even}

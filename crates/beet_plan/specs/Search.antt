@@ -5,6 +5,7 @@ use Rattle.beet_bids.specs.Grids.{comparisons_of}
 use Rattle.beet_field.specs.Field.{p}
 use Rattle.beet_field.specs.declared.trio.Trio.{Trio}
 use Rattle.beet_mask.specs.Mask.{mask_of}
+use Rattle.beet_plan.specs.declared.TheConstants.{SPARE_MASKS}
 
 -- the places that a search between two places tests, at most n, where `test` answers whether supply reaches demand at a place
 unfoldable pub tested : (ℕ → Bool) → ℕ → ℕ → ℕ → List ℕ
@@ -45,15 +46,15 @@ rejected_among masks n = filter (λ i. masks i == p) (range_with_len 0 n)
 abbrev pub accepted_among : (ℕ → ℕ) → ℕ → List ℕ
 accepted_among masks n = filter (λ i. is_accepted (masks i)) (range_with_len 0 n)
 
--- whether a run that makes c comparisons, if it can, is spent: at least three of the first c + 2 masks are rejected
+-- whether a run that makes c comparisons, if it can, is spent: more of its masks are rejected than may be
 abbrev pub is_spent : (ℕ → ℕ) → ℕ → Bool
-is_spent masks c = nat_le 3 (length (rejected_among masks (c + 2)))
+is_spent masks c = nat_le (SPARE_MASKS + 1) (length (rejected_among masks (c + SPARE_MASKS)))
 
--- how many masks are dealt where it is spent: up to the third rejected one
+-- how many masks are dealt where it is spent: up to the first that is one too many
 abbrev pub dealt_until_spent : (ℕ → ℕ) → ℕ → ℕ
-dealt_until_spent masks c = slice_index (rejected_among masks (c + 2)) 2 + 1
+dealt_until_spent masks c = slice_index (rejected_among masks (c + SPARE_MASKS)) SPARE_MASKS + 1
 
 -- how many masks are dealt where it is not: up to the c-th accepted one
 abbrev pub dealt_for : (ℕ → ℕ) → ℕ → ℕ
 dealt_for masks zero = 0
-dealt_for masks (suc k) = slice_index (accepted_among masks (suc k + 2)) k + 1
+dealt_for masks (suc k) = slice_index (accepted_among masks (suc k + SPARE_MASKS)) k + 1

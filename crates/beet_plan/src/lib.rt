@@ -6,6 +6,9 @@ use beet_field::Fe;
 /// The most numbers that each server draws for a mask and the comparison with it, whatever the gates.
 pub const MASK_COEFFICIENTS: u32 = 512;
 
+/// Masks that may be rejected in a run, beside those that are used.
+pub const SPARE_MASKS: u32 = 2;
+
 /// Words that are kept of a tape beyond the numbers that are wanted of it, for words that are passed over.
 pub const SPARE_WORDS: u32 = 8;
 

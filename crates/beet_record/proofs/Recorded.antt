@@ -1,5 +1,5 @@
 -- How the job `record` ends.
-use Rattle.std.proofs.Common.{◌≡◌, ℕ, List, Result, Ok, Err, IfOk, inl, inr, refl, [], ◌∷◌, length, sym, ap, ◌∙◌, Vec, Global}
+use Rattle.std.proofs.Common.{◌≡◌, ℕ, List, Result, Ok, Err, IfOk, [], ◌∷◌, length, sym, ap, ◌∙◌, Vec, Global}
 use Rattle.beet_field.specs.Trio.{member}
 use Rattle.beet_field.specs.declared.point.Point.{Point}
 use Rattle.beet_field.specs.declared.point.Point.TheVariants.{One, Two, Three}
@@ -11,18 +11,17 @@ use Rattle.beet_errand.specs.Errands.{Answer}
 use Rattle.beet_errand.specs.Fetches.{IsDone}
 use Rattle.beet_errand.specs.declared.answer.Stop.{Stop}
 use Rattle.beet_auction.specs.Endings.{book_finish, book_rounds}
-use Rattle.beet_book.specs.Farmers.{book_of as book_with, farmers_of}
+use Rattle.beet_book.specs.Farmers.{book_with, farmers_of}
 use Rattle.beet_plan.specs.declared.Finish.{Finish}
-use Rattle.beet_plan.specs.declared.Finish.TheVariants.{Price, NoPrice, MasksSpent}
 use Rattle.beet_load.specs.Loading.{Loaded}
 use Rattle.beet_load.specs.Servers.{masks_of}
 use Rattle.beet_load.specs.WholeViews.{loaded_of}
 use Rattle.beet_load.specs.declared.whole.Whole.{Whole}
-use Rattle.beet_run.specs.Outcomes.{outcome_answer, status_of}
+use Rattle.beet_run.specs.Outcomes.{outcome_answer}
 use Rattle.beet_view.specs.Transcripts.{view_bytes}
-use Rattle.beet_record.specs.BookRuns.{HasRun, Ran}
+use Rattle.beet_kept.specs.BookRuns.{HasRun, Ran}
 use Rattle.beet_view.specs.BookViews.{view_for}
-use Rattle.beet_record.proofs.HasRuns.{same-book}
+use Rattle.beet_book.proofs.FarmerLists.{book-whole}
 use Rattle.beet_record.specs.Records.{file_for, recorded_answer, transcript_file}
 use Rattle.beet_run.proofs.StatusFacts.{status-done}
 
@@ -43,7 +42,7 @@ reply-is out whole ran grid made files texts many h g m v f =
     let book = whole.book in
     let masks = whole.words.masks in
     let book' = book_with book.grid (farmers_of book.bidders whole.words.bidders) in
-    let same : book ≡ book' = sym (same-book book whole.words.bidders many) in
+    let same : book ≡ book' = sym (book-whole book whole.words.bidders many) in
     let finish : ran.finish ≡ book_finish book' masks = h.finish ∙ ap (λ (x : Book). book_finish x masks) same in
     let rounds : ran.rounds ≡ book_rounds book' masks = h.rounds ∙ ap (λ (x : Book). book_rounds x masks) same in
     let answer : Grid → Finish → ℕ → List File → Answer = λ gr fi ro fs. record (outcome_answer gr fi ro) { files = fs } in

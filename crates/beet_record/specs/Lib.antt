@@ -1,3 +1,1 @@
-pub mod DealtBooks
-pub mod BookRuns
 pub mod Records

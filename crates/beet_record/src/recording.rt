@@ -6,9 +6,9 @@ ghost use Rattle.beet_errand.specs.Fetches.{IsDone, Reads};
 ghost use Rattle.beet_load.specs.WholeViews.{loaded_of};
 ghost use Rattle.beet_record.specs.Records.{file_for, record_job, recorded_answer};
 
-use crate::running::run_whole;
 use beet_errand::{NewFile, Reply, Stop};
 use beet_field::{Point, Trio};
+use beet_kept::run_whole;
 use beet_load::{Whole, load_whole};
 use beet_run::outcome_reply;
 use beet_store::Shelf;

@@ -3,8 +3,8 @@ use Rattle.std.proofs.Common.{◌≡◌, ℕ, refl}
 use Rattle.beet_field.specs.declared.point.Point.{Point}
 use Rattle.beet_field.specs.declared.point.Point.TheVariants.{One, Two, Three}
 use Rattle.beet_plan.specs.declared.Finish.{Finish}
-use Rattle.beet_server.specs.Events.{Delivered, passed, undelivered}
-use Rattle.beet_server.proofs.Undelivered.{passed_all}
+use Rattle.beet_delivery.specs.Events.{Delivered, passed, undelivered}
+use Rattle.beet_delivery.proofs.Undelivered.{passed_all}
 use Rattle.beet_rehearse.specs.Standings.{ended_alike, rehearsal_of, standing_of}
 use Rattle.beet_rehearse.proofs.ServerStands.{is_same}
 use Rattle.beet_rehearse.specs.declared.standing.Standing.TheVariants.{Ended}

@@ -1,11 +1,11 @@
 -- What the job `rehearse` answers, once its files are read and its servers were looked at.
 use Rattle.std.proofs.Common.{◌≡◌, List, refl}
 use Rattle.beet_auction.specs.Endings.{book_finish, book_rounds}
-use Rattle.beet_book.specs.Farmers.{book_of as book_with}
+use Rattle.beet_book.specs.Farmers.{book_with}
 use Rattle.beet_auction.proofs.Ends.{book-ends}
 use Rattle.beet_load.specs.Loading.{IsKeptOf, Kept, Loaded}
 use Rattle.beet_load.specs.Servers.{masks_of}
-use Rattle.beet_run.specs.Runs.{opening_with}
+use Rattle.beet_run.specs.Runs.{setup_with}
 use Rattle.beet_run.proofs.ShareLines.{shares-lines}
 use Rattle.beet_world.specs.Worlds.{named_in}
 use Rattle.beet_world.specs.declared.schedule.Delivery.{Delivery}
@@ -19,5 +19,5 @@ pub tells : (kept : Kept) (loaded : Loaded) (deliveries : List Delivery) (found 
 tells kept loaded deliveries found k h =
     let b = book_with kept.grid loaded.farmers in
     let masks = masks_of kept.servers in
-    let ends = book-ends b (opening_with kept.grid kept.inputs kept.servers) k.shares.slopes k.book h.masks refl (shares-lines b kept.inputs k.book k.shares) in
+    let ends = book-ends b (setup_with kept.grid kept.inputs kept.servers) k.shares.slopes k.book h.masks refl (shares-lines b kept.inputs k.book k.shares) in
     rw (k.grid, k.servers, h.found_is (book_rounds b masks) (book_finish b masks) ends) refl

@@ -10,10 +10,11 @@ use Rattle.beet_plan.specs.Auction.{Auction, auction_batch, auction_plan}
 use Rattle.beet_plan.specs.declared.Finish.{Finish}
 use Rattle.beet_run.specs.Runs.{HasEndedRun}
 use Rattle.beet_server.specs.Cores.{Core, has_ended}
-use Rattle.beet_server.specs.Events.{passed}
+use Rattle.beet_delivery.specs.Events.{passed}
 use Rattle.beet_world.specs.Worlds.{World, delivered_in}
 use Rattle.beet_rehearse.specs.Standings.{standing_of}
 use Rattle.beet_rehearse.specs.declared.standing.Standing.TheVariants.{Waiting, Ended}
+use Rattle.std.proofs.lemmas.Option.{same_Some}
 
 is_not : (n m : ℕ) → n ≢ m → (n == m) ≡ false
 is_not n m h = grind (arith, common_steps)
@@ -21,13 +22,10 @@ is_not n m h = grind (arith, common_steps)
 pub is_same : (n m : ℕ) → n ≡ m → (n == m) ≡ true
 is_same n m h = grind (arith, common_steps)
 
-same_some : {A : Type 0} {x y : A} → Some x ≡ Some y → x ≡ y
-same_some e = cc
-
 -- a server that has ended is one of a run that has ended
 pub has-ended-run : (w : World Auction) (s : Point) (c : Core Auction) → IsAuctionCore w s c → has_ended auction_batch c ≡ true → HasEndedRun c
 has-ended-run w s c h over = record {
-  opening = auction_in w;
+  setup = auction_in w;
   delivered = delivered_in w;
   fits = h.fits;
   ended = over;
@@ -50,4 +48,4 @@ module _ (w : World Auction) (s : Point) (c : Core Auction) (h : IsAuctionCore w
       Ended found ≡ standing_of finish rounds (delivered_in w) s
   ends over found named =
       let test : (passed rounds (delivered_in w) s == rounds) ≡ true = is_same (passed rounds (delivered_in w) s) rounds (stands.ended.0 over) in
-      rw test (ap Ended (same_some (sym named ∙ stands.opens over)))
+      rw test (ap Ended (same_Some _ _ (sym named ∙ stands.opens over)))

@@ -4,15 +4,15 @@ use Rattle.beet_field.specs.declared.point.Point.TheVariants.{One, Two, Three}
 use Rattle.beet_field.specs.declared.trio.Trio.{Trio}
 use Rattle.beet_auction.specs.Endings.{AuctionEnds}
 use Rattle.beet_plan.specs.Auction.{auction_over, Auction, auction_batch, most_rounds}
-use Rattle.beet_auction.specs.Openings.{inputs_of}
+use Rattle.beet_auction.specs.Setups.{inputs_of}
 use Rattle.beet_auction.specs.WorldEnds.{auction_in}
 use Rattle.beet_bids.specs.Grids.{Grid}
 use Rattle.beet_load.specs.Servers.{ServerWords}
 use Rattle.beet_plan.specs.declared.Finish.{Finish}
-use Rattle.beet_run.specs.Runs.{Starts, opening_with}
-use Rattle.beet_server.specs.Cores.{Core, opening_of}
-use Rattle.beet_server.specs.Events.{Triple, after, after_from, nothing, undelivered}
-use Rattle.beet_server.specs.Runs.{rounds_among}
+use Rattle.beet_run.specs.Runs.{Starts, setup_with}
+use Rattle.beet_server.specs.Cores.{Core, setup_of}
+use Rattle.beet_delivery.specs.Events.{Triple, after, after_from, nothing, undelivered}
+use Rattle.beet_sharing.specs.Runs.{rounds_among}
 use Rattle.beet_world.specs.Marks.{unmarked}
 use Rattle.beet_world.specs.Worlds.{World, delivered_in, rounds_in}
 use Rattle.beet_world.proofs.MarkFacts.{set-unmarked}
@@ -38,21 +38,21 @@ module _ (grid : Grid) (inputs : Trio (List ℕ)) (words : Trio ServerWords) (co
   script_is : new.start.one.script ≡ auction_over grid
   script_is = ap (λ t. t.one.script) started ∙ s.script One
 
-  opening_is : auction_in new ≡ opening_with grid inputs words
-  opening_is = ap (opening_of auction_batch inputs_of) started ∙ s.opening
+  setup_is : auction_in new ≡ setup_with grid inputs words
+  setup_is = ap (setup_of auction_batch inputs_of) started ∙ s.setup
 
-  module _ (rounds : ℕ) (finish : Finish) (e : AuctionEnds (auction_over grid) (opening_with grid inputs words) rounds finish) where
+  module _ (rounds : ℕ) (finish : Finish) (e : AuctionEnds (auction_over grid) (setup_with grid inputs words) rounds finish) where
     -- the run of the world ends so
     ends-so : AuctionEnds new.start.one.script (auction_in new) rounds finish
     ends-so =
         subst (λ a. AuctionEnds a (auction_in new) rounds finish) (sym script_is)
-        (subst (λ o. AuctionEnds (auction_over grid) o rounds finish) (sym opening_is) e)
+        (subst (λ o. AuctionEnds (auction_over grid) o rounds finish) (sym setup_is) e)
 
     rounds-new : rounds_in auction_batch inputs_of most_rounds new ≡ rounds
     rounds-new = ends-so.counted
 
     rounds-old : rounds_in auction_batch inputs_of most_rounds old ≡ rounds
-    rounds-old = ap (λ t. rounds_among (opening_of auction_batch inputs_of t) (most_rounds t.one.script)) (sym stays) ∙ rounds-new
+    rounds-old = ap (λ t. rounds_among (setup_of auction_batch inputs_of t) (most_rounds t.one.script)) (sym stays) ∙ rounds-new
 
     none-before : delivered_in old ≡ nothing
     none-before = ap delivered_in begins ∙ set-unmarked (most_rounds cores.one.script)

@@ -1,7 +1,7 @@
 -- The job `rehearse`: how three servers stand in the auction of a book once the messages of a schedule are delivered.
 use Rattle.std.specs.Prelude.{ℕ, List, ◌||◌, if◌then◌else◌, Bool, true, false}
 use Rattle.beet_auction.specs.Endings.{book_finish, book_rounds}
-use Rattle.beet_book.specs.Farmers.{book_of as book_with}
+use Rattle.beet_book.specs.Farmers.{book_with}
 use Rattle.beet_bids.specs.Grids.{Grid}
 use Rattle.beet_errand.specs.Errands.{Answer, Errand, Ends, Step, ◌>>=◌, gives, reads, text_answer}
 use Rattle.beet_errand.specs.declared.answer.Status.{Status}
@@ -9,7 +9,7 @@ use Rattle.beet_errand.specs.declared.answer.Status.TheVariants.{Done, MasksSpen
 use Rattle.beet_load.specs.Loading.{Loaded, loaded_errand}
 use Rattle.beet_load.specs.Servers.{masks_of}
 use Rattle.beet_plan.specs.declared.Finish.TheVariants.{Price, NoPrice, MasksSpent}
-use Rattle.beet_server.specs.Events.{after}
+use Rattle.beet_delivery.specs.Events.{after}
 use Rattle.beet_world.specs.Schedules.{schedule_of}
 use Rattle.beet_world.specs.Worlds.{named_in}
 use Rattle.beet_world.specs.declared.schedule.Delivery.{Delivery}

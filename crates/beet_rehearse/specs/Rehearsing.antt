@@ -7,13 +7,13 @@ use Rattle.beet_bids.specs.Grids.{Grid}
 use Rattle.beet_load.specs.Servers.{ServerWords, masks_of}
 use Rattle.beet_plan.specs.Runs.{AreMasks}
 use Rattle.beet_plan.specs.declared.Finish.{Finish}
-use Rattle.beet_run.specs.Runs.{opening_with}
-use Rattle.beet_server.specs.Events.{Triple, after}
+use Rattle.beet_run.specs.Runs.{setup_with}
+use Rattle.beet_delivery.specs.Events.{Triple, after}
 use Rattle.beet_rehearse.specs.Standings.{rehearsal_of}
 use Rattle.beet_rehearse.specs.declared.standing.Rehearsal.{Rehearsal}
 
 -- the auction over a grid with these points and words, after these events: the servers stand as the end of its run tells
 pub record Rehearses (grid : Grid) (inputs : Trio (List ℕ)) (words : Trio ServerWords) (events : List Triple) (found : Rehearsal) : Type 0 where
   pub masks : AreMasks (masks_of words)
-  pub found_is : (rounds : ℕ) (finish : Finish) → AuctionEnds (auction_over grid) (opening_with grid inputs words) rounds finish →
+  pub found_is : (rounds : ℕ) (finish : Finish) → AuctionEnds (auction_over grid) (setup_with grid inputs words) rounds finish →
       found ≡ rehearsal_of finish rounds (after rounds events)

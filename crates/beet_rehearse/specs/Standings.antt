@@ -2,7 +2,7 @@
 use Rattle.std.specs.Prelude.{ℕ, ◌==◌, if◌then◌else◌}
 use Rattle.beet_field.specs.declared.point.Point.{Point}
 use Rattle.beet_plan.specs.declared.Finish.{Finish}
-use Rattle.beet_server.specs.Events.{Delivered, passed, undelivered}
+use Rattle.beet_delivery.specs.Events.{Delivered, passed, undelivered}
 use Rattle.beet_field.specs.Trio.{trio_of}
 use Rattle.beet_rehearse.specs.declared.standing.Standing.{Standing}
 use Rattle.beet_rehearse.specs.declared.standing.Standing.TheVariants.{Waiting, Ended}

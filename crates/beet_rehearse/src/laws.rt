@@ -2,7 +2,7 @@
 
 ghost use Rattle.std.specs.Prelude.{◌≡◌, ℕ};
 ghost use Rattle.beet_plan.specs.declared.Finish.{Finish};
-ghost use Rattle.beet_server.specs.Events.{Delivered, undelivered};
+ghost use Rattle.beet_delivery.specs.Events.{Delivered, undelivered};
 ghost use Rattle.beet_rehearse.specs.Standings.{ended_alike, rehearsal_of};
 
 /// Where nothing is undelivered, all three servers have ended, each with the end of the run.

@@ -5,7 +5,6 @@ ghost use Rattle.beet_errand.specs.Errands.{reads};
 ghost use Rattle.beet_errand.specs.Fetches.{IsDone, Reads};
 ghost use Rattle.beet_field.specs.Trio.{member};
 ghost use Rattle.beet_field.specs.declared.point.Point.{Point as Server};
-ghost use Rattle.beet_gates.specs.declared.Gates.TheVariants.{Chain};
 ghost use Rattle.beet_load.specs.Servers.{HaveEnough};
 ghost use Rattle.beet_world.specs.Schedules.{schedule_of};
 ghost use Rattle.beet_world.specs.Worlds.{named_in};
@@ -47,7 +46,6 @@ fn play(
     words: Trio<ServerWords>,
     schedule: &[Delivery],
 ) -> Result<Rehearsal, Stop>
-    requires gates { grid.now.gates ≡ Chain }
     requires enough { HaveEnough grid.now words }
     requires inputs { (i : Server) → length (member inputs i) ≡ 2 * grid.now.prices }
     ensures memory { IfErr result (λ stop. stop ≡ Stop.OutOfMemory) }

@@ -10,6 +10,3 @@ mod sides;
 pub use mailbox::{RoundBox, Verdict};
 pub use message::RoundMessage;
 pub use sides::Side;
-
-#[cfg(test)]
-mod tests;

@@ -11,13 +11,13 @@ use Rattle.beet_plan.specs.Auction.{Auction, auction_plan, auction_over}
 use Rattle.beet_bids.specs.Sums.{sums_of}
 use Rattle.beet_plan.specs.declared.Finish.{Finish}
 use Rattle.beet_bids.proofs.BookSums.{length-sums}
-use Rattle.beet_server.specs.Runs.{Opening, shared_at}
+use Rattle.beet_sharing.specs.Runs.{Setup, shared_at}
 use Rattle.beet_auction.specs.Endings.{AuctionEnds, book_finish, book_rounds}
 use Rattle.beet_auction.proofs.Ends.{book-ends}
-use Rattle.beet_book.specs.Farmers.{book_of as book_with}
+use Rattle.beet_book.specs.Farmers.{book_with}
 use Rattle.beet_load.specs.Loading.{IsKeptOf, Kept, Loaded}
 use Rattle.beet_load.specs.Servers.{ServerWords, masks_of}
-use Rattle.beet_run.specs.Runs.{EndsAuction, opening_with}
+use Rattle.beet_run.specs.Runs.{EndsAuction, setup_with}
 use Rattle.beet_run.proofs.ShareLines.{shares-lines}
 
 -- the points of the inputs are as many as the script wants
@@ -30,7 +30,7 @@ pub kept-many : (kept : Kept) (loaded : Loaded) → IsKeptOf kept loaded → (i 
 kept-many kept loaded k i = inputs-many (book_with kept.grid loaded.farmers) kept.inputs k.book k.shares i
 
 -- a run of an auction ends in one way
-pub one-end : (a : Auction) (o : Opening) (r r' : ℕ) (f f' : Finish) → AuctionEnds a o r f → AuctionEnds a o r' f' → (f ≡ f') × (r ≡ r')
+pub one-end : (a : Auction) (o : Setup) (r r' : ℕ) (f f' : Finish) → AuctionEnds a o r f → AuctionEnds a o r' f' → (f ≡ f') × (r ≡ r')
 one-end a o r r' f f' h h' =
     let e : r ≡ r' = sym h.counted ∙ h'.counted in
     (same-finish (sym h.finish_named ∙ ap (λ n. plan_finish (auction_plan a) (shared_at o n).opened) e ∙ h'.finish_named), e) where
@@ -42,5 +42,5 @@ pub book-run : (book : Book) (inputs : Trio (List ℕ)) (words : Trio ServerWord
     AreShares (sums_of book) inputs → EndsAuction book.grid inputs words finish rounds →
     (finish ≡ book_finish book (masks_of words)) × (rounds ≡ book_rounds book (masks_of words))
 book-run book inputs words finish rounds b x h =
-    one-end (auction_over book.grid) (opening_with book.grid inputs words) rounds (book_rounds book (masks_of words)) finish (book_finish book (masks_of words))
-    h.ends (book-ends book (opening_with book.grid inputs words) x.slopes b h.masks refl (shares-lines book inputs b x))
+    one-end (auction_over book.grid) (setup_with book.grid inputs words) rounds (book_rounds book (masks_of words)) finish (book_finish book (masks_of words))
+    h.ends (book-ends book (setup_with book.grid inputs words) x.slopes b h.masks refl (shares-lines book inputs b x))

@@ -14,22 +14,22 @@ use Rattle.beet_bids.specs.Grids.{Grid}
 use Rattle.beet_plan.specs.Auction.{Auction, auction_batch, auction_plan, most_rounds, auction_over}
 use Rattle.beet_plan.specs.Ends.{ComesTo, TellsEnd}
 use Rattle.beet_plan.specs.declared.Finish.{Finish}
-use Rattle.beet_server.specs.Cores.{Core, opening_of, has_ended}
-use Rattle.beet_server.specs.Events.{Delivered, all_delivered}
+use Rattle.beet_server.specs.Cores.{Core, setup_of, has_ended}
+use Rattle.beet_delivery.specs.Events.{Delivered, all_delivered}
 use Rattle.beet_server.specs.Fits.{Fits}
-use Rattle.beet_server.specs.Runs.{Opening, Shared, HasRounds, coming, opened_at, opened_by, rounds_among, shared_at, with_batch_lets}
+use Rattle.beet_sharing.specs.Runs.{Setup, Shared, HasRounds, coming, opened_at, opened_by, rounds_among, shared_at, with_batch_lets}
 use Rattle.beet_world.specs.Lockstep.{HaveEnded}
 use Rattle.beet_auction.specs.Endings.{AuctionEnds}
 use Rattle.beet_load.specs.Servers.{ServerWords}
-use Rattle.beet_run.specs.Runs.{EndsAuction, HasEndedRun, Starts, opening_with}
-use Rattle.beet_server.proofs.Walk.{length-opened_by}
-use Rattle.beet_auction.specs.Openings.{inputs_of}
+use Rattle.beet_run.specs.Runs.{EndsAuction, HasEndedRun, Starts, setup_with}
+use Rattle.beet_sharing.proofs.Walk.{length-opened_by}
+use Rattle.beet_auction.specs.Setups.{inputs_of}
 
 not-end : (a : Act) → is_end a ≡ false → a ≢ End
 not-end a h = λ e. absurd (true≢false (ap is_end (sym e) ∙ h))
 
 -- the numbers that a run has opened after so many rounds are some that the script may have opened
-comes-to : (o : Opening) (t : ℕ) → ((k : ℕ) → k < t → is_end (coming o k).act ≡ false) → ComesTo o.next t (shared_at o t).opened
+comes-to : (o : Setup) (t : ℕ) → ((k : ℕ) → k < t → is_end (coming o k).act ≡ false) → ComesTo o.next t (shared_at o t).opened
 comes-to o zero goes = refl
 comes-to o (suc t) goes =
     let s = shared_at o t in
@@ -54,30 +54,30 @@ named core answer h tells =
     let f = h.fits in
     let came : ComesTo (auction_batch core.script) core.round core.opened =
     subst (λ opened. ComesTo (auction_batch core.script) core.round opened) (sym f.opened)
-    (subst (λ (next : ℕ → List ℕ → Batch). ComesTo next core.round (shared_at h.opening core.round).opened) f.script
-    (comes-to h.opening core.round f.rounds)) in
+    (subst (λ (next : ℕ → List ℕ → Batch). ComesTo next core.round (shared_at h.setup core.round).opened) f.script
+    (comes-to h.setup core.round f.rounds)) in
     (tells core.round came).1 (is-the-end (auction_batch core.script core.round core.opened).act h.ended)
 
 module _ (grid : Grid) (inputs : Trio (List ℕ)) (words : Trio ServerWords) (cores : Trio (Core Auction)) (s : Starts grid inputs words cores)
     (ended : Trio (Core Auction)) (h : HaveEnded auction_batch inputs_of most_rounds cores ended) where
-  abbrev run : Opening
-  run = opening_with grid inputs words
+  abbrev run : Setup
+  run = setup_with grid inputs words
 
   -- the first server has ended
   pub has-ended-run : HasEndedRun ended.one
-  has-ended-run = record { opening = opening_of auction_batch inputs_of cores; delivered = _; fits = (h.ended One).fits; ended = h.at_end One }
+  has-ended-run = record { setup = setup_of auction_batch inputs_of cores; delivered = _; fits = (h.ended One).fits; ended = h.at_end One }
 
   abbrev rounds : ℕ
   rounds = rounds_among run (most_rounds (auction_over grid))
 
   at-rounds : ended.one.round ≡ rounds
-  at-rounds = (h.ended One).round ∙ ap (λ o. rounds_among o (most_rounds cores.one.script)) s.opening ∙ ap (λ a. rounds_among run (most_rounds a)) (s.script One)
+  at-rounds = (h.ended One).round ∙ ap (λ o. rounds_among o (most_rounds cores.one.script)) s.setup ∙ ap (λ a. rounds_among run (most_rounds a)) (s.script One)
 
   abbrev all : Delivered
-  all = all_delivered (rounds_among (opening_of auction_batch inputs_of cores) (most_rounds cores.one.script))
+  all = all_delivered (rounds_among (setup_of auction_batch inputs_of cores) (most_rounds cores.one.script))
 
   fits-run : Fits auction_batch run all ended.one
-  fits-run = subst (λ o. Fits auction_batch o all ended.one) s.opening (h.ended One).fits
+  fits-run = subst (λ o. Fits auction_batch o all ended.one) s.setup (h.ended One).fits
 
   ends-here : is_end (coming run ended.one.round).act ≡ true
   ends-here =

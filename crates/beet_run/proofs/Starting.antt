@@ -10,12 +10,12 @@ use Rattle.beet_gates.specs.Clear.{with_lets}
 use Rattle.beet_gates.specs.declared.Linear.{Linear}
 use Rattle.beet_bids.specs.Grids.{Grid}
 use Rattle.beet_plan.specs.Auction.{Auction, auction_batch, most_masks, most_coefficients, auction_over}
-use Rattle.beet_server.specs.Cores.{Core, AreFresh, IsFresh, fresh, opening_of}
-use Rattle.beet_server.specs.Runs.{Opening, numbers_of}
+use Rattle.beet_server.specs.Cores.{Core, AreFresh, IsFresh, fresh, setup_of}
+use Rattle.beet_sharing.specs.Runs.{Setup, numbers_of}
 use Rattle.beet_server.proofs.Starting.{first-wires}
-use Rattle.beet_auction.specs.Openings.{inputs_of}
+use Rattle.beet_auction.specs.Setups.{inputs_of}
 use Rattle.beet_load.specs.Servers.{ServerWords, masks_of, coefficients_of}
-use Rattle.beet_run.specs.Runs.{Starts, opening_with}
+use Rattle.beet_run.specs.Runs.{Starts, setup_with}
 
 -- a server that begins with its points and words
 abbrev pub StartsAt : Auction → Point → List ℕ → ServerWords → Core Auction → Type 0
@@ -88,8 +88,8 @@ module _ (grid : Grid) (inputs : Trio (List ℕ)) (words : Trio ServerWords) (co
       ap (λ (c : Core Auction). take (2 * c.script.prices) c.wires) h.0
       ∙ front (2 * grid.prices) xs (auction_batch (auction_over grid) 0 []).lets.items count
 
-  has-opening : opening_of auction_batch inputs_of cores ≡ opening_with grid inputs words
-  has-opening =
+  has-setup : setup_of auction_batch inputs_of cores ≡ setup_with grid inputs words
+  has-setup =
       let one = first-of cores.one One inputs.one words.one s.one (many One) in
       let two = first-of cores.two Two inputs.two words.two s.two (many Two) in
       let three = first-of cores.three Three inputs.three words.three s.three (many Three) in
@@ -105,7 +105,7 @@ module _ (grid : Grid) (inputs : Trio (List ℕ)) (words : Trio ServerWords) (co
   begins = record {
     fresh = are-fresh;
     script = has-script;
-    opening = has-opening;
+    setup = has-setup;
     masks = has-masks;
     coefficients = has-coefficients;
     are_masks = record { one = s.one.2; two = s.two.2; three = s.three.2 };

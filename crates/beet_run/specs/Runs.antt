@@ -7,35 +7,35 @@ use Rattle.beet_bids.specs.Grids.{Grid}
 use Rattle.beet_plan.specs.Auction.{Auction, auction_batch, auction_over}
 use Rattle.beet_plan.specs.Runs.{AreMasks}
 use Rattle.beet_plan.specs.declared.Finish.{Finish}
-use Rattle.beet_server.specs.Cores.{Core, AreFresh, has_ended, opening_of}
-use Rattle.beet_server.specs.Events.{Delivered}
+use Rattle.beet_server.specs.Cores.{Core, AreFresh, has_ended, setup_of}
+use Rattle.beet_delivery.specs.Events.{Delivered}
 use Rattle.beet_server.specs.Fits.{Fits}
-use Rattle.beet_server.specs.Runs.{Opening}
+use Rattle.beet_sharing.specs.Runs.{Setup}
 use Rattle.beet_auction.specs.Endings.{AuctionEnds}
-use Rattle.beet_auction.specs.Openings.{auction_opening, inputs_of}
+use Rattle.beet_auction.specs.Setups.{auction_setup, inputs_of}
 use Rattle.beet_load.specs.Servers.{ServerWords, masks_of, coefficients_of}
 
--- the opening of an auction over a grid, with these points of the inputs and these words of the servers
-abbrev pub opening_with : Grid → Trio (List ℕ) → Trio ServerWords → Opening
-opening_with grid inputs words = auction_opening grid inputs (masks_of words) (coefficients_of words)
+-- the setup of an auction over a grid, with these points of the inputs and these words of the servers
+abbrev pub setup_with : Grid → Trio (List ℕ) → Trio ServerWords → Setup
+setup_with grid inputs words = auction_setup grid inputs (masks_of words) (coefficients_of words)
 
 -- three fresh servers that begin an auction over a grid, with these points of the inputs and these words
 pub record Starts (grid : Grid) (inputs : Trio (List ℕ)) (words : Trio ServerWords) (cores : Trio (Core Auction)) : Type 0 where
   pub fresh : AreFresh auction_batch inputs_of cores
   pub script : (s : Point) → (member cores s).script ≡ auction_over grid
-  pub opening : opening_of auction_batch inputs_of cores ≡ opening_with grid inputs words
+  pub setup : setup_of auction_batch inputs_of cores ≡ setup_with grid inputs words
   pub masks : (s : Point) → (member cores s).masks.words ≡ (member words s).masks
   pub coefficients : (s : Point) → (member cores s).coefficients.words ≡ (member words s).coefficients
   pub are_masks : AreMasks (masks_of words)
 
 -- a server of some run that has ended
 pub record HasEndedRun (core : Core Auction) : Type 0 where
-  pub opening : Opening
+  pub setup : Setup
   pub delivered : Delivered
-  pub fits : Fits auction_batch opening delivered core
+  pub fits : Fits auction_batch setup delivered core
   pub ended : has_ended auction_batch core ≡ true
 
 -- the auction over a grid with these points and words ends with this finish after so many rounds
 pub record EndsAuction (grid : Grid) (inputs : Trio (List ℕ)) (words : Trio ServerWords) (finish : Finish) (rounds : ℕ) : Type 0 where
-  pub ends : AuctionEnds (auction_over grid) (opening_with grid inputs words) rounds finish
+  pub ends : AuctionEnds (auction_over grid) (setup_with grid inputs words) rounds finish
   pub masks : AreMasks (masks_of words)

@@ -5,7 +5,6 @@ ghost use Rattle.beet_field.specs.Trio.{member};
 ghost use Rattle.beet_field.specs.declared.point.Point.{Point as Server};
 ghost use Rattle.beet_words.specs.Words.{IsWord, accepted};
 ghost use Rattle.beet_gates.specs.Plans.{plan_finish};
-ghost use Rattle.beet_gates.specs.declared.Gates.TheVariants.{Chain};
 ghost use Rattle.beet_plan.specs.Auction.{auction_batch, auction_over, auction_plan, most_coefficients, most_masks};
 ghost use Rattle.beet_server.specs.Cores.{IsFresh, fresh};
 ghost use Rattle.beet_load.specs.Servers.{HaveEnough};
@@ -18,27 +17,17 @@ use beet_load::ServerWords;
 use beet_plan::Finish;
 use beet_search::AuctionScript;
 use beet_server::{ServerCore, StartFault};
-use beet_words::{FeList, Word};
+use beet_words::FeList;
 use beet_world::lockstep;
 use std::alloc::Global;
 
 /// The script of an auction over the grid.
 fn script_over(grid: &Grid) -> AuctionScript
-    requires { grid.now.gates ≡ Chain }
     ensures { result ≡ auction_over grid.now }
 {
     match AuctionScript::new(grid.prices(), grid.gates()) {
         Some(script) => script,
         None => unreachable!(),
-    }
-}
-
-/// Looks at each word.
-fn look_at(words: &[Word])
-    ensures { All IsWord words.now }
-{
-    for word in words {
-        let _below = word.value();
     }
 }
 
@@ -60,7 +49,8 @@ fn start(
     ensures fresh { IfOk result (IsFresh auction_batch (λ s. 2 * s.prices)) }
     ensures words { IfOk result (λ core. All IsWord words.masks) }
 {
-    look_at(words.masks.words());
+    // Its words are below 2^61.
+    let _words = words.masks.words();
     match ServerCore::start(alloc, me, script, inputs, words.masks, words.coefficients) {
         Ok(core) => Ok(core),
         Err(StartFault::OutOfMemory) => Err(Stop::OutOfMemory),
@@ -77,7 +67,6 @@ pub fn start_servers(
     inputs: Trio<FeList>,
     words: Trio<ServerWords>,
 ) -> Result<Trio<ServerCore<AuctionScript>>, Stop>
-    requires gates { grid.now.gates ≡ Chain }
     requires enough { HaveEnough grid.now words }
     requires inputs { (i : Server) → length (member inputs i) ≡ 2 * grid.now.prices }
     ensures memory { IfErr result (λ stop. stop ≡ Stop.OutOfMemory) }
@@ -109,7 +98,6 @@ pub fn run_auction(
     inputs: Trio<FeList>,
     words: Trio<ServerWords>,
 ) -> Result<(Finish, u32), Stop>
-    requires gates { grid.now.gates ≡ Chain }
     requires enough { HaveEnough grid.now words }
     requires inputs { (i : Server) → length (member inputs i) ≡ 2 * grid.now.prices }
     ensures memory { IfErr result (λ stop. stop ≡ Stop.OutOfMemory) }

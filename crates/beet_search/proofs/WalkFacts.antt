@@ -7,11 +7,7 @@ use Rattle.beet_gates.specs.declared.Batch.{Batch}
 use Rattle.beet_gates.specs.Batches.{reveal_batch, end_batch}
 use Rattle.beet_gates.specs.Plans.{Plan, Ended, Block, Last, plan_batch, plan_length, plan_after, plan_finish, batch_at}
 use Rattle.beet_gates.proofs.EachFacts.{get-past}
-use Rattle.beet_gates.specs.declared.Gates.{Gates}
-use Rattle.beet_gates.specs.declared.Gates.TheVariants.{Chain}
-use Rattle.beet_mask.specs.Mask.{mask_rounds_of}
-use Rattle.beet_compare.specs.Compare.{compare_rounds_of}
-use Rattle.beet_plan.specs.Blocks.{Blocks, blocks_of, chain_blocks, after_mask}
+use Rattle.beet_plan.specs.Blocks.{Blocks, blocks_of, after_mask}
 use Rattle.beet_plan.proofs.BlockLaws.{are-blocks}
 use Rattle.beet_plan.specs.Auction.{search_plan, end_plan, after_product}
 use Rattle.beet_plan.specs.declared.Finish.{Finish}
@@ -25,16 +21,6 @@ use Rattle.beet_plan.proofs.AuctionEnd.{search_plan-open, search_plan-done}
 -- the search goes on exactly where a mask may be dealt and the places differ
 pub record IsOpen (b : Bool) (n lo hi : ℕ) : Type 0 where
   pub says : IsTrue b ↔ ((0 < n) × (lo < hi))
-
--- where the gates are a chain, so are the blocks
-pub chain-is : (gates : Gates) → gates ≡ Chain → blocks_of gates ≡ chain_blocks
-chain-is gates e = ap blocks_of e
-
-pub mask-rounds : (gates : Gates) → gates ≡ Chain → mask_rounds_of gates ≡ (blocks_of gates).mask_rounds
-mask-rounds gates e = rw e refl
-
-pub compare-rounds : (gates : Gates) → gates ≡ Chain → compare_rounds_of gates ≡ (blocks_of gates).compare_rounds
-compare-rounds gates e = rw e refl
 
 module _ (g : Blocks) (prices n lo hi first rej : ℕ) where
   pub open-plan : 0 < n → lo < hi → search_plan g prices n lo hi first rej ≡ Block (g.mask first) (after_product g prices (n - 1) lo hi first rej)

@@ -1,12 +1,14 @@
 -- A place in the auction's script, and the plan that is left from there.
-use Rattle.std.specs.Prelude.{◌≡◌, ◌^◌, ◌≤◌, ◌<◌, ℕ, ◌+◌, ◌*◌, ◌/◌}
+use Rattle.std.specs.Prelude.{◌^◌, ◌≤◌, ◌<◌, ℕ, ◌+◌, ◌*◌, ◌/◌}
+use Rattle.beet_bids.specs.declared.grid.TheConstants.{MOST_PRICES}
 use Rattle.beet_gates.specs.Plans.{Plan, Ended, Block}
 use Rattle.beet_gates.specs.declared.Gates.{Gates}
-use Rattle.beet_gates.specs.declared.Gates.TheVariants.{Chain, Tree}
+use Rattle.beet_gates.specs.declared.Gates.TheVariants.{Tree}
 use Rattle.beet_mask.specs.Mask.{mask_wires_of}
 use Rattle.beet_compare.specs.Compare.{compare_wires_of}
 use Rattle.beet_plan.specs.Blocks.{blocks_of, after_mask}
 use Rattle.beet_plan.specs.Auction.{search_plan, compare_plan, after_answer}
+use Rattle.beet_plan.specs.declared.TheConstants.{SPARE_MASKS}
 use Rattle.beet_plan.specs.declared.Finish.{Finish}
 use Rattle.beet_search.specs.declared.walk.Stage.{Stage}
 use Rattle.beet_search.specs.declared.walk.Stage.TheVariants.{Search, Masked, Borrow, Ended as StageEnded}
@@ -44,11 +46,10 @@ busy (StageEnded f) = 0
 abbrev pub widest : Gates → ℕ
 widest gates = mask_wires_of gates + compare_wires_of Tree
 
--- the walk stays within the script's places and wires; the gates are a chain
+-- the walk stays within the script's places and wires
 pub record Fits (w : Walk) : Type 0 where
   pub in_order : w.lo + busy w.stage ≤ w.hi
   pub in_grid : w.hi ≤ w.prices
-  pub small : w.prices ≤ 4096
-  pub few : w.rejected < 3
+  pub small : w.prices ≤ MOST_PRICES
+  pub few : w.rejected ≤ SPARE_MASKS
   pub wires : w.first + widest w.gates * blocks_left w.stage w.left < 2 ^ 32
-  pub chain : w.gates ≡ Chain

@@ -8,6 +8,3 @@ mod walk;
 pub use beet_plan::Finish;
 pub use laws::{auction_law, book_law};
 pub use script::AuctionScript;
-
-#[cfg(test)]
-mod tests;

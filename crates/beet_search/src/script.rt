@@ -7,15 +7,13 @@ ghost use Rattle.beet_plan.specs.Auction.{auction_plan, IsGridSize};
 ghost use Rattle.beet_search.specs.Walk.{plan_at, Fits};
 
 use crate::walk::{Stage, Walk};
+use beet_bids::MOST_PRICES;
 use beet_compare::{compare_rounds, compare_wires};
 use beet_field::Fe;
 use beet_gates::{Batch, Gates, Script};
 use beet_mask::{mask_rounds, mask_wires};
-use beet_plan::{Finish, MASK_COEFFICIENTS};
+use beet_plan::{Finish, MASK_COEFFICIENTS, SPARE_MASKS};
 use std::marker::Model;
-
-/// The largest number of prices.
-const MOST_PRICES: u32 = 4_096;
 
 /// The script of an auction with so many prices and this kind of gates. With P prices, input k is the supply at place k, and input P + k the demand there.
 #[derive(Clone, Copy, PartialEq, Eq, Debug)]
@@ -25,20 +23,20 @@ pub struct AuctionScript {
 }
 
 impl Model for AuctionScript {
-    ghost use Rattle.beet_plan.specs.Auction.{Auction, IsAuction};
+    ghost use Rattle.beet_plan.specs.Auction.{Auction, IsGridSize};
 
     ghost Value = { Auction };
 
     ghost view = { λ a. record { prices = a.prices; gates = a.gates } };
 
-    ghost invariant = { λ a. IsAuction (record { prices = a.prices; gates = a.gates }) };
+    ghost invariant = { λ a. IsGridSize a.prices };
 
     ghost inverse = { λ v. record { prices = v.prices; gates = v.gates } };
 }
 
 /// How many comparisons a search among so many places makes at most.
 fn comparisons(prices: u32) -> u32
-    requires { prices ≤ 4096 }
+    requires { prices ≤ MOST_PRICES }
     ensures count { result ≡ comparisons_of prices }
     ensures few { result ≤ 13 }
 {
@@ -55,19 +53,15 @@ impl AuctionScript {
     ghost use Rattle.beet_plan.specs.Auction.{auction_batch};
     ghost use Rattle.beet_plan.specs.Ends.{TellsEnd};
 
-    /// The script, or none where the number of prices is outside 1 to 4,096. The gates are to be a chain.
+    /// The script, or none where the number of prices is outside 1 to 4,096.
     pub fn new(prices: u32, gates: Gates) -> Option<AuctionScript>
-        requires chain { gates ≡ Gates.Chain }
         ensures accepted { IsSome result ↔ IsGridSize prices }
         ensures value { IfSome result (λ script. script ≡ record { prices = prices; gates = gates }) }
     {
-        match gates {
-            Gates::Chain if prices >= 1 && prices <= MOST_PRICES => Some(AuctionScript {
-                prices,
-                gates,
-            }),
-            Gates::Chain => None,
-            Gates::Tree => unreachable!(),
+        if prices >= 1 && prices <= MOST_PRICES {
+            Some(AuctionScript { prices, gates })
+        } else {
+            None
         }
     }
 
@@ -84,7 +78,7 @@ impl AuctionScript {
             hi: self.prices,
             first: 2 * self.prices,
             rejected: 0,
-            left: comparisons(self.prices) + 3,
+            left: comparisons(self.prices) + SPARE_MASKS + 1,
         }
     }
 
@@ -126,15 +120,15 @@ impl Script for AuctionScript {
 
     fn rounds(&self) -> u32 {
         let mask = mask_rounds(self.gates);
-        comparisons(self.prices) * (mask + compare_rounds(self.gates)) + 2 * mask + 1
+        comparisons(self.prices) * (mask + compare_rounds(self.gates)) + SPARE_MASKS * mask + 1
     }
 
     fn masks(&self) -> u32 {
-        comparisons(self.prices) + 2
+        comparisons(self.prices) + SPARE_MASKS
     }
 
     fn coefficients(&self) -> u32 {
-        MASK_COEFFICIENTS * (comparisons(self.prices) + 2)
+        MASK_COEFFICIENTS * (comparisons(self.prices) + SPARE_MASKS)
     }
 
     fn wires(&self) -> u32 {

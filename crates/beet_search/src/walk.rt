@@ -12,7 +12,7 @@ use beet_compare::{compare_rounds, compare_wires, refill_compare};
 use beet_field::Fe;
 use beet_gates::{Batch, Gates};
 use beet_mask::{mask_rounds, mask_wires, refill_mask};
-use beet_plan::Finish;
+use beet_plan::{Finish, SPARE_MASKS};
 
 /// The block that comes next.
 #[derive(Clone, Copy)]
@@ -75,7 +75,7 @@ impl Walk {
     fn refill_comparison(&self, step: u32, c: Fe, batch: &mut Batch)
         requires fits { Fits self.now }
         requires busy { busy self.now.stage ≡ 1 }
-        ensures { batch.new ≡ batch_at (compare_batches (self.now.first + mask_wires_of self.now.gates) self.now.first ((self.now.lo + self.now.hi) / 2)
+        ensures { batch.new ≡ batch_at (compare_batches self.now.gates (self.now.first + mask_wires_of self.now.gates) self.now.first ((self.now.lo + self.now.hi) / 2)
             (self.now.prices + (self.now.lo + self.now.hi) / 2) c) step }
     {
         let mid = (self.lo + self.hi) / 2;
@@ -138,7 +138,7 @@ impl Walk {
         walk.left = self.left - 1;
         if product.value() != 1 {
             walk.stage = Stage::Masked;
-        } else if self.rejected == 2 {
+        } else if self.rejected == SPARE_MASKS {
             walk.stage = Stage::Ended(Finish::MasksSpent);
         } else {
             walk.first = self.first + mask_wires(self.gates);

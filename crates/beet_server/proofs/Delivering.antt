@@ -1,6 +1,6 @@
 -- A core that fits a run goes on fitting it.
 use Rattle.std.proofs.Common.{◌≡◌, ◌≢◌, ◌≤◌, ◌<◌, ◌+◌, ◌==◌, ◌&&◌, ◌||◌, if◌then◌else◌, ℕ, suc, Bool, true, false, true≢false, Some, None, is_some, List, [], ◌++◌, drop, sym, refl, ap, subst, ◌∙◌, ◌⊎◌, inl, inr, ⊎_elim, arith, add-one}
-use Rattle.std.proofs.lemmas.Bool.{eq-eqb, le-ltb, lt-ltb}
+use Rattle.std.proofs.lemmas.Bool.{eq-eqb, le-ltb, lt-ltb, and_from, and_parts, and_right, cases_lt, eqb-true, false_from_ne_true, ne_eqb, or_cases, or_left, or_right}
 use Rattle.std.proofs.lemmas.Bool.Decides.{nat_tests}
 use Rattle.arrayvec.specs.ArrayVec.{array_vec_len}
 use Rattle.beet_field.specs.Trio.{member}
@@ -25,17 +25,20 @@ use Rattle.beet_round.specs.declared.mailbox.Verdict.{Verdict}
 use Rattle.beet_round.specs.declared.mailbox.Verdict.TheVariants.{Stored, Ready, Repeat, Old, TooEarly, WrongLength, Stranger}
 use Rattle.beet_round.specs.declared.sides.Side.{Side}
 use Rattle.beet_round.specs.declared.sides.Side.TheVariants.{Low, High}
-use Rattle.beet_server.specs.Runs.{Opening, Shared, coming, message, sent_for, shared_at, standing_at, draws_in, gained}
-use Rattle.beet_server.specs.Events.{Delivered, same, both_in, with_triple}
+use Rattle.beet_sharing.specs.Runs.{Setup, Shared, coming, message, sent_for, shared_at, standing_at, draws_in, gained}
+use Rattle.beet_delivery.specs.Events.{Delivered, same, both_in, with_triple}
 use Rattle.beet_server.specs.Answers.{HandsOut, IsLateVerdict, Moves, other_side, verdict_on}
 use Rattle.beet_server.specs.Cores.{Core, coming_at, has_ended}
 use Rattle.beet_server.specs.Fits.{Fits, IsRound, message_of, messages_to, messages_from, some_if, taken}
-use Rattle.beet_server.specs.Steps.{work_of, came_from, handed_out, messages_out, moved_on, numbers_opened, points_given, sends, wires_given}
-use Rattle.beet_server.proofs.RunSteps.{by-sender, length-sent_for, sends-run, gains-run, opens-run, member-of_each}
-use Rattle.beet_server.proofs.Soundness.{member-trio_of}
+use Rattle.beet_server.specs.Steps.{work_of, came_from, handed_out, messages_out, moved_on, sends, wires_given}
+use Rattle.beet_sharing.specs.Steps.{numbers_opened, points_given}
+use Rattle.beet_sharing.proofs.RunSteps.{length-sent_for, sends-run, gains-run, opens-run}
+use Rattle.beet_server.proofs.Senders.{by-sender}
+use Rattle.beet_sharing.proofs.Lined.{member-each, member-trio}
+use Rattle.beet_delivery.proofs.EventFacts.{same_is, same_self}
 
 -- all that fits but for the wait
-pub record Almost {S : Type 0} (next : S → ℕ → List ℕ → Batch) (o : Opening) (x : Delivered) (c : Core S) : Type 0 where
+pub record Almost {S : Type 0} (next : S → ℕ → List ℕ → Batch) (o : Setup) (x : Delivered) (c : Core S) : Type 0 where
   pub script : o.next ≡ next c.script
   pub words : c.masks.words ≡ member o.masks c.me
   pub numbers : accepted c.coefficients.words ≡ member o.numbers c.me
@@ -52,7 +55,7 @@ pub record Almost {S : Type 0} (next : S → ℕ → List ℕ → Batch) (o : Op
   pub before : (s : Side) (t : ℕ) → t < c.round → x (peer c.me s) c.me t ≡ true
   pub soon : (s : Side) (t : ℕ) → x (peer c.me s) c.me t ≡ true → (t ≤ taken c.round c.handed) × IsRound o t
 
-pub almost : {S : Type 0} (next : S → ℕ → List ℕ → Batch) (o : Opening) (x : Delivered) (c : Core S) → Fits next o x c → Almost next o x c
+pub almost : {S : Type 0} (next : S → ℕ → List ℕ → Batch) (o : Setup) (x : Delivered) (c : Core S) → Fits next o x c → Almost next o x c
 almost next o x c f = record {
   script = f.script;
   words = f.words;
@@ -70,7 +73,7 @@ almost next o x c f = record {
   soon = f.soon;
 }
 
-pub wholly : {S : Type 0} (next : S → ℕ → List ℕ → Batch) (o : Opening) (x : Delivered) (c : Core S) → Almost next o x c →
+pub wholly : {S : Type 0} (next : S → ℕ → List ℕ → Batch) (o : Setup) (x : Delivered) (c : Core S) → Almost next o x c →
     (c.handed ≡ true → both_in x c.me c.round ≡ false) → Fits next o x c
 wholly next o x c f waits = record {
   script = f.script;
@@ -94,17 +97,6 @@ some-place : (b : Bool) (m : RoundMessage) → is_some (some_if b m) ≡ b
 some-place true m = refl
 some-place false m = refl
 
-and-both : (a b : Bool) → a ≡ true → b ≡ true → (a && b) ≡ true
-and-both a b e f = rw (e, f) refl
-
-and-cases : (a b : Bool) → (a && b) ≡ true → (a ≡ true) × (b ≡ true)
-and-cases true b e = (refl, e)
-and-cases false b e = absurd (true≢false (sym e))
-
-not-true : (b : Bool) → (b ≡ true → ⊥) → b ≡ false
-not-true true f = absurd (f refl)
-not-true false f = refl
-
 below-cases : (t n : ℕ) → t < n + 1 → (t < n) ⊎ (t ≡ n)
 below-cases t n h = grind arith
 
@@ -112,16 +104,16 @@ below-or : {P : Type 0} → (t n : ℕ) → t < n + 1 → (t < n → P) → (t �
 below-or t n h f g = ⊎_elim f g (below-cases t n h)
 
 -- both messages of the round are in the box where they were delivered
-module _ {S : Type 0} (next : S → ℕ → List ℕ → Batch) (o : Opening) (x : Delivered) (c : Core S) (fits : Almost next o x c) where
+module _ {S : Type 0} (next : S → ℕ → List ℕ → Batch) (o : Setup) (x : Delivered) (c : Core S) (fits : Almost next o x c) where
   place-delivered : (s : Side) → is_some (place_at c.mail.now s) ≡ x (peer c.me s) c.me c.round
   place-delivered s = ap is_some (fits.now s) ∙ some-place _ _
 
   pub both-delivered : HasBoth c.mail.now → both_in x c.me c.round ≡ true
   both-delivered both =
-      and-both _ _ (sym (place-delivered Low) ∙ both.0) (sym (place-delivered High) ∙ both.1)
+      and_from _ _ (sym (place-delivered Low) ∙ both.0) (sym (place-delivered High) ∙ both.1)
 
   pub still-waits : (HasBoth c.mail.now → ⊥) → both_in x c.me c.round ≡ false
-  still-waits not = not-true _ (λ e. let b = and-cases _ _ e in not (place-delivered Low ∙ b.0, place-delivered High ∙ b.1))
+  still-waits not = false_from_ne_true _ (λ e. let b = and_parts _ _ e in not (place-delivered Low ∙ b.0, place-delivered High ∙ b.1))
 
   -- the batch that comes is that of the run
   pub coming-is : coming_at next c ≡ coming o c.round
@@ -211,12 +203,12 @@ module _ {S : Type 0} (next : S → ℕ → List ℕ → Batch) (o : Opening) (x
     gained_is =
         (λ i. fits.wires i ++ points_given (coming-is i).act (from_is One i) (from_is Two i) (from_is Three i))
         ∙ ap (λ l. member there.wires c.me ++ l) (gains-run o there act c.me)
-        ∙ sym (member-trio_of (λ (j : Point). member there.wires j ++ gained o there act j) c.me)
+        ∙ sym (member-trio (λ (j : Point). member there.wires j ++ gained o there act j) c.me)
 
     wires_are : (moved_on next c).wires ≡ member (standing_at o (suc c.round)).wires c.me
     wires_are =
         (λ i. with_lets (gained_is i) (new_coming i).lets.items)
-        ∙ sym (member-of_each (λ (points : List ℕ). with_lets points new_batch.lets.items) (shared_at o (suc c.round)).wires c.me)
+        ∙ sym (member-each (λ (points : List ℕ). with_lets points new_batch.lets.items) (shared_at o (suc c.round)).wires c.me)
 
     abbrev want : ℕ
     want = size_of (next c.script (c.round + 1) (moved_on next c).opened).act
@@ -240,7 +232,7 @@ module _ {S : Type 0} (next : S → ℕ → List ℕ → Batch) (o : Opening) (x
     turned_next box n High = refl
 
     none_later : (s : Side) → x (peer c.me s) c.me (c.round + 1 + 1) ≡ false
-    none_later s = not-true _ (λ e. absurd (let h = rw handed at (fits.soon s (c.round + 1 + 1) e).0 in omega (arith, h)))
+    none_later s = false_from_ne_true _ (λ e. absurd (let h = rw handed at (fits.soon s (c.round + 1 + 1) e).0 in omega (arith, h)))
 
     pub moves-on : Fits next o x (moved_on next c)
     moves-on = record {
@@ -262,43 +254,6 @@ module _ {S : Type 0} (next : S → ℕ → List ℕ → Batch) (o : Opening) (x
       waits = λ e. absurd (true≢false (sym e));
     }
 
-same-itself : (s : Point) → same s s ≡ true
-same-itself One = refl
-same-itself Two = refl
-same-itself Three = refl
-
-same-is : (a b : Point) → same a b ≡ true → a ≡ b
-same-is One One e = refl
-same-is One Two e = cc e
-same-is One Three e = cc e
-same-is Two One e = cc e
-same-is Two Two e = refl
-same-is Two Three e = cc e
-same-is Three One e = cc e
-same-is Three Two e = cc e
-same-is Three Three e = refl
-
-eq-itself : (n : ℕ) → (n == n) ≡ true
-eq-itself n = grind (arith, nat_tests)
-
-eq-is : (m n : ℕ) → (m == n) ≡ true → m ≡ n
-eq-is m n e = grind (arith, nat_tests)
-
-eq-not : (m n : ℕ) → m ≢ n → (m == n) ≡ false
-eq-not m n e = grind (arith, nat_tests)
-
-or-cases : (a b : Bool) → (a || b) ≡ true → (a ≡ true) ⊎ (b ≡ true)
-or-cases true b e = inl refl
-or-cases false b e = inr e
-
-or-left : (a b : Bool) → a ≡ true → (a || b) ≡ true
-or-left true b e = refl
-or-left false b e = absurd (true≢false (sym e))
-
-or-right : (a b : Bool) → b ≡ true → (a || b) ≡ true
-or-right true b e = refl
-or-right false b e = e
-
 or-false : (a b : Bool) → b ≡ false → (a || b) ≡ a
 or-false true b e = refl
 or-false false b e = e
@@ -308,38 +263,31 @@ or-same true b f = refl
 or-same false true f = sym (f refl)
 or-same false false f = refl
 
-and-false : (a b : Bool) → b ≡ false → (a && b) ≡ false
-and-false true b e = e
-and-false false b e = refl
-
 -- a set with the message of a round from the peer at a side more
 module _ (x : Delivered) (me : Point) (side : Side) (t : ℕ) where
   abbrev new_set : Delivered
   new_set = with_triple x (record { from = peer me side; to = me; round = t })
 
   new-here : new_set (peer me side) me t ≡ true
-  new-here = or-right _ _ (and-both _ _ (and-both _ _ (same-itself (peer me side)) (same-itself me)) (eq-itself t))
+  new-here = or_right _ _ (and_from _ _ (and_from _ _ (same_self (peer me side)) (same_self me)) (eq-eqb t t refl))
 
   new-apart : (s : Side) (r : ℕ) → r ≢ t → new_set (peer me s) me r ≡ x (peer me s) me r
-  new-apart s r other = or-false _ _ (and-false _ _ (eq-not r t other))
+  new-apart s r other = or-false _ _ (and_right _ _ (ne_eqb r t other))
 
   new-other : (s : Side) (r : ℕ) → s ≢ side → new_set (peer me s) me r ≡ x (peer me s) me r
   new-other s r other =
-      or-false _ _ (not-true _ (λ e. let b = (and-cases _ _ e).0 in other (peer-one me s side (same-is (peer me s) (peer me side) (and-cases _ _ b).0))))
+      or-false _ _ (false_from_ne_true _ (λ e. let b = (and_parts _ _ e).0 in other (peer-one me s side (same_is (peer me s) (peer me side) (and_parts _ _ b).0))))
 
   new-kept : (s : Side) (r : ℕ) → x (peer me s) me r ≡ true → new_set (peer me s) me r ≡ true
-  new-kept s r e = or-left _ _ e
+  new-kept s r e = or_left _ _ e
 
   new-cases : (s : Side) (r : ℕ) → new_set (peer me s) me r ≡ true → (x (peer me s) me r ≡ true) ⊎ (r ≡ t)
-  new-cases s r e = ⊎_elim (λ a. inl a) (λ b. inr (eq-is r t (and-cases _ _ b).1)) (or-cases _ _ e)
+  new-cases s r e = ⊎_elim (λ a. inl a) (λ b. inr (eqb-true r t (and_parts _ _ b).1)) (or_cases _ _ e)
 
   pub new-again : x (peer me side) me t ≡ true → new_set ≡ x
   new-again e = λ i from to r. or-same (x from to r) (same from (peer me side) && same to me && (r == t))
-      (λ b. let c = and-cases _ _ b in let d = and-cases _ _ c.0 in
-      rw (same-is from (peer me side) d.0, same-is to me d.1, eq-is r t c.1) e) i
-
-order : (m n : ℕ) → (m < n) ⊎ (n ≤ m)
-order m n = grind arith
+      (λ b. let c = and_parts _ _ b in let d = and_parts _ _ c.0 in
+      rw (same_is from (peer me side) d.0, same_is to me d.1, eqb-true r t c.1) e) i
 
 -- a box of which one place changed
 placed-here : (places : Places) (side : Side) (m : RoundMessage) → place_at (with_place places side m) side ≡ Some m
@@ -367,8 +315,8 @@ other-in old new High m is both = (subst (λ (k : Mailbox). HasBoth k.now) is bo
 
 other-out : (old new : Mailbox) (side : Side) (m : RoundMessage) → new ≡ record old { now = with_place old.now side m } → (HasBoth new.now → ⊥) →
     is_some (place_at old.now (other_side side)) ≡ false
-other-out old new Low m is not = not-true _ (λ e. not (subst (λ (k : Mailbox). HasBoth k.now) (sym is) (refl, e)))
-other-out old new High m is not = not-true _ (λ e. not (subst (λ (k : Mailbox). HasBoth k.now) (sym is) (e, refl)))
+other-out old new Low m is not = false_from_ne_true _ (λ e. not (subst (λ (k : Mailbox). HasBoth k.now) (sym is) (refl, e)))
+other-out old new High m is not = false_from_ne_true _ (λ e. not (subst (λ (k : Mailbox). HasBoth k.now) (sym is) (e, refl)))
 
 -- the verdict in each of its cases
 module _ (x : Delivered) (s : Point) (round : ℕ) (side : Side) (t : ℕ) where
@@ -385,10 +333,10 @@ module _ (x : Delivered) (s : Point) (round : ℕ) (side : Side) (t : ℕ) where
   verdict-stored e out other = rw (le-ltb t round (omega (arith, e)), out, eq-eqb t round e, other) refl
 
   verdict-early : t ≡ round + 1 → x (peer s side) s t ≡ false → Stored ≡ verdict_on x s round side t
-  verdict-early e out = rw (le-ltb t round (omega (arith, e)), out, eq-not t round (λ f. absurd (omega (arith, e, f)))) refl
+  verdict-early e out = rw (le-ltb t round (omega (arith, e)), out, ne_eqb t round (λ f. absurd (omega (arith, e, f)))) refl
 
 -- a message of the run to a core that fits it, of a round that it may get
-module _ {S : Type 0} (next : S → ℕ → List ℕ → Batch) (o : Opening) (x : Delivered) (c : Core S) (fits : Fits next o x c)
+module _ {S : Type 0} (next : S → ℕ → List ℕ → Batch) (o : Setup) (x : Delivered) (c : Core S) (fits : Fits next o x c)
     (side : Side) (t : ℕ) (is_round : IsRound o t) (near : t ≤ c.round + 1) where
   abbrev the_message : RoundMessage
   the_message = message_of o (peer c.me side) c.me t
@@ -404,7 +352,7 @@ module _ {S : Type 0} (next : S → ℕ → List ℕ → Batch) (o : Opening) (x
   passed-before ended = below (is_end (coming o c.round).act) refl
     where
       below : (b : Bool) → is_end (coming o c.round).act ≡ b → t < c.round
-      below true e = elim (order t c.round) [ inl h ↦ h | inr h ↦ absurd (true≢false (sym e ∙ is_round c.round h)) ]
+      below true e = elim (cases_lt t c.round) [ inl h ↦ h | inr h ↦ absurd (true≢false (sym e ∙ is_round c.round h)) ]
       below false e = absurd (true≢false (sym ended ∙ ap (λ (b : Batch). is_end b.act) (coming-is next o x c (almost next o x c fits)) ∙ e))
 
   pub late : has_ended next c ≡ true → Fits next o the_set c
@@ -536,13 +484,13 @@ module _ {S : Type 0} (next : S → ℕ → List ℕ → Batch) (o : Opening) (x
 -- the verdict on a delivered message of the run
 abbrev pub ToldAfter : {S : Type 0} → (S → ℕ → List ℕ → Batch) → Core S → RoundMessage → Verdict → Type 0
 ToldAfter next old m v =
-    (o : Opening) (x : Delivered) (s : Side) (t : ℕ) → Fits next o x old → m ≡ message_of o (peer old.me s) old.me t → IsRound o t →
+    (o : Setup) (x : Delivered) (s : Side) (t : ℕ) → Fits next o x old → m ≡ message_of o (peer old.me s) old.me t → IsRound o t →
     t ≤ old.round + 1 → v ≡ verdict_on x old.me old.round s t
 
 -- what a delivered message of the run leaves
 abbrev pub FitsAfter : {S : Type 0} → (S → ℕ → List ℕ → Batch) → Core S → Core S → RoundMessage → Type 0
 FitsAfter next old new m =
-    (o : Opening) (x : Delivered) (s : Side) (t : ℕ) → Fits next o x old → m ≡ message_of o (peer old.me s) old.me t → IsRound o t →
+    (o : Setup) (x : Delivered) (s : Side) (t : ℕ) → Fits next o x old → m ≡ message_of o (peer old.me s) old.me t → IsRound o t →
     t ≤ old.round + 1 → Fits next o (with_triple x (record { from = peer old.me s; to = old.me; round = t })) new
 
 pub handed-first : (a b : Bool) → (a || b) ≡ true → b ≡ false → a ≡ true
@@ -554,7 +502,7 @@ not-handed true b e = cc e
 not-handed false b e = (refl, e)
 
 module _ {S : Type 0} (next : S → ℕ → List ℕ → Batch) (c : Core S) where
-  from-side : (box : Mailbox) (v : Verdict) (o : Opening) (s : Side) (t : ℕ) → c.mail.me ≡ c.me →
+  from-side : (box : Mailbox) (v : Verdict) (o : Setup) (s : Side) (t : ℕ) → c.mail.me ≡ c.me →
       Judged c.mail box (message_of o (peer c.me s) c.me t) v → JudgedFrom c.mail box s (message_of o (peer c.me s) c.me t) v
   from-side box v o s t me judged = judged-from c.mail box _ s v (sym me) (ap (λ p. peer p s) (sym me)) judged
 
@@ -587,7 +535,7 @@ module _ {S : Type 0} (next : S → ℕ → List ℕ → Batch) (c : Core S) whe
       (put-now next o x c fits s t is_round near handed box (j.0.0 ∙ at) j.3) handed goes j.2
 
   -- the messages are handed out, and the round is passed where both messages to the server are in
-  pub after-out : (d : Core S) (o : Opening) (x : Delivered) → c.handed ≡ false → has_ended next c ≡ false → HandsOut next c d → Fits next o x c → Fits next o x d
+  pub after-out : (d : Core S) (o : Setup) (x : Delivered) → c.handed ≡ false → has_ended next c ≡ false → HandsOut next c d → Fits next o x c → Fits next o x d
   after-out d o x handed goes leaves fits =
       let a = hands-out next o x c (almost next o x c fits) handed in
       ⊎_elim
@@ -601,7 +549,7 @@ module _ {S : Type 0} (next : S → ℕ → List ℕ → Batch) (c : Core S) whe
       ⊎_elim (λ b. inl (b.0, ap (λ k. k.round) b.1, ap (λ k. k.handed) b.1)) (λ b. inr (b.0, ap (λ k. k.round) b.1, ap (λ k. k.handed) b.1)) leaves
 
   -- the two messages that are handed out
-  pub handed-messages : (o : Opening) (x : Delivered) → Fits next o x c → c.handed ≡ false → messages_out next c ≡ messages_from o c.me c.round
+  pub handed-messages : (o : Setup) (x : Delivered) → Fits next o x c → c.handed ≡ false → messages_out next c ≡ messages_from o c.me c.round
   handed-messages o x fits handed =
       let is : (s : Side) → sends next (work_of c) (peer c.me s) ≡ message o c.me (peer c.me s) c.round =
       λ s. sends-is next o x c (almost next o x c fits) handed (peer c.me s) in

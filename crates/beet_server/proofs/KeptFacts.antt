@@ -1,6 +1,7 @@
 -- The messages that are kept by their numbers: those of one round more, and the numbers of one.
 use Rattle.std.proofs.Common.{◌≡◌, ◌≤◌, ◌+◌, ℕ, zero, suc, List, [], ◌∷◌, ◌++◌, length, slice_get, Some, refl, sym, ap, arith, subst}
 use Rattle.beet_field.specs.declared.point.Point.{Point}
+use Rattle.beet_gates.specs.declared.TheConstants.{MOST_NUMBERS}
 use Rattle.beet_round.specs.declared.message.RoundMessage.{RoundMessage}
 use Rattle.beet_round.specs.declared.sides.Side.{Side}
 use Rattle.beet_round.specs.declared.sides.Side.TheVariants.{Low, High}
@@ -38,13 +39,13 @@ numbers-high me t (x ∷ xs) [] k e = absurd (omega (arith, e))
 numbers-high me t (x ∷ xs) (y ∷ ys) zero e = refl
 numbers-high me t (x ∷ xs) (y ∷ ys) (suc k) e = numbers-high me (t + 1) xs ys k (omega (arith, e))
 
-pub short-more : (rs : List (List ℕ)) (r : List ℕ) → AreShort rs → length r ≤ 64 → AreShort (rs ++ r ∷ [])
+pub short-more : (rs : List (List ℕ)) (r : List ℕ) → AreShort rs → length r ≤ MOST_NUMBERS → AreShort (rs ++ r ∷ [])
 short-more [] r h few = (few, tt)
 short-more (x ∷ rs) r h few = (h.0, short-more rs r h.1 few)
 
-pub short-at : (rs : List (List ℕ)) (k : ℕ) (r : List ℕ) → AreShort rs → Some r ≡ slice_get rs k → length r ≤ 64
+pub short-at : (rs : List (List ℕ)) (k : ℕ) (r : List ℕ) → AreShort rs → Some r ≡ slice_get rs k → length r ≤ MOST_NUMBERS
 short-at [] k r h e = absurd (cc e)
-short-at (x ∷ rs) zero r h e = let is : r ≡ x = cc e in subst (λ (l : List ℕ). length l ≤ 64) (sym is) h.0
+short-at (x ∷ rs) zero r h e = let is : r ≡ x = cc e in subst (λ (l : List ℕ). length l ≤ MOST_NUMBERS) (sym is) h.0
 short-at (x ∷ rs) (suc k) r h e = short-at rs k r h.1 e
 
 -- the numbers from a side are those from its server

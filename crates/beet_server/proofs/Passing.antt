@@ -8,15 +8,15 @@ use Rattle.beet_round.specs.Boxes.{place_at}
 use Rattle.beet_round.specs.Sides.{peer}
 use Rattle.beet_round.specs.declared.sides.Side.{Side}
 use Rattle.beet_round.specs.declared.sides.Side.TheVariants.{Low, High}
-use Rattle.beet_server.specs.Runs.{Opening, HasRounds, coming, shared_at}
-use Rattle.beet_server.specs.Events.{Triple, Delivered, same, with_triple, both_in, passed}
+use Rattle.beet_sharing.specs.Runs.{Setup, HasRounds, coming, shared_at}
+use Rattle.beet_delivery.specs.Events.{Triple, Delivered, same, with_triple, both_in, passed}
 use Rattle.beet_server.specs.Cores.{Core, has_ended, is_quiet}
 use Rattle.beet_server.specs.Fits.{Fits, IsRound, message_of, some_if}
 use Rattle.beet_server.specs.Answers.{Keeps, Moves}
-use Rattle.beet_server.proofs.EventFacts.{same_not, both_from_sides, passed_in, passed_most, passed_largest}
+use Rattle.beet_delivery.proofs.EventFacts.{same_not, both_from_sides, passed_in, passed_most, passed_largest}
 
 -- a round of the run is one of its rounds
-pub is_round : (o : Opening) (rounds t : ℕ) → HasRounds o rounds → IsRound o t ↔ (t < rounds)
+pub is_round : (o : Setup) (rounds t : ℕ) → HasRounds o rounds → IsRound o t ↔ (t < rounds)
 is_round o rounds t h = (
   λ r. elim (cases_lt t rounds) [
     | inl lt ↦ lt
@@ -25,7 +25,7 @@ is_round o rounds t h = (
   λ lt k le. h.goes k (omega (arith, lt, le)),
 )
 
-pub round_most : {S : Type 0} (next : S → ℕ → List ℕ → Batch) (o : Opening) (x : Delivered) (c : Core S) (rounds : ℕ) → HasRounds o rounds
+pub round_most : {S : Type 0} (next : S → ℕ → List ℕ → Batch) (o : Setup) (x : Delivered) (c : Core S) (rounds : ℕ) → HasRounds o rounds
     → Fits next o x c → c.round ≤ rounds
 round_most next o x c rounds h f = elim (cases_lt rounds c.round) [
   | inl lt ↦ absurd (both_ways (is_end (coming o rounds).act) (f.rounds rounds lt) h.ends)
@@ -33,13 +33,13 @@ round_most next o x c rounds h f = elim (cases_lt rounds c.round) [
 ]
 
 -- what comes at the core is what comes in the run
-pub coming_is : {S : Type 0} (next : S → ℕ → List ℕ → Batch) (o : Opening) (x : Delivered) (c : Core S) → Fits next o x c
+pub coming_is : {S : Type 0} (next : S → ℕ → List ℕ → Batch) (o : Setup) (x : Delivered) (c : Core S) → Fits next o x c
     → has_ended next c ≡ is_end (coming o c.round).act
 coming_is next o x c f =
     ap (λ l. is_end (next c.script c.round l).act) f.opened
     ∙ ap (λ (g : ℕ → List ℕ → Batch). is_end (g c.round (shared_at o c.round).opened).act) (sym f.script)
 
-pub ended_at : {S : Type 0} (next : S → ℕ → List ℕ → Batch) (o : Opening) (x : Delivered) (c : Core S) (rounds : ℕ) → HasRounds o rounds
+pub ended_at : {S : Type 0} (next : S → ℕ → List ℕ → Batch) (o : Setup) (x : Delivered) (c : Core S) (rounds : ℕ) → HasRounds o rounds
     → Fits next o x c → (has_ended next c ≡ true) ↔ (c.round ≡ rounds)
 ended_at next o x c rounds h f =
     let most : c.round ≤ rounds = round_most next o x c rounds h f in (
@@ -50,13 +50,13 @@ ended_at next o x c rounds h f =
       λ e. coming_is next o x c f ∙ (ap (λ t. is_end (coming o t).act) e ∙ h.ends),
     )
 
-pub round_passed : {S : Type 0} (next : S → ℕ → List ℕ → Batch) (o : Opening) (x : Delivered) (c : Core S) (rounds : ℕ) → HasRounds o rounds
+pub round_passed : {S : Type 0} (next : S → ℕ → List ℕ → Batch) (o : Setup) (x : Delivered) (c : Core S) (rounds : ℕ) → HasRounds o rounds
     → Fits next o x c → c.round ≤ passed rounds x c.me
 round_passed next o x c rounds h f =
     passed_largest rounds x c.me c.round (round_most next o x c rounds h f) (λ r lt side. f.before side r lt)
 
 -- at most one round is passed beyond those of the core
-pub passed_soon : {S : Type 0} (next : S → ℕ → List ℕ → Batch) (o : Opening) (x : Delivered) (c : Core S) (rounds : ℕ)
+pub passed_soon : {S : Type 0} (next : S → ℕ → List ℕ → Batch) (o : Setup) (x : Delivered) (c : Core S) (rounds : ℕ)
     → Fits next o x c → passed rounds x c.me ≤ c.round + 1
 passed_soon next o x c rounds f = elim (cases_lt (c.round + 1) (passed rounds x c.me)) [
   | inl lt ↦
@@ -70,7 +70,7 @@ passed_soon next o x c rounds f = elim (cases_lt (c.round + 1) (passed rounds x 
 ]
 
 -- a core that was not quiet is quiet once it has handed out twice with nothing delivered in between
-pub twice : {S : Type 0} (next : S → ℕ → List ℕ → Batch) (o : Opening) (x : Delivered) (c d e : Core S)
+pub twice : {S : Type 0} (next : S → ℕ → List ℕ → Batch) (o : Setup) (x : Delivered) (c d e : Core S)
     → Fits next o x c → is_quiet next c ≡ false → Keeps c d → Moves c d
     → Fits next o x d → is_quiet next d ≡ false → Keeps d e → Moves d e
     → Fits next o x e → is_quiet next e ≡ true
@@ -90,7 +90,7 @@ twice next o x c d e f before keeps moves g still stays more h = elim more [
   or_out false b none = refl
 
 -- a core that has handed out its messages, or has ended, is at the rounds that its server has passed
-pub at_passed : {S : Type 0} (next : S → ℕ → List ℕ → Batch) (o : Opening) (x : Delivered) (c : Core S) (rounds : ℕ) → HasRounds o rounds
+pub at_passed : {S : Type 0} (next : S → ℕ → List ℕ → Batch) (o : Setup) (x : Delivered) (c : Core S) (rounds : ℕ) → HasRounds o rounds
     → Fits next o x c → is_quiet next c ≡ true → c.round ≡ passed rounds x c.me
 at_passed next o x c rounds h f quiet =
     let low : c.round ≤ passed rounds x c.me = round_passed next o x c rounds h f in
@@ -107,7 +107,7 @@ at_passed next o x c rounds h f quiet =
     ]
 
 -- what is delivered to others changes nothing at a core
-pub elsewhere : {S : Type 0} (next : S → ℕ → List ℕ → Batch) (o : Opening) (x y : Delivered) (c : Core S)
+pub elsewhere : {S : Type 0} (next : S → ℕ → List ℕ → Batch) (o : Setup) (x y : Delivered) (c : Core S)
     → ((side : Side) (t : ℕ) → y (peer c.me side) c.me t ≡ x (peer c.me side) c.me t) → Fits next o x c → Fits next o y c
 elsewhere next o x y c agree f =
     let both : (t : ℕ) → both_in y c.me t ≡ both_in x c.me t =
@@ -142,6 +142,6 @@ with_elsewhere x e s away from t =
     or_nothing true b none = refl
     or_nothing false b none = none
 
-pub away : {S : Type 0} (next : S → ℕ → List ℕ → Batch) (o : Opening) (x : Delivered) (c : Core S) (e : Triple)
+pub away : {S : Type 0} (next : S → ℕ → List ℕ → Batch) (o : Setup) (x : Delivered) (c : Core S) (e : Triple)
     → e.to ≢ c.me → Fits next o x c → Fits next o (with_triple x e) c
 away next o x c e other f = elsewhere next o x (with_triple x e) c (λ side t. with_elsewhere x e c.me other (peer c.me side) t) f

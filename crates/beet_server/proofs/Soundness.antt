@@ -2,26 +2,20 @@
 use Rattle.std.proofs.Common.{◌≡◌, ◌+◌, ◌*◌, ◌^◌, ◌<◌, ◌≤◌, ℕ, zero, suc, Bool, true, false, List, [], ◌∷◌, ◌++◌, drop, length, refl, sym, ap, ◌∙◌, arith, true≢false, length-append}
 use Rattle.std.proofs.lemmas.List.{length-map}
 use Rattle.std.specs.Int.{bit_at}
-use Rattle.beet_field.specs.Trio.{member, trio_of}
 use Rattle.beet_field.specs.declared.point.Point.{Point}
-use Rattle.beet_field.specs.declared.point.Point.TheVariants.{One, Two, Three}
 use Rattle.beet_words.specs.Tapes.{Tape, left_of}
 use Rattle.beet_gates.specs.Clear.{with_lets, product_of, is_end}
 use Rattle.beet_gates.specs.Scripts.{Standing, LawFrom, BatchStands, LetsBelow, IsWithin, after, acted, revealed, deals_in, size_of, start_of}
 use Rattle.beet_gates.specs.declared.Act.{Act}
 use Rattle.beet_gates.specs.declared.Act.TheVariants.{Deal, Mul, Reveal, End}
 use Rattle.beet_gates.specs.declared.Batch.{Batch}
-use Rattle.beet_gates.proofs.ClearFacts.{length-with_lets}
+use Rattle.beet_gates.specs.declared.TheConstants.{MOST_NUMBERS}
+use Rattle.beet_gates.proofs.ClearFacts.{length-with_lets, done-after}
 use Rattle.beet_gates.proofs.EachFacts.{length-each}
 use Rattle.beet_gates.proofs.Laws.{law-now, law-next, law-last}
-use Rattle.beet_server.specs.Runs.{draws_in}
+use Rattle.beet_sharing.specs.Runs.{draws_in}
 use Rattle.beet_server.specs.Sound.{IsSound}
-use Rattle.beet_server.specs.Steps.{numbers_for, gained_in}
-
-pub member-trio_of : {A : Type 0} (f : Point → A) → (i : Point) → member (trio_of f) i ≡ f i
-member-trio_of f One = refl
-member-trio_of f Two = refl
-member-trio_of f Three = refl
+use Rattle.beet_sharing.specs.Steps.{numbers_for, gained_in}
 
 -- a message has the size of its batch
 pub length-numbers_for : (a : Act) (points : List ℕ) (word : ℕ) (drawn : List ℕ) (to : Point) → length (numbers_for a points word drawn to) ≡ size_of a
@@ -44,14 +38,6 @@ leads s b = by_act b.act where
   by_act (Reveal shown) = record { wires = omega arith; masks = omega arith; coefficients = omega arith }
   by_act End = record { wires = omega arith; masks = omega arith; coefficients = omega arith }
 
-done-after : (s : Standing) (b : Batch) → is_end b.act ≡ false → (after s b).done ≡ s.done + 1
-done-after s b h = by_act b.act h where
-  by_act : (a : Act) → is_end a ≡ false → (acted (record s { wires = s.wires + length b.lets.items }) a).done ≡ s.done + 1
-  by_act Deal h = refl
-  by_act (Mul pairs) h = refl
-  by_act (Reveal shown) h = refl
-  by_act End h = cc h
-
 few-opened : (a : Act) → revealed a ≤ size_of a
 few-opened Deal = omega arith
 few-opened (Mul pairs) = omega arith
@@ -73,7 +59,7 @@ module _ (next : ℕ → List ℕ → Batch) (bounds : Standing) (rounds : ℕ) 
     pub first-sound : (batch : Batch) (given wires opened own : List ℕ) (masks coefficients : Tape) (wire_room opened_room : ℕ) →
         batch ≡ next 0 [] → length given ≡ n → wires ≡ with_lets given batch.lets.items → opened ≡ [] → own ≡ [] → masks.passed ≡ 0 →
         bounds.masks ≤ length masks.words → bounds.coefficients ≤ length (left_of coefficients) → bounds.wires ≤ wire_room →
-        64 * rounds ≤ opened_room → rounds < 2 ^ 32 →
+        MOST_NUMBERS * rounds ≤ opened_room → rounds < 2 ^ 32 →
         IsSound next bounds rounds batch 0 wires opened own masks coefficients false wire_room opened_room
     first-sound batch given wires opened own masks coefficients wire_room opened_room comes count is_wires no_opened no_own none words numbers room answers small = record {
       coming = rw no_opened comes;

@@ -11,12 +11,12 @@ use Rattle.beet_gates.proofs.EachFacts.{each-zero}
 use Rattle.beet_round.specs.Boxes.{Mailbox, fresh_box}
 use Rattle.beet_round.specs.declared.message.RoundMessage.{RoundMessage}
 use Rattle.beet_round.specs.declared.sides.Side.TheVariants.{Low, High}
-use Rattle.beet_server.specs.Runs.{Opening}
-use Rattle.beet_server.specs.Events.{nothing}
+use Rattle.beet_sharing.specs.Runs.{Setup}
+use Rattle.beet_delivery.specs.Events.{nothing}
 use Rattle.beet_server.specs.Cores.{fresh, IsFresh}
 use Rattle.beet_server.specs.Fits.{Fits, OpensAt, messages_to}
 use Rattle.beet_server.specs.Steps.{Work, core_of, batch_of}
-use Rattle.beet_server.proofs.RunSteps.{member-of_each}
+use Rattle.beet_sharing.proofs.Lined.{member-each}
 
 -- lets stand after the wires
 lets-after : (wires : List ℕ) (lets : List Linear) → (rest : List ℕ) × (with_lets wires lets ≡ wires ++ rest)
@@ -67,7 +67,7 @@ module _ {S : Type 0} (next : S → ℕ → List ℕ → Batch) (me : Point) (sc
         rw (← count, given, at-first masks no_mask, at-first coefficients no_number) refl
 
     -- it fits every run that begins with its script, inputs, words and numbers
-    pub begins : (o : Opening) → OpensAt next o me script inputs masks.words coefficients.words →
+    pub begins : (o : Setup) → OpensAt next o me script inputs masks.words coefficients.words →
         Fits next o nothing (fresh next me script inputs masks coefficients)
     begins o opens = record {
       script = opens.has_script;
@@ -75,7 +75,7 @@ module _ {S : Type 0} (next : S → ℕ → List ℕ → Batch) (me : Point) (sc
       numbers = sym opens.has_numbers;
       rounds = λ t h. absurd (omega (arith, h));
       wires = rw (← opens.has_inputs, ← opens.has_script)
-          (sym (member-of_each (λ (points : List ℕ). with_lets points (o.next 0 []).lets.items) o.inputs me));
+          (sym (member-each (λ (points : List ℕ). with_lets points (o.next 0 []).lets.items) o.inputs me));
       opened = refl;
       received = sym (each-zero (messages_to o me));
       dealt = no_mask;

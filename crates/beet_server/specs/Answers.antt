@@ -10,7 +10,7 @@ use Rattle.beet_round.specs.declared.mailbox.Verdict.TheVariants.{Stored, Ready,
 use Rattle.beet_round.specs.declared.sides.Side.{Side}
 use Rattle.beet_round.specs.declared.sides.Side.TheVariants.{Low, High}
 use Rattle.beet_server.specs.Cores.{Core}
-use Rattle.beet_server.specs.Events.{Delivered}
+use Rattle.beet_delivery.specs.Events.{Delivered}
 use Rattle.beet_server.specs.Steps.{handed_out, moved_on}
 
 -- what stays of a core: its server, its script and the words of its tapes

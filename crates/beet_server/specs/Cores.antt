@@ -1,4 +1,4 @@
--- How contracts see a server's core, and the opening that three of them begin with.
+-- How contracts see a server's core, and the setup that three of them begin with.
 use Rattle.std.specs.Prelude.{◌≡◌, ℕ, ◌||◌, List, [], take, Bool, false}
 use Rattle.beet_field.specs.declared.point.Point.{Point}
 use Rattle.beet_field.specs.declared.point.Point.TheVariants.{One, Two, Three}
@@ -9,7 +9,7 @@ use Rattle.beet_gates.specs.Scripts.{size_of}
 use Rattle.beet_gates.specs.declared.Batch.{Batch}
 use Rattle.beet_round.specs.Boxes.{Mailbox, fresh_box}
 use Rattle.beet_round.specs.declared.message.RoundMessage.{RoundMessage}
-use Rattle.beet_server.specs.Runs.{Opening, numbers_of}
+use Rattle.beet_sharing.specs.Runs.{Setup, numbers_of}
 use Rattle.beet_field.specs.Trio.{of_each}
 
 -- a server: its script and tapes; how many rounds it has passed, and both messages to it of each passed round, the lower sender's first;
@@ -76,8 +76,8 @@ module _ {S : Type 0} (next : S → ℕ → List ℕ → Batch) where
     pub script_three : t.three.script ≡ t.one.script
 
   -- what three cores began with
-  abbrev pub opening_of : (S → ℕ) → Trio (Core S) → Opening
-  opening_of inputs t = record {
+  abbrev pub setup_of : (S → ℕ) → Trio (Core S) → Setup
+  setup_of inputs t = record {
     next = next t.one.script;
     inputs = of_each (λ c. take (inputs c.script) c.wires) t;
     masks = of_each (λ c. c.masks.words) t;

@@ -12,24 +12,24 @@ use Rattle.beet_round.specs.Sides.{peer}
 use Rattle.beet_round.specs.declared.message.RoundMessage.{RoundMessage}
 use Rattle.beet_round.specs.declared.sides.Side.{Side}
 use Rattle.beet_round.specs.declared.sides.Side.TheVariants.{Low, High}
-use Rattle.beet_server.specs.Runs.{Opening, coming, message, shared_at, standing_at}
-use Rattle.beet_server.specs.Events.{Delivered, both_in}
+use Rattle.beet_sharing.specs.Runs.{Setup, coming, message, shared_at, standing_at}
+use Rattle.beet_delivery.specs.Events.{Delivered, both_in}
 use Rattle.beet_server.specs.Cores.{Core}
 
 -- t is a round of the run: the end does not come after t batches or before
-abbrev pub IsRound : Opening → ℕ → Type 0
+abbrev pub IsRound : Setup → ℕ → Type 0
 IsRound o t = (k : ℕ) → k ≤ t → is_end (coming o k).act ≡ false
 
 -- the message of a run from one server to another in a round
-abbrev pub message_of : Opening → Point → Point → ℕ → RoundMessage
+abbrev pub message_of : Setup → Point → Point → ℕ → RoundMessage
 message_of o from to t = record { from = from; to = to; round = t; numbers = record { items = message o from to t } }
 
 -- both messages to a server in a round, the lower sender's first
-abbrev pub messages_to : Opening → Point → ℕ → List RoundMessage
+abbrev pub messages_to : Setup → Point → ℕ → List RoundMessage
 messages_to o me t = message_of o (peer me Low) me t ∷ message_of o (peer me High) me t ∷ []
 
 -- both messages of a server in a round, the lower receiver's first
-abbrev pub messages_from : Opening → Point → ℕ → List RoundMessage
+abbrev pub messages_from : Setup → Point → ℕ → List RoundMessage
 messages_from o me t = message_of o me (peer me Low) t ∷ message_of o me (peer me High) t ∷ []
 
 -- a message where it was delivered
@@ -44,7 +44,7 @@ taken round false = round
 
 -- the core stands in the run as its server, and has what was delivered to it; that its box is of the same server and round, and wants as
 -- many numbers as a message of the round has, is kept by the core's invariant
-pub record Fits {S : Type 0} (next : S → ℕ → List ℕ → Batch) (o : Opening) (x : Delivered) (c : Core S) : Type 0 where
+pub record Fits {S : Type 0} (next : S → ℕ → List ℕ → Batch) (o : Setup) (x : Delivered) (c : Core S) : Type 0 where
   -- it holds the script, the words and the numbers of its server, and has passed rounds of the run
   pub script : o.next ≡ next c.script
   pub words : c.masks.words ≡ member o.masks c.me
@@ -68,8 +68,8 @@ pub record Fits {S : Type 0} (next : S → ℕ → List ℕ → Batch) (o : Open
   pub soon : (s : Side) (t : ℕ) → x (peer c.me s) c.me t ≡ true → (t ≤ taken c.round c.handed) × IsRound o t
   pub waits : c.handed ≡ true → both_in x c.me c.round ≡ false
 
--- an opening has this script, these points of the inputs, these words and these numbers at a server
-pub record OpensAt {S : Type 0} (next : S → ℕ → List ℕ → Batch) (o : Opening) (me : Point) (script : S) (inputs masks coefficients : List ℕ) : Type 0 where
+-- a setup has this script, these points of the inputs, these words and these numbers at a server
+pub record OpensAt {S : Type 0} (next : S → ℕ → List ℕ → Batch) (o : Setup) (me : Point) (script : S) (inputs masks coefficients : List ℕ) : Type 0 where
   pub has_script : o.next ≡ next script
   pub has_inputs : member o.inputs me ≡ inputs
   pub has_words : member o.masks me ≡ masks

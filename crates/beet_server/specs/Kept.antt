@@ -1,12 +1,13 @@
 -- The messages of the rounds that a server has passed, by their numbers.
 use Rattle.std.specs.Prelude.{◌≡◌, ◌≤◌, ◌*◌, ◌+◌, ℕ, List, [], ◌∷◌, length, Option, option_map, option_and_then, slice_get}
 use Rattle.beet_field.specs.declared.point.Point.{Point}
+use Rattle.beet_gates.specs.declared.TheConstants.{MOST_NUMBERS}
 use Rattle.beet_round.specs.Boxes.{IsFrom}
 use Rattle.beet_round.specs.Sides.{peer}
 use Rattle.beet_round.specs.declared.message.RoundMessage.{RoundMessage}
 use Rattle.beet_round.specs.declared.sides.Side.{Side}
 use Rattle.beet_round.specs.declared.sides.Side.TheVariants.{Low, High}
-use Rattle.beet_server.specs.Rows.{Kept as Rows}
+use Rattle.beet_server.specs.Rows.{Rows}
 
 pub record KeptMessages : Type 0 where
   pub me : Point
@@ -29,19 +30,19 @@ place_of High = 1
 abbrev pub numbers_in : List (List RoundMessage) → ℕ → Side → Option (List ℕ)
 numbers_in messages round side = option_and_then (λ pair. option_map (λ m. m.numbers.items) (slice_get pair (place_of side))) (slice_get messages round)
 
--- each has at most 64 numbers
+-- each has no more numbers than a message may
 abbrev pub AreShort : List (List ℕ) → Type 0
 AreShort [] = Unit {0}
-AreShort (r ∷ rs) = (length r ≤ 64) × AreShort rs
+AreShort (r ∷ rs) = (length r ≤ MOST_NUMBERS) × AreShort rs
 
--- as many messages of both peers, and room for 64 numbers in each round
+-- as many messages of both peers, and room for the most numbers of a message in each round
 pub record IsKept (low high : Rows) : Type 0 where
   pub same : length high.rows ≡ length low.rows
   pub room : high.ends_room ≡ low.ends_room
-  pub low_few : low.count ≤ 64 * length low.rows
-  pub high_few : high.count ≤ 64 * length low.rows
-  pub low_fit : 64 * low.ends_room ≤ low.items_room
-  pub high_fit : 64 * low.ends_room ≤ high.items_room
+  pub low_few : low.count ≤ MOST_NUMBERS * length low.rows
+  pub high_few : high.count ≤ MOST_NUMBERS * length low.rows
+  pub low_fit : MOST_NUMBERS * low.ends_room ≤ low.items_room
+  pub high_fit : MOST_NUMBERS * low.ends_room ≤ high.items_room
   pub low_short : AreShort low.rows
   pub high_short : AreShort high.rows
 

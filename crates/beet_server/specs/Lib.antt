@@ -1,11 +1,6 @@
-pub mod Runs
-pub mod Events
 pub mod Endings
 pub mod Cores
 pub mod Fits
-pub mod Lines
-pub mod Rounds
-pub mod Examples
 pub mod Steps
 pub mod Answers
 pub mod Sound

@@ -1,7 +1,7 @@
 -- Lists that lie one after another.
 use Rattle.std.specs.Prelude.{◌≡◌, ◌≤◌, ◌-◌, ℕ, List, [], ◌∷◌, take, drop}
 
-pub record Kept : Type 0 where
+pub record Rows : Type 0 where
   pub rows : List (List ℕ)
   pub count : ℕ
   pub items_room : ℕ

@@ -4,9 +4,10 @@ use Rattle.beet_field.specs.declared.point.Point.{Point}
 use Rattle.beet_words.specs.Tapes.{Tape, left_of}
 use Rattle.beet_gates.specs.Scripts.{Standing, LawFrom, deals_in, size_of}
 use Rattle.beet_gates.specs.declared.Batch.{Batch}
+use Rattle.beet_gates.specs.declared.TheConstants.{MOST_NUMBERS}
 use Rattle.beet_round.specs.Boxes.{Mailbox}
 use Rattle.beet_round.specs.declared.message.RoundMessage.{RoundMessage}
-use Rattle.beet_server.specs.Runs.{draws_in}
+use Rattle.beet_sharing.specs.Runs.{draws_in}
 use Rattle.beet_server.specs.Steps.{Work, batch_of}
 
 -- a number once the messages of the round are handed out, and else none
@@ -24,13 +25,13 @@ pub record IsSound (next : ℕ → List ℕ → Batch) (bounds : Standing) (roun
   pub few : round + left ≤ rounds
   pub law : LawFrom next bounds left standing opened
   pub counted : length wires ≡ standing.wires + length batch.lets.items
-  pub answers : length opened ≤ 64 * round
+  pub answers : length opened ≤ MOST_NUMBERS * round
   pub dealt : masks.passed ≡ standing.masks + if_handed handed (deals_in batch.act)
   pub words : bounds.masks ≤ length masks.words
   pub drawn : bounds.coefficients ≤ length (left_of coefficients) + (standing.coefficients + if_handed handed (draws_in batch.act))
   pub sent : length own ≡ if_handed handed (size_of batch.act)
   pub wires_fit : bounds.wires ≤ wire_room
-  pub opened_fit : 64 * rounds ≤ opened_room
+  pub opened_fit : MOST_NUMBERS * rounds ≤ opened_room
   pub small : rounds < 2 ^ 32
 
 -- what computes in a server, the messages of the passed rounds and the box are of one round, and there is room for the messages of all

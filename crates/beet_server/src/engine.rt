@@ -5,13 +5,14 @@ ghost use Rattle.std.specs.Prelude.{◌≡◌, ◌<◌, ◌≤◌, ◌+◌, ◌-
 ghost use Rattle.beet_words.specs.Tapes.{left_of};
 ghost use Rattle.beet_gates.specs.Clear.{is_end, with_lets};
 ghost use Rattle.beet_gates.specs.Scripts.{size_of};
+ghost use Rattle.beet_gates.specs.declared.TheConstants.{MOST_NUMBERS};
 ghost use Rattle.beet_round.specs.Sides.{peer};
 ghost use Rattle.beet_round.specs.declared.sides.Side.TheVariants.{Low, High};
 ghost use Rattle.beet_server.specs.Steps.{Work, batch_of, sends, handing, passing};
 
 use crate::parts::{Numbers, absorb, append_all, append_lets, of_sender, put_numbers};
 use beet_field::{Fe, Point};
-use beet_gates::{Act, Batch, Script};
+use beet_gates::{Act, Batch, MOST_NUMBERS, Script};
 use beet_words::Tape;
 use std::alloc::{AllocError, Global};
 use std::marker::Model;
@@ -85,7 +86,7 @@ impl<S: Script> Engine<S> {
           handed = false;
         }) }
     {
-        let opened = Vec::with_capacity(alloc, 64 * script.rounds() as usize)?;
+        let opened = Vec::with_capacity(alloc, MOST_NUMBERS * script.rounds() as usize)?;
         let mut wires = Vec::with_capacity(alloc, script.wires() as usize)?;
         let batch = script.next(0, &[]);
         append_all(&mut wires, inputs);
@@ -160,7 +161,7 @@ impl<S: Script> Engine<S> {
     /// How many numbers a message of the round has.
     pub fn size(&self) -> u32
         ensures size { result ≡ size_of (batch_of S.batch_of self.now).act }
-        ensures few { result ≤ 64 }
+        ensures few { result ≤ MOST_NUMBERS }
     {
         match &self.batch.act {
             Act::Deal => 61,

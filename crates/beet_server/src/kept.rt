@@ -1,12 +1,14 @@
 //! The messages of the rounds that a server has passed.
 
 ghost use Rattle.std.specs.Prelude.{◌≡◌, ◌<◌, ◌≤◌, ◌+◌, ◌*◌, ◌^◌, ◌++◌, [], ◌∷◌, length, IfOk, Some, slice_get};
+ghost use Rattle.beet_gates.specs.declared.TheConstants.{MOST_NUMBERS};
 ghost use Rattle.beet_round.specs.Boxes.{IsFrom};
 ghost use Rattle.beet_round.specs.declared.sides.Side.TheVariants.{Low, High};
 ghost use Rattle.beet_server.specs.Kept.{numbers_in};
 
 use crate::rows::Rows;
 use beet_field::{Fe, Point};
+use beet_gates::MOST_NUMBERS;
 use beet_round::{RoundMessage, Side};
 use std::alloc::{AllocError, Global};
 use std::marker::Model;
@@ -36,8 +38,8 @@ impl Kept {
         ensures none { IfOk result (λ k. k.messages ≡ []) }
         ensures room { IfOk result (λ k. k.room ≡ rounds) }
     {
-        let low = Rows::new(alloc, rounds as usize, 64 * rounds as usize)?;
-        let high = Rows::new(alloc, rounds as usize, 64 * rounds as usize)?;
+        let low = Rows::new(alloc, rounds as usize, MOST_NUMBERS * rounds as usize)?;
+        let high = Rows::new(alloc, rounds as usize, MOST_NUMBERS * rounds as usize)?;
         Ok(Kept { me, low, high })
     }
 
@@ -58,7 +60,7 @@ impl Kept {
     pub fn numbers(&self, round: usize, side: Side) -> &[Fe]
         requires { round < length self.now.messages }
         ensures numbers { Some result.now ≡ numbers_in self.now.messages round side }
-        ensures few { length result.now ≤ 64 }
+        ensures few { length result.now ≤ MOST_NUMBERS }
     {
         match side {
             Side::Low => self.low.row(round),

@@ -1,48 +1,28 @@
 //! What a batch does to lists of numbers.
 
-ghost use Rattle.std.specs.Prelude.{◌≡◌, ◌<◌, ◌≤◌, ◌+◌, ◌%◌, ◌++◌, take, map, length, slice_index, vec_capacity};
+ghost use Rattle.std.specs.Prelude.{◌≡◌, ◌<◌, ◌≤◌, ◌+◌, ◌++◌, take, map, length, slice_index, vec_capacity};
 ghost use Rattle.std.specs.Int.{bit_at};
-ghost use Rattle.beet_field.specs.Field.{p};
 ghost use Rattle.beet_shamir.specs.Line.{recombined, reshared};
 ghost use Rattle.beet_words.specs.Tapes.{drawn_from, left_of};
 ghost use Rattle.beet_gates.specs.Each.{each};
-ghost use Rattle.beet_gates.specs.Scripts.{TermsBelow, LetsBelow, PairsBelow, WiresBelow, ActBelow, deals_in, revealed, size_of};
-ghost use Rattle.beet_gates.specs.Clear.{weighed, let_of, with_lets, product_of};
+ghost use Rattle.beet_gates.specs.Scripts.{LetsBelow, PairsBelow, WiresBelow, ActBelow, deals_in, revealed, size_of};
+ghost use Rattle.beet_gates.specs.declared.TheConstants.{MOST_NUMBERS};
+ghost use Rattle.beet_gates.specs.Clear.{with_lets, product_of};
 ghost use Rattle.beet_round.specs.Sides.{peer, side_of};
 ghost use Rattle.beet_round.specs.declared.sides.Side.TheVariants.{Low, High};
-ghost use Rattle.beet_server.specs.Runs.{draws_in};
-ghost use Rattle.beet_server.specs.Steps.{hidden, numbers_for, three_at, points_given, numbers_opened, gained_in, at_side};
+ghost use Rattle.beet_sharing.specs.Runs.{draws_in};
+ghost use Rattle.beet_server.specs.Steps.{at_side};
+ghost use Rattle.beet_sharing.specs.Steps.{hidden, numbers_for, three_at, points_given, numbers_opened, gained_in};
 
 use arrayvec::ArrayVec;
 use beet_field::{Fe, Point, Trio};
-use beet_gates::{Act, Linear};
+use beet_gates::{Act, Linear, MOST_NUMBERS, evaluate};
 use beet_round::Side;
 use beet_shamir::{Line, recombine, reshare};
 use beet_words::{Tape, Word};
 
 /// The numbers of one server for another in a round.
-pub type Numbers = ArrayVec<Fe, 64>;
-
-/// The sum of the terms.
-#[tactic(auto, unfolding(beet_gates::specs::Clear::weighed))]
-fn weigh(wires: &[Fe], terms: &[(Fe, u32)]) -> Fe
-    requires { TermsBelow (length wires.now) terms.now }
-    ensures { result ≡ weighed wires.now terms.now % p }
-{
-    let mut sum = Fe::reduce(0);
-    for (factor, wire) in terms {
-        sum = sum.add(factor.mul(wires[*wire as usize]));
-    }
-    sum
-}
-
-/// The value of a let.
-fn evaluate(wires: &[Fe], linear: &Linear) -> Fe
-    requires { TermsBelow (length wires.now) linear.now.terms }
-    ensures { result ≡ let_of wires.now linear.now }
-{
-    linear.constant.add(weigh(wires, &linear.terms))
-}
+pub type Numbers = ArrayVec<Fe, MOST_NUMBERS>;
 
 /// Appends the lets, each of which may use those before it.
 pub fn append_lets(wires: &mut Vec<Fe>, lets: &[Linear])
@@ -158,7 +138,7 @@ fn multiply(wires: &[Fe], pair: (u32, u32)) -> Fe
 /// The products of the pairs.
 fn products(wires: &[Fe], pairs: &[(u32, u32)]) -> Numbers
     requires below { PairsBelow (length wires.now) pairs.now }
-    requires few { length pairs.now ≤ 64 }
+    requires few { length pairs.now ≤ MOST_NUMBERS }
     ensures { result.items ≡ map (product_of wires.now) pairs.now }
 {
     let mut numbers = Numbers::new();
@@ -192,7 +172,7 @@ fn bits(word: Word) -> Numbers
 /// Puts the points of the wires in the place of other numbers.
 fn pick(wires: &[Fe], shown: &[u32], numbers: &mut Numbers)
     requires below { WiresBelow (length wires.now) shown.now }
-    requires few { length shown.now ≤ 64 }
+    requires few { length shown.now ≤ MOST_NUMBERS }
     ensures { numbers.new.items ≡ map (slice_index wires.now) shown.now }
 {
     numbers.clear();
@@ -203,7 +183,7 @@ fn pick(wires: &[Fe], shown: &[u32], numbers: &mut Numbers)
 
 /// The next numbers of the tape.
 fn draw(tape: &mut Tape, count: usize) -> Numbers
-    requires few { count ≤ 64 }
+    requires few { count ≤ MOST_NUMBERS }
     requires enough { count ≤ length (left_of tape.old) }
     ensures items { result.items ≡ take count (left_of tape.old) }
     ensures count { length result.items ≡ count }
@@ -220,7 +200,7 @@ fn draw(tape: &mut Tape, count: usize) -> Numbers
 #[tactic(auto, using(beet_gates::proofs::EachFacts::each_steps))]
 fn hide(values: &[Fe], slopes: &[Fe], to: Point, numbers: &mut Numbers)
     requires slopes { length slopes.now ≡ length values.now }
-    requires few { length values.now ≤ 64 }
+    requires few { length values.now ≤ MOST_NUMBERS }
     ensures { numbers.new.items ≡ hidden values.now slopes.now to }
 {
     numbers.clear();
@@ -244,7 +224,7 @@ fn hide_for_each(
     high: &mut Numbers,
 )
     requires slopes { length slopes.now ≡ length values.now }
-    requires few { length values.now ≤ 64 }
+    requires few { length values.now ≤ MOST_NUMBERS }
     ensures own { own.new.items ≡ hidden values.now slopes.now me }
     ensures low { low.new.items ≡ hidden values.now slopes.now (peer me Low) }
     ensures high { high.new.items ≡ hidden values.now slopes.now (peer me High) }
@@ -267,7 +247,7 @@ pub fn put_numbers(
     high: &mut Numbers,
 )
     requires below { ActBelow (length wires.now) act.now }
-    requires few { size_of act.now ≤ 64 }
+    requires few { size_of act.now ≤ MOST_NUMBERS }
     requires words { masks.old.passed + deals_in act.now ≤ length masks.old.words }
     requires enough { draws_in act.now ≤ length (left_of coefficients.old) }
     ensures own { own.new.items ≡ numbers_for act.now wires.now

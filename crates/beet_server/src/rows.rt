@@ -16,9 +16,9 @@ pub struct Rows {
 
 impl Model for Rows {
     ghost use Rattle.std.specs.Prelude.{vec_capacity, length};
-    ghost use Rattle.beet_server.specs.Rows.{Kept, rows_of, AreEnds};
+    ghost use Rattle.beet_server.specs.Rows.{Rows as Shown, rows_of, AreEnds};
 
-    ghost Value = { Kept };
+    ghost Value = { Shown };
 
     ghost view = { λ r. record {
       rows = rows_of r.items.items 0 r.ends.items;

@@ -3,11 +3,12 @@
 ghost use Rattle.std.specs.Prelude.{◌≡◌, ◌≢◌, ◌↔◌, ◌⊎◌, ◌<◌, ◌≤◌, ◌+◌, ◌-◌, ◌++◌, ◌∷◌, [], ℕ, List, length, IfOk, IsNone, IfNone, IfSome, IsErrOf, option_map, true, false};
 ghost use Rattle.beet_words.specs.Tapes.{left_of};
 ghost use Rattle.beet_gates.specs.Scripts.{size_of};
+ghost use Rattle.beet_gates.specs.declared.TheConstants.{MOST_NUMBERS};
 ghost use Rattle.beet_round.specs.Boxes.{HasBoth, Mailbox, Judged};
 ghost use Rattle.beet_round.specs.Sides.{peer};
 ghost use Rattle.beet_round.specs.declared.sides.Side.{Side as SideOf};
-ghost use Rattle.beet_server.specs.Runs.{Opening};
-ghost use Rattle.beet_server.specs.Events.{Delivered, nothing, with_triple};
+ghost use Rattle.beet_sharing.specs.Runs.{Setup};
+ghost use Rattle.beet_delivery.specs.Events.{Delivered, nothing, with_triple};
 ghost use Rattle.beet_server.specs.Cores.{has_ended, is_quiet, fresh, IsFresh};
 ghost use Rattle.beet_server.specs.Kept.{ArePeers};
 ghost use Rattle.beet_server.specs.Fits.{Fits, OpensAt, IsRound, message_of, messages_from};
@@ -106,7 +107,7 @@ impl<S: Script> ServerCore<S> {
             × (have ≡ length masks.words) × (have < S.masks_of script)) }
         ensures core { IfOk result (λ c. c ≡ fresh S.batch_of me script inputs masks coefficients) }
         ensures fresh { IfOk result (IsFresh S.batch_of S.inputs_of) }
-        ensures fits { IfOk result (λ c. (o : Opening)
+        ensures fits { IfOk result (λ c. (o : Setup)
             → OpensAt S.batch_of o me script inputs masks.words coefficients.words
             → Fits S.batch_of o nothing c) }
     {
@@ -140,9 +141,9 @@ impl<S: Script> ServerCore<S> {
         ensures within { IfSome result (λ m. self.old.round < S.rounds_of self.old.script) }
         ensures hands { IfSome result (λ m. m ≡ messages_out S.batch_of self.old) }
         ensures leaves { IfSome result (λ m. HandsOut S.batch_of self.old self.new) }
-        ensures fits { (o : Opening) (x : Delivered) → Fits S.batch_of o x self.old
+        ensures fits { (o : Setup) (x : Delivered) → Fits S.batch_of o x self.old
             → Fits S.batch_of o x self.new }
-        ensures messages { (o : Opening) (x : Delivered) → Fits S.batch_of o x self.old
+        ensures messages { (o : Setup) (x : Delivered) → Fits S.batch_of o x self.old
             → IfSome result (λ m. m ≡ messages_from o self.old.me self.old.round) }
     {
         if self.sent() {
@@ -190,12 +191,12 @@ impl<S: Script> ServerCore<S> {
             → (self.new ≡ self.old) × IsLateVerdict self.old m result }
         ensures verdict { has_ended S.batch_of self.old ≡ false
             → Answers S.batch_of self.old self.new m result }
-        ensures fits { (o : Opening) (x : Delivered) (s : SideOf) (t : ℕ) → Fits S.batch_of o x self.old
+        ensures fits { (o : Setup) (x : Delivered) (s : SideOf) (t : ℕ) → Fits S.batch_of o x self.old
             → m ≡ message_of o (peer self.old.me s) self.old.me t → IsRound o t
             → t ≤ self.old.round + 1 → Fits S.batch_of o
             (with_triple x (record { from = peer self.old.me s; to = self.old.me; round = t }))
             self.new }
-        ensures told { (o : Opening) (x : Delivered) (s : SideOf) (t : ℕ) → Fits S.batch_of o x self.old
+        ensures told { (o : Setup) (x : Delivered) (s : SideOf) (t : ℕ) → Fits S.batch_of o x self.old
             → m ≡ message_of o (peer self.old.me s) self.old.me t → IsRound o t
             → t ≤ self.old.round + 1
             → result ≡ verdict_on x self.old.me self.old.round s t }
@@ -293,7 +294,7 @@ impl<S: Script> ServerCore<S> {
         ensures none { IsNone result ↔ ((self.now.round ≤ round) ⊎ (sender ≡ self.now.me)) }
         ensures numbers { option_map (λ numbers. numbers.now) result
             ≡ received_from self.now round sender }
-        ensures few { IfSome result (λ numbers. length numbers.now ≤ 64) }
+        ensures few { IfSome result (λ numbers. length numbers.now ≤ MOST_NUMBERS) }
     {
         let side = Side::of(self.engine.me(), sender)?;
         if round >= self.engine.round() {

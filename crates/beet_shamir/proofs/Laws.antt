@@ -1,4 +1,4 @@
--- What holds of lines: sums and multiples of them, products that are dealt again, and three points on one.
+-- What holds of lines: products that are dealt again, and three points on one.
 use Rattle.std.proofs.Common.{◌≡◌, ℕ, ◌+◌, ◌*◌, ◌-◌, arith, refl, ap, ◌∙◌}
 use Rattle.beet_field.specs.Field.{p, add_of, mul_of, sub_of}
 use Rattle.beet_field.proofs.Modular.{mul_same}
@@ -8,30 +8,6 @@ use Rattle.beet_shamir.specs.Line.{points_of, reshared, recombined, AreElements,
 -- the point at i of a line
 abbrev pub at_of : ℕ → ℕ → ℕ → ℕ
 at_of v s i = add_of v (mul_of s i)
-
--- a sum of two lines
-pub at_of-add : (v s w t i : ℕ) → add_of (at_of v s i) (at_of w t i) ≡ at_of (add_of v w) (add_of s t) i
-at_of-add v s w t i =
-    let e = mul_same (add_of s t) i (s + t) i (omega arith) refl in
-    omega (arith, e)
-
--- a multiple of a line
-pub at_of-mul : (c v s i : ℕ) → mul_of c (at_of v s i) ≡ at_of (mul_of c v) (mul_of c s) i
-at_of-mul c v s i =
-    let e = mul_same c (at_of v s i) c (v + s * i) refl (omega arith) in
-    let f = mul_same (mul_of c s) i (c * s) i (omega arith) refl in
-    omega (arith, e, f)
-
--- three terms and a constant at once
-pub at_of-linear : (k a v s b w t c x u i : ℕ) →
-    add_of k (add_of (mul_of a (at_of v s i)) (add_of (mul_of b (at_of w t i)) (mul_of c (at_of x u i)))) ≡
-    at_of (add_of k (add_of (mul_of a v) (add_of (mul_of b w) (mul_of c x)))) (add_of (mul_of a s) (add_of (mul_of b t) (mul_of c u))) i
-at_of-linear k a v s b w t c x u i =
-    let e1 = mul_same a (at_of v s i) a (v + s * i) refl (omega arith) in
-    let e2 = mul_same b (at_of w t i) b (w + t * i) refl (omega arith) in
-    let e3 = mul_same c (at_of x u i) c (x + u * i) refl (omega arith) in
-    let e4 = mul_same (add_of (mul_of a s) (add_of (mul_of b t) (mul_of c u))) i (a * s + (b * t + c * u)) i (omega arith) refl in
-    omega (arith, e1, e2, e3, e4)
 
 -- three local products, dealt again and put together
 pub reshared-dealt : (v a w b r1 r2 r3 i : ℕ) →

@@ -18,8 +18,3 @@ pub use host_desk::HostDesk;
 pub use memory::{Held, MemoryShelf};
 pub use memory_desk::MemoryDesk;
 pub use shelf::{FetchFault, Shelf};
-
-#[cfg(test)]
-mod said_tests;
-#[cfg(test)]
-mod tests;

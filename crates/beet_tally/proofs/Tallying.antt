@@ -7,7 +7,7 @@ use Rattle.beet_forms.specs.FaultLines.{fault_line_of}
 use Rattle.beet_forms.specs.declared.faults.Place.TheVariants.{Row}
 use Rattle.beet_bids.specs.Grids.{Grid}
 use Rattle.beet_bids.specs.declared.auction_file.TheConstants.{NOT_ONE_PRICE}
-use Rattle.beet_bids.specs.declared.book.TheConstants.{MOST_BIDDERS}
+use Rattle.beet_words.specs.declared.bundle.TheConstants.{MOST_BIDDERS}
 use Rattle.beet_book.specs.Totals.{Totals, points_on, CarriesValues}
 use Rattle.beet_book.specs.declared.entries.Entry.{Entry}
 use Rattle.beet_book.specs.Farmers.{Farmer}

@@ -28,7 +28,7 @@ use Rattle.beet_trial.specs.Rules.{trial_grid, trial_curve, trial_farmer, trial_
 use Rattle.beet_trial.specs.Trial.{sized_answer, trial_answer, trial_over, trial_job}
 use Rattle.beet_trial.proofs.Curves.{is-curve, is-of-grid}
 use Rattle.beet_bids.specs.declared.grid.TheConstants.{MOST_PRICES}
-use Rattle.beet_bids.specs.declared.book.TheConstants.{MOST_BIDDERS}
+use Rattle.beet_words.specs.declared.bundle.TheConstants.{MOST_BIDDERS}
 
 -- what holds of the curve of each place holds of all curves
 each-curve : (P : Curve → Type 0) (grid : Grid) (bidders : ℕ) → ((i : ℕ) → P (trial_curve grid i)) → All P (curves_of (trial_farmers grid bidders))

@@ -8,7 +8,7 @@ use Rattle.beet_gates.specs.declared.Gates.TheVariants.{Chain}
 use Rattle.beet_bids.specs.Books.{Book}
 use Rattle.beet_bids.specs.Curves.{Curve}
 use Rattle.beet_bids.specs.Grids.{Grid}
-use Rattle.beet_book.specs.Farmers.{Farmer, book_of}
+use Rattle.beet_book.specs.Farmers.{Farmer, book_with}
 use Rattle.beet_plan.specs.Kept.{words_kept}
 use Rattle.beet_load.specs.Servers.{ServerWords, seeded}
 use Rattle.beet_trial.specs.declared.rules.TheConstants.{BASE, TICK, FIRST_SEED}
@@ -70,4 +70,4 @@ trial_farmers grid bidders = map (trial_farmer grid) (range_with_len 0 bidders)
 
 -- their book
 abbrev pub trial_book : Grid → ℕ → Book
-trial_book grid bidders = book_of grid (trial_farmers grid bidders)
+trial_book grid bidders = book_with grid (trial_farmers grid bidders)

@@ -2,7 +2,7 @@
 use Rattle.std.specs.Prelude.{ℕ, ◌≤◌, nat_lt, if◌then◌else◌, List, Option, Some, None, Result, Ok, Err, option_map, option_and_then}
 use Rattle.beet_forms.specs.Numbers.{number_of}
 use Rattle.beet_forms.specs.declared.decimals.NumberFault.{NumberFault}
-use Rattle.beet_bids.specs.declared.book.TheConstants.{MOST_BIDDERS}
+use Rattle.beet_words.specs.declared.bundle.TheConstants.{MOST_BIDDERS}
 use Rattle.beet_bids.specs.declared.grid.TheConstants.{MOST_PRICES}
 
 -- at most 2,000 bidders, and 1 to 4,096 prices

@@ -5,7 +5,7 @@ ghost use Rattle.beet_errand.specs.Fetches.{Tests};
 ghost use Rattle.beet_load.specs.Farmers.{enough_words, words_wanted};
 ghost use Rattle.beet_trial.specs.Adding.{AddsFarmer, CarrySums, enough_of_each};
 ghost use Rattle.beet_trial.specs.Rules.{trial_farmer, trial_farmers};
-ghost use Rattle.beet_bids.specs.declared.book.TheConstants.{MOST_BIDDERS};
+ghost use Rattle.beet_words.specs.declared.bundle.TheConstants.{MOST_BIDDERS};
 
 use crate::rules::{curve_of, tape_of};
 use beet_bids::Grid;

@@ -3,7 +3,6 @@
 ghost use Rattle.std.specs.Prelude.{◌≡◌, ◌++◌, IfOk};
 ghost use Rattle.beet_store.specs.Files.{Seen};
 ghost use Rattle.beet_errand.specs.Fetches.{IsDone, Reads};
-ghost use Rattle.beet_gates.specs.declared.Gates.TheVariants.{Chain};
 ghost use Rattle.beet_trial.specs.Sizes.{AreSizes};
 ghost use Rattle.beet_trial.specs.Trial.{sized_answer, sizes_text, trial_job};
 

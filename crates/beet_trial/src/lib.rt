@@ -7,7 +7,5 @@ mod rules;
 mod sizes;
 
 pub use job::trial;
+pub use rules::{BASE, FIRST_SEED, TICK};
 pub use sizes::numbers_of_words;
-
-#[cfg(test)]
-mod tests;

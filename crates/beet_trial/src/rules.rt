@@ -16,13 +16,13 @@ use beet_words::Tape;
 use std::alloc::{AllocError, Global};
 
 /// The lowest price.
-const BASE: u64 = 1_000;
+pub const BASE: u64 = 1_000;
 
 /// The step from one price to the next.
-const TICK: u64 = 10;
+pub const TICK: u64 = 10;
 
 /// The number that the seed of the first bidder ends with.
-const FIRST_SEED: u64 = 256;
+pub const FIRST_SEED: u64 = 256;
 
 /// The grid with so many prices.
 pub(crate) fn grid_of(prices: u32) -> Grid

@@ -3,8 +3,9 @@
 ghost use Rattle.std.specs.Prelude.{◌≡◌, ◌≤◌, IfSome};
 ghost use Rattle.beet_trial.specs.Sizes.{AreSizes, number_within, sizes_of};
 
-use beet_bids::{MOST_BIDDERS, MOST_PRICES};
+use beet_bids::MOST_PRICES;
 use beet_forms::number;
+use beet_words::MOST_BIDDERS;
 
 /// The number that a word writes, if it is from `low` to `high`.
 fn number_within(word: &str, low: u64, high: u64) -> Option<u64>

@@ -1,25 +1,22 @@
 -- The answer for two books.
 use Rattle.std.proofs.Common.{◌≡◌, ℕ, List, Result, Ok, Err, IfOk, IfErr, refl}
+use Rattle.std.specs.Prelude.{IsSomeAnd}
 use Rattle.beet_field.specs.declared.point.Point.{Point}
 use Rattle.beet_words.specs.Bundles.{Words}
 use Rattle.beet_bids.specs.Books.{Book}
 use Rattle.beet_errand.specs.Errands.{Answer}
-use Rattle.beet_errand.specs.Fetches.{IsDone, Refuses}
-use Rattle.beet_errand.specs.declared.answer.Status.TheVariants.{WorldsRefused}
+use Rattle.beet_errand.specs.Fetches.{IsDone}
 use Rattle.beet_errand.specs.declared.answer.Stop.{Stop}
 use Rattle.beet_errand.specs.declared.answer.Stop.TheVariants.{Refused, OutOfMemory}
 use Rattle.beet_worlds.specs.Agreement.{Agree}
-use Rattle.beet_worlds.specs.Disagreement.{Refuses as RefusesBooks}
-use Rattle.beet_worlds.specs.MapRefusals.{RefusesMap}
+use Rattle.beet_worlds.specs.Disagreement.{RefusesMap}
 use Rattle.beet_worlds.specs.MappedWords.{IsOnlyFirst, IsOnlySecond, Mapped}
-use Rattle.beet_worlds.specs.declared.agreeing.Disagreement.{Disagreement}
-use Rattle.beet_worlds.specs.declared.agreeing.Disagreement.TheVariants.{Shape, OwnBids, Outcomes}
-use Rattle.beet_worlds.specs.declared.mapping.MapFault.{MapFault}
-use Rattle.beet_worlds.specs.declared.mapping.MapFault.TheVariants.{ShapeDiffers, OwnBidsDiffer, OutcomesDiffer, OutOfMemory as MemoryOut}
-use Rattle.beet_two_worlds.specs.Differences.{refused_text}
+use Rattle.beet_worlds.specs.declared.agreeing.MapFault.{MapFault}
+use Rattle.beet_worlds.specs.declared.agreeing.MapFault.TheVariants.{ShapeDiffers, OwnBidsDiffer, OutcomesDiffer, OutOfMemory as MemoryOut}
+use Rattle.beet_two_worlds.specs.Differences.{difference_between, refused_text}
 use Rattle.beet_two_worlds.specs.Answering.{agreed_answer}
 use Rattle.beet_view.specs.BookViews.{transcript_for}
-use Rattle.beet_two_worlds.specs.Ending.{AnswersBooks, TellsApart, TellsRefusal}
+use Rattle.beet_two_worlds.specs.Ending.{AnswersBooks, IsLineOf, TellsApart, TellsRefusal}
 use Rattle.beet_two_worlds.proofs.DifferenceFacts.{the-difference}
 use Rattle.beet_run.proofs.StatusFacts.{status-done}
 
@@ -50,15 +47,15 @@ module _ (s : Point) (out : List ℕ) (first : Book) (words : Words) (second : B
   answered-done (Err stop) h = tt
 
 module _ (s : Point) (first second : Book) where
-  -- a refusal of books that do not agree
-  refused : (difference : Disagreement) → RefusesBooks s first second difference → (stop : Stop) →
-      Refuses WorldsRefused (refused_text difference) stop → TellsApart s first second stop
-  refused difference r (Refused status text) t = (t.0, rw (the-difference s first second difference r) t.1)
-  refused difference r OutOfMemory t = tt
+  -- the line of a refusal tells the books apart
+  told-apart : (fault : MapFault) → RefusesMap s first second fault → (text : List ℕ) → IsLineOf fault text →
+      IsSomeAnd (difference_between s first second) (λ difference. text ≡ refused_text difference)
+  told-apart (ShapeDiffers bidder) r text t = rw (the-difference s first second (ShapeDiffers bidder) r) t
+  told-apart (OwnBidsDiffer bidder) r text t = rw (the-difference s first second (OwnBidsDiffer bidder) r) t
+  told-apart (OutcomesDiffer one other) r text t = rw (the-difference s first second (OutcomesDiffer one other) r) t
+  told-apart MemoryOut r text t = absurd t
 
   pub refused-answers : (fault : MapFault) → RefusesMap s first second fault → (stop : Stop) → TellsRefusal fault stop →
       TellsApart s first second stop
-  refused-answers (ShapeDiffers bidder) r stop t = refused (Shape bidder) r stop t
-  refused-answers (OwnBidsDiffer bidder) r stop t = refused (OwnBids bidder) r stop t
-  refused-answers (OutcomesDiffer one other) r stop t = refused (Outcomes one other) r stop t
-  refused-answers MemoryOut r stop t = rw t tt
+  refused-answers fault r (Refused status text) t = (t.0, told-apart fault r text.items t.1)
+  refused-answers fault r OutOfMemory t = tt

@@ -2,9 +2,8 @@
 use Rattle.std.proofs.Common.{◌≡◌, ◌≢◌, ◌<◌, ◌≤◌, ◌+◌, ◌==◌, ◌&&◌, ℕ, zero, suc, Bool, true, false, true≢false, not, max, List, [], ◌∷◌, map, length, slice_get, Option, Some, None, refl, sym, ap, ◌∙◌, arith}
 use Rattle.std.specs.Prelude.{option_map, nat_eq, if◌then◌else◌}
 use Rattle.std.specs.Cmp.Lexicographic.{pointwise, bytes_decides}
-use Rattle.std.proofs.lemmas.Bool.{eq-eqb, eqb-true}
+use Rattle.std.proofs.lemmas.Bool.{eq-eqb, eqb-true, and_parts, false_from_ne_true}
 use Rattle.beet_field.specs.declared.point.Point.{Point}
-use Rattle.beet_field.specs.declared.point.Point.TheVariants.{One, Two, Three}
 use Rattle.beet_bids.specs.Books.{Book}
 use Rattle.beet_bids.specs.Curves.{Curve}
 use Rattle.beet_bids.specs.Outcomes.{outcome_of}
@@ -12,42 +11,25 @@ use Rattle.beet_bids.specs.declared.book.Bidder.{Bidder}
 use Rattle.beet_bids.specs.declared.outcomes.Outcome.{Outcome}
 use Rattle.beet_bids.specs.declared.outcomes.Outcome.TheVariants.{Price, No}
 use Rattle.beet_bids.proofs.GridFacts.{find-range_none, find-range_some}
-use Rattle.beet_server.specs.Events.{same}
-use Rattle.beet_server.proofs.EventFacts.{same_is}
+use Rattle.beet_delivery.proofs.EventFacts.{same_is, same_self}
 use Rattle.beet_view.specs.BookViews.{names}
 use Rattle.beet_map.specs.Refused.{DifferFirst}
 use Rattle.beet_worlds.specs.Agreement.{Agree, SameKnown, marks_of}
 use Rattle.beet_worlds.specs.Disagreement.{KnownDiffersAt, Refuses}
-use Rattle.beet_worlds.specs.declared.agreeing.Disagreement.{Disagreement}
-use Rattle.beet_worlds.specs.declared.agreeing.Disagreement.TheVariants.{Shape, OwnBids, Outcomes}
+use Rattle.beet_worlds.specs.declared.agreeing.MapFault.{MapFault}
+use Rattle.beet_worlds.specs.declared.agreeing.MapFault.TheVariants.{ShapeDiffers, OwnBidsDiffer, OutcomesDiffer, OutOfMemory}
 use Rattle.beet_two_worlds.specs.Differences.{same_mark, same_shape, same_curve, other_own, same_outcome, shape_between, own_between, outcomes_between, difference_between, or_then}
-
--- a test that is not passed fails
-fails : (b : Bool) → b ≢ true → b ≡ false
-fails true ne = absurd (ne refl)
-fails false ne = refl
-
-both-true : (b c : Bool) → (b && c) ≡ true → (b ≡ true) × (c ≡ true)
-both-true true c e = (refl, e)
-both-true false c e = absurd (true≢false (sym e))
-
-same-own : (s : Point) → same s s ≡ true
-same-own One = refl
-same-own Two = refl
-same-own Three = refl
+use Rattle.std.proofs.lemmas.Option.{slice_get_past, slice_get_within}
 
 mark-own : (m : Option Point) → same_mark m m ≡ true
 mark-own None = refl
-mark-own (Some s) = same-own s
+mark-own (Some s) = same_self s
 
 mark-is : (m n : Option Point) → same_mark m n ≡ true → m ≡ n
 mark-is None None e = refl
 mark-is None (Some t) e = absurd (true≢false (sym e))
 mark-is (Some s) None e = absurd (true≢false (sym e))
 mark-is (Some s) (Some t) e = ap Some (same_is s t e)
-
-some-is : {A : Type 0} {x y : A} → Some x ≡ Some y → x ≡ y
-some-is e = cc
 
 -- the mark of a bidder, if there is one
 abbrev mark_at : Option Bidder → Option (Option Point)
@@ -58,7 +40,7 @@ shape-own None None e = refl
 shape-own None (Some y) e = absurd (cc e)
 shape-own (Some x) None e = absurd (cc e)
 shape-own (Some x) (Some y) e =
-    let known : x.known ≡ y.known = some-is e in
+    let known : x.known ≡ y.known = cc e in
     ap (λ m. same_mark m y.known) known ∙ mark-own y.known
 
 shape-is : (one other : Option Bidder) → same_shape one other ≡ true → mark_at one ≡ mark_at other
@@ -72,16 +54,6 @@ marks-at [] n = refl
 marks-at (b ∷ bs) zero = refl
 marks-at (b ∷ bs) (suc n) = marks-at bs n
 
-get-none : {A : Type 0} (xs : List A) (n : ℕ) → length xs ≤ n → slice_get xs n ≡ None
-get-none [] n h = refl
-get-none (x ∷ xs) zero h = absurd (omega arith)
-get-none (x ∷ xs) (suc n) h = get-none xs n (omega arith)
-
-get-below : {A : Type 0} (xs : List A) (n : ℕ) (x : A) → slice_get xs n ≡ Some x → n < length xs
-get-below [] n x e = absurd (cc e)
-get-below (y ∷ ys) zero x e = omega arith
-get-below (y ∷ ys) (suc n) x e = let h = get-below ys n x e in omega arith
-
 -- the test of one place for the first difference of the marks
 abbrev shape_differs : Book → Book → ℕ → Bool
 shape_differs first second n = not (same_shape (slice_get first.bidders n) (slice_get second.bidders n))
@@ -92,28 +64,28 @@ shape-alike first second n e =
 
 shape-there : (first second : Book) (n : ℕ) → slice_get (marks_of first) n ≢ slice_get (marks_of second) n → shape_differs first second n ≡ true
 shape-there first second n ne =
-    ap not (fails (same_shape (slice_get first.bidders n) (slice_get second.bidders n))
+    ap not (false_from_ne_true (same_shape (slice_get first.bidders n) (slice_get second.bidders n))
     (λ e. ne (marks-at first.bidders n ∙ shape-is (slice_get first.bidders n) (slice_get second.bidders n) e ∙ sym (marks-at second.bidders n))))
 
 one-has : (first second : Book) (n : ℕ) → slice_get (marks_of first) n ≢ slice_get (marks_of second) n →
     n < max (length first.bidders) (length second.bidders)
 one-has first second n ne =
     below n (max (length first.bidders) (length second.bidders)) (λ h. ne (
-    marks-at first.bidders n ∙ ap mark_at (get-none first.bidders n (omega arith) ∙ sym (get-none second.bidders n (omega arith)))
+    marks-at first.bidders n ∙ ap mark_at (slice_get_past first.bidders n (omega arith) ∙ sym (slice_get_past second.bidders n (omega arith)))
     ∙ sym (marks-at second.bidders n))) where
       below : (a b : ℕ) → (b ≤ a → ⊥) → a < b
       below a b h = omega (arith, h)
 
 shape-none : (first second : Book) → marks_of second ≡ marks_of first → shape_between first second ≡ None
 shape-none first second e =
-    ap (option_map (λ n. Shape (n + 1)))
+    ap (option_map (λ n. ShapeDiffers (n + 1)))
     (find-range_none (shape_differs first second) 0 (max (length first.bidders) (length second.bidders))
     (λ k low high. shape-alike first second k (ap (λ l. slice_get l k) (sym e))))
 
-shape-some : (first second : Book) (n : ℕ) → DifferFirst (marks_of first) (marks_of second) n → shape_between first second ≡ Some (Shape (n + 1))
+shape-some : (first second : Book) (n : ℕ) → DifferFirst (marks_of first) (marks_of second) n → shape_between first second ≡ Some (ShapeDiffers (n + 1))
 shape-some first second n d =
     let lt : n < max (length first.bidders) (length second.bidders) = one-has first second n d.here in
-    ap (option_map (λ n. Shape (n + 1)))
+    ap (option_map (λ n. ShapeDiffers (n + 1)))
     (find-range_some (shape_differs first second) 0 (max (length first.bidders) (length second.bidders)) n (omega arith) (omega arith)
     (λ k low high. shape-alike first second k (d.before k high)) (shape-there first second n d.here))
 
@@ -124,7 +96,7 @@ curve-own one other e =
 
 curve-is : (one other : Curve) → same_curve one other ≡ true → other ≡ one
 curve-is one other e =
-    let b = both-true (pointwise nat_eq one.buy other.buy) (pointwise nat_eq one.sell other.sell) e in
+    let b = and_parts (pointwise nat_eq one.buy other.buy) (pointwise nat_eq one.sell other.sell) e in
     let buy = (bytes_decides one.buy other.buy).0 b.0 in
     let sell = (bytes_decides one.sell other.sell).0 b.1 in
     sym (λ i. record { buy = buy i; sell = sell i })
@@ -134,15 +106,15 @@ names-is None s e = absurd (true≢false (sym e))
 names-is (Some t) s e = ap Some (same_is t s e)
 
 names-own : (known : Option Point) (s : Point) → known ≡ Some s → names known s ≡ true
-names-own known s e = ap (λ k. names k s) e ∙ same-own s
+names-own known s e = ap (λ k. names k s) e ∙ same_self s
 
 own-alike : (s : Point) (one other : Option Bidder) →
     ((x y : Bidder) → one ≡ Some x → other ≡ Some y → x.known ≡ Some s → y.curve ≡ x.curve) → other_own s one other ≡ false
 own-alike s None other h = refl
 own-alike s (Some x) None h = refl
 own-alike s (Some x) (Some y) h =
-    fails (names x.known s && not (same_curve x.curve y.curve)) (λ e.
-    let b = both-true (names x.known s) (not (same_curve x.curve y.curve)) e in
+    false_from_ne_true (names x.known s && not (same_curve x.curve y.curve)) (λ e.
+    let b = and_parts (names x.known s) (not (same_curve x.curve y.curve)) e in
     let is : same_curve x.curve y.curve ≡ true = curve-own x.curve y.curve (h x y refl refl (names-is x.known s b.0)) in
     true≢false (sym b.1 ∙ ap not is))
 
@@ -151,7 +123,7 @@ own-there : (s : Point) (one other : Option Bidder) (x y : Bidder) → one ≡ S
 own-there s one other x y e f known ne =
     (λ i. other_own s (e i) (f i))
     ∙ ap (λ b. b && not (same_curve x.curve y.curve)) (names-own x.known s known)
-    ∙ ap not (fails (same_curve x.curve y.curve) (λ is. ne (curve-is x.curve y.curve is)))
+    ∙ ap not (false_from_ne_true (same_curve x.curve y.curve) (λ is. ne (curve-is x.curve y.curve is)))
 
 -- the test of one place for a known bidder with another curve
 abbrev own_differs : Point → Book → Book → ℕ → Bool
@@ -159,14 +131,14 @@ own_differs s first second n = other_own s (slice_get first.bidders n) (slice_ge
 
 own-none : (s : Point) (first second : Book) → SameKnown s first second → own_between s first second ≡ None
 own-none s first second k =
-    ap (option_map (λ n. OwnBids (n + 1)))
+    ap (option_map (λ n. OwnBidsDiffer (n + 1)))
     (find-range_none (own_differs s first second) 0 (length first.bidders)
     (λ n low high. own-alike s (slice_get first.bidders n) (slice_get second.bidders n) (λ x y e f known. k n x y e f known)))
 
-own-some : (s : Point) (first second : Book) (n : ℕ) → KnownDiffersAt s first.bidders second.bidders n → own_between s first second ≡ Some (OwnBids (n + 1))
+own-some : (s : Point) (first second : Book) (n : ℕ) → KnownDiffersAt s first.bidders second.bidders n → own_between s first second ≡ Some (OwnBidsDiffer (n + 1))
 own-some s first second n d =
-    let lt : n < length first.bidders = get-below first.bidders n d.one d.is_one in
-    ap (option_map (λ n. OwnBids (n + 1)))
+    let lt : n < length first.bidders = slice_get_within first.bidders n d.one d.is_one in
+    ap (option_map (λ n. OwnBidsDiffer (n + 1)))
     (find-range_some (own_differs s first second) 0 (length first.bidders) n (omega arith) (omega arith)
     (λ k low high. own-alike s (slice_get first.bidders k) (slice_get second.bidders k) (λ x y e f known. d.before k x y high e f known))
     (own-there s (slice_get first.bidders n) (slice_get second.bidders n) d.one d.other d.is_one d.is_other d.known d.here))
@@ -182,15 +154,15 @@ outcome-is No No e = refl
 outcome-is No (Price place price volume) e = absurd (true≢false (sym e))
 outcome-is (Price place price volume) No e = absurd (true≢false (sym e))
 outcome-is (Price place price volume) (Price place' price' volume') e =
-    let b = both-true ((place == place') && (price == price')) (volume == volume') e in
-    let c = both-true (place == place') (price == price') b.0 in
+    let b = and_parts ((place == place') && (price == price')) (volume == volume') e in
+    let c = and_parts (place == place') (price == price') b.0 in
     let x = eqb-true place place' c.0 in
     let y = eqb-true price price' c.1 in
     let z = eqb-true volume volume' b.1 in
     sym (λ i. Price (x i) (y i) (z i))
 
-told : Bool → Outcome → Outcome → Option Disagreement
-told b one other = if b then None else Some (Outcomes one other)
+told : Bool → Outcome → Outcome → Option MapFault
+told b one other = if b then None else Some (OutcomesDiffer one other)
 
 outcomes-none : (first second : Book) → outcome_of second ≡ outcome_of first → outcomes_between first second ≡ None
 unfolding told
@@ -200,11 +172,11 @@ outcomes-none first second e =
     ap (λ b. told b (outcome_of first) (outcome_of second)) is
 
 outcomes-some : (first second : Book) → outcome_of second ≢ outcome_of first →
-    outcomes_between first second ≡ Some (Outcomes (outcome_of first) (outcome_of second))
+    outcomes_between first second ≡ Some (OutcomesDiffer (outcome_of first) (outcome_of second))
 unfolding told
 outcomes-some first second ne =
     let is : same_outcome (outcome_of first) (outcome_of second) ≡ false =
-    fails (same_outcome (outcome_of first) (outcome_of second)) (λ e. ne (outcome-is (outcome_of first) (outcome_of second) e)) in
+    false_from_ne_true (same_outcome (outcome_of first) (outcome_of second)) (λ e. ne (outcome-is (outcome_of first) (outcome_of second) e)) in
     ap (λ b. told b (outcome_of first) (outcome_of second)) is
 
 -- there is none between books that agree
@@ -214,14 +186,15 @@ no-difference s first second a =
     ∙ outcomes-none first second a.outcomes
 
 -- a refusal tells it
-pub the-difference : (s : Point) (first second : Book) (d : Disagreement) → Refuses s first second d → difference_between s first second ≡ Some d
-the-difference s first second (Shape bidder) (n, e, d) =
+pub the-difference : (s : Point) (first second : Book) (fault : MapFault) → Refuses s first second fault → difference_between s first second ≡ Some fault
+the-difference s first second (ShapeDiffers bidder) (n, e, d) =
     (λ i. or_then (shape-some first second n d i) (or_then (own_between s first second) (outcomes_between first second)))
-    ∙ ap (λ b. Some (Shape b)) (sym e)
-the-difference s first second (OwnBids bidder) (marks, (n, e, d)) =
+    ∙ ap (λ b. Some (ShapeDiffers b)) (sym e)
+the-difference s first second (OwnBidsDiffer bidder) (marks, (n, e, d)) =
     (λ i. or_then (shape-none first second marks i) (or_then (own-some s first second n d i) (outcomes_between first second)))
-    ∙ ap (λ b. Some (OwnBids b)) (sym e)
-the-difference s first second (Outcomes one other) (marks, own, (e, f, ne)) =
+    ∙ ap (λ b. Some (OwnBidsDiffer b)) (sym e)
+the-difference s first second (OutcomesDiffer one other) (marks, own, (e, f, ne)) =
     (λ i. or_then (shape-none first second marks i) (or_then (own-none s first second own i) (outcomes_between first second)))
     ∙ outcomes-some first second (λ is. ne (f ∙ is ∙ sym e))
-    ∙ (λ i. Some (Outcomes (sym e i) (sym f i)))
+    ∙ (λ i. Some (OutcomesDiffer (sym e i) (sym f i)))
+the-difference s first second OutOfMemory r = absurd r

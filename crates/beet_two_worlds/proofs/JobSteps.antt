@@ -13,9 +13,8 @@ use Rattle.beet_errand.specs.declared.answer.Stop.TheVariants.{Refused, OutOfMem
 use Rattle.beet_errand.proofs.Steps.{went_none, stops_after, stops_before}
 use Rattle.beet_load.specs.WholeViews.{loaded_of}
 use Rattle.beet_load.specs.declared.whole.Whole.{Whole}
-use Rattle.beet_load.proofs.FarmerLists.{farmers-words}
-use Rattle.beet_record.proofs.HasRuns.{same-book}
-use Rattle.beet_worlds.specs.declared.agreeing.Disagreement.{Disagreement}
+use Rattle.beet_book.proofs.FarmerLists.{farmers-words, book-whole}
+use Rattle.beet_worlds.specs.declared.agreeing.MapFault.{MapFault}
 use Rattle.beet_two_worlds.specs.Differences.{difference_between, refused_text}
 use Rattle.beet_two_worlds.specs.Reading.{Both, both_errand, first_book, second_book, words_read}
 use Rattle.beet_two_worlds.specs.Answering.{ShowsTheSame}
@@ -44,7 +43,7 @@ apart-caused s first second before now (Refused status text) h = rw h.0 tt
 apart-caused s first second before now OutOfMemory h = tt
 
 -- the line of a difference ends the errand
-tells : (d : Option Disagreement) (text : List ℕ) → IsSomeAnd d (λ difference. text ≡ refused_text difference) → (next : Errand) →
+tells : (d : Option MapFault) (text : List ℕ) → IsSomeAnd d (λ difference. text ≡ refused_text difference) → (next : Errand) →
     unless_differing d next ≡ answers WorldsRefused text
 tells None text h next = absurd h
 tells (Some difference) text h next = rw h refl
@@ -59,7 +58,7 @@ apart-stops s first second told both OutOfMemory h = λ next.
 
 module _ (whole : Whole) (second : Book) (grids : second.grid ≡ whole.book.grid) where
   first-is : first_book (both_of whole second) ≡ whole.book
-  first-is = same-book whole.book whole.words.bidders whole.runs.lists
+  first-is = book-whole whole.book whole.words.bidders whole.runs.lists
 
   read-is : words_read (both_of whole second) ≡ whole.words
   read-is = λ i. record {

@@ -1,10 +1,11 @@
 -- The words of the second world are as many as those of the first.
-use Rattle.std.proofs.Common.{◌≡◌, ◌≢◌, ◌⊎◌, inl, inr, ◌<◌, ◌≤◌, ◌+◌, ◌*◌, ℕ, zero, suc, List, [], ◌∷◌, map, take, length, slice_get, get_or, Option, Some, None, refl, sym, ap, subst, ◌∙◌, arith}
+use Rattle.std.proofs.Common.{◌≡◌, inl, inr, ◌<◌, ◌≤◌, ◌+◌, ◌*◌, ℕ, zero, suc, List, [], ◌∷◌, map, take, length, slice_get, get_or, Some, refl, sym, ap, subst, ◌∙◌, arith}
 use Rattle.std.specs.Prelude.{All, ◌==◌}
 use Rattle.std.proofs.lemmas.List.{length-map, take_all}
 use Rattle.std.proofs.lemmas.List.Elements.{All-from_get_or, All-get_or, All-head, All-tail}
 use Rattle.beet_field.specs.declared.point.Point.{Point}
 use Rattle.beet_field.specs.declared.point.Point.TheVariants.{One, Two, Three}
+use Rattle.beet_words.specs.declared.bundle.TheConstants.{MOST_BIDDERS}
 use Rattle.beet_words.specs.Bundles.{Words, FitsBundle}
 use Rattle.beet_words.specs.Words.{accepted, ones}
 use Rattle.beet_bids.specs.Books.{Book}
@@ -22,6 +23,7 @@ use Rattle.beet_worlds.specs.MappedBidders.{BiddersMapped, FarmerMapped}
 use Rattle.beet_worlds.specs.MappedWords.{Mapped}
 use Rattle.beet_worlds.specs.ViewsWith.{cut_words, transcript_with}
 use Rattle.beet_view.specs.BookViews.{transcript_for}
+use Rattle.beet_worlds.proofs.BidderFacts.{known-or}
 
 -- lists that are short enough are not cut
 lists-uncut : (n : ℕ) (lists : List (List ℕ)) → All (λ (list : List ℕ). length list ≤ n) lists → map (take n) lists ≡ lists
@@ -57,39 +59,11 @@ pub same-transcripts : (s : Point) (first second : Book) (words mapped : Words) 
 same-transcripts s first second words mapped r r' e =
     sym (ap (λ (w : Words). transcript_for second w s) (words-uncut second mapped r')) ∙ e ∙ ap (λ (w : Words). transcript_for first w s) (words-uncut first words r)
 
--- enough words among those that are kept
-has-kept : (wanted : ℕ) (words : List ℕ) → length words ≤ wanted + 8 → wanted ≤ length (accepted words) → HasAccepted wanted words
-has-kept wanted words short h = subst (λ (w : List ℕ). wanted ≤ length (accepted w)) (sym (take_all (wanted + 8) words short)) h
-
 kept-has : (wanted : ℕ) (words : List ℕ) → length words ≤ wanted + 8 → HasAccepted wanted words → wanted ≤ length (accepted words)
 kept-has wanted words short h = subst (λ (w : List ℕ). wanted ≤ length (accepted w)) (take_all (wanted + 8) words short) h
 
-pub can-map : (book : Book) (words : Words) → CanRun book words → AreEnough book words
-can-map book words r =
-    let wanted : ℕ = coefficients_wanted book.grid in
-    record {
-      masks = (r.servers.one.masks, r.servers.two.masks, r.servers.three.masks);
-      one = has-kept wanted words.coefficients.one r.cut.one.coefficients r.servers.one.coefficients;
-      two = has-kept wanted words.coefficients.two r.cut.two.coefficients r.servers.two.coefficients;
-      three = has-kept wanted words.coefficients.three r.cut.three.coefficients r.servers.three.coefficients;
-      count = r.lists;
-      bidders = λ k d lt. has-kept (words_wanted book.grid) _ (r.bidders k d lt).kept (r.bidders k d lt).enough;
-    }
-
 as-long : (xs ys : List ℕ) → ones_in ys ≡ ones_in xs → length ys ≡ length xs
 as-long xs ys e = sym (length-map ys (λ (w : ℕ). w == ones)) ∙ ap length e ∙ length-map xs (λ (w : ℕ). w == ones)
-
-known-or : (known : Option Point) (s : Point) → (known ≡ Some s) ⊎ (known ≢ Some s)
-known-or None s = inr (λ e. cc)
-known-or (Some One) One = inl refl
-known-or (Some One) Two = inr (λ e. cc)
-known-or (Some One) Three = inr (λ e. cc)
-known-or (Some Two) One = inr (λ e. cc)
-known-or (Some Two) Two = inl refl
-known-or (Some Two) Three = inr (λ e. cc)
-known-or (Some Three) One = inr (λ e. cc)
-known-or (Some Three) Two = inr (λ e. cc)
-known-or (Some Three) Three = inl refl
 
 -- the words of a bidder are as many in both worlds
 farmer-long : (s : Point) (wanted : ℕ) (one other : Farmer) → FarmerMapped s wanted one other → length other.words ≡ length one.words
@@ -139,7 +113,6 @@ can-run s first second words mapped r grids m e = by second.grid grids e where
             let short : (k : ℕ) → k < length mapped.bidders → length (get_or mapped.bidders k []) ≤ words_kept first.grid.prices =
             λ k lt. (let a = lists k lt in let b = All-get_or (CanDeal first.grid) words.bidders k [] (omega (arith, m.lists)) r.bidders in omega (arith, a, b.kept)) in
             record {
-              gates = r.gates;
               servers = record {
                 one = record { coefficients = kept-has wanted mapped.coefficients.one short1 e.one; masks = e.masks.0 };
                 two = record { coefficients = kept-has wanted mapped.coefficients.two short2 e.two; masks = e.masks.1 };
@@ -160,7 +133,7 @@ can-run s first second words mapped r grids m e = by second.grid grids e where
             }
 
 -- and they can stand in a bundle
-pub bundle-fits : (book : Book) (words : Words) → CanRun book words → IsGrid book.grid → length book.bidders ≤ 2000 → FitsBundle words
+pub bundle-fits : (book : Book) (words : Words) → CanRun book words → IsGrid book.grid → length book.bidders ≤ MOST_BIDDERS → FitsBundle words
 bundle-fits book words r grid few =
     let prices = grid.prices_limit in
     let comparisons = comparisons-le book.grid.prices 13 (omega (arith, prices)) in

@@ -1,5 +1,5 @@
 -- The first thing by which one server can tell two books apart, and the line that tells it.
-use Rattle.std.specs.Prelude.{ℕ, ◌+◌, ◌==◌, ◌&&◌, max, not, List, ◌++◌, length, slice_get, nat_eq, Bool, true, false, find, if◌then◌else◌, Option, Some, None, option_map, codes, decimal}
+use Rattle.std.specs.Prelude.{ℕ, ◌+◌, ◌==◌, ◌&&◌, max, not, List, [], ◌++◌, length, slice_get, nat_eq, Bool, true, false, find, if◌then◌else◌, Option, Some, None, option_map, codes, decimal}
 use Rattle.std.specs.Cmp.Lexicographic.{pointwise}
 use Rattle.std.specs.List.{range_with_len}
 use Rattle.beet_field.specs.declared.point.Point.{Point}
@@ -9,11 +9,11 @@ use Rattle.beet_bids.specs.Outcomes.{outcome_of}
 use Rattle.beet_bids.specs.declared.book.Bidder.{Bidder}
 use Rattle.beet_bids.specs.declared.outcomes.Outcome.{Outcome}
 use Rattle.beet_bids.specs.declared.outcomes.Outcome.TheVariants.{Price, No}
-use Rattle.beet_server.specs.Events.{same}
+use Rattle.beet_delivery.specs.Events.{same}
 use Rattle.beet_errand.specs.Texts.{line_of}
 use Rattle.beet_view.specs.BookViews.{names}
-use Rattle.beet_worlds.specs.declared.agreeing.Disagreement.{Disagreement}
-use Rattle.beet_worlds.specs.declared.agreeing.Disagreement.TheVariants.{Shape, OwnBids, Outcomes}
+use Rattle.beet_worlds.specs.declared.agreeing.MapFault.{MapFault}
+use Rattle.beet_worlds.specs.declared.agreeing.MapFault.TheVariants.{ShapeDiffers, OwnBidsDiffer, OutcomesDiffer, OutOfMemory}
 
 -- whether two marks are the same
 abbrev pub same_mark : Option Point → Option Point → Bool
@@ -53,26 +53,26 @@ or_then (Some x) y = Some x
 or_then None y = y
 
 -- the first bidder that one book lacks, or that has another mark in the second book; bidders are counted from 1
-abbrev pub shape_between : Book → Book → Option Disagreement
+abbrev pub shape_between : Book → Book → Option MapFault
 shape_between first second =
-    option_map (λ n. Shape (n + 1))
+    option_map (λ n. ShapeDiffers (n + 1))
     (first_place (λ n. not (same_shape (slice_get first.bidders n) (slice_get second.bidders n)))
     (max (length first.bidders) (length second.bidders)))
 
 -- the first bidder that the server knows and that has another curve in the second book
-abbrev pub own_between : Point → Book → Book → Option Disagreement
+abbrev pub own_between : Point → Book → Book → Option MapFault
 own_between s first second =
-    option_map (λ n. OwnBids (n + 1))
+    option_map (λ n. OwnBidsDiffer (n + 1))
     (first_place (λ n. other_own s (slice_get first.bidders n) (slice_get second.bidders n)) (length first.bidders))
 
 -- both outcomes, where they are two
-abbrev pub outcomes_between : Book → Book → Option Disagreement
+abbrev pub outcomes_between : Book → Book → Option MapFault
 outcomes_between first second =
     if same_outcome (outcome_of first) (outcome_of second) then None
-    else Some (Outcomes (outcome_of first) (outcome_of second))
+    else Some (OutcomesDiffer (outcome_of first) (outcome_of second))
 
 -- the first of these that there is, in this order
-abbrev pub difference_between : Point → Book → Book → Option Disagreement
+abbrev pub difference_between : Point → Book → Book → Option MapFault
 difference_between s first second =
     or_then (shape_between first second) (or_then (own_between s first second) (outcomes_between first second))
 
@@ -81,9 +81,10 @@ abbrev pub outcome_word : Outcome → List ℕ
 outcome_word (Price place price volume) = decimal price ++ codes "/" ++ decimal volume
 outcome_word No = codes "none"
 
--- the line of a refusal
-abbrev pub refused_text : Disagreement → List ℕ
-refused_text (Shape bidder) = line_of (codes "worlds refused shape " ++ decimal bidder)
-refused_text (OwnBids bidder) = line_of (codes "worlds refused own bids " ++ decimal bidder)
-refused_text (Outcomes one other) =
+-- the line of a refusal; where memory ran out nothing is said
+abbrev pub refused_text : MapFault → List ℕ
+refused_text (ShapeDiffers bidder) = line_of (codes "worlds refused shape " ++ decimal bidder)
+refused_text (OwnBidsDiffer bidder) = line_of (codes "worlds refused own bids " ++ decimal bidder)
+refused_text (OutcomesDiffer one other) =
     line_of (codes "worlds refused outcomes " ++ outcome_word one ++ codes " " ++ outcome_word other)
+refused_text OutOfMemory = []

@@ -4,12 +4,10 @@ use Rattle.beet_field.specs.declared.point.Point.{Point}
 use Rattle.beet_store.specs.Files.{Seen, Told}
 use Rattle.beet_words.specs.Bundles.{Words}
 use Rattle.beet_bids.specs.Books.{Book}
-use Rattle.beet_worlds.specs.declared.agreeing.Disagreement.{Disagreement}
-use Rattle.beet_worlds.specs.declared.agreeing.Disagreement.TheVariants.{Shape, OwnBids, Outcomes}
-use Rattle.beet_worlds.specs.declared.mapping.MapFault.{MapFault}
-use Rattle.beet_worlds.specs.declared.mapping.MapFault.TheVariants.{ShapeDiffers, OwnBidsDiffer, OutcomesDiffer, OutOfMemory as MemoryOut}
+use Rattle.beet_worlds.specs.declared.agreeing.MapFault.{MapFault}
+use Rattle.beet_worlds.specs.declared.agreeing.MapFault.TheVariants.{OutOfMemory as MemoryOut}
 use Rattle.beet_errand.specs.Errands.{Answer, Errand, Ends, Step, ◌>>=◌, ◌>>◌, answers, gives}
-use Rattle.beet_errand.specs.Fetches.{Causes, Refuses, Stops}
+use Rattle.beet_errand.specs.Fetches.{Causes, Stops}
 use Rattle.beet_errand.specs.declared.answer.Status.TheVariants.{WorldsRefused}
 use Rattle.beet_errand.specs.declared.answer.Stop.{Stop}
 use Rattle.beet_errand.specs.declared.answer.Stop.TheVariants.{Refused, OutOfMemory}
@@ -18,7 +16,7 @@ use Rattle.beet_two_worlds.specs.Reading.{AreRead, Both, both_errand, first_book
 use Rattle.beet_two_worlds.specs.Answering.{ShowsTheSame}
 
 -- two books go on together where there is no difference between them; else the job ends with its line
-abbrev pub unless_differing : Option Disagreement → Errand → Errand
+abbrev pub unless_differing : Option MapFault → Errand → Errand
 unless_differing None next = next
 unless_differing (Some difference) next = answers WorldsRefused (refused_text difference)
 
@@ -59,12 +57,15 @@ WithMapped old now auction servers book1 book2 s out P =
     ((answer : Answer) × ShowsWorlds old now auction servers book1 book2 s out answer × P now (Ends answer))
     ⊎ ((next : Both → Errand) → P old (compared_errand auction servers book1 book2 s next))
 
--- the line of a refusal of two books, unless memory ran out
+-- books are refused by this line for the fault; want of memory has none
+abbrev pub IsLineOf : MapFault → List ℕ → Type 0
+IsLineOf MemoryOut text = ⊥
+IsLineOf fault text = text ≡ refused_text fault
+
+-- two books are refused by the line of the fault, unless memory ran out
 abbrev pub TellsRefusal : MapFault → Stop → Type 0
-TellsRefusal (ShapeDiffers bidder) stop = Refuses WorldsRefused (refused_text (Shape bidder)) stop
-TellsRefusal (OwnBidsDiffer bidder) stop = Refuses WorldsRefused (refused_text (OwnBids bidder)) stop
-TellsRefusal (OutcomesDiffer one other) stop = Refuses WorldsRefused (refused_text (Outcomes one other)) stop
-TellsRefusal MemoryOut stop = stop ≡ OutOfMemory
+TellsRefusal fault (Refused status text) = (status ≡ WorldsRefused) × IsLineOf fault text.items
+TellsRefusal fault OutOfMemory = Unit {0}
 
 -- two books are refused by the line of what tells them apart, unless memory ran out
 abbrev pub TellsApart : Point → Book → Book → Stop → Type 0

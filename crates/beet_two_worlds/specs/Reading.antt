@@ -4,7 +4,7 @@ use Rattle.beet_store.specs.Files.{Told}
 use Rattle.beet_words.specs.Bundles.{Words}
 use Rattle.beet_bids.specs.Books.{Book}
 use Rattle.beet_bids.specs.declared.book.Bidder.{Bidder}
-use Rattle.beet_book.specs.Farmers.{book_of}
+use Rattle.beet_book.specs.Farmers.{book_with}
 use Rattle.beet_errand.specs.Errands.{Errand, Step, ◌>>=◌, gives}
 use Rattle.beet_errand.specs.Fetches.{Went}
 use Rattle.beet_load.specs.Loading.{Loaded}
@@ -18,7 +18,7 @@ pub record Both : Type 0 where
 
 -- the first book
 abbrev pub first_book : Both → Book
-first_book both = book_of both.first.grid both.first.farmers
+first_book both = book_with both.first.grid both.first.farmers
 
 -- the second book, over the same grid
 abbrev pub second_book : Both → Book

@@ -5,7 +5,7 @@ ghost use Rattle.beet_field.specs.declared.point.Point.{Point};
 ghost use Rattle.beet_bids.specs.Books.{Book};
 ghost use Rattle.beet_worlds.specs.Agreement.{Agree};
 ghost use Rattle.beet_worlds.specs.Disagreement.{Refuses};
-ghost use Rattle.beet_worlds.specs.declared.agreeing.Disagreement.{Disagreement};
+ghost use Rattle.beet_worlds.specs.declared.agreeing.MapFault.{MapFault};
 ghost use Rattle.beet_two_worlds.specs.Differences.{difference_between};
 
 /// There is no difference to tell between books that agree for a server. Of others the one that is told is the first thing that tells
@@ -13,6 +13,6 @@ ghost use Rattle.beet_two_worlds.specs.Differences.{difference_between};
 pub fn differences_are_told()
     ensures none { (s : Point) (first second : Book) → Agree s first second →
         difference_between s first second ≡ None }
-    ensures told { (s : Point) (first second : Book) (d : Disagreement) → Refuses s first second d →
-        difference_between s first second ≡ Some d }
+    ensures told { (s : Point) (first second : Book) (fault : MapFault) → Refuses s first second fault →
+        difference_between s first second ≡ Some fault }
 {}

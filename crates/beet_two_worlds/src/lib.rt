@@ -5,8 +5,6 @@ mod answering;
 mod laws;
 mod refusing;
 mod seeing;
-#[cfg(test)]
-mod tests;
 mod two_worlds;
 
 pub use laws::differences_are_told;

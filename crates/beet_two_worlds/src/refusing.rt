@@ -1,14 +1,13 @@
 //! The lines that refuse two books.
 
 ghost use Rattle.std.specs.Prelude.{◌≡◌, ◌++◌, IfOk, codes, decimal, string_bytes};
-ghost use Rattle.beet_errand.specs.Fetches.{Refuses};
 ghost use Rattle.beet_errand.specs.Texts.{line_of};
 ghost use Rattle.beet_two_worlds.specs.Differences.{outcome_word as word_of, refused_text};
-ghost use Rattle.beet_two_worlds.specs.Ending.{TellsRefusal};
+ghost use Rattle.beet_two_worlds.specs.Ending.{IsLineOf, TellsRefusal};
 
 use beet_bids::Outcome;
 use beet_errand::{Status, Stop};
-use beet_worlds::{Disagreement, MapFault};
+use beet_worlds::MapFault;
 use std::alloc::{AllocError, Global};
 
 /// A price and a volume as a refusal tells them.
@@ -31,7 +30,7 @@ fn outcome_word(alloc: Global, outcome: Outcome) -> Result<String, AllocError>
 
 /// The line for two outcomes.
 fn outcomes_line(alloc: Global, one: Outcome, other: Outcome) -> Result<Vec<u8>, AllocError>
-    ensures { IfOk result (λ line. line.items ≡ refused_text (Disagreement.Outcomes one other)) }
+    ensures { IfOk result (λ line. line.items ≡ refused_text (MapFault.OutcomesDiffer one other)) }
 {
     let one = outcome_word(alloc, one)?;
     let other = outcome_word(alloc, other)?;
@@ -48,24 +47,15 @@ fn bidder_line(alloc: Global, reason: &str, bidder: u32) -> Result<Vec<u8>, Allo
     Ok(line.into_bytes())
 }
 
-/// The line for two books that do not agree.
-fn refused_line(alloc: Global, difference: Disagreement) -> Result<Vec<u8>, AllocError>
-    ensures { IfOk result (λ line. line.items ≡ refused_text difference) }
+/// The line for two books whose words are not mapped.
+fn refused_line(alloc: Global, fault: MapFault) -> Result<Vec<u8>, AllocError>
+    ensures { IfOk result (λ line. IsLineOf fault line.items) }
 {
-    match difference {
-        Disagreement::Shape(bidder) => bidder_line(alloc, "shape", bidder),
-        Disagreement::OwnBids(bidder) => bidder_line(alloc, "own bids", bidder),
-        Disagreement::Outcomes(one, other) => outcomes_line(alloc, one, other),
-    }
-}
-
-/// Refuses two books that do not agree.
-fn refuse(alloc: Global, difference: Disagreement) -> Stop
-    ensures { Refuses Status.WorldsRefused (refused_text difference) result }
-{
-    match refused_line(alloc, difference) {
-        Ok(line) => Stop::Refused(Status::WorldsRefused, line),
-        Err(_) => Stop::OutOfMemory,
+    match fault {
+        MapFault::ShapeDiffers(bidder) => bidder_line(alloc, "shape", bidder),
+        MapFault::OwnBidsDiffer(bidder) => bidder_line(alloc, "own bids", bidder),
+        MapFault::OutcomesDiffer(one, other) => outcomes_line(alloc, one, other),
+        MapFault::OutOfMemory => Err(AllocError),
     }
 }
 
@@ -73,12 +63,8 @@ fn refuse(alloc: Global, difference: Disagreement) -> Stop
 pub(crate) fn refusal(alloc: Global, fault: MapFault) -> Stop
     ensures { TellsRefusal fault result }
 {
-    match fault {
-        MapFault::ShapeDiffers(bidder) => refuse(alloc, Disagreement::Shape(bidder)),
-        MapFault::OwnBidsDiffer(bidder) => refuse(alloc, Disagreement::OwnBids(bidder)),
-        MapFault::OutcomesDiffer(one, other) => {
-            refuse(alloc, Disagreement::Outcomes(one, other))
-        }
-        MapFault::OutOfMemory => Stop::OutOfMemory,
+    match refused_line(alloc, fault) {
+        Ok(line) => Stop::Refused(Status::WorldsRefused, line),
+        Err(_) => Stop::OutOfMemory,
     }
 }

@@ -1,31 +1,23 @@
 -- What a core that fits a run has received is what is sent to its server in the run.
-use Rattle.std.proofs.Common.{◌≡◌, ℕ, zero, suc, ◌<◌, List, [], ◌∷◌, ◌++◌, Some, slice_get, unwrap_or, refl, sym, ap, ◌∙◌, arith}
+use Rattle.std.proofs.Common.{◌≡◌, ℕ, ◌<◌, List, [], Some, slice_get, unwrap_or, refl, ap, ◌∙◌}
 use Rattle.beet_field.specs.declared.point.Point.{Point}
 use Rattle.beet_field.specs.declared.point.Point.TheVariants.{One, Two, Three}
 use Rattle.beet_gates.specs.Each.{each}
 use Rattle.beet_gates.specs.declared.Batch.{Batch}
-use Rattle.beet_gates.proofs.EachFacts.{each-zero, each-suc, get-each}
+use Rattle.beet_gates.proofs.EachFacts.{each-same, get-each}
 use Rattle.beet_round.specs.Sides.{peer}
 use Rattle.beet_round.specs.declared.message.RoundMessage.{RoundMessage}
 use Rattle.beet_round.specs.declared.sides.Side.{Side}
 use Rattle.beet_round.specs.declared.sides.Side.TheVariants.{Low, High}
-use Rattle.beet_server.specs.Runs.{Opening, message}
-use Rattle.beet_server.specs.Events.{Delivered}
+use Rattle.beet_sharing.specs.Runs.{Setup, message}
+use Rattle.beet_delivery.specs.Events.{Delivered}
 use Rattle.beet_server.specs.Cores.{Core}
 use Rattle.beet_server.specs.Fits.{Fits, messages_to}
 use Rattle.beet_server.specs.Steps.{received_from}
 use Rattle.beet_view.specs.RunViews.{numbers_received, round_received, rounds_received, round_seen, rounds_seen}
 
--- two rules that agree at each place give one list
-each-agree : {A : Type 0} (f g : ℕ → A) → (n : ℕ) → ((k : ℕ) → k < n → f k ≡ g k) → each f n ≡ each g n
-each-agree f g zero same = each-zero f ∙ sym (each-zero g)
-each-agree f g (suc n) same =
-    let before : each f n ≡ each g n = each-agree f g n (λ k h. same k (omega (arith, h))) in
-    let last : f n ≡ g n = same n (omega arith) in
-    each-suc f n ∙ ap (λ items. items ++ f n ∷ []) before ∙ ap (λ item. each g n ++ item ∷ []) last ∙ sym (each-suc g n)
-
 -- of both messages to a server, that of its peer of a side
-of_side : {S : Type 0} (c : Core S) → (o : Opening) (me : Point) (side : Side) (t : ℕ) →
+of_side : {S : Type 0} (c : Core S) → (o : Setup) (me : Point) (side : Side) (t : ℕ) →
     c.me ≡ me →
     slice_get c.received t ≡ Some (messages_to o me t) →
     received_from c t (peer me side) ≡ Some (message o (peer me side) me t)
@@ -36,7 +28,7 @@ of_side c o Two High t is there = rw (is, there) refl
 of_side c o Three Low t is there = rw (is, there) refl
 of_side c o Three High t is there = rw (is, there) refl
 
-module _ {S : Type 0} (next : S → ℕ → List ℕ → Batch) (o : Opening) (x : Delivered) (c : Core S) (fits : Fits next o x c) where
+module _ {S : Type 0} (next : S → ℕ → List ℕ → Batch) (o : Setup) (x : Delivered) (c : Core S) (fits : Fits next o x c) where
   numbers-fit : (side : Side) (t : ℕ) → t < c.round → numbers_received c side t ≡ message o (peer c.me side) c.me t
   numbers-fit side t h =
       let there : slice_get c.received t ≡ Some (messages_to o c.me t) = ap (λ (l : List (List RoundMessage)). slice_get l t) fits.received ∙ get-each (messages_to o c.me) c.round t h in
@@ -44,7 +36,7 @@ module _ {S : Type 0} (next : S → ℕ → List ℕ → Batch) (o : Opening) (x
 
   pub rounds-fit : rounds_received c ≡ rounds_seen o c.me c.round
   rounds-fit =
-      each-agree (round_received c) (round_seen o c.me) c.round
+      each-same (round_received c) (round_seen o c.me) c.round
       (λ t h.
       ap (λ (low : List ℕ). (low, numbers_received c High t)) (numbers-fit Low t h)
       ∙ ap (λ (high : List ℕ). (message o (peer c.me Low) c.me t, high)) (numbers-fit High t h))

@@ -9,7 +9,7 @@ use Rattle.beet_words.specs.Bundles.{up_to, word_at, words_at}
 use Rattle.beet_words.specs.Fields.{◌>>=◌, number_at, times, counted_at}
 use Rattle.beet_bids.specs.Grids.{Grid}
 use Rattle.beet_bids.specs.Curves.{Curve}
-use Rattle.beet_bids.specs.declared.book.TheConstants.{MOST_BIDDERS}
+use Rattle.beet_words.specs.declared.bundle.TheConstants.{MOST_BIDDERS}
 use Rattle.beet_bids.specs.declared.grid.TheConstants.{LARGEST_BASE, LARGEST_TICK, MOST_PRICES}
 use Rattle.beet_book.specs.declared.book_file.TheConstants.{MOST_PRODUCT}
 use Rattle.beet_gates.specs.declared.TheConstants.{MOST_NUMBERS}

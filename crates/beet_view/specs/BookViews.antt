@@ -8,9 +8,9 @@ use Rattle.beet_words.specs.Bundles.{Words}
 use Rattle.beet_bids.specs.Books.{Book}
 use Rattle.beet_bids.specs.Grids.{Grid}
 use Rattle.beet_plan.specs.Auction.{most_rounds, auction_over}
-use Rattle.beet_server.specs.Events.{same}
-use Rattle.beet_server.specs.Runs.{rounds_among}
-use Rattle.beet_auction.specs.Openings.{book_opening}
+use Rattle.beet_delivery.specs.Events.{same}
+use Rattle.beet_sharing.specs.Runs.{rounds_among}
+use Rattle.beet_auction.specs.Setups.{book_setup}
 use Rattle.beet_book.specs.Farmers.{Farmer, point_for, farmers_of}
 use Rattle.beet_view.specs.declared.view.Seen.{Seen}
 use Rattle.beet_view.specs.RunViews.{view_of_run}
@@ -33,7 +33,7 @@ seen_at grid s farmer = record {
 -- what a server sees of the auction of a book, with these mask words and coefficient words
 abbrev pub view_of_book : Grid → List Farmer → Trio (List ℕ) → Trio (List ℕ) → Point → Viewed
 view_of_book grid farmers masks coefficients s =
-    let o = book_opening grid farmers masks coefficients in
+    let o = book_setup grid farmers masks coefficients in
     view_of_run o s (rounds_among o (most_rounds (auction_over grid))) grid (map (seen_at grid s) farmers) (member masks s)
     (member coefficients s)
 
@@ -41,9 +41,11 @@ view_of_book grid farmers masks coefficients s =
 abbrev pub transcript_of_book : Grid → List Farmer → Trio (List ℕ) → Trio (List ℕ) → Point → List ℕ
 transcript_of_book grid farmers masks coefficients s = view_bytes (view_of_book grid farmers masks coefficients s)
 
--- what a server sees of the auction of a book with these words of servers and bidders, and its transcript
+-- what a server sees of the auction of a book with these words of servers and bidders: with all of them, also where they are more than
+-- a run keeps
 abbrev pub view_for : Book → Words → Point → Viewed
 view_for book words s = view_of_book book.grid (farmers_of book.bidders words.bidders) words.masks words.coefficients s
 
+-- the transcript of that server
 abbrev pub transcript_for : Book → Words → Point → List ℕ
 transcript_for book words s = view_bytes (view_for book words s)

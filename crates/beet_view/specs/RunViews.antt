@@ -6,7 +6,7 @@ use Rattle.beet_bids.specs.Grids.{Grid}
 use Rattle.beet_round.specs.Sides.{peer}
 use Rattle.beet_round.specs.declared.sides.Side.{Side}
 use Rattle.beet_round.specs.declared.sides.Side.TheVariants.{Low, High}
-use Rattle.beet_server.specs.Runs.{Opening, message}
+use Rattle.beet_sharing.specs.Runs.{Setup, message}
 use Rattle.beet_server.specs.Cores.{Core}
 use Rattle.beet_server.specs.Steps.{received_from}
 use Rattle.beet_view.specs.declared.view.Seen.{Seen}
@@ -36,15 +36,15 @@ view_of_core c grid bidders = record {
 }
 
 -- the numbers that are sent to a server in a round of a run, by the lower and by the higher peer
-abbrev pub round_seen : Opening → Point → ℕ → List ℕ × List ℕ
+abbrev pub round_seen : Setup → Point → ℕ → List ℕ × List ℕ
 round_seen o server t = (message o (peer server Low) server t, message o (peer server High) server t)
 
 -- those that are sent to it in each of so many rounds
-abbrev pub rounds_seen : Opening → Point → ℕ → List (List ℕ × List ℕ)
+abbrev pub rounds_seen : Setup → Point → ℕ → List (List ℕ × List ℕ)
 rounds_seen o server rounds = each (round_seen o server) rounds
 
 -- the view of a server of a run of so many rounds, with a grid, bidders, and the mask and coefficient words of the server
-abbrev pub view_of_run : Opening → Point → ℕ → Grid → List Seen → List ℕ → List ℕ → Viewed
+abbrev pub view_of_run : Setup → Point → ℕ → Grid → List Seen → List ℕ → List ℕ → Viewed
 view_of_run o server rounds grid bidders masks coefficients = record {
   server = server;
   grid = grid;

@@ -6,7 +6,7 @@ use Rattle.beet_field.specs.Point.{number_of}
 use Rattle.beet_field.specs.declared.point.Point.{Point}
 use Rattle.beet_field.specs.declared.point.Point.TheVariants.{One, Two, Three}
 use Rattle.beet_forms.specs.Faults.{Reading}
-use Rattle.beet_words.specs.declared.bundle.TheConstants.{BAD_MAGIC, TRUNCATED, BAD_NUMBER, TRAILING}
+use Rattle.beet_words.specs.declared.bundle.TheConstants.{MOST_BIDDERS, BAD_MAGIC, TRUNCATED, BAD_NUMBER, TRAILING}
 use Rattle.beet_words.specs.declared.fields.Allowed.{Allowed}
 use Rattle.beet_words.specs.Words.{IsWord}
 use Rattle.beet_words.specs.Bundles.{words_at}
@@ -16,7 +16,6 @@ use Rattle.beet_gates.specs.declared.Gates.{Gates}
 use Rattle.beet_gates.specs.declared.Gates.TheVariants.{Chain, Tree}
 use Rattle.beet_bids.specs.Grids.{Grid, IsGrid}
 use Rattle.beet_bids.specs.Curves.{Curve, IsCurve}
-use Rattle.beet_bids.specs.declared.book.TheConstants.{MOST_BIDDERS}
 use Rattle.beet_bids.specs.declared.curve.TheConstants.{LARGEST_QUANTITY}
 use Rattle.beet_bids.specs.declared.grid.TheConstants.{LARGEST_BASE, LARGEST_TICK, MOST_PRICES}
 use Rattle.beet_book.specs.declared.book_file.TheConstants.{MOST_PRODUCT}

@@ -4,7 +4,7 @@ use Rattle.beet_field.specs.declared.point.Point.{Point}
 use Rattle.beet_field.specs.declared.point.Point.TheVariants.{One, Two, Three}
 use Rattle.beet_bids.specs.Grids.{Grid}
 use Rattle.beet_bids.specs.Curves.{IsOfGrid}
-use Rattle.beet_bids.specs.declared.book.TheConstants.{MOST_BIDDERS}
+use Rattle.beet_words.specs.declared.bundle.TheConstants.{MOST_BIDDERS}
 use Rattle.beet_view.specs.declared.view.Seen.{Seen}
 
 -- the server, its grid, the bidders, its tapes, and in each round the numbers from its lower and from its higher peer

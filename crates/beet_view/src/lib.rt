@@ -12,6 +12,3 @@ pub use reading::{MOST_ROUNDS, read_view};
 pub use running::view_of;
 pub use view::{Seen, View};
 pub use writing::write_view;
-
-#[cfg(test)]
-mod tests;

@@ -10,14 +10,15 @@ ghost use Rattle.beet_view.specs.Transcripts.{from_to as allowed_from_to, gates_
 use crate::parts::{read_message, read_points};
 use crate::quantities::{Course, from_to};
 use crate::view::{Received, Seen, View};
-use beet_bids::{Curve, Grid, LARGEST_BASE, LARGEST_TICK, MOST_BIDDERS, MOST_PRICES};
+use beet_bids::{Curve, Grid, LARGEST_BASE, LARGEST_TICK, MOST_PRICES};
 use beet_book::MOST_PRODUCT;
 use beet_field::Point;
 use beet_forms::ReadFault;
 use beet_gates::Gates;
-use beet_plan::{MASK_COEFFICIENTS, SPARE_WORDS};
+use beet_plan::{MASK_COEFFICIENTS, SPARE_MASKS, SPARE_WORDS};
 use beet_words::{
-    BAD_MAGIC, TRAILING, WordList, read_end, read_list, read_magic, read_many, read_number,
+    BAD_MAGIC, MOST_BIDDERS, TRAILING, WordList, read_end, read_list, read_magic, read_many,
+    read_number,
 };
 use std::alloc::Global;
 
@@ -250,7 +251,7 @@ fn read_parts(alloc: Global, bytes: &[u8]) -> Result<View, ReadFault>
     let (server, at) = read_server(bytes, at)?;
     let (grid, at) = read_grid(bytes, at)?;
     let (bidders, at) = read_bidders(alloc, bytes, server, &grid, at)?;
-    let most_masks = grid.comparisons() as u64 + 2;
+    let most_masks = grid.comparisons() as u64 + SPARE_MASKS as u64;
     let (masks, at) = read_list(alloc, bytes, most_masks, at)?;
     let most_coefficients = MASK_COEFFICIENTS as u64 * most_masks + SPARE_WORDS as u64;
     let (coefficients, at) = read_list(alloc, bytes, most_coefficients, at)?;

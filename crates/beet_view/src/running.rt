@@ -1,10 +1,10 @@
 //! The view of a server that has run a script.
 
 ghost use Rattle.std.specs.Prelude.{◌≡◌, ◌<◌, ◌≤◌, ◌^◌, true, length, All, IfOk};
-ghost use Rattle.beet_bids.specs.declared.book.TheConstants.{MOST_BIDDERS};
+ghost use Rattle.beet_words.specs.declared.bundle.TheConstants.{MOST_BIDDERS};
 ghost use Rattle.beet_gates.specs.declared.TheConstants.{MOST_NUMBERS};
-ghost use Rattle.beet_server.specs.Runs.{Opening, HasRounds};
-ghost use Rattle.beet_server.specs.Events.{Delivered};
+ghost use Rattle.beet_sharing.specs.Runs.{Setup, HasRounds};
+ghost use Rattle.beet_delivery.specs.Events.{Delivered};
 ghost use Rattle.beet_server.specs.Cores.{has_ended};
 ghost use Rattle.beet_server.specs.Fits.{Fits};
 ghost use Rattle.beet_view.specs.Views.{IsSeenAt};
@@ -89,10 +89,10 @@ pub fn view_of<S: Script>(
     requires few { length bidders.items ≤ MOST_BIDDERS }
     requires seen { All (IsSeenAt core.now.me grid.now) bidders.items }
     ensures core { IfOk result (λ view. view ≡ view_of_core core.now grid.now bidders.items) }
-    ensures run { (o : Opening) (x : Delivered) → Fits S.batch_of o x core.now
+    ensures run { (o : Setup) (x : Delivered) → Fits S.batch_of o x core.now
         → IfOk result (λ view. view ≡ view_of_run o core.now.me core.now.round grid.now
         bidders.items core.now.masks.words core.now.coefficients.words) }
-    ensures rounds { (o : Opening) (x : Delivered) → Fits S.batch_of o x core.now
+    ensures rounds { (o : Setup) (x : Delivered) → Fits S.batch_of o x core.now
         → HasRounds o core.now.round }
 {
     Ok(View {

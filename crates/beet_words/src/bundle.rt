@@ -40,8 +40,8 @@ pub const BUNDLE_LIMIT: u64 = 67_108_864;
 /// The most words of a list.
 pub const MOST_WORDS: u64 = 16_384;
 
-/// The most bidders of a bundle.
-const MOST_BIDDERS: u64 = 2_000;
+/// The most bidders of a book.
+pub const MOST_BIDDERS: usize = 2_000;
 
 /// The reason against a file that does not begin with its text.
 pub const BAD_MAGIC: u32 = 1;
@@ -169,7 +169,7 @@ pub fn read_bundle(alloc: Global, bytes: &[u8]) -> Result<Words, ReadFault>
     ensures { Answers (λ words. words) (bundle_of bytes.now) result }
 {
     let at = read_magic(bytes, MAGIC, BAD_MAGIC)?;
-    let (count, at) = read_number(bytes, up_to(MOST_BIDDERS), at)?;
+    let (count, at) = read_number(bytes, up_to(MOST_BIDDERS as u64), at)?;
     let (one, at) = read_server(alloc, bytes, at)?;
     let (two, at) = read_server(alloc, bytes, at)?;
     let (three, at) = read_server(alloc, bytes, at)?;

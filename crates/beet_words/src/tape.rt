@@ -3,7 +3,7 @@
 ghost use Rattle.std.specs.Prelude.{◌≡◌, ◌≢◌, ◌<◌, ◌≤◌, ◌^◌, ◌-◌, ◌+◌, ◌∷◌, drop, length, slice_index, take, IfOk, All};
 ghost use Rattle.beet_words.specs.Words.{IsWord, accepted, ones};
 ghost use Rattle.beet_words.specs.Seeds.{seed_words};
-ghost use Rattle.beet_words.specs.Tapes.{left_of, Draws, DrawsMany};
+ghost use Rattle.beet_words.specs.Tapes.{left_of, drawn_from, Draws};
 
 use crate::seed::words_of_seed;
 use crate::word::{Word, WordList};
@@ -124,7 +124,7 @@ impl Tape {
     pub fn draw_each(&mut self, numbers: &mut [Fe])
         requires { length numbers.old ≤ length (left_of self.old) }
         ensures numbers { numbers.new ≡ take (length numbers.old) (left_of self.old) }
-        ensures drawn { DrawsMany self.old self.new (length numbers.old) }
+        ensures drawn { self.new ≡ drawn_from self.old (length numbers.old) }
     {
         let words = self.words.as_slice();
         let mut place = self.place;

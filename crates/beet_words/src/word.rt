@@ -1,6 +1,6 @@
 //! Words, and lists of words and of field numbers.
 
-ghost use Rattle.std.specs.Prelude.{◌≡◌, ◌↔◌, ◌≤◌, ◌<◌, ◌^◌, ◌/◌, ◌%◌, ◌++◌, ◌∷◌, [], length, IsNone, IfSome, IfOk, OnOk, IsTrue, All, bit_xor};
+ghost use Rattle.std.specs.Prelude.{◌≡◌, ◌↔◌, ◌≤◌, ◌<◌, ◌^◌, ◌/◌, ◌%◌, ◌++◌, ◌∷◌, [], length, take, IsNone, IfSome, IfOk, OnOk, IsTrue, All, bit_xor};
 ghost use Rattle.beet_words.specs.Words.{IsWord, ones};
 
 use beet_field::{Fe, P};
@@ -162,6 +162,16 @@ impl WordList {
         ensures below { All IsWord result.now }
     {
         self.items.as_slice()
+    }
+
+    /// The first so many words of the list, or all where it has no more, in memory of their own.
+    pub fn front(&self, alloc: Global, count: usize) -> Result<WordList, AllocError>
+        ensures { IfOk result (λ words. words ≡ take count self.now) }
+    {
+        let count = count.min(self.items.len());
+        Ok(WordList {
+            items: Vec::from_slice(alloc, &self.items[..count])?,
+        })
     }
 
     /// The same list, in memory of its own.

@@ -14,22 +14,22 @@ use Rattle.beet_round.specs.declared.sides.Side.{Side}
 use Rattle.beet_round.specs.declared.sides.Side.TheVariants.{Low, High}
 use Rattle.beet_server.specs.Answers.{Keeps, verdict_on}
 use Rattle.beet_server.specs.Cores.{Core, is_quiet}
-use Rattle.beet_server.specs.Events.{Delivered, deliver, is_sent, same}
+use Rattle.beet_delivery.specs.Events.{Delivered, deliver, is_sent, same}
 use Rattle.beet_server.specs.Fits.{message_of, taken}
-use Rattle.beet_server.specs.Runs.{HasRounds, Opening}
-use Rattle.beet_server.proofs.EventFacts.{side_of as side_from}
+use Rattle.beet_sharing.specs.Runs.{HasRounds, Setup}
+use Rattle.beet_delivery.proofs.EventFacts.{side_of as side_from}
 use Rattle.beet_server.proofs.Passing.{round_most}
-use Rattle.beet_server.proofs.Rounds.{lawful-rounds}
+use Rattle.beet_sharing.proofs.Rounds.{lawful-rounds}
 use Rattle.beet_world.specs.Happens.{IsGiven, MayGive, MayTakeMessages, event_of, of_side}
 use Rattle.beet_world.specs.declared.world.Event.TheVariants.{Delivered as DeliveredBy, NotSent}
 use Rattle.std.specs.Prelude.{slice_index_or}
 use Rattle.beet_round.proofs.SideFacts.{side_of-peer}
-use Rattle.beet_server.specs.Events.{passed, undelivered}
-use Rattle.beet_server.proofs.EventFacts.{WasSent, one_apart, was_sent}
+use Rattle.beet_delivery.specs.Events.{passed, undelivered}
+use Rattle.beet_delivery.proofs.EventFacts.{WasSent, one_apart, was_sent}
 use Rattle.beet_world.specs.Missing.{is_missing, one_if, six, to_side}
 use Rattle.beet_world.proofs.TwoRounds.{missing-two}
 use Rattle.beet_world.specs.Marks.{mark_at, with_mark}
-use Rattle.beet_world.specs.Worlds.{HoldsWorld, IsCoreOf, IsWorld, World, delivered_in, opening_in, rounds_in}
+use Rattle.beet_world.specs.Worlds.{HoldsWorld, IsCoreOf, IsWorld, World, delivered_in, setup_in, rounds_in}
 use Rattle.beet_world.proofs.Happening.{at_round, counted, given-stands, is-delivered, may-give, sent-at, sent-there, there-sent, which, within, world-after}
 
 -- the items of three lists
@@ -42,7 +42,7 @@ items-at sent Two = refl
 items-at sent Three = refl
 
 -- the message to the peer of a side, of both messages of a round
-picked : (o : Opening) (s : Point) (side : Side) (t : ℕ) → of_side side (message_of o s (peer s Low) t) (message_of o s (peer s High) t) ≡ message_of o s (peer s side) t
+picked : (o : Setup) (s : Point) (side : Side) (t : ℕ) → of_side side (message_of o s (peer s Low) t) (message_of o s (peer s High) t) ≡ message_of o s (peer s side) t
 picked o s Low t = refl
 picked o s High t = refl
 
@@ -60,11 +60,11 @@ back_side s side = side_from (peer s side) s (apart s side) where
 module _ {S : Type 0} (next : S → ℕ → List ℕ → Batch) (inputs most : S → ℕ) (bounds : Standing) (w : World S) (cores : Trio (Core S)) (sent : Trio (Vec (List RoundMessage) Global))
     (law : LawFrom (next w.start.one.script) bounds (most w.start.one.script) (start_of (inputs w.start.one.script)) [])
     (k : HoldsWorld next inputs most w cores sent) where
-  has : HasRounds (opening_in next inputs most w) (rounds_in next inputs most w)
-  has = (lawful-rounds (opening_in next inputs most w) bounds (most w.start.one.script) (inputs w.start.one.script) law).0
+  has : HasRounds (setup_in next inputs most w) (rounds_in next inputs most w)
+  has = (lawful-rounds (setup_in next inputs most w) bounds (most w.start.one.script) (inputs w.start.one.script) law).0
 
   few : rounds_in next inputs most w ≤ most w.start.one.script
-  few = (lawful-rounds (opening_in next inputs most w) bounds (most w.start.one.script) (inputs w.start.one.script) law).1
+  few = (lawful-rounds (setup_in next inputs most w) bounds (most w.start.one.script) (inputs w.start.one.script) law).1
 
   i : IsWorld next inputs most w cores (items_of sent)
   i = k.is_world
@@ -152,7 +152,7 @@ module _ {S : Type 0} (next : S → ℕ → List ℕ → Batch) (inputs most : S
       let script : most (member cores s).script ≡ most w.start.one.script = ap most (k.script s) in
       let count : length (member sent s).items ≡ taken (member cores s).round (member cores s).handed =
       ap length (sym (items-at sent s)) ∙ counted next inputs most w cores (items_of sent) has i few s in
-      let rounds = round_most next (opening_in next inputs most w) (delivered_in w) (member cores s) (rounds_in next inputs most w) has c.fits in
+      let rounds = round_most next (setup_in next inputs most w) (delivered_in w) (member cores s) (rounds_in next inputs most w) has c.fits in
       record {
         quiet = c.quiet;
         room = omega (arith, script, k.room s);
@@ -172,9 +172,9 @@ module _ {S : Type 0} (next : S → ℕ → List ℕ → Batch) (inputs most : S
     lt' : t < length (member (items_of sent) from)
     lt' = subst (λ (l : List (List RoundMessage)). t < length l) (sym (items-at sent from)) lt
 
-    m-is : m ≡ message_of (opening_in next inputs most w) from (peer from side) t
+    m-is : m ≡ message_of (setup_in next inputs most w) from (peer from side) t
     m-is =
-        let o = opening_in next inputs most w in
+        let o = setup_in next inputs most w in
         m_is (message_of o from (peer from Low) t) (message_of o from (peer from High) t)
         (ap (λ l. slice_get l t) (sym (items-at sent from)) ∙ sent-at next inputs most w cores (items_of sent) has i few from t lt')
         ∙ picked o from side t
@@ -183,10 +183,10 @@ module _ {S : Type 0} (next : S → ℕ → List ℕ → Batch) (inputs most : S
     back = (back_side from side).0
 
     -- the message may be given
-    pub gives : MayGive next (opening_in next inputs most w) (delivered_in w) (rounds_in next inputs most w) (back_side from side).0 t (member cores to) (member sent to).items m
+    pub gives : MayGive next (setup_in next inputs most w) (delivered_in w) (rounds_in next inputs most w) (back_side from side).0 t (member cores to) (member sent to).items m
     gives =
-        subst (λ (r : Point). MayGive next (opening_in next inputs most w) (delivered_in w) (rounds_in next inputs most w) (back_side from side).0 t (member cores r) (member sent r).items m) (sym is_to)
-        (subst (λ (l : List (List RoundMessage)). MayGive next (opening_in next inputs most w) (delivered_in w) (rounds_in next inputs most w) (back_side from side).0 t (member cores (peer from side)) l m)
+        subst (λ (r : Point). MayGive next (setup_in next inputs most w) (delivered_in w) (rounds_in next inputs most w) (back_side from side).0 t (member cores r) (member sent r).items m) (sym is_to)
+        (subst (λ (l : List (List RoundMessage)). MayGive next (setup_in next inputs most w) (delivered_in w) (rounds_in next inputs most w) (back_side from side).0 t (member cores (peer from side)) l m)
         (items-at sent (peer from side))
         (may-give next inputs most w cores (items_of sent) has i few from side t lt' m (back_side from side).0 m-is (back_side from side).1))
 
@@ -215,14 +215,14 @@ module _ {S : Type 0} (next : S → ℕ → List ℕ → Batch) (inputs most : S
     pub holds-after : (cores' : Trio (Core S)) (sent' : Trio (Vec (List RoundMessage) Global)) (v : Verdict) →
         ((s : Point) → s ≢ to → (member cores' s ≡ member cores s) × (member sent' s ≡ member sent s)) →
         vec_capacity (member sent' to) ≡ vec_capacity (member sent to) → Keeps (member cores to) (member cores' to) → is_quiet next (member cores' to) ≡ true →
-        IsGiven next (opening_in next inputs most w) (delivered_in w) (rounds_in next inputs most w) (back_side from side).0 t (member cores to) (member cores' to) (member sent' to).items v →
+        IsGiven next (setup_in next inputs most w) (delivered_in w) (rounds_in next inputs most w) (back_side from side).0 t (member cores to) (member cores' to) (member sent' to).items v →
         HoldsWorld next inputs most (record w { marks = with_mark w.marks from side t }) cores' sent'
     holds-after cores' sent' v others capacity keeps quiet given =
         let r = peer from side in
         let keeps' : Keeps (member cores r) (member cores' r) = subst (λ (q : Point). Keeps (member cores q) (member cores' q)) is_to keeps in
         let quiet' : is_quiet next (member cores' r) ≡ true = subst (λ (q : Point). is_quiet next (member cores' q) ≡ true) is_to quiet in
-        let given' : IsGiven next (opening_in next inputs most w) (delivered_in w) (rounds_in next inputs most w) (back_side from side).0 t (member cores r) (member cores' r) (member sent' r).items v =
-        subst (λ (q : Point). IsGiven next (opening_in next inputs most w) (delivered_in w) (rounds_in next inputs most w) (back_side from side).0 t (member cores q) (member cores' q) (member sent' q).items v) is_to given in
+        let given' : IsGiven next (setup_in next inputs most w) (delivered_in w) (rounds_in next inputs most w) (back_side from side).0 t (member cores r) (member cores' r) (member sent' r).items v =
+        subst (λ (q : Point). IsGiven next (setup_in next inputs most w) (delivered_in w) (rounds_in next inputs most w) (back_side from side).0 t (member cores q) (member cores' q) (member sent' q).items v) is_to given in
         let stands = given-stands next inputs most w cores (items_of sent) has i few from side t lt' (back_side from side).0 (member cores' r) (member sent' r).items v (back_side from side).1 keeps' quiet' given' in
         record {
           is_world = world-after next inputs most w cores (items_of sent) has i few from side t lt' cores' (items_of sent') stands

@@ -9,10 +9,10 @@ use Rattle.beet_gates.specs.Each.{each}
 use Rattle.beet_gates.proofs.EachFacts.{each-zero}
 use Rattle.beet_round.specs.declared.message.RoundMessage.{RoundMessage}
 use Rattle.beet_server.specs.Answers.{Keeps}
-use Rattle.beet_server.specs.Cores.{AreFresh, Core, IsFresh, is_quiet, opening_of}
-use Rattle.beet_server.specs.Events.{Delivered, nothing}
+use Rattle.beet_server.specs.Cores.{AreFresh, Core, IsFresh, is_quiet, setup_of}
+use Rattle.beet_delivery.specs.Events.{Delivered, nothing}
 use Rattle.beet_server.specs.Fits.{Fits, messages_from, taken}
-use Rattle.beet_server.specs.Runs.{HasRounds, Opening, rounds_among}
+use Rattle.beet_sharing.specs.Runs.{HasRounds, Setup, rounds_among}
 use Rattle.beet_world.specs.Marks.{set_of, unmarked}
 use Rattle.beet_world.specs.Worlds.{IsWorld, World, sent_by}
 use Rattle.beet_world.proofs.Beginning.{fresh-all-fit}
@@ -24,9 +24,9 @@ module _ {S : Type 0} (next : S → ℕ → List ℕ → Batch) (inputs most : S
   pub record HasHandedOut (old new : Core S) (sent : List (List RoundMessage)) : Type 0 where
     pub keeps : Keeps old new
     pub quiet : is_quiet next new ≡ true
-    pub fits : (o : Opening) (x : Delivered) → Fits next o x old → Fits next o x new
-    pub sends : (o : Opening) (x : Delivered) → Fits next o x old → [] ≡ sent_by o old → sent ≡ sent_by o new
-    pub going : (o : Opening) (x : Delivered) (rounds : ℕ) → HasRounds o rounds → Fits next o x old → (old.handed ≡ true → old.round < rounds) →
+    pub fits : (o : Setup) (x : Delivered) → Fits next o x old → Fits next o x new
+    pub sends : (o : Setup) (x : Delivered) → Fits next o x old → [] ≡ sent_by o old → sent ≡ sent_by o new
+    pub going : (o : Setup) (x : Delivered) (rounds : ℕ) → HasRounds o rounds → Fits next o x old → (old.handed ≡ true → old.round < rounds) →
         new.handed ≡ true → new.round < rounds
 
   named : (t : Trio (Core S)) → AreFresh next inputs t → (s : Point) → (member t s).me ≡ s
@@ -36,23 +36,23 @@ module _ {S : Type 0} (next : S → ℕ → List ℕ → Batch) (inputs most : S
   is_fresh t f = by_point (λ s. IsFresh next inputs (member t s)) f.one.1 f.two.1 f.three.1
 
   module _ (start cores : Trio (Core S)) (sent : Trio (List (List RoundMessage))) (f : AreFresh next inputs start)
-      (h : HasRounds (opening_of next inputs start) (rounds_among (opening_of next inputs start) (most start.one.script)))
+      (h : HasRounds (setup_of next inputs start) (rounds_among (setup_of next inputs start) (most start.one.script)))
       (out : (s : Point) → HasHandedOut (member start s) (member cores s) (member sent s)) where
     abbrev pub begun : World S
     begun = record { start = start; marks = unmarked (most start.one.script) }
 
-    none_sent : (s : Point) → [] ≡ sent_by (opening_of next inputs start) (member start s)
+    none_sent : (s : Point) → [] ≡ sent_by (setup_of next inputs start) (member start s)
     none_sent s =
         let is = is_fresh start f s in
         let none : taken (member start s).round (member start s).handed ≡ 0 = ap (λ (k : Core S). taken k.round k.handed) is in
-        sym (ap (each (messages_from (opening_of next inputs start) (member start s).me)) none ∙ each-zero (messages_from (opening_of next inputs start) (member start s).me))
+        sym (ap (each (messages_from (setup_of next inputs start) (member start s).me)) none ∙ each-zero (messages_from (setup_of next inputs start) (member start s).me))
 
-    idle : (s : Point) → (member start s).handed ≡ true → (member start s).round < rounds_among (opening_of next inputs start) (most start.one.script)
+    idle : (s : Point) → (member start s).handed ≡ true → (member start s).round < rounds_among (setup_of next inputs start) (most start.one.script)
     idle s e = absurd (true≢false (sym e ∙ ap (λ (k : Core S). k.handed) (is_fresh start f s)))
 
     pub world-begins : IsWorld next inputs most (record { start = start; marks = unmarked (most start.one.script) }) cores sent
     world-begins =
-        let o = opening_of next inputs start in
+        let o = setup_of next inputs start in
         let fits = fresh-all-fit next inputs most start f in
         let none : set_of (unmarked (most start.one.script)) ≡ nothing = set-unmarked (most start.one.script) in
         record {

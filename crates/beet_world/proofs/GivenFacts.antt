@@ -8,8 +8,8 @@ use Rattle.beet_round.specs.declared.message.RoundMessage.{RoundMessage}
 use Rattle.beet_round.specs.declared.mailbox.Verdict.{Verdict}
 use Rattle.beet_round.specs.declared.sides.Side.{Side}
 use Rattle.beet_round.specs.Sides.{peer}
-use Rattle.beet_server.specs.Runs.{Opening, HasRounds}
-use Rattle.beet_server.specs.Events.{Delivered, with_triple}
+use Rattle.beet_sharing.specs.Runs.{Setup, HasRounds}
+use Rattle.beet_delivery.specs.Events.{Delivered, with_triple}
 use Rattle.beet_server.specs.Cores.{Core, is_quiet, has_ended}
 use Rattle.beet_server.specs.Fits.{Fits, IsRound, message_of, messages_from, taken}
 use Rattle.beet_server.specs.Answers.{Answers, Moves, verdict_on}
@@ -33,7 +33,7 @@ module _ {S : Type 0} (next : S → ℕ → List ℕ → Batch) where
   taken-more c d idle (inl (both, round, handed)) = rw (idle, handed, round) refl
 
   -- they are sent
-  pub sends-more : (o : Opening) (c d : Core S) → c.handed ≡ false → Moves c d → d.me ≡ c.me →
+  pub sends-more : (o : Setup) (c d : Core S) → c.handed ≡ false → Moves c d → d.me ≡ c.me →
       each (messages_from o d.me) (taken d.round d.handed) ≡ each (messages_from o c.me) (taken c.round c.handed) ++ messages_from o c.me c.round ∷ []
   sends-more o c d idle moves me =
       let count : taken c.round c.handed ≡ c.round = ap (taken c.round) idle in
@@ -41,7 +41,7 @@ module _ {S : Type 0} (next : S → ℕ → List ℕ → Batch) where
       ∙ ap (λ n. each (messages_from o c.me) (taken c.round c.handed) ++ messages_from o c.me n ∷ []) count
 
   -- a core that has handed out the messages of its round has not ended
-  pub goes-more : (o : Opening) (x : Delivered) (c d : Core S) (rounds : ℕ) → HasRounds o rounds → Fits next o x c → has_ended next c ≡ false → Moves c d →
+  pub goes-more : (o : Setup) (x : Delivered) (c d : Core S) (rounds : ℕ) → HasRounds o rounds → Fits next o x c → has_ended next c ≡ false → Moves c d →
       d.handed ≡ true → d.round < rounds
   goes-more o x c d rounds h f on (inr (not, round, handed)) e =
       let most = round_most next o x c rounds h f in
@@ -87,19 +87,19 @@ module _ {S : Type 0} (next : S → ℕ → List ℕ → Batch) where
   ]
 
   -- what it has sent stays as it is
-  pub given-sends : (o : Opening) (c d : Core S) (m : RoundMessage) (v : Verdict) → is_quiet next c ≡ true → Takes c d m v → d.me ≡ c.me →
+  pub given-sends : (o : Setup) (c d : Core S) (m : RoundMessage) (v : Verdict) → is_quiet next c ≡ true → Takes c d m v → d.me ≡ c.me →
       each (messages_from o d.me) (taken d.round d.handed) ≡ each (messages_from o c.me) (taken c.round c.handed)
   given-sends o c d m v q g me = λ i. each (messages_from o (me i)) (given-taken c d m v q g i)
 
   -- a message is given to a core, which then hands out all that it has to
-  pub given-all : (o : Opening) (x : Delivered) (rounds : ℕ) (s : Side) (t : ℕ) (c d e : Core S) (sent sent' : List (List RoundMessage)) (m : RoundMessage) (v : Verdict) →
+  pub given-all : (o : Setup) (x : Delivered) (rounds : ℕ) (s : Side) (t : ℕ) (c d e : Core S) (sent sent' : List (List RoundMessage)) (m : RoundMessage) (v : Verdict) →
       is_quiet next c ≡ true → Takes c d m v → d.me ≡ c.me →
-      ((o : Opening) (x : Delivered) (s : Side) (t : ℕ) → Fits next o x c → m ≡ message_of o (peer c.me s) c.me t → IsRound o t → t ≤ c.round + 1 →
+      ((o : Setup) (x : Delivered) (s : Side) (t : ℕ) → Fits next o x c → m ≡ message_of o (peer c.me s) c.me t → IsRound o t → t ≤ c.round + 1 →
       Fits next o (with_triple x (record { from = peer c.me s; to = c.me; round = t })) d) →
-      ((o : Opening) (x : Delivered) (s : Side) (t : ℕ) → Fits next o x c → m ≡ message_of o (peer c.me s) c.me t → IsRound o t → t ≤ c.round + 1 → v ≡ verdict_on x c.me c.round s t) →
-      ((o : Opening) (x : Delivered) → Fits next o x d → Fits next o x e) →
-      ((o : Opening) (x : Delivered) → Fits next o x d → sent ≡ sent_by o d → sent' ≡ sent_by o e) →
-      ((o : Opening) (x : Delivered) (rounds : ℕ) → HasRounds o rounds → Fits next o x d → (d.handed ≡ true → d.round < rounds) → e.handed ≡ true → e.round < rounds) →
+      ((o : Setup) (x : Delivered) (s : Side) (t : ℕ) → Fits next o x c → m ≡ message_of o (peer c.me s) c.me t → IsRound o t → t ≤ c.round + 1 → v ≡ verdict_on x c.me c.round s t) →
+      ((o : Setup) (x : Delivered) → Fits next o x d → Fits next o x e) →
+      ((o : Setup) (x : Delivered) → Fits next o x d → sent ≡ sent_by o d → sent' ≡ sent_by o e) →
+      ((o : Setup) (x : Delivered) (rounds : ℕ) → HasRounds o rounds → Fits next o x d → (d.handed ≡ true → d.round < rounds) → e.handed ≡ true → e.round < rounds) →
       MayGive next o x rounds s t c sent m → IsGiven next o x rounds s t c e sent' v
   given-all o x rounds s t c d e sent sent' m v quiet takes me fits told out sends going may =
       let y : Delivered = with_triple x (record { from = peer c.me s; to = c.me; round = t }) in

@@ -10,12 +10,12 @@ use Rattle.beet_round.specs.declared.mailbox.Verdict.{Verdict}
 use Rattle.beet_round.specs.declared.mailbox.Verdict.TheVariants.{Stored, Ready, Repeat, Old, TooEarly, WrongLength, Stranger}
 use Rattle.beet_round.specs.declared.sides.Side.{Side}
 use Rattle.beet_round.specs.declared.sides.Side.TheVariants.{Low, High}
-use Rattle.beet_server.specs.Runs.{Opening}
-use Rattle.beet_server.specs.Events.{Delivered, Triple, all_delivered, both_in, same, with_triple}
+use Rattle.beet_sharing.specs.Runs.{Setup}
+use Rattle.beet_delivery.specs.Events.{Delivered, Triple, all_delivered, both_in, same, with_triple}
 use Rattle.beet_server.specs.Cores.{Core, is_quiet, has_ended}
 use Rattle.beet_server.specs.Fits.{Fits, IsRound, message_of}
 use Rattle.beet_server.specs.Answers.{Answers, Moves}
-use Rattle.beet_server.proofs.EventFacts.{peer_other, same_self}
+use Rattle.beet_delivery.proofs.EventFacts.{peer_other, same_self}
 use Rattle.beet_server.proofs.Passing.{coming_is, elsewhere}
 use Rattle.beet_world.specs.Lockstep.{AreSent, HasHanded, IsAtRound}
 
@@ -91,7 +91,7 @@ ready_or (TooEarly t) = inr (λ e. cc e)
 ready_or (WrongLength n) = inr (λ e. cc e)
 ready_or Stranger = inr (λ e. cc e)
 
-module _ {S : Type 0} (next : S → ℕ → List ℕ → Batch) (o : Opening) (t : ℕ) where
+module _ {S : Type 0} (next : S → ℕ → List ℕ → Batch) (o : Setup) (t : ℕ) where
   -- a core at round t hands out its messages, and does not pass the round
   pub hands-out : (s : Point) (c d : Core S) → IsAtRound next o t s c → Fits next o (all_delivered t) d → d.me ≡ c.me →
       Moves c d → HasHanded next o t (all_delivered t) s d
@@ -153,7 +153,7 @@ module _ {S : Type 0} (next : S → ℕ → List ℕ → Batch) (o : Opening) (t
 
   -- what a call gives that delivers a message of the run
   abbrev pub FitsBy : Core S → Core S → RoundMessage → Type 0
-  FitsBy c d m = (o : Opening) (x : Delivered) (s : Side) (t : ℕ) → Fits next o x c → m ≡ message_of o (peer c.me s) c.me t → IsRound o t → t ≤ c.round + 1 →
+  FitsBy c d m = (o : Setup) (x : Delivered) (s : Side) (t : ℕ) → Fits next o x c → m ≡ message_of o (peer c.me s) c.me t → IsRound o t → t ≤ c.round + 1 →
       Fits next o (with_triple x (record { from = peer c.me s; to = c.me; round = t })) d
 
   pub low-taken : (s : Point) (c d : Core S) (m : RoundMessage) (v : Verdict) → HasHanded next o t (all_delivered t) s c → IsRound o t →

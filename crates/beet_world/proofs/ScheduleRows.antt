@@ -1,5 +1,5 @@
 -- The rows of a schedule, one after another.
-use Rattle.std.proofs.Common.{append_assoc, append-nil, ◌≡◌, ℕ, ◌+◌, List, [], ◌∷◌, ◌++◌, ◌==◌, Bool, true, false, if◌then◌else◌, drop, Some, None, Ok, Err, refl, sym, ap, ◌∙◌}
+use Rattle.std.proofs.Common.{append_assoc, ◌≡◌, ℕ, ◌+◌, List, [], ◌∷◌, ◌++◌, ◌==◌, Bool, true, false, if◌then◌else◌, drop, Some, None, Ok, Err, refl, sym, ap, ◌∙◌}
 use Rattle.std.specs.Prelude.{Option, Result, codes}
 use Rattle.std.specs.List.{filter_map}
 use Rattle.std.specs.Option.{ok_or}
@@ -23,14 +23,6 @@ pub rest-accepted : (number : ℕ) (row : Row) (rows more : List Row) (delivery 
     first_row_fault reason_against (number + 1) more ≡ first_row_fault reason_against number rows
 rest-accepted number row rows more delivery is e = rw (is, e) refl
 
--- the whole, where a row is refused
-pub rows-refused : (number reason : ℕ) (row : Row) (rows more all : List Row) → rows ≡ row ∷ more →
-    first_row_fault reason_against number rows ≡ first_row_fault reason_against 2 all → delivery_at number row ≡ Err reason →
-    deliveries_of all ≡ Err (at_row number reason)
-rows-refused number reason row rows more all is rest e =
-    let fault : first_row_fault reason_against 2 all ≡ Some (at_row number reason) = sym rest ∙ rw (is, e) refl in
-    rw fault refl
-
 -- the deliveries up to a row with one
 pub deliveries-more : (deliveries : List Delivery) (number : ℕ) (row : Row) (rows more all : List Row) (delivery : Delivery) → rows ≡ row ∷ more →
     delivery_at number row ≡ Ok delivery → deliveries ++ filter_map delivery_in rows ≡ filter_map delivery_in all →
@@ -38,15 +30,6 @@ pub deliveries-more : (deliveries : List Delivery) (number : ℕ) (row : Row) (r
 deliveries-more deliveries number row rows more all delivery is e so_far =
     append_assoc deliveries (delivery ∷ []) (filter_map delivery_in more)
     ∙ (sym (rw (is, has-delivery number row delivery e) refl) ∙ so_far)
-
--- all rows were read
-pub rows-end : (number : ℕ) (deliveries : List Delivery) (rows all : List Row) → rows ≡ [] →
-    first_row_fault reason_against number rows ≡ first_row_fault reason_against 2 all →
-    deliveries ++ filter_map delivery_in rows ≡ filter_map delivery_in all → deliveries_of all ≡ Ok deliveries
-rows-end number deliveries rows all end rest so_far =
-    let none : first_row_fault reason_against 2 all ≡ None = sym rest ∙ rw end refl in
-    let same : filter_map delivery_in all ≡ deliveries = sym so_far ∙ (ap (λ (rs : List Row). deliveries ++ filter_map delivery_in rs) end ∙ append-nil deliveries) in
-    rw (none, same) refl
 
 -- behind the header a schedule is its deliveries
 pub schedule-begun : (rows rest : List Row) → begins_with rows (codes "beet-schedule" ∷ codes "1" ∷ []) ≡ true → rest ≡ drop 1 rows → schedule_in rows ≡ deliveries_of rest

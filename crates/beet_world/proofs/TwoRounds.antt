@@ -9,10 +9,10 @@ use Rattle.std.proofs.lemmas.List.{length-append}
 use Rattle.std.proofs.lemmas.List.Elements.{filter-append}
 use Rattle.beet_field.specs.declared.point.Point.{Point}
 use Rattle.beet_field.specs.declared.point.Point.TheVariants.{One, Two, Three}
-use Rattle.beet_server.specs.Events.{Delivered, Triple, all_triples, has, is_sent, passed, same, triples_of, undelivered}
+use Rattle.beet_delivery.specs.Events.{Delivered, Triple, all_triples, has, is_sent, passed, same, triples_of, undelivered}
 use Rattle.beet_world.specs.Missing.{is_missing, one_if, six}
-use Rattle.beet_server.proofs.Counting.{count_more, one}
-use Rattle.beet_server.proofs.EventFacts.{WasSent, one_apart, passed_in, sent_parts, side_of}
+use Rattle.beet_delivery.proofs.Counting.{count_more, one}
+use Rattle.beet_delivery.proofs.EventFacts.{WasSent, one_apart, passed_in, sent_parts, side_of}
 
 -- how many messages of a round pass a test
 abbrev pub of_round : (Triple → Bool) → ℕ → ℕ

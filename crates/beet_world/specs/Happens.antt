@@ -13,12 +13,12 @@ use Rattle.beet_round.specs.declared.message.RoundMessage.{RoundMessage}
 use Rattle.beet_round.specs.declared.sides.Side.{Side}
 use Rattle.beet_server.specs.Answers.{verdict_on}
 use Rattle.beet_server.specs.Cores.{Core, is_quiet}
-use Rattle.beet_server.specs.Events.{Delivered as Set, Triple, is_sent, passed, with_triple}
+use Rattle.beet_delivery.specs.Events.{Delivered as Set, Triple, is_sent, passed, with_triple}
 use Rattle.beet_server.specs.Fits.{Fits, IsRound, message_of, taken}
-use Rattle.beet_server.specs.Runs.{HasRounds, Opening}
+use Rattle.beet_sharing.specs.Runs.{HasRounds, Setup}
 use Rattle.beet_world.specs.Worlds.{sent_by}
 
-module _ {S : Type 0} (next : S → ℕ → List ℕ → Batch) (o : Opening) (x : Set) (rounds : ℕ) (s : Side) (t : ℕ) where
+module _ {S : Type 0} (next : S → ℕ → List ℕ → Batch) (o : Setup) (x : Set) (rounds : ℕ) (s : Side) (t : ℕ) where
   -- the message of the round t of a run comes from the other server of this side, at most one round early, to a core that fits the run
   pub record MayGive (c : Core S) (sent : List (List RoundMessage)) (m : RoundMessage) : Type 0 where
     pub has_rounds : HasRounds o rounds

@@ -5,7 +5,7 @@ use Rattle.beet_field.specs.declared.point.Point.{Point}
 use Rattle.beet_round.specs.Sides.{side_of}
 use Rattle.beet_round.specs.declared.sides.Side.{Side}
 use Rattle.beet_round.specs.declared.sides.Side.TheVariants.{Low, High}
-use Rattle.beet_server.specs.Events.{Delivered}
+use Rattle.beet_delivery.specs.Events.{Delivered}
 
 -- the number of a side
 abbrev pub number_at : Side → ℕ

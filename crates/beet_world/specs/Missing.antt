@@ -5,7 +5,7 @@ use Rattle.beet_field.specs.declared.point.Point.TheVariants.{One, Two, Three}
 use Rattle.beet_round.specs.Sides.{peer}
 use Rattle.beet_round.specs.declared.sides.Side.{Side}
 use Rattle.beet_round.specs.declared.sides.Side.TheVariants.{Low, High}
-use Rattle.beet_server.specs.Events.{Delivered, Triple, has, is_sent}
+use Rattle.beet_delivery.specs.Events.{Delivered, Triple, has, is_sent}
 
 -- the message of a server to the other of a side in a round
 abbrev pub to_side : Point → Side → ℕ → Triple

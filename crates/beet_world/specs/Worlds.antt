@@ -7,10 +7,10 @@ use Rattle.beet_field.specs.declared.trio.Trio.{Trio}
 use Rattle.beet_gates.specs.Each.{each}
 use Rattle.beet_gates.specs.declared.Batch.{Batch}
 use Rattle.beet_round.specs.declared.message.RoundMessage.{RoundMessage}
-use Rattle.beet_server.specs.Cores.{Core, AreFresh, is_quiet, opening_of}
-use Rattle.beet_server.specs.Events.{Delivered, Triple, after, passed}
+use Rattle.beet_server.specs.Cores.{Core, AreFresh, is_quiet, setup_of}
+use Rattle.beet_delivery.specs.Events.{Delivered, Triple, after, passed}
 use Rattle.beet_server.specs.Fits.{Fits, messages_from, taken}
-use Rattle.beet_server.specs.Runs.{Opening, rounds_among}
+use Rattle.beet_sharing.specs.Runs.{Setup, rounds_among}
 use Rattle.beet_world.specs.Marks.{set_of}
 use Rattle.beet_world.specs.declared.schedule.Delivery.{Delivery}
 
@@ -32,22 +32,22 @@ abbrev pub delivered_in : {S : Type 0} → World S → Delivered
 delivered_in w = set_of w.marks
 
 -- the messages of a server that were sent: of each round that it has passed, and of its own once they are handed out
-abbrev pub sent_by : {S : Type 0} → Opening → Core S → List (List RoundMessage)
+abbrev pub sent_by : {S : Type 0} → Setup → Core S → List (List RoundMessage)
 sent_by o c = each (messages_from o c.me) (taken c.round c.handed)
 
 module _ {S : Type 0} (next : S → ℕ → List ℕ → Batch) (inputs most : S → ℕ) where
-  -- the opening of a world
-  abbrev pub opening_in : World S → Opening
-  opening_in w = opening_of next inputs w.start
+  -- the setup of a world
+  abbrev pub setup_in : World S → Setup
+  setup_in w = setup_of next inputs w.start
 
   -- the number of rounds of its run
   abbrev pub rounds_in : World S → ℕ
-  rounds_in w = rounds_among (opening_in w) (most w.start.one.script)
+  rounds_in w = rounds_among (setup_in w) (most w.start.one.script)
 
   -- the core of a server stands in a world: it fits what was delivered, and nothing is left to hand out
   pub record StandsIn (w : World S) (s : Point) (c : Core S) : Type 0 where
     pub name : c.me ≡ s
-    pub fits : Fits next (opening_in w) (delivered_in w) c
+    pub fits : Fits next (setup_in w) (delivered_in w) c
     pub quiet : is_quiet next c ≡ true
     pub going : c.handed ≡ true → c.round < rounds_in w
 
@@ -58,7 +58,7 @@ module _ {S : Type 0} (next : S → ℕ → List ℕ → Batch) (inputs most : S
     pub script : c.script ≡ w.start.one.script
     pub masks : c.masks.words ≡ (member w.start s).masks.words
     pub coefficients : c.coefficients.words ≡ (member w.start s).coefficients.words
-    pub fits : Fits next (opening_in w) (delivered_in w) c
+    pub fits : Fits next (setup_in w) (delivered_in w) c
     pub quiet : is_quiet next c ≡ true
     pub going : c.handed ≡ true → c.round < rounds_in w
     pub round : c.round ≡ passed (rounds_in w) (delivered_in w) s
@@ -70,7 +70,7 @@ module _ {S : Type 0} (next : S → ℕ → List ℕ → Batch) (inputs most : S
   pub record IsWorld (w : World S) (cores : Trio (Core S)) (sent : Trio (List (List RoundMessage))) : Type 0 where
     pub fresh : AreFresh next inputs w.start
     pub standing : (s : Point) → StandsIn w s (member cores s)
-    pub sent_all : (s : Point) → member sent s ≡ sent_by (opening_in w) (member cores s)
+    pub sent_all : (s : Point) → member sent s ≡ sent_by (setup_in w) (member cores s)
     pub events : List Triple
     pub reached : delivered_in w ≡ after (rounds_in w) events
     pub room : length w.marks ≡ 6 * most w.start.one.script

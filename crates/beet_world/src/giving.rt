@@ -5,9 +5,9 @@ ghost use Rattle.beet_round.specs.Sides.{peer};
 ghost use Rattle.beet_round.specs.declared.sides.Side.{Side as SideOf};
 ghost use Rattle.beet_server.specs.Answers.{Keeps};
 ghost use Rattle.beet_server.specs.Cores.{is_quiet};
-ghost use Rattle.beet_server.specs.Events.{Delivered, with_triple};
+ghost use Rattle.beet_delivery.specs.Events.{Delivered, with_triple};
 ghost use Rattle.beet_server.specs.Fits.{Fits, IsRound, message_of, taken};
-ghost use Rattle.beet_server.specs.Runs.{HasRounds, Opening};
+ghost use Rattle.beet_sharing.specs.Runs.{HasRounds, Setup};
 ghost use Rattle.beet_world.specs.Worlds.{sent_by};
 ghost use Rattle.beet_world.specs.Happens.{IsGiven, MayGive};
 
@@ -27,11 +27,11 @@ pub(crate) fn hand_out<S: Script>(core: &mut ServerCore<S>, sent: &mut Vec<[Roun
     ensures quiet { is_quiet S.batch_of core.new ≡ true }
     ensures counted { length sent.new.items ≡ taken core.new.round core.new.handed }
     ensures within { length sent.new.items ≤ S.rounds_of core.old.script }
-    ensures fits { (o : Opening) (x : Delivered) → Fits S.batch_of o x core.old
+    ensures fits { (o : Setup) (x : Delivered) → Fits S.batch_of o x core.old
         → Fits S.batch_of o x core.new }
-    ensures sends { (o : Opening) (x : Delivered) → Fits S.batch_of o x core.old
+    ensures sends { (o : Setup) (x : Delivered) → Fits S.batch_of o x core.old
         → sent.old.items ≡ sent_by o core.old → sent.new.items ≡ sent_by o core.new }
-    ensures going { (o : Opening) (x : Delivered) (rounds : ℕ) → HasRounds o rounds
+    ensures going { (o : Setup) (x : Delivered) (rounds : ℕ) → HasRounds o rounds
         → Fits S.batch_of o x core.old → (core.old.handed ≡ true → core.old.round < rounds)
         → core.new.handed ≡ true → core.new.round < rounds }
 {
@@ -60,7 +60,7 @@ pub(crate) fn give<S: Script>(
     ensures quiet { is_quiet S.batch_of core.new ≡ true }
     ensures counted { length sent.new.items ≡ taken core.new.round core.new.handed }
     ensures within { length sent.new.items ≤ S.rounds_of core.old.script }
-    ensures given { (o : Opening) (x : Delivered) (rounds : ℕ) (s : SideOf) (t : ℕ)
+    ensures given { (o : Setup) (x : Delivered) (rounds : ℕ) (s : SideOf) (t : ℕ)
         → MayGive S.batch_of o x rounds s t core.old sent.old.items message
         → IsGiven S.batch_of o x rounds s t core.old core.new sent.new.items result }
 {

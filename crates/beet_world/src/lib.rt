@@ -7,11 +7,9 @@ mod schedule;
 mod stepping;
 mod world;
 
-pub use schedule::{Delivery, SCHEDULE_LIMIT, read_schedule};
+pub use schedule::{
+    BAD_ROW, Delivery, LATEST_ROUND, MOST_DELIVERIES, ONE_TOO_MANY, SCHEDULE_LIMIT, TOO_MANY,
+    read_schedule,
+};
 pub use stepping::lockstep;
 pub use world::{Event, World};
-
-#[cfg(test)]
-mod tests;
-#[cfg(test)]
-mod world_tests;

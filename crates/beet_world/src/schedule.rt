@@ -5,26 +5,26 @@ ghost use Rattle.beet_forms.specs.Faults.{Answers};
 ghost use Rattle.beet_world.specs.Schedules.{server_of, delivery_in, delivery_at, deliveries_of, schedule_of};
 
 use beet_field::Point;
-use beet_forms::{ReadFault, Row, RowReader, number, three_fields};
+use beet_forms::{LONGEST_FILE, ReadFault, Row, RowReader, number, three_fields};
 use std::alloc::Global;
 
 /// The most bytes of a schedule file.
 pub const SCHEDULE_LIMIT: u64 = 16_777_216;
 
 /// The reason against a row that is missing or not of its form.
-const BAD_ROW: u32 = 1;
+pub const BAD_ROW: u32 = 1;
 
 /// The reason against a row that is one too many.
-const TOO_MANY: u32 = 2;
+pub const TOO_MANY: u32 = 2;
 
 /// The most deliveries of a schedule.
-const MOST_DELIVERIES: u32 = 1_000_000;
+pub const MOST_DELIVERIES: u32 = 1_000_000;
 
 /// The number of the first row that is one row too many.
-const ONE_TOO_MANY: u32 = MOST_DELIVERIES + 2;
+pub const ONE_TOO_MANY: u32 = MOST_DELIVERIES + 2;
 
 /// The latest round that a schedule can name.
-const LATEST_ROUND: u64 = 999_999;
+pub const LATEST_ROUND: u64 = 999_999;
 
 /// The message that one server sends to another in a round is delivered.
 #[derive(Clone, Copy, PartialEq, Eq, Debug)]
@@ -88,7 +88,7 @@ fn read_deliveries(
     rows: &mut RowReader,
     row: &mut Row,
 ) -> Result<Vec<Delivery>, ReadFault>
-    requires { length rows.old ≤ 67108864 }
+    requires { length rows.old ≤ LONGEST_FILE }
     ensures { Answers (λ deliveries. deliveries.items) (deliveries_of rows.old) result }
 {
     let mut deliveries = Vec::new(alloc);
@@ -109,7 +109,7 @@ fn read_deliveries(
 /// is missing or another one, and for a row that has not three fields, whose FROM or TO is not `1`, `2` or `3`, whose FROM
 /// is its TO, or whose ROUND is no number up to 999,999.
 pub fn read_schedule(alloc: Global, bytes: &[u8]) -> Result<Vec<Delivery>, ReadFault>
-    requires { length bytes.now ≤ 67108864 }
+    requires { length bytes.now ≤ LONGEST_FILE }
     ensures { Answers (λ deliveries. deliveries.items) (schedule_of bytes.now) result }
 {
     let mut rows = RowReader::new(alloc, bytes);

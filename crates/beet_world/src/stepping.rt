@@ -7,9 +7,9 @@ ghost use Rattle.beet_round.specs.Sides.{peer};
 ghost use Rattle.beet_round.specs.declared.sides.Side.TheVariants.{Low, High};
 ghost use Rattle.beet_server.specs.Answers.{Keeps, Moves};
 ghost use Rattle.beet_server.specs.Cores.{AreFresh, is_quiet};
-ghost use Rattle.beet_server.specs.Events.{Delivered, all_delivered};
+ghost use Rattle.beet_delivery.specs.Events.{Delivered, all_delivered};
 ghost use Rattle.beet_server.specs.Fits.{Fits, IsRound, message_of};
-ghost use Rattle.beet_server.specs.Runs.{Opening};
+ghost use Rattle.beet_sharing.specs.Runs.{Setup};
 ghost use Rattle.beet_world.specs.Lockstep.{AreAtRound, AreSent, HasHanded, HaveEnded, IsAtRound, MayPass, MayTake};
 
 use beet_field::Trio;
@@ -22,9 +22,9 @@ fn send<S: Script>(core: &mut ServerCore<S>) -> (RoundMessage, RoundMessage)
     requires { is_quiet S.batch_of core.old ≡ false }
     ensures keeps { Keeps core.old core.new }
     ensures moves { Moves core.old core.new }
-    ensures fits { (o : Opening) (x : Delivered) → Fits S.batch_of o x core.old
+    ensures fits { (o : Setup) (x : Delivered) → Fits S.batch_of o x core.old
         → Fits S.batch_of o x core.new }
-    ensures messages { (o : Opening) (x : Delivered) → Fits S.batch_of o x core.old
+    ensures messages { (o : Setup) (x : Delivered) → Fits S.batch_of o x core.old
         → AreSent o core.old.me core.old.round result.0 result.1 }
 {
     match core.out() {
@@ -37,7 +37,7 @@ fn send<S: Script>(core: &mut ServerCore<S>) -> (RoundMessage, RoundMessage)
 fn take_both<S: Script>(core: &mut ServerCore<S>, low: RoundMessage, high: RoundMessage)
     requires { MayTake S.batch_of core.old low high }
     ensures keeps { Keeps core.old core.new }
-    ensures passed { (o : Opening) (t : ℕ) (s : Server) → IsRound o t
+    ensures passed { (o : Setup) (t : ℕ) (s : Server) → IsRound o t
         → HasHanded S.batch_of o t (all_delivered t) s core.old
         → low ≡ message_of o (peer s Low) s t → high ≡ message_of o (peer s High) s t
         → IsAtRound S.batch_of o (t + 1) s core.new }
@@ -50,7 +50,7 @@ fn take_both<S: Script>(core: &mut ServerCore<S>, low: RoundMessage, high: Round
 fn exchange<S: Script>(cores: &mut Trio<ServerCore<S>>)
     requires { MayPass S.batch_of cores.old }
     ensures keeps { (s : Server) → Keeps (member cores.old s) (member cores.new s) }
-    ensures passed { (o : Opening) (t : ℕ) → IsRound o t → AreAtRound S.batch_of o t cores.old
+    ensures passed { (o : Setup) (t : ℕ) → IsRound o t → AreAtRound S.batch_of o t cores.old
         → AreAtRound S.batch_of o (t + 1) cores.new }
 {
     let (one_two, one_three) = send(&mut cores.one);

@@ -7,8 +7,8 @@ ghost use Rattle.beet_round.specs.declared.message.RoundMessage.{RoundMessage as
 ghost use Rattle.beet_round.specs.declared.sides.Side.{Side as SideOf};
 ghost use Rattle.beet_server.specs.Answers.{Keeps};
 ghost use Rattle.beet_server.specs.Cores.{AreFresh, is_quiet};
-ghost use Rattle.beet_server.specs.Events.{Delivered, after_from, deliver, passed, undelivered as undelivered_in};
-ghost use Rattle.beet_server.specs.Runs.{Opening};
+ghost use Rattle.beet_delivery.specs.Events.{Delivered, after_from, deliver, passed, undelivered as undelivered_in};
+ghost use Rattle.beet_sharing.specs.Runs.{Setup};
 ghost use Rattle.beet_world.specs.Happens.{IsGiven, MayGive, MayTakeMessages, event_of, of_side};
 ghost use Rattle.beet_world.specs.Marks.{mark_at, unmarked};
 ghost use Rattle.beet_world.specs.Missing.{is_missing, one_if, six, to_side};
@@ -100,7 +100,7 @@ fn give_to<S: Script>(
     ensures capacity { vec_capacity (member sent.new to) ≡ vec_capacity (member sent.old to) }
     ensures keeps { Keeps (member cores.old to) (member cores.new to) }
     ensures quiet { is_quiet S.batch_of (member cores.new to) ≡ true }
-    ensures given { (o : Opening) (x : Delivered) (rounds : ℕ) (s : SideOf) (t : ℕ)
+    ensures given { (o : Setup) (x : Delivered) (rounds : ℕ) (s : SideOf) (t : ℕ)
         → MayGive S.batch_of o x rounds s t (member cores.old to) (member sent.old to).items message
         → IsGiven S.batch_of o x rounds s t (member cores.old to) (member cores.new to)
         (member sent.new to).items result }

@@ -19,8 +19,8 @@ use Rattle.beet_bids.specs.declared.curve.TheConstants.{LARGEST_QUANTITY}
 use Rattle.beet_bids.specs.Grids.{Grid}
 use Rattle.beet_bids.specs.declared.book.Bidder.{Bidder}
 use Rattle.beet_book.specs.Totals.{supply_first}
-use Rattle.beet_server.proofs.Lined.{member-trio}
-use Rattle.beet_book.specs.Farmers.{Farmer, book_of, book_inputs, point_for, slope_for, summed_point}
+use Rattle.beet_sharing.proofs.Lined.{member-trio}
+use Rattle.beet_book.specs.Farmers.{Farmer, book_with, book_inputs, point_for, slope_for, summed_point}
 use Rattle.beet_worlds.specs.Agreement.{SameKnown}
 use Rattle.beet_map.specs.Mapped.{moved_of}
 use Rattle.beet_worlds.specs.MappedBidders.{BiddersMapped, FarmerMapped}
@@ -153,12 +153,12 @@ curves-of (f ∷ fs) all =
     let tail = curves-of fs (All-tail (λ (b : Bidder). IsCurve b.curve) f.bidder (map (λ farmer. farmer.bidder) fs) all) in
     All-cons (λ farmer. IsCurve farmer.bidder.curve) f fs head tail
 
-module _ (s : Point) (grid : Grid) (farmers farmers' : List Farmer) (b' : IsBook (book_of grid farmers')) where
-  pub mapped-back : IsBook (book_of grid farmers) → All (λ farmer. All IsWord farmer.words) farmers → BiddersMapped s grid.prices farmers farmers' →
+module _ (s : Point) (grid : Grid) (farmers farmers' : List Farmer) (b' : IsBook (book_with grid farmers')) where
+  pub mapped-back : IsBook (book_with grid farmers) → All (λ farmer. All IsWord farmer.words) farmers → BiddersMapped s grid.prices farmers farmers' →
       BiddersMapped s grid.prices farmers' farmers
   mapped-back b words m = bidders-back s grid.prices farmers farmers' (curves-of farmers b.curves) (curves-of farmers' b'.curves) words m
 
-  pub inputs-same : SameKnown s (book_of grid farmers) (book_of grid farmers') → BiddersMapped s grid.prices farmers farmers' →
+  pub inputs-same : SameKnown s (book_with grid farmers) (book_with grid farmers') → BiddersMapped s grid.prices farmers farmers' →
       member (book_inputs grid.prices farmers') s ≡ member (book_inputs grid.prices farmers) s
   inputs-same own m =
       let n = 2 * grid.prices in

@@ -1,5 +1,5 @@
 -- The runs of two books that agree, with mapped mask words, open the same numbers.
-use Rattle.std.proofs.Common.{◌≡◌, ◌↔◌, ℕ, zero, suc, ◌+◌, ◌*◌, ◌/◌, ◌<◌, ◌≤◌, inl, inr, Bool, true, false, List, [], length, slice_index, Some, refl, sym, ap, ◌∙◌, arith, zero-add}
+use Rattle.std.proofs.Common.{◌≡◌, ℕ, zero, suc, ◌+◌, ◌*◌, ◌/◌, ◌<◌, ◌≤◌, inl, inr, Bool, List, [], length, slice_index, Some, refl, sym, ap, ◌∙◌, arith, zero-add}
 use Rattle.std.specs.Prelude.{nat_le, nat_lt}
 use Rattle.std.proofs.lemmas.Bool.{cases_Bool}
 use Rattle.std.proofs.lemmas.List.Elements.{All-get_or}
@@ -23,14 +23,14 @@ use Rattle.beet_plan.specs.Blocks.{blocks_of}
 use Rattle.beet_plan.proofs.BlockLaws.{are-blocks}
 use Rattle.beet_plan.specs.Search.{tested, place_between, path, mask_at}
 use Rattle.beet_plan.specs.Runs.{AreMasks, run_rounds}
-use Rattle.beet_plan.proofs.AuctionLaw.{below_comparisons, auction-law, auction-stands, follows-itself}
+use Rattle.beet_plan.proofs.AuctionLaw.{auction-law, auction-stands, follows-itself}
 use Rattle.beet_plan.proofs.BlockSteps.{Stands}
 use Rattle.beet_bids.proofs.BookSums.{book-turn, clearing-within, length-sums, sums-supply, sums-demand, sums-elements, small}
 use Rattle.beet_plan.proofs.BookRuns.{book-run}
 use Rattle.beet_plan.proofs.Searches.{place-turn}
 use Rattle.beet_round.specs.Sides.{peer}
 use Rattle.beet_round.specs.declared.sides.Side.TheVariants.{Low}
-use Rattle.beet_auction.proofs.BookPoints.{same_test}
+use Rattle.beet_plan.proofs.BookRuns.{same_test}
 use Rattle.beet_worlds.specs.Agreement.{Agree}
 use Rattle.beet_worlds.specs.Opened.{OpensAlike}
 use Rattle.beet_worlds.specs.Turn.{turned}
@@ -41,8 +41,10 @@ use Rattle.beet_worlds.proofs.BothRuns.{Turns, both-search}
 use Rattle.beet_worlds.proofs.MaskFacts.{Alike, mask-turned, mask-ones, spent-same, dealt-spent-same, dealt-for-same}
 use Rattle.beet_worlds.proofs.Places.{along-start, compared-accepted, compared-early}
 use Rattle.beet_worlds.proofs.PlanNumbers.{plan_numbers, plan-opened}
-use Rattle.beet_worlds.proofs.Small.{deals-words, mapped-masks}
+use Rattle.beet_worlds.proofs.Small.{mapped-masks}
 use Rattle.beet_worlds.proofs.Turned.{turned-opens}
+use Rattle.beet_plan.proofs.AuctionRuns.{deals-words}
+use Rattle.beet_bids.proofs.GridFacts.{below_comparisons}
 
 -- a book's sums, over so many prices and with this clearing place
 module _ (book : Book) (prices z : ℕ) (b : IsBook book) (same : book.grid.prices ≡ prices) (clears : clearing_place book ≡ z) where

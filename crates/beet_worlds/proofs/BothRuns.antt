@@ -1,14 +1,11 @@
 -- The searches of two worlds, side by side: they open the same numbers.
-use Rattle.std.proofs.Common.{◌≡◌, ◌≢◌, ℕ, zero, suc, ◌+◌, ◌*◌, ◌/◌, ◌^◌, ◌<◌, ◌≤◌, inl, inr, Bool, true, false, List, [], ◌∷◌, slice_index, Some, refl, ap, sym, ◌∙◌, arith, eq-eqb, ne_eqb, pow-suc, zero-add}
+use Rattle.std.proofs.Common.{◌≡◌, ◌≢◌, ℕ, zero, suc, ◌+◌, ◌*◌, ◌/◌, ◌^◌, ◌<◌, ◌≤◌, inl, inr, Bool, true, false, List, [], ◌∷◌, Some, refl, ap, sym, ◌∙◌, arith, eq-eqb, ne_eqb, pow-suc}
 use Rattle.std.specs.Prelude.{nat_lt, nat_le, if◌then◌else◌, ◌==◌}
-use Rattle.std.specs.Int.{bit_at}
-use Rattle.std.proofs.Math.Seq.{drop-append_seam}
 use Rattle.std.proofs.lemmas.Bool.{cases_eq, cases_lt, cases_Bool}
 use Rattle.std.proofs.lemmas.Bool.Decides.{nat_tests}
-use Rattle.beet_field.specs.Field.{p, IsElement, add_of}
-use Rattle.beet_gates.specs.Batches.{reveal_batch}
-use Rattle.beet_gates.specs.Clear.{Values, batch_on, batches_on}
-use Rattle.beet_gates.specs.Plans.{Plan, Ended, Block, all_opened_by, opened_by}
+use Rattle.beet_field.specs.Field.{p, add_of}
+use Rattle.beet_gates.specs.Clear.{Values, batches_on}
+use Rattle.beet_gates.specs.Plans.{Plan, Ended, Block, opened_by}
 use Rattle.beet_compare.specs.Compare.{doubled, is_doubled_even}
 use Rattle.beet_plan.specs.Blocks.{Blocks, after_both, after_mask}
 use Rattle.beet_plan.proofs.BlockLaws.{AreBlocks}
@@ -16,7 +13,7 @@ use Rattle.beet_plan.specs.Auction.{search_plan, compare_plan, end_plan, after_a
 use Rattle.beet_plan.specs.Search.{tested, place_between}
 use Rattle.beet_plan.specs.declared.Finish.{Finish}
 use Rattle.beet_plan.specs.declared.Finish.TheVariants.{MasksSpent}
-use Rattle.beet_plan.proofs.AuctionEnd.{opened-rejected, search_plan-open, search_plan-done}
+use Rattle.beet_plan.proofs.AuctionEnd.{opened-rejected, search_plan-open, search_plan-done, volume-opened}
 use Rattle.beet_plan.proofs.BlockSteps.{Stands, Deals, AreElements, mask-step, compare-step, after_masked}
 use Rattle.beet_plan.proofs.Searches.{tested-open, place-none, place-open}
 use Rattle.beet_worlds.specs.MappedMasks.{place_compared}
@@ -31,10 +28,7 @@ unfolding plan_numbers
 end-numbers deals prices supply demand first i z v s = elim (cases_lt z prices) [
   | inl h ↦
       let t : nat_lt z prices ≡ true = grind (arith, nat_tests) in
-      let e : slice_index v.wires (prices + z) ≡ demand z = s.demands.at z h in
-      let o : all_opened_by v (batch_on deals (reveal_batch [] ((prices + z) ∷ [])) v) ≡ slice_index v.wires (prices + z) ∷ [] =
-      drop-append_seam v.opened (slice_index v.wires (prices + z) ∷ []) in
-      rw (t, o, e) refl
+      rw (t, volume-opened deals prices supply demand first i z v s h) refl
   | inr h ↦
       let t : nat_lt z prices ≡ false = grind (arith, nat_tests) in
       rw t refl

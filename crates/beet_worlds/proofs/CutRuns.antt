@@ -23,15 +23,15 @@ use Rattle.beet_plan.proofs.AuctionLaw.{auction-law}
 use Rattle.beet_book.specs.Totals.{supply_first}
 use Rattle.beet_round.specs.Sides.{peer}
 use Rattle.beet_round.specs.declared.sides.Side.TheVariants.{Low, High}
-use Rattle.beet_server.specs.Runs.{HasRounds, Opening, coming, draws_in, message, numbers_of, rounds_among, shared_at}
-use Rattle.beet_server.proofs.Walk.{Walks, deals-fit, draws-fit, walks}
+use Rattle.beet_sharing.specs.Runs.{HasRounds, Setup, coming, draws_in, message, numbers_of, rounds_among, shared_at}
+use Rattle.beet_sharing.proofs.Walk.{Walks, deals-fit, draws-fit, walks}
 use Rattle.beet_plan.specs.Kept.{words_kept}
 use Rattle.beet_plan.specs.declared.TheConstants.{SPARE_WORDS}
 use Rattle.beet_book.specs.Farmers.{Farmer, book_inputs, point_for, summed_point, farmers_of}
 use Rattle.beet_view.specs.RunViews.{round_seen, rounds_seen}
-use Rattle.beet_server.proofs.Rounds.{among-rounds}
+use Rattle.beet_sharing.proofs.Rounds.{among-rounds}
 use Rattle.beet_worlds.specs.Enough.{AreEnough, HasAccepted}
-use Rattle.beet_auction.specs.Openings.{opening_for}
+use Rattle.beet_auction.specs.Setups.{setup_for}
 use Rattle.beet_worlds.specs.ViewsWith.{cut_words}
 use Rattle.beet_worlds.proofs.SameRuns.{each-alike, ends-same, messages-same, runs-same}
 
@@ -109,14 +109,14 @@ module _ (book : Book) (words : Words) (e : AreEnough book words) where
       (λ n lt. ap (λ l. sum_by (λ farmer. point_for farmer i n) l % p) (farmers-cut wanted book.bidders words.bidders)
       ∙ ap (λ s. s % p) (sum-cut wanted farmers i n lt (farmers-have (HasAccepted wanted) book.bidders words.bidders e.bidders))))
 
-  -- the same opening but for the words that are not read
-  abbrev whole : Opening
-  whole = opening_for book words
+  -- the same setup but for the words that are not read
+  abbrev whole : Setup
+  whole = setup_for book words
 
-  abbrev read : Opening
-  read = opening_for book (cut_words book.grid words)
+  abbrev read : Setup
+  read = setup_for book (cut_words book.grid words)
 
-  abbrev shorter : Opening
+  abbrev shorter : Setup
   shorter = record { next = whole.next; inputs = whole.inputs; masks = read.masks; numbers = read.numbers }
 
   is-shorter : read ≡ shorter

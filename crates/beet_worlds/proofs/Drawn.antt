@@ -1,18 +1,13 @@
 -- Bidders with their words, and the numbers that are there to draw.
-use Rattle.std.proofs.Common.{◌≡◌, ◌≤◌, ◌+◌, ℕ, List, [], ◌∷◌, ◌++◌, map, take, drop, length, refl, sym, ap, ◌∙◌, arith, length-append, take-append-drop}
+use Rattle.std.proofs.Common.{◌≡◌, ◌≤◌, ◌+◌, ℕ, List, [], ◌∷◌, ◌++◌, map, take, drop, length, sym, ap, ◌∙◌, arith, length-append, take-append-drop}
 use Rattle.std.specs.Prelude.{All, ◌==◌, not}
 use Rattle.std.proofs.lemmas.List.Elements.{All-cons, All-head, All-tail, filter-append}
 use Rattle.beet_words.specs.Words.{IsWord, accepted, ones}
-use Rattle.beet_bids.specs.Books.{Book}
 use Rattle.beet_bids.specs.declared.book.Bidder.{Bidder}
 use Rattle.beet_plan.specs.declared.TheConstants.{SPARE_WORDS}
-use Rattle.beet_book.specs.Farmers.{Farmer, book_of, farmers_of}
+use Rattle.beet_book.specs.Farmers.{Farmer, farmers_of}
 use Rattle.beet_worlds.specs.Enough.{HasAccepted}
-use Rattle.beet_worlds.proofs.InputFacts.{bidders-of}
-
--- a book is that of its bidders with any words
-pub book-whole : (book : Book) (words : List (List ℕ)) → length words ≡ length book.bidders → book_of book.grid (farmers_of book.bidders words) ≡ book
-book-whole book words e = λ j. record { grid = book.grid; bidders = bidders-of book.bidders words e j }
+use Rattle.beet_book.proofs.FarmerLists.{farmers-words as told-words}
 
 pub farmers-words : (bidders : List Bidder) (words : List (List ℕ)) → All (All IsWord) words → All (λ (f : Farmer). All IsWord f.words) (farmers_of bidders words)
 farmers-words [] words all = λ k d lt. absurd (omega arith)
@@ -21,16 +16,10 @@ farmers-words (b ∷ bs) (w ∷ ws) all =
     All-cons (λ (f : Farmer). All IsWord f.words) (record { bidder = b; words = w }) (farmers_of bs ws) (All-head (All IsWord) w ws all)
     (farmers-words bs ws (All-tail (All IsWord) w ws all))
 
-words-of : (bidders : List Bidder) (words : List (List ℕ)) → length words ≡ length bidders → map (λ (f : Farmer). f.words) (farmers_of bidders words) ≡ words
-words-of [] [] e = refl
-words-of [] (w ∷ ws) e = absurd (omega arith)
-words-of (b ∷ bs) [] e = refl
-words-of (b ∷ bs) (w ∷ ws) e = ap (λ l. w ∷ l) (words-of bs ws (let l : length ws ≡ length bs = omega arith in l))
-
 -- bidders with their words tell the words
 pub words-told : (bidders : List Bidder) (u v : List (List ℕ)) → length u ≡ length bidders → length v ≡ length bidders →
     farmers_of bidders u ≡ farmers_of bidders v → u ≡ v
-words-told bidders u v a b e = sym (words-of bidders u a) ∙ ap (map (λ (f : Farmer). f.words)) e ∙ words-of bidders v b
+words-told bidders u v a b e = told-words bidders u a ∙ ap (map (λ (f : Farmer). f.words)) e ∙ sym (told-words bidders v b)
 
 -- what the first words hold is there to draw from all
 pub drawn-of : (wanted : ℕ) (words : List ℕ) → HasAccepted wanted words → wanted ≤ length (accepted words)

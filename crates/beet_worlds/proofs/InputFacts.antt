@@ -16,10 +16,11 @@ use Rattle.beet_bids.specs.Sums.{supply_at, demand_at, sums_of}
 use Rattle.beet_bids.specs.declared.book.Bidder.{Bidder}
 use Rattle.beet_bids.proofs.BookSums.{length-sums}
 use Rattle.beet_book.specs.Totals.{supply_first}
-use Rattle.beet_server.specs.Lines.{OnLines}
-use Rattle.beet_book.specs.Farmers.{book_inputs, book_of, slope_for, farmers_of}
+use Rattle.beet_sharing.specs.Lines.{OnLines}
+use Rattle.beet_book.specs.Farmers.{book_inputs, book_with, slope_for, farmers_of}
 use Rattle.beet_auction.proofs.BookLines.{book-lines, slopes_of}
 use Rattle.beet_worlds.specs.InputLines.{AreInputLines, summed_slope}
+use Rattle.beet_book.proofs.FarmerLists.{farmers-bidders}
 
 -- sums item by item
 pub sums-all : (items : List ℕ) (words : List (List ℕ)) (count i : ℕ) → length items ≡ count → length words ≤ i →
@@ -61,13 +62,6 @@ supply-each prices xs h =
     item-each (slice_index xs) prices k l ∙ sym (get_or-take prices xs k 0 l)) in
     λ j. back j ++ front j
 
--- bidders with their words
-pub bidders-of : (bidders : List Bidder) (words : List (List ℕ)) → length words ≡ length bidders → map (λ farmer. farmer.bidder) (farmers_of bidders words) ≡ bidders
-bidders-of [] [] e = refl
-bidders-of [] (w ∷ ws) e = refl
-bidders-of (b ∷ bs) [] e = absurd (omega arith)
-bidders-of (b ∷ bs) (w ∷ ws) e = ap (λ l. b ∷ l) (bidders-of bs ws (let l : length ws ≡ length bs = omega arith in l))
-
 slopes-summed : (bidders : List Bidder) (words : List (List ℕ)) (n : ℕ) → length words ≡ length bidders →
     sum_by (λ farmer. slope_for farmer n) (farmers_of bidders words) ≡ sum_by (λ list. slice_index (accepted list) n) words
 slopes-summed [] [] n e = refl
@@ -97,13 +91,13 @@ input-lines book words lines sums b count are v s =
     let long : length sums ≡ 2 * prices = ap length are ∙ length-each (summed_slope words) (2 * prices) in
     let values : map (λ (l : Line). l.value) lines ≡ sums_of book = v ∙ sums-each book in
     let slopes : map (λ (l : Line). l.slope) lines ≡ supply_first prices (each (summed_slope words) (2 * prices)) = s ∙ supply-each prices sums long ∙ ap (supply_first prices) are in
-    let bidders : map (λ farmer. farmer.bidder) farmers ≡ book.bidders = bidders-of book.bidders words count in
-    let whole : book_of book.grid farmers ≡ book = λ j. record { grid = book.grid; bidders = bidders j } in
-    let is_book : IsBook (book_of book.grid farmers) = rw whole b in
-    let on : OnLines (sums_of (book_of book.grid farmers)) (slopes_of book.grid farmers) (book_inputs prices farmers) = book-lines book.grid farmers is_book in
+    let bidders : map (λ farmer. farmer.bidder) farmers ≡ book.bidders = sym (farmers-bidders book.bidders words count) in
+    let whole : book_with book.grid farmers ≡ book = λ j. record { grid = book.grid; bidders = bidders j } in
+    let is_book : IsBook (book_with book.grid farmers) = rw whole b in
+    let on : OnLines (sums_of (book_with book.grid farmers)) (slopes_of book.grid farmers) (book_inputs prices farmers) = book-lines book.grid farmers is_book in
     let same_slopes : slopes_of book.grid farmers ≡ supply_first prices (each (summed_slope words) (2 * prices)) =
     ap (supply_first prices) (each-same (λ n. sum_by (λ farmer. slope_for farmer n) farmers % p) (summed_slope words) (2 * prices) (λ n lt. ap (λ k. k % p) (slopes-summed book.bidders words n count))) in
-    let same_values : sums_of (book_of book.grid farmers) ≡ sums_of book = ap sums_of whole in
+    let same_values : sums_of (book_with book.grid farmers) ≡ sums_of book = ap sums_of whole in
     let many : length lines ≡ 2 * prices = sym (length-map lines (λ (l : Line). l.value)) ∙ ap length values ∙ length-sums book in
     record {
       values = values;

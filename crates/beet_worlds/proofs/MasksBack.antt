@@ -1,6 +1,6 @@
 -- Books that agree do so both ways, and so are mask words mapped; and they are mapped in one way.
 use Rattle.std.proofs.Common.{◌≡◌, ℕ, zero, suc, ◌^◌, ◌<◌, true, false, List, [], ◌∷◌, map, length, slice_index, slice_get, Option, Some, None, sym, ap, ◌∙◌, arith}
-use Rattle.std.specs.Prelude.{if◌then◌else◌, nat_lt, bit_xor}
+use Rattle.std.specs.Prelude.{if◌then◌else◌, nat_le, bit_xor}
 use Rattle.std.proofs.lemmas.List.{ext_get_or}
 use Rattle.beet_field.specs.Field.{IsElement, add_of, sub_of}
 use Rattle.beet_field.specs.Trio.{member}
@@ -11,6 +11,7 @@ use Rattle.beet_bids.specs.Books.{Book}
 use Rattle.beet_bids.specs.Outcomes.{clearing_place}
 use Rattle.beet_bids.specs.declared.book.Bidder.{Bidder}
 use Rattle.beet_plan.specs.Runs.{AreMasks}
+use Rattle.beet_plan.specs.declared.TheConstants.{SPARE_MASKS}
 use Rattle.beet_plan.specs.Search.{path, mask_at}
 use Rattle.beet_round.specs.Sides.{peer}
 use Rattle.beet_round.specs.declared.sides.Side.TheVariants.{Low}
@@ -19,8 +20,8 @@ use Rattle.beet_worlds.specs.Turn.{turned}
 use Rattle.beet_worlds.specs.MappedMasks.{MasksMapped, place_compared, compared_in, doubled_at, lost_at, mask_mapped, word_mapped}
 use Rattle.beet_worlds.proofs.Agreed.{prices-same, clearing-same}
 use Rattle.beet_worlds.proofs.MaskFacts.{Alike, mask-turned, mask-ones, rejected-same, accepted-same}
-use Rattle.beet_worlds.proofs.Small.{mask-small}
 use Rattle.beet_worlds.proofs.Turned.{turned-undone, word-back}
+use Rattle.beet_plan.proofs.AuctionRuns.{mask-small}
 
 pub some-same : {A : Type 0} (x y : A) → Some x ≡ Some y → x ≡ y
 some-same x y e = cc e
@@ -47,7 +48,7 @@ agree-back s first second a = record {
 compared-same : (places : List ℕ) (masks masks' : ℕ → ℕ) (i : ℕ) → Alike masks masks' → place_compared places masks' i ≡ place_compared places masks i
 compared-same places masks masks' i a =
     λ j. if (if a.same i j then false else true) then
-    (if nat_lt (length (rejected-same masks masks' a i j)) 3 then slice_get places (length (accepted-same masks masks' a i j)) else None)
+    (if nat_le (length (rejected-same masks masks' a i j)) SPARE_MASKS then slice_get places (length (accepted-same masks masks' a i j)) else None)
     else None
 
 nothing-lost : (first second : Book) (m : ℕ) → add_of (lost_at first second m) (lost_at second first m) ≡ 0

@@ -1,12 +1,13 @@
 -- Which place comes next as masks are dealt, one after another.
 use Rattle.std.proofs.Common.{◌≡◌, ◌≢◌, ℕ, zero, suc, ◌+◌, ◌<◌, Bool, true, false, inl, inr, List, [], ◌∷◌, ◌++◌, length, slice_get, Some, None, refl, sym, ap, ◌∙◌, arith, eq-eqb, ne_eqb, add-zero, zero-add, length-append}
-use Rattle.std.specs.Prelude.{if◌then◌else◌, ◌==◌, filter, nat_lt}
+use Rattle.std.specs.Prelude.{if◌then◌else◌, ◌==◌, filter, nat_le}
 use Rattle.std.specs.List.{range_with_len}
 use Rattle.std.proofs.lemmas.Bool.{cases_lt, cases_Bool}
 use Rattle.std.proofs.lemmas.Bool.Decides.{nat_tests}
 use Rattle.std.proofs.lemmas.List.Elements.{filter-append}
 use Rattle.beet_field.specs.Field.{p}
 use Rattle.beet_gates.proofs.EachFacts.{get-past}
+use Rattle.beet_plan.specs.declared.TheConstants.{SPARE_MASKS}
 use Rattle.beet_plan.specs.Search.{is_accepted, rejected_among, accepted_among}
 use Rattle.beet_worlds.specs.MappedMasks.{place_compared}
 
@@ -65,7 +66,7 @@ module _ (masks : ℕ → ℕ) (places : List ℕ) where
       place_compared places masks i ≡ Some place
   along-compared i rejected place rest some few a =
       let t : (masks i == p) ≡ false = ne_eqb (masks i) p some in
-      let l : nat_lt (length (rejected_among masks i)) 3 ≡ true = grind (arith, nat_tests, a.count) in
+      let l : nat_le (length (rejected_among masks i)) SPARE_MASKS ≡ true = grind (arith, nat_tests, a.count) in
       rw (t, l) (ap (slice_get places) (sym (add-zero (length (accepted_among masks i)))) ∙ a.coming 0)
 
   pub both-counts : (i : ℕ) → length (accepted_among masks i) + length (rejected_among masks i) ≡ i
@@ -94,11 +95,11 @@ module _ (masks : ℕ → ℕ) (places : List ℕ) where
         let t : (masks i == p) ≡ false = ne_eqb (masks i) p (compared-accepted i place e) in
         elim (cases_lt (length (rejected_among masks i)) 3) [
           | inr many ↦
-              let l : nat_lt (length (rejected_among masks i)) 3 ≡ false = grind (arith, nat_tests) in
+              let l : nat_le (length (rejected_among masks i)) SPARE_MASKS ≡ false = grind (arith, nat_tests) in
               let n : place_compared places masks i ≡ None = rw (t, l) refl in
               absurd (let c : None ≡ Some place = sym n ∙ e in cc c)
           | inl few ↦
-              let l : nat_lt (length (rejected_among masks i)) 3 ≡ true = grind (arith, nat_tests) in
+              let l : nat_le (length (rejected_among masks i)) SPARE_MASKS ≡ true = grind (arith, nat_tests) in
               let n : place_compared places masks i ≡ None = rw (t, l) (get-past places (length (accepted_among masks i)) (omega (arith, both-counts i))) in
               absurd (let c : None ≡ Some place = sym n ∙ e in cc c)
         ]

@@ -1,8 +1,8 @@
 -- The numbers that the run of a plan opens, block by block.
-use Rattle.std.proofs.Common.{◌≡◌, ℕ, ◌+◌, ◌-◌, Bool, true, false, List, [], ◌∷◌, ◌++◌, drop, length, slice_index, refl, ap, sym, ◌∙◌, arith, append_assoc, append-nil}
+use Rattle.std.proofs.Common.{◌≡◌, ℕ, ◌+◌, ◌-◌, Bool, true, false, List, [], ◌∷◌, ◌++◌, drop, length, slice_index, refl, ap, sym, ◌∙◌, append_assoc, append-nil}
 use Rattle.std.specs.Prelude.{if◌then◌else◌}
 use Rattle.std.proofs.Math.Seq.{drop-append_seam}
-use Rattle.std.proofs.lemmas.List.{get_or-append-add, nil_from_length}
+use Rattle.std.proofs.lemmas.List.{nil_from_length}
 use Rattle.beet_field.specs.declared.trio.Trio.{Trio}
 use Rattle.beet_gates.specs.declared.Batch.{Batch}
 use Rattle.beet_gates.specs.Clear.{Values, batch_on, batches_on}
@@ -10,6 +10,7 @@ use Rattle.beet_gates.specs.Deals.{deals_of}
 use Rattle.beet_gates.specs.Plans.{Plan, Ended, Block, Last, all_opened_by, plan_run, opened_by, BlockStands, PlanStands, after_all}
 use Rattle.beet_gates.specs.Scripts.{Standing, after}
 use Rattle.beet_gates.proofs.ClearFacts.{opened-more}
+use Rattle.beet_gates.proofs.PlanFacts.{opened-last, single}
 
 -- the numbers that it opens
 unfoldable pub plan_numbers : {F : Type 0} → (ℕ → List ℕ) → Plan F → Values → List ℕ
@@ -17,14 +18,6 @@ plan_numbers deals (Ended f) v = []
 plan_numbers deals (Block bs next) v =
     let after = batches_on deals bs v in opened_by v after ∷ plan_numbers deals (next (opened_by v after)) after
 plan_numbers deals (Last b n named) v = all_opened_by v (batch_on deals b v)
-
-single : (xs : List ℕ) → length xs ≡ 1 → (x : ℕ) × (xs ≡ x ∷ [])
-single [] h = absurd (omega arith)
-single (x ∷ []) h = (x, refl)
-single (x ∷ y ∷ ys) h = absurd (omega arith)
-
-opened-last : (xs : List ℕ) (x : ℕ) → slice_index (xs ++ x ∷ []) (length xs) ≡ x
-opened-last xs x = let e : length xs ≡ length xs + 0 = omega arith in rw e (get_or-append-add xs (x ∷ []) 0 0)
 
 module _ (words : Trio (List ℕ)) where
   -- a block opens one number

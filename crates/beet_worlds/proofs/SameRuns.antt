@@ -13,7 +13,7 @@ use Rattle.beet_gates.specs.declared.Act.{Act}
 use Rattle.beet_gates.specs.declared.Act.TheVariants.{Deal, Mul, Reveal, End}
 use Rattle.beet_gates.specs.declared.Batch.{Batch}
 use Rattle.beet_gates.proofs.EachFacts.{each-same, each-suc, each-zero}
-use Rattle.beet_server.specs.Runs.{Opening, Shared, HasRounds, act_among, coming, draws_in, gained, hidden_at, message, number_drawn, opened_by, product_at, secret_hidden, secret_of, sent_for, shared_at, standing_at, with_batch_lets}
+use Rattle.beet_sharing.specs.Runs.{Setup, Shared, HasRounds, act_among, coming, draws_in, gained, hidden_at, message, number_drawn, opened_by, product_at, secret_hidden, secret_of, sent_for, shared_at, standing_at, with_batch_lets}
 
 -- rules that agree as far as a list goes give the same list
 pub each-alike : {A : Type 0} (f g : ℕ → A) (n : ℕ) → ((k : ℕ) → k < n → f k ≡ g k) → each f n ≡ each g n
@@ -25,10 +25,10 @@ each-alike f g (suc n) same =
 
 -- a run with other words and numbers
 module _ (next : ℕ → List ℕ → Batch) (inputs masks numbers masks' numbers' : Trio (List ℕ)) where
-  abbrev first : Opening
+  abbrev first : Setup
   first = record { next = next; inputs = inputs; masks = masks; numbers = numbers }
 
-  abbrev second : Opening
+  abbrev second : Setup
   second = record { next = next; inputs = inputs; masks = masks'; numbers = numbers' }
 
   -- the numbers and words of an act are the same
@@ -110,7 +110,7 @@ sent_own (Mul pairs) points words dealt numbers drawn to =
 sent_own (Reveal shown) points words dealt numbers drawn to = map (slice_index points) shown.items
 sent_own End points words dealt numbers drawn to = []
 
-sent-own : (o : Opening) (s : Shared) (a : Act) (me to : Point) →
+sent-own : (o : Setup) (s : Shared) (a : Act) (me to : Point) →
     sent_for o s a me to ≡ sent_own a (member s.wires me) (member o.masks me) s.dealt (member o.numbers me) s.drawn to
 sent-own o s Deal me to = refl
 sent-own o s (Mul pairs) me to = refl
@@ -118,10 +118,10 @@ sent-own o s (Reveal shown) me to = refl
 sent-own o s End me to = refl
 
 module _ (next : ℕ → List ℕ → Batch) (inputs masks numbers inputs' masks' numbers' : Trio (List ℕ)) (me : Point) (rounds : ℕ) where
-  abbrev here : Opening
+  abbrev here : Setup
   here = record { next = next; inputs = inputs; masks = masks; numbers = numbers }
 
-  abbrev there : Opening
+  abbrev there : Setup
   there = record { next = next; inputs = inputs'; masks = masks'; numbers = numbers' }
 
   module _ (opened : (t : ℕ) → t ≤ rounds → (shared_at there t).opened ≡ (shared_at here t).opened) where

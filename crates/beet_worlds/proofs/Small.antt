@@ -1,9 +1,7 @@
 -- Mapped mask words are words.
-use Rattle.std.proofs.Common.{◌≢◌, ℕ, ◌^◌, ◌<◌, inl, inr, List, length, slice_index, Option, Some, None, refl, arith}
+use Rattle.std.proofs.Common.{◌≢◌, ℕ, ◌^◌, ◌<◌, List, length, slice_index, Option, Some, None, arith}
 use Rattle.std.specs.Prelude.{All}
-use Rattle.std.proofs.lemmas.Bool.{cases_lt}
-use Rattle.std.proofs.lemmas.List.{get_or_past}
-use Rattle.std.proofs.lemmas.List.Elements.{All-get_or, All-from_get_or}
+use Rattle.std.proofs.lemmas.List.Elements.{All-from_get_or}
 use Rattle.std.proofs.lemmas.Nat.{xor_lt}
 use Rattle.beet_field.specs.Trio.{member}
 use Rattle.beet_field.specs.declared.point.Point.{Point}
@@ -11,38 +9,13 @@ use Rattle.beet_field.specs.declared.point.Point.TheVariants.{One, Two, Three}
 use Rattle.beet_field.specs.declared.trio.Trio.{Trio}
 use Rattle.beet_words.specs.Words.{IsWord}
 use Rattle.beet_bids.specs.Books.{Book}
-use Rattle.beet_gates.specs.Deals.{deals_of}
 use Rattle.beet_plan.specs.Runs.{AreMasks}
 use Rattle.beet_plan.specs.Search.{mask_at}
-use Rattle.beet_plan.proofs.BlockSteps.{Deals}
 use Rattle.beet_round.specs.Sides.{peer}
 use Rattle.beet_round.specs.declared.sides.Side.TheVariants.{Low}
 use Rattle.beet_worlds.specs.MappedMasks.{MasksMapped, compared_in, lost_at, word_mapped}
 use Rattle.beet_worlds.proofs.Turned.{turned-small}
-
--- a word at any place, past the end too, where it is read as 0
-pub word-small : (words : List ℕ) → All IsWord words → (i : ℕ) → slice_index words i < 2 ^ 61
-word-small words all i = elim (cases_lt i (length words)) [
-  | inl h ↦ All-get_or IsWord words i 0 h all
-  | inr past ↦ rw (get_or_past words i 0 past) (omega arith)
-]
-
-pub mask-small : (words : Trio (List ℕ)) → AreMasks words → (i : ℕ) → mask_at words i < 2 ^ 61
-mask-small words m i = xor_lt 61 _ _ (xor_lt 61 _ _ (word-small words.one m.one i) (word-small words.two m.two i)) (word-small words.three m.three i)
-
--- each deal hands out the bits of three words
-pub deals-words : (words : Trio (List ℕ)) → AreMasks words → Deals (deals_of words) (mask_at words)
-deals-words words m = record {
-  one = slice_index words.one;
-  two = slice_index words.two;
-  three = slice_index words.three;
-  bits = λ i. refl;
-  mask = λ i. refl;
-  small_one = word-small words.one m.one;
-  small_two = word-small words.two m.two;
-  small_three = word-small words.three m.three;
-  small = mask-small words m;
-}
+use Rattle.beet_plan.proofs.AuctionRuns.{mask-small, word-small}
 
 module _ (first second : Book) where
   mapped-small : (mask word : ℕ) (place : Option ℕ) → mask < 2 ^ 61 → word < 2 ^ 61 → word_mapped first second mask word place < 2 ^ 61

@@ -19,12 +19,6 @@ accepted-ones w ws t = rw t refl
 accepted-more : (w : ℕ) (ws : List ℕ) → (w == ones) ≡ false → accepted (w ∷ ws) ≡ w ∷ accepted ws
 accepted-more w ws t = rw t refl
 
-is-ones : (w : ℕ) → (w == ones) ≡ true → w ≡ ones
-is-ones w t = elim (cases_eq w ones) [
-  | inl e ↦ e
-  | inr n ↦ absurd (cc (t, ne_eqb w ones n))
-]
-
 -- and as many are accepted
 pub accepted-length : (xs ys : List ℕ) → ones_in xs ≡ ones_in ys → length (accepted xs) ≡ length (accepted ys)
 accepted-length [] [] e = refl

@@ -1,5 +1,5 @@
 -- The words of the second world: what is said of them.
-use Rattle.std.proofs.Common.{◌≡◌, ◌≤◌, ◌+◌, ◌*◌, ℕ, List, map, take, length, sym, ap, subst, ◌∙◌, arith}
+use Rattle.std.proofs.Common.{◌≡◌, ◌≤◌, ◌*◌, ℕ, List, map, take, length, sym, ap, subst, ◌∙◌, arith}
 use Rattle.std.proofs.lemmas.List.{length-map}
 use Rattle.beet_field.specs.Trio.{member, of_each}
 use Rattle.beet_field.specs.declared.point.Point.{Point}
@@ -17,20 +17,20 @@ use Rattle.beet_plan.specs.Runs.{AreMasks}
 use Rattle.beet_bids.proofs.BookSums.{length-sums}
 use Rattle.beet_round.specs.Sides.{peer}
 use Rattle.beet_round.specs.declared.sides.Side.TheVariants.{Low, High}
-use Rattle.beet_server.specs.Events.{Triple, after, passed}
-use Rattle.beet_server.specs.Runs.{HasRounds, Opening, numbers_of, rounds_among}
-use Rattle.beet_server.proofs.EventFacts.{passed_most, sent_parts, was_sent_parts}
-use Rattle.beet_server.proofs.Lined.{member-each}
-use Rattle.beet_auction.specs.Openings.{book_opening, opening_for, rounds_for}
+use Rattle.beet_delivery.specs.Events.{Triple, after, passed}
+use Rattle.beet_sharing.specs.Runs.{HasRounds, Setup, numbers_of, rounds_among}
+use Rattle.beet_delivery.proofs.EventFacts.{passed_most, sent_parts, was_sent_parts}
+use Rattle.beet_sharing.proofs.Lined.{member-each}
+use Rattle.beet_auction.specs.Setups.{book_setup, setup_for, rounds_for}
 use Rattle.beet_plan.specs.Kept.{words_kept, masks_kept, coefficients_kept}
-use Rattle.beet_book.specs.Farmers.{Farmer, book_of, farmers_of}
+use Rattle.beet_book.specs.Farmers.{Farmer, book_with, farmers_of}
 use Rattle.beet_view.specs.BookViews.{seen_at}
 use Rattle.beet_view.specs.RunViews.{round_seen, rounds_seen}
 use Rattle.beet_map.specs.Mapped.{GateMapped, LooksAlike, run_with}
 use Rattle.beet_map.specs.Mapped.{AreWords as AreAllWords}
 use Rattle.beet_map.specs.Refused.{HasSecrets}
-use Rattle.beet_map.specs.Worlds.{World}
-use Rattle.beet_server.proofs.Rounds.{among-rounds}
+use Rattle.beet_map.specs.Secrets.{Secrets}
+use Rattle.beet_sharing.proofs.Rounds.{among-rounds}
 use Rattle.beet_worlds.specs.Agreement.{Agree, SameKnown}
 use Rattle.beet_worlds.specs.Enough.{AreEnough, HasAccepted}
 use Rattle.beet_worlds.specs.InputLines.{AreInputLines}
@@ -43,15 +43,15 @@ use Rattle.beet_worlds.specs.Worlds.{CoefficientsMapped, LookSameIn, WorldsMappe
 use Rattle.beet_worlds.proofs.BidderFacts.{bidders-only, curves-of, inputs-same, mapped-back}
 use Rattle.beet_worlds.proofs.BookWorlds.{opens-alike}
 use Rattle.beet_worlds.proofs.CutRuns.{farmers-cut, farmers-have, rounds-few, seen-cut}
-use Rattle.beet_worlds.proofs.Drawn.{book-whole, drawn-of, farmers-words, words-told}
+use Rattle.beet_worlds.proofs.Drawn.{drawn-of, farmers-words, words-told}
 use Rattle.beet_worlds.proofs.EachMapped.{as-many}
 use Rattle.beet_worlds.proofs.EnoughFacts.{mapped-enough}
-use Rattle.beet_worlds.proofs.InputFacts.{bidders-of}
 use Rattle.beet_worlds.proofs.MaskFacts.{own-same}
 use Rattle.beet_worlds.proofs.MasksBack.{get-map, masks-back, masks-only}
 use Rattle.beet_worlds.proofs.SameRuns.{each-alike, sends-same}
 use Rattle.beet_worlds.proofs.SeenBidders.{seen-all}
-use Rattle.beet_worlds.proofs.Small.{word-small}
+use Rattle.beet_book.proofs.FarmerLists.{book-whole, farmers-bidders}
+use Rattle.beet_plan.proofs.AuctionRuns.{word-small}
 
 -- what holds once both books agree, and the masks and the bidders' words are mapped
 pub record Stands (me : Point) (first second : Book) (words : Words) (masks : Trio (List ℕ)) (bidders : List (List ℕ)) (lines lines' : List Line) : Type 0 where
@@ -93,10 +93,10 @@ enough-numbers book words e =
     let n : ℕ = most_coefficients (auction_over book.grid) in
     (drawn-of n words.coefficients.one e.one, drawn-of n words.coefficients.two e.two, drawn-of n words.coefficients.three e.three)
 
--- the opening of a world of lines is that of the book
+-- the setup of a world of lines is that of the book
 begun : (book : Book) (words : List (List ℕ)) (masks coefficients : Trio (List ℕ)) (lines : List Line) → AreInputLines book words lines →
     run_with (auction_batch (auction_over book.grid)) (record { inputs = lines; masks = masks }) coefficients
-    ≡ book_opening book.grid (farmers_of book.bidders words) masks coefficients
+    ≡ book_setup book.grid (farmers_of book.bidders words) masks coefficients
 begun book words masks coefficients lines a = λ x. record {
   next = auction_batch (auction_over book.grid);
   inputs = record { one = a.points One x; two = a.points Two x; three = a.points Three x };
@@ -104,11 +104,11 @@ begun book words masks coefficients lines a = λ x. record {
   numbers = numbers_of coefficients;
 }
 
-gate-along : (me : Point) (most : ℕ) (o p o' p' : Opening) → o ≡ p → o' ≡ p' → GateMapped me (rounds_among o most) o o' → GateMapped me (rounds_among p most) p p'
+gate-along : (me : Point) (most : ℕ) (o p o' p' : Setup) → o ≡ p → o' ≡ p' → GateMapped me (rounds_among o most) o o' → GateMapped me (rounds_among p most) p p'
 gate-along me most o p o' p' e e' g =
     subst (λ x. GateMapped me (rounds_among p most) p x) e' (subst (λ x. GateMapped me (rounds_among x most) x o') e g)
 
-look-along : (me : Point) (most : ℕ) (o p o' p' : Opening) → o ≡ p → o' ≡ p' → LooksAlike me (rounds_among o most) o o' → LooksAlike me (rounds_among p most) p p'
+look-along : (me : Point) (most : ℕ) (o p o' p' : Setup) → o ≡ p → o' ≡ p' → LooksAlike me (rounds_among o most) o o' → LooksAlike me (rounds_among p most) p p'
 look-along me most o p o' p' e e' g =
     subst (λ x. LooksAlike me (rounds_among p most) p x) e' (subst (λ x. LooksAlike me (rounds_among x most) x o') e g)
 
@@ -121,10 +121,10 @@ module _ (me : Point) (grid : Grid) (bidders others : List Bidder) (words : Word
   abbrev second : Book
   second = record { grid = grid; bidders = others }
 
-  abbrev world : World
+  abbrev world : Secrets
   world = record { inputs = lines; masks = words.masks }
 
-  abbrev world' : World
+  abbrev world' : Secrets
   world' = record { inputs = lines'; masks = masks }
 
   abbrev farmers : List Farmer
@@ -136,20 +136,20 @@ module _ (me : Point) (grid : Grid) (bidders others : List Bidder) (words : Word
   count : length lists ≡ length others
   count = s.lists ∙ s.enough.count ∙ sym (as-many bidders others s.agree.marks)
 
-  whole : book_of grid farmers ≡ first
+  whole : book_with grid farmers ≡ first
   whole = book-whole first words.bidders s.enough.count
 
-  whole' : book_of grid farmers' ≡ second
+  whole' : book_with grid farmers' ≡ second
   whole' = book-whole second lists count
 
-  farmers-book : IsBook (book_of grid farmers)
+  farmers-book : IsBook (book_with grid farmers)
   farmers-book = subst IsBook (sym whole) s.is_book
 
-  farmers-book' : IsBook (book_of grid farmers')
+  farmers-book' : IsBook (book_with grid farmers')
   farmers-book' = subst IsBook (sym whole') s.is_book'
 
-  own-known : SameKnown me (book_of grid farmers) (book_of grid farmers')
-  own-known = subst (λ b. SameKnown me b (book_of grid farmers')) (sym whole) (subst (λ b. SameKnown me first b) (sym whole') s.agree.own)
+  own-known : SameKnown me (book_with grid farmers) (book_with grid farmers')
+  own-known = subst (λ b. SameKnown me b (book_with grid farmers')) (sym whole) (subst (λ b. SameKnown me first b) (sym whole') s.agree.own)
 
   pub secrets-here : HasSecrets (2 * grid.prices) (most_masks (auction_over grid)) world
   secrets-here = has-secrets first words.bidders words.masks lines s.here s.enough.masks
@@ -178,11 +178,11 @@ module _ (me : Point) (grid : Grid) (bidders others : List Bidder) (words : Word
     abbrev most : ℕ
     most = most_rounds (auction_over grid)
 
-    abbrev here : Opening
-    here = opening_for first words
+    abbrev here : Setup
+    here = setup_for first words
 
-    abbrev there : Opening
-    there = opening_for second words'
+    abbrev there : Setup
+    there = setup_for second words'
 
     begun-here : run_with (auction_batch (auction_over grid)) world words.coefficients ≡ here
     begun-here = begun first words.bidders words.masks words.coefficients lines s.here
@@ -229,8 +229,8 @@ module _ (me : Point) (grid : Grid) (bidders others : List Bidder) (words : Word
         (farmers-have (HasAccepted wanted) bidders words.bidders s.enough.bidders) (farmers-have (HasAccepted wanted) others lists enough.bidders)
         ∙ sym (ap (map (seen_at grid me)) (farmers-cut wanted bidders words.bidders))
 
-    seen-rounds : rounds_seen (opening_for second (cut_words grid words')) me (rounds_among (opening_for second (cut_words grid words')) most)
-        ≡ rounds_seen (opening_for first (cut_words grid words)) me (rounds_among (opening_for first (cut_words grid words)) most)
+    seen-rounds : rounds_seen (setup_for second (cut_words grid words')) me (rounds_among (setup_for second (cut_words grid words')) most)
+        ≡ rounds_seen (setup_for first (cut_words grid words)) me (rounds_among (setup_for first (cut_words grid words)) most)
     seen-rounds =
         let rounds = rounds_for first words in
         seen-cut second words' enough rounds look.second_ends me
@@ -275,16 +275,16 @@ module _ (me : Point) (grid : Grid) (bidders others : List Bidder) (words : Word
         let long : length other.bidders ≡ length others = m.lists ∙ sym s.lists ∙ count in
         let bidders_same : other.bidders ≡ lists =
         words-told others other.bidders lists long count
-        (bidders-only me grid.prices farmers (farmers_of others other.bidders) farmers' (bidders-of others other.bidders long ∙ sym (bidders-of others lists count))
+        (bidders-only me grid.prices farmers (farmers_of others other.bidders) farmers' (sym (farmers-bidders others other.bidders long) ∙ farmers-bidders others lists count)
         m.bidders s.bidders_mapped) in
-        let there_same : opening_for second other ≡ run_with (auction_batch (auction_over grid)) world' other.coefficients =
-        (λ x. book_opening grid (farmers_of others (bidders_same x)) (masks_same x) other.coefficients)
+        let there_same : setup_for second other ≡ run_with (auction_batch (auction_over grid)) world' other.coefficients =
+        (λ x. book_setup grid (farmers_of others (bidders_same x)) (masks_same x) other.coefficients)
         ∙ sym (begun second lists masks other.coefficients lines' s.there) in
         let same : other.coefficients ≡ coefficients = c.only other.coefficients (record {
           places = m.places;
           own = m.own;
           numbers = gate-along me most here (run_with (auction_batch (auction_over grid)) world words.coefficients)
-              (opening_for second other) (run_with (auction_batch (auction_over grid)) world' other.coefficients) (sym begun-here) there_same m.numbers;
+              (setup_for second other) (run_with (auction_batch (auction_over grid)) world' other.coefficients) (sym begun-here) there_same m.numbers;
         }) in
         λ x. record { masks = masks_same x; coefficients = same x; bidders = bidders_same x }
 
@@ -294,19 +294,19 @@ module _ (me : Point) (grid : Grid) (bidders others : List Bidder) (words : Word
         masks-only second first masks me other.masks words.masks (masks-back me first second s.agree other.masks masks (are-masks other m.are_words) m.masks)
         (masks-back me first second s.agree words.masks masks (are-masks words s.are_words) s.masks_mapped) in
         let long : length other.bidders ≡ length bidders = sym m.lists ∙ s.lists ∙ s.enough.count in
-        let others_book : IsBook (book_of grid (farmers_of bidders other.bidders)) = subst IsBook (sym (book-whole first other.bidders long)) s.is_book in
+        let others_book : IsBook (book_with grid (farmers_of bidders other.bidders)) = subst IsBook (sym (book-whole first other.bidders long)) s.is_book in
         let bidders_same : other.bidders ≡ words.bidders =
         words-told bidders other.bidders words.bidders long s.enough.count
-        (bidders-only me grid.prices farmers' (farmers_of bidders other.bidders) farmers (bidders-of bidders other.bidders long ∙ sym (bidders-of bidders words.bidders s.enough.count))
+        (bidders-only me grid.prices farmers' (farmers_of bidders other.bidders) farmers (sym (farmers-bidders bidders other.bidders long) ∙ farmers-bidders bidders words.bidders s.enough.count)
         (mapped-back me grid (farmers_of bidders other.bidders) farmers' farmers-book' others_book (farmers-words bidders other.bidders m.are_words.bidders) m.bidders)
         (mapped-back me grid farmers farmers' farmers-book' farmers-book (farmers-words bidders words.bidders s.are_words.bidders) s.bidders_mapped)) in
-        let here_same : opening_for first other ≡ run_with (auction_batch (auction_over grid)) world other.coefficients =
-        (λ x. book_opening grid (farmers_of bidders (bidders_same x)) (masks_same x) other.coefficients)
+        let here_same : setup_for first other ≡ run_with (auction_batch (auction_over grid)) world other.coefficients =
+        (λ x. book_setup grid (farmers_of bidders (bidders_same x)) (masks_same x) other.coefficients)
         ∙ sym (begun first words.bidders words.masks other.coefficients lines s.here) in
         let same : other.coefficients ≡ words.coefficients = c.back other.coefficients (all-words other m.are_words) (record {
           places = m.places;
           own = m.own;
-          numbers = gate-along me most (opening_for first other) (run_with (auction_batch (auction_over grid)) world other.coefficients)
+          numbers = gate-along me most (setup_for first other) (run_with (auction_batch (auction_over grid)) world other.coefficients)
               there (run_with (auction_batch (auction_over grid)) world' coefficients) here_same (sym begun-there) m.numbers;
         }) in
         λ x. record { masks = masks_same x; coefficients = same x; bidders = bidders_same x }
@@ -328,7 +328,7 @@ abbrev over : Grid → List Bidder → Book
 over grid bidders = record { grid = grid; bidders = bidders }
 
 -- the same of two worlds, the first with the masks of the words
-module _ (me : Point) (first second : Book) (words : Words) (lists : List (List ℕ)) (w w' : World) (grids : second.grid ≡ first.grid) (grid : Grid) (is_grid : grid ≡ first.grid)
+module _ (me : Point) (first second : Book) (words : Words) (lists : List (List ℕ)) (w w' : Secrets) (grids : second.grid ≡ first.grid) (grid : Grid) (is_grid : grid ≡ first.grid)
     (masks_here : w.masks ≡ words.masks) (stands : Stands me first second words w'.masks lists w.inputs w'.inputs) where
   moved : Stands me first (over first.grid second.bidders) words w'.masks lists w.inputs w'.inputs
   moved = subst (λ g. Stands me first (over g second.bidders) words w'.masks lists w.inputs w'.inputs) grids stands

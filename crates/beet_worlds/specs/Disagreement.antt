@@ -5,9 +5,9 @@ use Rattle.beet_bids.specs.Books.{Book}
 use Rattle.beet_bids.specs.Outcomes.{outcome_of}
 use Rattle.beet_bids.specs.declared.book.Bidder.{Bidder}
 use Rattle.beet_map.specs.Refused.{DifferFirst}
-use Rattle.beet_worlds.specs.Agreement.{SameKnown, marks_of}
-use Rattle.beet_worlds.specs.declared.agreeing.Disagreement.{Disagreement}
-use Rattle.beet_worlds.specs.declared.agreeing.Disagreement.TheVariants.{Shape, OwnBids, Outcomes}
+use Rattle.beet_worlds.specs.Agreement.{Agree, SameKnown, marks_of}
+use Rattle.beet_worlds.specs.declared.agreeing.MapFault.{MapFault}
+use Rattle.beet_worlds.specs.declared.agreeing.MapFault.TheVariants.{ShapeDiffers, OwnBidsDiffer, OutcomesDiffer, OutOfMemory}
 
 -- the bidders before this place that are known to the server have the same curves
 abbrev pub SameKnownBefore : Point → List Bidder → List Bidder → ℕ → Type 0
@@ -25,11 +25,17 @@ pub record KnownDiffersAt (s : Point) (bidders others : List Bidder) (n : ℕ) :
   pub known : one.known ≡ Some s
   pub here : other.curve ≢ one.curve
 
--- that a refusal says of two books over one grid: bidders are counted from 1
-abbrev pub Refuses : Point → Book → Book → Disagreement → Type 0
-Refuses s first second (Shape bidder) = (n : ℕ) × (bidder ≡ n + 1) × DifferFirst (marks_of first) (marks_of second) n
-Refuses s first second (OwnBids bidder) =
+-- what the refusal of two books over one grid says of them: bidders are counted from 1
+abbrev pub Refuses : Point → Book → Book → MapFault → Type 0
+Refuses s first second (ShapeDiffers bidder) = (n : ℕ) × (bidder ≡ n + 1) × DifferFirst (marks_of first) (marks_of second) n
+Refuses s first second (OwnBidsDiffer bidder) =
     (marks_of second ≡ marks_of first) × ((n : ℕ) × (bidder ≡ n + 1) × KnownDiffersAt s first.bidders second.bidders n)
-Refuses s first second (Outcomes one other) =
+Refuses s first second (OutcomesDiffer one other) =
     (marks_of second ≡ marks_of first) × SameKnown s first second
     × ((one ≡ outcome_of first) × (other ≡ outcome_of second) × (other ≢ one))
+Refuses s first second OutOfMemory = ⊥
+
+-- why words are not mapped from one book to another: memory runs out only where the books agree
+abbrev pub RefusesMap : Point → Book → Book → MapFault → Type 0
+RefusesMap s first second OutOfMemory = Agree s first second
+RefusesMap s first second fault = Refuses s first second fault

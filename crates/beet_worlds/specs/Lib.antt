@@ -9,5 +9,4 @@ pub mod InputLines
 pub mod MappedWords
 pub mod ViewsWith
 pub mod Moments
-pub mod MapRefusals
 pub mod Worlds

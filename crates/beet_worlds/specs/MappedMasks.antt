@@ -1,5 +1,5 @@
 -- The mask words of two worlds in which the comparisons open the same numbers.
-use Rattle.std.specs.Prelude.{◌≡◌, ◌≢◌, ◌<◌, ℕ, List, length, slice_index, slice_get, Option, Some, None, bit_xor, nat_lt, if◌then◌else◌}
+use Rattle.std.specs.Prelude.{◌≡◌, ◌≢◌, ◌<◌, ℕ, List, length, slice_index, slice_get, Option, Some, None, bit_xor, nat_le, if◌then◌else◌}
 use Rattle.beet_field.specs.Field.{sub_of}
 use Rattle.beet_field.specs.Trio.{member}
 use Rattle.beet_field.specs.declared.point.Point.{Point}
@@ -8,16 +8,17 @@ use Rattle.beet_bids.specs.Books.{Book}
 use Rattle.beet_bids.specs.Outcomes.{clearing_place}
 use Rattle.beet_bids.specs.Sums.{supply_at, demand_at}
 use Rattle.beet_compare.specs.Compare.{doubled}
+use Rattle.beet_plan.specs.declared.TheConstants.{SPARE_MASKS}
 use Rattle.beet_plan.specs.Search.{path, mask_at, is_accepted, rejected_among, accepted_among}
 use Rattle.beet_round.specs.Sides.{peer}
 use Rattle.beet_round.specs.declared.sides.Side.TheVariants.{Low}
 use Rattle.beet_worlds.specs.Turn.{turned}
 
--- the place at which a mask is compared, if it is: one that is accepted, after fewer than three rejected ones, at the place that
+-- the place at which a mask is compared, if it is: one that is accepted, after no more rejected ones than may be, at the place that
 -- comes after those of the masks accepted before
 abbrev pub place_after : List ℕ → ℕ → ℕ → ℕ → Option ℕ
 place_after places mask rejected accepted =
-    if is_accepted mask then (if nat_lt rejected 3 then slice_get places accepted else None) else None
+    if is_accepted mask then (if nat_le rejected SPARE_MASKS then slice_get places accepted else None) else None
 
 -- that of the i-th mask
 abbrev pub place_compared : List ℕ → (ℕ → ℕ) → ℕ → Option ℕ

@@ -4,7 +4,7 @@ use Rattle.beet_field.specs.Trio.{member}
 use Rattle.beet_field.specs.declared.point.Point.{Point}
 use Rattle.beet_words.specs.Bundles.{Words, AreWords}
 use Rattle.beet_bids.specs.Books.{Book}
-use Rattle.beet_auction.specs.Openings.{opening_for, rounds_for}
+use Rattle.beet_auction.specs.Setups.{setup_for, rounds_for}
 use Rattle.beet_book.specs.Farmers.{farmers_of}
 use Rattle.beet_map.specs.Mapped.{GateMapped, ones_in}
 use Rattle.beet_worlds.specs.MappedBidders.{BiddersMapped}
@@ -20,7 +20,7 @@ pub record Mapped (s : Point) (first : Book) (words : Words) (second : Book) (wo
   pub bidders : BiddersMapped s first.grid.prices (farmers_of first.bidders words.bidders) (farmers_of second.bidders words'.bidders)
   pub places : (j : Point) → ones_in (member words'.coefficients j) ≡ ones_in (member words.coefficients j)
   pub own : member words'.coefficients s ≡ member words.coefficients s
-  pub numbers : GateMapped s (rounds_for first words) (opening_for first words) (opening_for second words')
+  pub numbers : GateMapped s (rounds_for first words) (setup_for first words) (setup_for second words')
 
 -- no other words of the second world go with those of the first
 abbrev pub IsOnlySecond : Point → Book → Words → Book → Words → Type 0

@@ -1,4 +1,4 @@
--- What a server sees of the auction of a book with given words.
+-- What a server sees of the auction of a book with given words, of which as many are kept as a run reads.
 use Rattle.std.specs.Prelude.{ℕ, List, map, take}
 use Rattle.beet_field.specs.declared.point.Point.{Point}
 use Rattle.beet_words.specs.Bundles.{Words}
@@ -18,7 +18,7 @@ cut_words grid words = record {
   bidders = map (take (words_kept grid.prices)) words.bidders;
 }
 
--- what a server sees of the auction of a book with these words
+-- what a server sees of the auction of a book with these words, which may be more than are kept: `view_for` of those that are
 abbrev pub view_with : Book → Words → Point → Viewed
 view_with book words s = view_for book (cut_words book.grid words) s
 

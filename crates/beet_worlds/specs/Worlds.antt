@@ -6,24 +6,24 @@ use Rattle.beet_words.specs.Bundles.{Words}
 use Rattle.beet_bids.specs.Books.{Book}
 use Rattle.beet_bids.specs.Grids.{Grid}
 use Rattle.beet_plan.specs.Auction.{auction_batch, most_masks, most_rounds, auction_over}
-use Rattle.beet_server.specs.Events.{Triple}
-use Rattle.beet_server.specs.Runs.{HasRounds}
+use Rattle.beet_delivery.specs.Events.{Triple}
+use Rattle.beet_sharing.specs.Runs.{HasRounds}
 use Rattle.beet_map.specs.Mapped.{IsOnlyImage, IsOnlySource, WordsLookAlike, WordsMapped}
 use Rattle.beet_map.specs.Refused.{LookSame}
-use Rattle.beet_map.specs.Worlds.{World}
+use Rattle.beet_map.specs.Secrets.{Secrets}
 use Rattle.beet_worlds.specs.Enough.{AreEnough}
 use Rattle.beet_worlds.specs.MappedWords.{IsOnlyFirst, IsOnlySecond, Mapped}
-use Rattle.beet_auction.specs.Openings.{opening_for, rounds_for}
+use Rattle.beet_auction.specs.Setups.{setup_for, rounds_for}
 use Rattle.beet_worlds.specs.Moments.{SameAfter}
 use Rattle.beet_worlds.specs.ViewsWith.{view_with}
 
 -- a server cannot tell two worlds of an auction by its inputs, its mask words and what is opened
-abbrev pub LookSameIn : Grid → Point → World → World → Type 0
+abbrev pub LookSameIn : Grid → Point → Secrets → Secrets → Type 0
 LookSameIn grid me w w' =
     LookSame (auction_batch (auction_over grid)) (most_rounds (auction_over grid)) (most_masks (auction_over grid)) me w w'
 
 -- the coefficient words of two worlds of an auction: mapped in the one way there is, so that the runs look alike to the server
-pub record CoefficientsMapped (grid : Grid) (me : Point) (w w' : World) (words words' : Trio (List ℕ)) : Type 0 where
+pub record CoefficientsMapped (grid : Grid) (me : Point) (w w' : Secrets) (words words' : Trio (List ℕ)) : Type 0 where
   pub mapped : WordsMapped (auction_batch (auction_over grid)) (most_rounds (auction_over grid)) me w w' words words'
   pub looks : WordsLookAlike (auction_batch (auction_over grid)) (most_rounds (auction_over grid)) me w w' words words'
   pub only : IsOnlyImage (auction_batch (auction_over grid)) (most_rounds (auction_over grid)) me w w' words words'
@@ -33,11 +33,11 @@ pub record CoefficientsMapped (grid : Grid) (me : Point) (w w' : World) (words w
 abbrev pub AlwaysSame : Point → Book → Words → Book → Words → Type 0
 AlwaysSame s first words second words' =
     (es : List Triple) →
-    SameAfter s (opening_for first words) (rounds_for first words) (opening_for second words') (rounds_for second words') es
+    SameAfter s (setup_for first words) (rounds_for first words) (setup_for second words') (rounds_for second words') es
 
 -- the run of a book with these words has its rounds: its end comes after them, and not before
 abbrev pub Ends : Book → Words → Type 0
-Ends book words = HasRounds (opening_for book words) (rounds_for book words)
+Ends book words = HasRounds (setup_for book words) (rounds_for book words)
 
 -- words of two worlds: mapped in the one way there is, enough for the second book, and server s cannot tell which is which
 pub record WorldsMapped (s : Point) (first : Book) (words : Words) (second : Book) (words' : Words) : Type 0 where

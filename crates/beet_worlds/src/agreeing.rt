@@ -1,7 +1,7 @@
 //! Whether one server can tell two books apart by what it knows and by what is opened.
 
 ghost use Rattle.std.specs.Prelude.{◌≡◌, ◌≢◌, ◌<◌, ◌≤◌, ◌↔◌, Some, map, slice_index, IsTrue, IsFalse, IsOk, MatchOption, IfErr, IfSome};
-ghost use Rattle.beet_bids.specs.declared.book.TheConstants.{MOST_BIDDERS};
+ghost use Rattle.beet_words.specs.declared.bundle.TheConstants.{MOST_BIDDERS};
 ghost use Rattle.beet_bids.specs.Curves.{IsOfGrid};
 ghost use Rattle.beet_map.specs.Refused.{DifferFirst};
 ghost use Rattle.beet_worlds.specs.Agreement.{Agree, SameKnown, marks_of};
@@ -9,16 +9,36 @@ ghost use Rattle.beet_worlds.specs.Disagreement.{KnownDiffersAt, Refuses};
 
 use beet_bids::{Bidder, Book, Curve, Grid, Outcome, outcome};
 use beet_field::Point;
+use std::alloc::AllocError;
+use thiserror::Error;
 
-/// The first thing that tells two books apart.
-#[derive(Clone, Copy, PartialEq, Eq, Debug)]
-pub enum Disagreement {
+/// Why the words of an auction are not mapped to those of a second book: the first thing that tells the books apart, or want of
+/// memory.
+#[derive(Clone, Copy, PartialEq, Eq, Debug, Error)]
+pub enum MapFault {
     /// The first bidder, counted from 1, that one book lacks, or that is not known to the same server in both.
-    Shape(u32),
+    #[error("bidder {0} is not in both books with the same mark")]
+    ShapeDiffers(u32),
     /// The first bidder, counted from 1, that is known to the server and has another curve in the second book.
-    OwnBids(u32),
+    #[error("bidder {0} is known to the server and has another curve in the second book")]
+    OwnBidsDiffer(u32),
     /// The outcomes, of the first book and of the second.
-    Outcomes(Outcome, Outcome),
+    #[error("the books have different outcomes")]
+    OutcomesDiffer(Outcome, Outcome),
+    /// Memory ran out.
+    #[error("out of memory")]
+    OutOfMemory,
+}
+
+impl From<AllocError> for MapFault {
+    ghost use Rattle.std.specs.Prelude.{◌≡◌};
+    ghost use Rattle.beet_worlds.specs.declared.agreeing.MapFault.TheVariants.{OutOfMemory};
+
+    ghost from_gives = { λ _ fault. fault ≡ OutOfMemory };
+
+    fn from(_error: AllocError) -> MapFault {
+        MapFault::OutOfMemory
+    }
 }
 
 /// The first place at which the marks of two books differ, or at which one book has no bidder.
@@ -96,22 +116,23 @@ fn is_changed(me: Point, grid: &Grid, first: &Bidder, second: &Bidder) -> bool
 }
 
 /// Whether two books over one grid agree for a server: as many bidders with the same marks, the same curves of those known to the
-/// server, and the same outcome. It tells the first of these that does not hold.
-pub fn agreement(me: Point, first: &Book, second: &Book) -> Result<(), Disagreement>
+/// server, and the same outcome. It tells the first of these that does not hold. It takes no memory, and never answers that it ran
+/// out.
+pub fn agreement(me: Point, first: &Book, second: &Book) -> Result<(), MapFault>
     requires { second.now.grid ≡ first.now.grid }
     ensures agreed { IsOk result ↔ Agree me first.now second.now }
     ensures refused { IfErr result (Refuses me first.now second.now) }
 {
     if let Some(place) = other_mark(first, second) {
-        return Err(Disagreement::Shape(place + 1));
+        return Err(MapFault::ShapeDiffers(place + 1));
     }
     if let Some(place) = other_own_bid(me, first, second) {
-        return Err(Disagreement::OwnBids(place + 1));
+        return Err(MapFault::OwnBidsDiffer(place + 1));
     }
     let (one, other) = (outcome(first), outcome(second));
     if one == other {
         Ok(())
     } else {
-        Err(Disagreement::Outcomes(one, other))
+        Err(MapFault::OutcomesDiffer(one, other))
     }
 }

@@ -1,8 +1,8 @@
 //! Bidders' words of the second world.
 
-ghost use Rattle.std.specs.Prelude.{◌≡◌, ◌≢◌, ◌<◌, ◌≤◌, ◌+◌, ◌*◌, ◌^◌, ◌==◌, length, if◌then◌else◌, IfOk, All};
+ghost use Rattle.std.specs.Prelude.{◌≡◌, ◌≢◌, ◌<◌, ◌≤◌, ◌+◌, ◌*◌, ◌^◌, ◌==◌, length, if◌then◌else◌, IfOk, OnOk, All};
 ghost use Rattle.beet_field.specs.Field.{IsElement};
-ghost use Rattle.beet_words.specs.Words.{accepted, ones};
+ghost use Rattle.beet_words.specs.Words.{IsWord, accepted, ones};
 ghost use Rattle.beet_bids.specs.Curves.{IsCurve, IsOfGrid, quantity};
 ghost use Rattle.beet_worlds.specs.Agreement.{marks_of};
 ghost use Rattle.beet_worlds.specs.MappedBidders.{BiddersMapped, FarmerMapped, SlopesMoved, slope_mapped};
@@ -69,13 +69,13 @@ fn move_words(
     ensures { IfOk result (SlopesMoved me (2 * grid.now.prices) first.now second.now words.now) }
 {
     let words = words.as_slice();
-    let mut moved = Vec::with_capacity(alloc, words.len())?;
+    let mut moved = WordList::with_capacity(alloc, words.len())?;
     let mut drawn = 0;
     for word in words {
         moved.push(word_for(me, grid, first, second, drawn, *word))?;
         drawn = count_drawn(drawn, *word);
     }
-    Ok(WordList::of(moved))
+    Ok(moved)
 }
 
 /// The words of a bidder in the second world.
@@ -91,14 +91,20 @@ fn words_in_second(
     requires first { IsOfGrid grid.now first.now.curve }
     requires second { IsOfGrid grid.now second.now.curve }
     requires enough { 2 * grid.now.prices ≤ length (accepted words.now) }
-    ensures { IfOk result (λ mapped. FarmerMapped me (2 * grid.now.prices)
+    ensures mapped { IfOk result (λ mapped. FarmerMapped me (2 * grid.now.prices)
         (record { bidder = first.now; words = words.now }) (record { bidder = second.now; words = mapped })) }
+    ensures below { OnOk result (All IsWord words.now) }
+    ensures words { IfOk result (λ mapped. All IsWord mapped) }
 {
-    if first.known == Some(me) {
-        words.copy(alloc)
+    let mapped = if first.known == Some(me) {
+        words.copy(alloc)?
     } else {
-        move_words(alloc, me, grid, &first.curve, &second.curve, words)
-    }
+        move_words(alloc, me, grid, &first.curve, &second.curve, words)?
+    };
+    // The words of both lists are below 2^61.
+    let _given = words.as_slice();
+    let _mapped = mapped.as_slice();
+    Ok(mapped)
 }
 
 /// The bidders' words of the second world, with which server `me` holds the same points as with these in the first.
@@ -116,6 +122,8 @@ pub fn map_bidders(
     ensures count { IfOk result (λ mapped. length mapped.items ≡ length words.now) }
     ensures mapped { IfOk result (λ mapped. BiddersMapped me first.now.grid.prices
         (farmers_of first.now.bidders words.now) (farmers_of second.now.bidders mapped.items)) }
+    ensures below { OnOk result (All (λ list. All IsWord list) words.now) }
+    ensures words { IfOk result (λ mapped. All (λ list. All IsWord list) mapped.items) }
 {
     let grid = first.grid();
     let bidders = first.bidders();

@@ -17,14 +17,14 @@ ghost use Rattle.beet_bids.specs.Sums.{sums_of};
 ghost use Rattle.beet_plan.specs.Search.{mask_at, rejected_among, accepted_among, is_spent, dealt_until_spent, dealt_for};
 ghost use Rattle.beet_round.specs.Sides.{peer};
 ghost use Rattle.beet_round.specs.declared.sides.Side.TheVariants.{Low};
-ghost use Rattle.beet_server.specs.Runs.{HasRounds, message, shared_at};
-ghost use Rattle.beet_book.specs.Farmers.{Farmer, book_inputs, book_of, farmers_of};
+ghost use Rattle.beet_sharing.specs.Runs.{HasRounds, message, shared_at};
+ghost use Rattle.beet_book.specs.Farmers.{Farmer, book_inputs, book_with, farmers_of};
 ghost use Rattle.beet_worlds.specs.Agreement.{Agree, SameKnown};
 ghost use Rattle.beet_worlds.specs.Enough.{AreEnough};
 ghost use Rattle.beet_map.specs.Mapped.{ones_in};
 ghost use Rattle.beet_worlds.specs.MappedBidders.{BiddersMapped};
 ghost use Rattle.beet_worlds.specs.MappedMasks.{MasksMapped, compared_in, mask_mapped};
-ghost use Rattle.beet_auction.specs.Openings.{opening_for, rounds_for};
+ghost use Rattle.beet_auction.specs.Setups.{setup_for, rounds_for};
 ghost use Rattle.beet_worlds.specs.Opened.{OpensAlike};
 ghost use Rattle.beet_worlds.specs.Turn.{turned};
 ghost use Rattle.beet_worlds.specs.ViewsWith.{cut_words};
@@ -75,8 +75,8 @@ pub fn agreeing_books_open_alike()
 /// With mapped words the bidders of a second book, in which those known to the server have the same curves, give that server the same
 /// summed points.
 pub fn mapped_bidders_give_the_same_points()
-    ensures { (s : Point) (grid : Grid) (farmers farmers' : List Farmer) → IsBook (book_of grid farmers') →
-        SameKnown s (book_of grid farmers) (book_of grid farmers') → BiddersMapped s grid.prices farmers farmers' →
+    ensures { (s : Point) (grid : Grid) (farmers farmers' : List Farmer) → IsBook (book_with grid farmers') →
+        SameKnown s (book_with grid farmers) (book_with grid farmers') → BiddersMapped s grid.prices farmers farmers' →
         member (book_inputs grid.prices farmers') s ≡ member (book_inputs grid.prices farmers) s }
 {}
 
@@ -99,7 +99,7 @@ pub fn mapped_worlds_map_back()
     ensures masks { (s : Point) (first second : Book) (words words' : Trio (List ℕ)) → Agree s first second →
         AreMasks words → MasksMapped s first second words words' → MasksMapped s second first words' words }
     ensures bidders { (s : Point) (grid : Grid) (farmers farmers' : List Farmer) →
-        IsBook (book_of grid farmers) → IsBook (book_of grid farmers') →
+        IsBook (book_with grid farmers) → IsBook (book_with grid farmers') →
         All (λ farmer. All IsWord farmer.words) farmers →
         BiddersMapped s grid.prices farmers farmers' → BiddersMapped s grid.prices farmers' farmers }
 {}
@@ -115,7 +115,7 @@ pub fn mapped_words_are_the_only_ones()
         AreMasks u → AreMasks v →
         MasksMapped s first second u words → MasksMapped s first second v words → u ≡ v }
     ensures sources_of_bidders { (s : Point) (grid : Grid) (farmers u v : List Farmer) →
-        IsBook (book_of grid u) → IsBook (book_of grid farmers) →
+        IsBook (book_with grid u) → IsBook (book_with grid farmers) →
         All (λ farmer. All IsWord farmer.words) u → All (λ farmer. All IsWord farmer.words) v →
         map (λ farmer. farmer.bidder) u ≡ map (λ farmer. farmer.bidder) v →
         BiddersMapped s grid.prices u farmers → BiddersMapped s grid.prices v farmers → u ≡ v }
@@ -124,7 +124,7 @@ pub fn mapped_words_are_the_only_ones()
 /// Bidders with their words are a book's bidders, and tell the words.
 pub fn farmers_are_bidders_and_words()
     ensures book { (book : Book) (words : List (List ℕ)) → length words ≡ length book.bidders →
-        book_of book.grid (farmers_of book.bidders words) ≡ book }
+        book_with book.grid (farmers_of book.bidders words) ≡ book }
     ensures words { (bidders : List Bidder) (u v : List (List ℕ)) →
         length u ≡ length bidders → length v ≡ length bidders →
         farmers_of bidders u ≡ farmers_of bidders v → u ≡ v }
@@ -143,12 +143,12 @@ pub fn enough_words_can_be_drawn()
 /// Where words are enough, those that are not read change nothing: the run has the same rounds, points, opened numbers and messages.
 pub fn unread_words_change_nothing()
     ensures rounds { (book : Book) (words : Words) (rounds : ℕ) → AreEnough book words →
-        HasRounds (opening_for book words) rounds →
+        HasRounds (setup_for book words) rounds →
         rounds_for book (cut_words book.grid words) ≡ rounds }
     ensures runs { (book : Book) (words : Words) (rounds t : ℕ) → AreEnough book words →
-        HasRounds (opening_for book words) rounds → t ≤ rounds →
-        shared_at (opening_for book (cut_words book.grid words)) t ≡ shared_at (opening_for book words) t }
+        HasRounds (setup_for book words) rounds → t ≤ rounds →
+        shared_at (setup_for book (cut_words book.grid words)) t ≡ shared_at (setup_for book words) t }
     ensures messages { (book : Book) (words : Words) (rounds t : ℕ) (from to : Point) → AreEnough book words →
-        HasRounds (opening_for book words) rounds → t < rounds →
-        message (opening_for book (cut_words book.grid words)) from to t ≡ message (opening_for book words) from to t }
+        HasRounds (setup_for book words) rounds → t < rounds →
+        message (setup_for book (cut_words book.grid words)) from to t ≡ message (setup_for book words) from to t }
 {}

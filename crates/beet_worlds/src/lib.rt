@@ -9,12 +9,10 @@ mod inputs;
 mod laws;
 mod mapping;
 mod masks;
-#[cfg(test)]
-mod tests;
 mod turning;
 mod wanted;
 
-pub use agreeing::{Disagreement, agreement};
+pub use agreeing::{MapFault, agreement};
 pub use bidders::map_bidders;
 pub use inputs::input_lines;
 pub use laws::{
@@ -23,7 +21,7 @@ pub use laws::{
     mapped_words_are_the_only_ones, mapped_worlds_map_back, turned_masks,
     unread_words_change_nothing,
 };
-pub use mapping::{MapFault, world_map};
+pub use mapping::world_map;
 pub use masks::map_masks;
 pub use turning::turn;
 pub use wanted::enough;

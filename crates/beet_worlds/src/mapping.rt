@@ -1,106 +1,38 @@
 //! The words of the second world.
 
 ghost use Rattle.std.specs.Prelude.{◌≡◌, ◌*◌, ℕ, List, length, All, IfErr, IfOk, OnOk};
-ghost use Rattle.beet_words.specs.Bundles.{AreWords};
 ghost use Rattle.beet_words.specs.Words.{IsWord};
 ghost use Rattle.beet_gates.specs.Scripts.{HasWords};
 ghost use Rattle.beet_bids.specs.Books.{IsBook};
 ghost use Rattle.beet_plan.specs.Auction.{most_coefficients, most_masks, auction_over};
-ghost use Rattle.beet_server.specs.Runs.{numbers_of};
+ghost use Rattle.beet_sharing.specs.Runs.{numbers_of};
 ghost use Rattle.beet_map.specs.Refused.{HasSecrets};
 ghost use Rattle.beet_worlds.specs.Agreement.{Agree};
+ghost use Rattle.beet_worlds.specs.Disagreement.{RefusesMap};
 ghost use Rattle.beet_worlds.specs.Enough.{AreEnough};
 ghost use Rattle.beet_worlds.specs.InputLines.{AreInputLines};
-ghost use Rattle.beet_worlds.specs.MapRefusals.{RefusesMap};
 ghost use Rattle.beet_worlds.specs.MappedWords.{IsOnlyFirst, IsOnlySecond, Mapped};
 ghost use Rattle.beet_worlds.specs.ViewsWith.{transcript_with, view_with};
 ghost use Rattle.beet_worlds.specs.Worlds.{AlwaysSame, CoefficientsMapped, Ends, LookSameIn, WorldsMapped};
 
-use crate::agreeing::{Disagreement, agreement};
+use crate::agreeing::{MapFault, agreement};
 use crate::bidders::map_bidders;
 use crate::inputs::input_lines;
 use crate::masks::map_masks;
-use beet_bids::{Book, Grid, Outcome};
+use beet_bids::{Book, Grid};
 use beet_field::{Point, Trio};
-use beet_gates::Gates;
 use beet_map::{GateFault, Secrets, gate_map};
 use beet_search::AuctionScript;
-use beet_words::{Word, WordList, Words};
+use beet_words::{WordList, Words};
 use std::alloc::{AllocError, Global};
-use thiserror::Error;
 
-/// Why the words of an auction are not mapped to those of a second book.
-#[derive(Clone, Copy, PartialEq, Eq, Debug, Error)]
-pub enum MapFault {
-    /// The first bidder, counted from 1, that one book lacks, or that is not known to the same server in both.
-    #[error("bidder {0} is not in both books with the same mark")]
-    ShapeDiffers(u32),
-    /// The first bidder, counted from 1, that is known to the server and has another curve in the second book.
-    #[error("bidder {0} is known to the server and has another curve in the second book")]
-    OwnBidsDiffer(u32),
-    /// The outcomes, of the first book and of the second.
-    #[error("the books have different outcomes")]
-    OutcomesDiffer(Outcome, Outcome),
-    /// Memory ran out.
-    #[error("out of memory")]
-    OutOfMemory,
-}
-
-impl From<AllocError> for MapFault {
-    ghost use Rattle.std.specs.Prelude.{◌≡◌};
-    ghost use Rattle.beet_worlds.specs.declared.mapping.MapFault.TheVariants.{OutOfMemory};
-
-    ghost from_gives = { λ _ fault. fault ≡ OutOfMemory };
-
-    fn from(_error: AllocError) -> MapFault {
-        MapFault::OutOfMemory
-    }
-}
-
-impl From<Disagreement> for MapFault {
-    ghost use Rattle.std.specs.Prelude.{◌≡◌};
-    ghost use Rattle.beet_worlds.specs.MapRefusals.{fault_of};
-
-    ghost from_gives = { λ difference fault. fault ≡ fault_of difference };
-
-    fn from(difference: Disagreement) -> MapFault {
-        match difference {
-            Disagreement::Shape(bidder) => MapFault::ShapeDiffers(bidder),
-            Disagreement::OwnBids(bidder) => MapFault::OwnBidsDiffer(bidder),
-            Disagreement::Outcomes(one, other) => MapFault::OutcomesDiffer(one, other),
-        }
-    }
-}
-
-/// Each of some words is below 2^61.
-fn read_list(words: &[Word])
-    ensures { All IsWord words.now }
+/// Each word of the three servers is below 2^61.
+fn look_at(words: &Trio<WordList>)
+    ensures { All IsWord words.now.one × All IsWord words.now.two × All IsWord words.now.three }
 {
-    for word in words {
-        let _below = word.value();
-    }
-}
-
-/// Each word of the lists is below 2^61.
-fn read_lists(lists: &[WordList])
-    ensures { All (λ list. All IsWord list) lists.now }
-{
-    for list in lists {
-        read_list(list.as_slice());
-    }
-}
-
-/// Each word of a bundle is below 2^61.
-fn read_words(words: &Words)
-    ensures { AreWords words.now }
-{
-    read_list(words.masks.one.as_slice());
-    read_list(words.masks.two.as_slice());
-    read_list(words.masks.three.as_slice());
-    read_list(words.coefficients.one.as_slice());
-    read_list(words.coefficients.two.as_slice());
-    read_list(words.coefficients.three.as_slice());
-    read_lists(words.bidders.as_slice());
+    let _one = words.one.as_slice();
+    let _two = words.two.as_slice();
+    let _three = words.three.as_slice();
 }
 
 /// The words of three servers, in memory of their own.
@@ -142,7 +74,6 @@ fn map_coefficients(
     there: &Secrets,
     words: &Trio<WordList>,
 ) -> Result<Trio<WordList>, AllocError>
-    requires chain { grid.now.gates ≡ Gates.Chain }
     requires here { HasSecrets (2 * grid.now.prices) (most_masks (auction_over grid.now)) here.now }
     requires there { HasSecrets (2 * grid.now.prices) (most_masks (auction_over grid.now)) there.now }
     requires numbers { HasWords (most_coefficients (auction_over grid.now)) (numbers_of words.now) }
@@ -168,11 +99,11 @@ fn map_words(
     words: &Words,
 ) -> Result<Words, AllocError>
     requires enough { AreEnough first.now words.now }
-    requires chain { first.now.grid.gates ≡ Gates.Chain }
     requires agree { Agree me first.now second.now }
     ensures { IfOk result (WorldsMapped me first.now words.now second.now) }
 {
-    read_words(words);
+    look_at(&words.masks);
+    look_at(&words.coefficients);
     let bidders = map_bidders(alloc, me, first, second, words.bidders.as_slice())?;
     let masks = map_masks(alloc, me, first, second, &words.masks)?;
     let here = secrets_with(
@@ -190,13 +121,13 @@ fn map_words(
         &there,
         &words.coefficients,
     )?;
-    let mapped = Words {
+    look_at(&there.masks);
+    look_at(&coefficients);
+    Ok(Words {
         masks: there.masks,
         coefficients,
         bidders,
-    };
-    read_words(&mapped);
-    Ok(mapped)
+    })
 }
 
 /// The words with which the auction of the second book looks to server `me` as that of the first book does with these words: it
@@ -215,7 +146,6 @@ pub fn world_map(
 ) -> Result<Words, MapFault>
     requires enough { AreEnough first.now words.now }
     requires grids { second.now.grid ≡ first.now.grid }
-    requires gates { first.now.grid.gates ≡ Gates.Chain }
     ensures agreed { IfOk result (λ _. Agree me first.now second.now) }
     ensures refused { IfErr result (RefusesMap me first.now second.now) }
     ensures mapped { IfOk result (Mapped me first.now words.now second.now) }

@@ -16,6 +16,7 @@ use crate::differences::{clearing, lost};
 use crate::turning::turn;
 use beet_bids::{Book, Grid};
 use beet_field::{Fe, Point, Trio};
+use beet_plan::SPARE_MASKS;
 use beet_words::{Word, WordList};
 use std::alloc::{AllocError, Global};
 
@@ -79,7 +80,7 @@ fn mask(masks: &Trio<WordList>, place: usize) -> Word
 fn place_for(places: &[u32], mask: Word, rejected: usize, accepted: usize) -> Option<u32>
     ensures { result ≡ place_after places.now mask rejected accepted }
 {
-    if mask.is_ones() || rejected >= 3 {
+    if mask.is_ones() || rejected > SPARE_MASKS as usize {
         return None;
     }
     match places.get(accepted) {
@@ -124,7 +125,7 @@ fn turning_words(
 {
     let places = path_to(alloc, first.grid(), clearing(first))?;
     let words = masks.get(server).as_slice();
-    let mut turned = Vec::with_capacity(alloc, words.len())?;
+    let mut turned = WordList::with_capacity(alloc, words.len())?;
     let mut rejected = 0;
     for i in 0..words.len() {
         let mask = mask(masks, i);
@@ -132,7 +133,7 @@ fn turning_words(
         turned.push(word_for(first, second, mask, words[i], place))?;
         rejected = count_rejected(rejected, mask);
     }
-    Ok(WordList::of(turned))
+    Ok(turned)
 }
 
 /// The words of the three servers where server 1 turns the masks.

@@ -8,7 +8,7 @@ ghost use Rattle.beet_worlds.specs.Enough.{AreEnough, HasAccepted};
 
 use beet_bids::{Book, Grid};
 use beet_field::Trio;
-use beet_plan::{MASK_COEFFICIENTS, SPARE_WORDS};
+use beet_plan::{MASK_COEFFICIENTS, SPARE_MASKS, SPARE_WORDS};
 use beet_words::{WordList, Words, count_accepted};
 
 /// Whether so many of the first words are not all ones; the spare words are looked at too.
@@ -41,7 +41,7 @@ fn masks_wanted(grid: &Grid) -> usize
     ensures few { result ≤ 15 }
 {
     let _limits = grid.prices();
-    grid.comparisons() as usize + 2
+    grid.comparisons() as usize + SPARE_MASKS as usize
 }
 
 /// Whether the words hold one list for each bidder with a number for each of its quantities, and for each server the mask words and

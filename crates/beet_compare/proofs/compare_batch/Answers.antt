@@ -1,16 +1,13 @@
 use Rattle.std.proofs.Common.{arith, ap, sym, ◌∙◌, Some}
 use Rattle.beet_gates.specs.declared.Batch.{Batch}
-use Rattle.beet_compare.specs.Compare.{compare_rounds_of}
 use Rattle.beet_compare.proofs.CompareTable.{compare-past, compare-there}
 use Rattle.beet_compare.proofs.compare_batch.Goals as goal
 
 pub returns-then-step-compare_rounds-clause-batch : goal.returns-then-step-compare_rounds-clause-batch
 returns-then-step-compare_rounds-clause-batch c =
-    let rounds = c.compare_rounds.ensures ∙ ap compare_rounds_of c.requires.chain in
-    sym (compare-past c.args.first c.args.mask c.args.supply c.args.demand c.args.c c.args.step (omega (arith, rounds)))
+    sym (compare-past c.args.first c.args.mask c.args.supply c.args.demand c.args.c c.args.gates c.args.step (omega (arith, c.compare_rounds.ensures)))
 
 pub returns-clause-batch : goal.returns-clause-batch
 returns-clause-batch c =
-    let rounds = c.compare_rounds.ensures ∙ ap compare_rounds_of c.requires.chain in
     ap (λ (b : Batch). Some b) c.refill_compare.ensures
-    ∙ compare-there c.args.first c.args.mask c.args.supply c.args.demand c.args.c c.args.step (omega (arith, rounds))
+    ∙ compare-there c.args.first c.args.mask c.args.supply c.args.demand c.args.c c.args.gates c.args.step (omega (arith, c.compare_rounds.ensures))

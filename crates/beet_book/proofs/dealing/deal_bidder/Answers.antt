@@ -1,9 +1,24 @@
 use Rattle.std.proofs.Common.{◌≡◌, ◌+◌, ◌*◌, length, get_or, arith, rules, ◌∙◌, ap, sym, length-append}
 use Rattle.std.proofs.lemmas.List.{get_or_append_left, get_or-append-add}
-use Rattle.beet_words.specs.Tapes.{left_of}
+use Rattle.beet_words.specs.Tapes.{drawn_from, left_of}
+use Rattle.beet_words.proofs.DrawnFrom.{drawn-again, drawn-none}
 use Rattle.beet_book.specs.Dealing.{quantities, shares_of}
-use Rattle.beet_book.proofs.Deals.{collected-more, drawn-more, front-all, dealt-shares, dealt-lengths}
+use Rattle.beet_book.proofs.Deals.{collected-more, front-all, some-left, dealt-shares, dealt-lengths}
 use Rattle.beet_book.proofs.dealing.deal_bidder.Goals as goal
+
+pub loop-place-init : goal.loop-place-init
+loop-place-init c = record {
+  room = search rules;
+  points = search rules;
+  drawn = sym (drawn-none c.args.tape.now);
+}
+
+pub deal_next-requires-clause-word : goal.deal_next-requires-clause-word
+deal_next-requires-clause-word c = some-left c.args.tape.now c.loop-place.tape c.loop-place.place c.loop-place.invariant.drawn (omega arith)
+
+pub deal_next-requires-in-loop-place-2-clause-word : goal.deal_next-requires-in-loop-place-2-clause-word
+deal_next-requires-in-loop-place-2-clause-word c =
+    some-left c.args.tape.now c.loop-place-2.tape (c.prices-prices.result + c.loop-place-2.place) c.loop-place-2.invariant.drawn (omega arith)
 
 pub loop-place-preserved : goal.loop-place-preserved
 loop-place-preserved c =
@@ -16,7 +31,7 @@ loop-place-preserved c =
       room = search rules;
       points = collected-more (quantities curve) c.args.tape.now c.loop-place.tape c.deal_next.new.tape c.loop-place.columns c.deal_next.new.columns
           place c.buy.result inv.points inv.drawn c.deal_next.ensures.points value (omega arith) (omega arith);
-      drawn = drawn-more c.args.tape.now c.loop-place.tape c.deal_next.new.tape place inv.drawn c.deal_next.ensures.drawn;
+      drawn = c.deal_next.ensures.drawn ∙ ap (λ t. drawn_from t 1) inv.drawn ∙ drawn-again c.args.tape.now place 1;
     }
 
 pub loop-place-2-preserved : goal.loop-place-2-preserved
@@ -35,7 +50,7 @@ loop-place-2-preserved c =
       room = search rules;
       points = rw next (collected-more (quantities curve) c.args.tape.now c.loop-place-2.tape turn.new.tape c.loop-place-2.columns turn.new.columns
           (prices + place) c.sell.result inv.points inv.drawn turn.ensures.points value (omega arith) (omega arith));
-      drawn = rw next (drawn-more c.args.tape.now c.loop-place-2.tape turn.new.tape (prices + place) inv.drawn turn.ensures.drawn);
+      drawn = rw next (turn.ensures.drawn ∙ ap (λ t. drawn_from t 1) inv.drawn ∙ drawn-again c.args.tape.now (prices + place) 1);
     }
 
 -- all points are collected

@@ -1,5 +1,5 @@
 use Rattle.std.proofs.Common.{◌≡◌, ℕ, ◌+◌, ◌<◌, ◌≤◌, length, slice_index}
-use Rattle.beet_server.specs.Runs.{draws_in, secret_of}
+use Rattle.beet_sharing.specs.Runs.{draws_in, secret_of}
 use Rattle.beet_map.specs.Mapped.{moved_of}
 use Rattle.beet_map.proofs.moving.move_numbers.Given as goal
 

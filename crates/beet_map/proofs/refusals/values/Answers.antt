@@ -2,7 +2,7 @@ use Rattle.std.proofs.Common.{◌<◌, ◌++◌, ◌∷◌, [], ℕ, List, lengt
 use Rattle.std.proofs.lemmas.List.{map-append, take_more}
 use Rattle.beet_field.specs.Field.{IsElement}
 use Rattle.beet_shamir.specs.declared.Line.{Line}
-use Rattle.beet_map.specs.Worlds.{values_of}
+use Rattle.beet_map.specs.Secrets.{values_of}
 use Rattle.beet_map.proofs.Places.{elements_more}
 use Rattle.beet_map.proofs.refusals.values.Goals as goal
 

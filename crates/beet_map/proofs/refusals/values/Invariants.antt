@@ -1,6 +1,6 @@
 use Rattle.std.proofs.Common.{◌≡◌, ℕ, take, slice_index}
 use Rattle.beet_field.specs.Field.{IsElement}
-use Rattle.beet_map.specs.Worlds.{values_of}
+use Rattle.beet_map.specs.Secrets.{values_of}
 use Rattle.beet_map.proofs.refusals.values.Given as goal
 
 abbrev pub invariant-loop-line : goal.invariant-loop-line

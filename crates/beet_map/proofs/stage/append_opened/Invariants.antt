@@ -1,5 +1,5 @@
 use Rattle.std.proofs.Common.{◌≡◌, ◌++◌, map, take}
-use Rattle.beet_server.specs.Runs.{opened_at}
+use Rattle.beet_sharing.specs.Runs.{opened_at}
 use Rattle.beet_map.proofs.stage.append_opened.Given as goal
 
 abbrev pub invariant-loop-wire : goal.invariant-loop-wire

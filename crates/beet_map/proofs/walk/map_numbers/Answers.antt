@@ -1,6 +1,6 @@
 use Rattle.std.proofs.Common.{◌≡◌, ℕ, List, sym, subst, ◌∙◌, arith}
 use Rattle.beet_gates.specs.declared.Batch.{Batch}
-use Rattle.beet_server.specs.Runs.{act_among}
+use Rattle.beet_sharing.specs.Runs.{act_among}
 use Rattle.beet_map.specs.Steps.{HasEnough, dealing}
 use Rattle.beet_map.proofs.Turning.{ready_move, ready_first, ready_second, next_first, next_second, next_mapped}
 use Rattle.beet_map.proofs.walk.map_numbers.Goals as goal

@@ -1,7 +1,7 @@
 use Rattle.std.proofs.Common.{◌≡◌}
-use Rattle.beet_server.specs.Runs.{shared_at}
+use Rattle.beet_sharing.specs.Runs.{shared_at}
 use Rattle.beet_map.specs.Mapped.{GateMapped}
-use Rattle.beet_map.specs.Worlds.{begin_in}
+use Rattle.beet_map.specs.Secrets.{begin_in}
 use Rattle.beet_map.proofs.walk.map_numbers.Given as goal
 
 abbrev pub invariant-loop-t : goal.invariant-loop-t

@@ -1,5 +1,5 @@
 use Rattle.std.proofs.Common.{◌≡◌, ◌++◌, take}
-use Rattle.beet_map.specs.Worlds.{shares_of}
+use Rattle.beet_map.specs.Secrets.{shares_of}
 use Rattle.beet_map.proofs.wires.append_points.Given as goal
 
 abbrev pub invariant-loop-line : goal.invariant-loop-line

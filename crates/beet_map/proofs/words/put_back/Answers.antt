@@ -10,7 +10,7 @@ pub loop-word-preserved : goal.loop-word-preserved
 loop-word-preserved c =
     let words : List ℕ = c.args.words.now in
     let numbers : List ℕ = c.args.numbers.now in
-    let out : List ℕ = c.loop-word.back.items in
+    let out : List ℕ = c.loop-word.back in
     let i : ℕ = c.loop-word.word-index in
     let place : ℕ = c.loop-word.place in
     let word : ℕ = c.word-item.result in
@@ -21,7 +21,7 @@ loop-word-preserved c =
     take_more words i word lt ∙ (λ j. take i words ++ sym c.word-item.is j ∷ []) in
     elim c.if-is_ones.branch [
       | then-is_ones+in_ok-push w ↦
-          subst (λ o. Back words numbers o (i + 1) c.if-is_ones.place) (sym ((λ j. (w.back-is j).items) ∙ w.in_ok-push.ensures.items))
+          subst (λ o. Back words numbers o (i + 1) c.if-is_ones.place) (sym (w.back-is ∙ w.in_ok-push.ensures))
           (subst (λ p. Back words numbers (out ++ word ∷ []) (i + 1) p) (sym w.place-is)
           (back_ones words numbers out i place c.loop-word.invariant word behind front (c.is_ones.ensures.0 w.if-is_ones.true)))
       | else-is_ones+in_ok-push-2 w ↦
@@ -31,7 +31,7 @@ loop-word-preserved c =
           let more : take (place + 1) numbers ≡ take place numbers ++ x ∷ [] =
           take_more numbers place w.index-numbers-place.result low
           ∙ (λ j. take place numbers ++ sym (w.word_of.ensures.value ∙ w.index-numbers-place.is) j ∷ []) in
-          subst (λ o. Back words numbers o (i + 1) c.if-is_ones.place) (sym ((λ j. (w.back-is j).items) ∙ w.in_ok-push-2.ensures.items))
+          subst (λ o. Back words numbers o (i + 1) c.if-is_ones.place) (sym (w.back-is ∙ w.in_ok-push-2.ensures))
           (subst (λ p. Back words numbers (out ++ x ∷ []) (i + 1) p) (sym w.place-is)
           (back_number words numbers out i place c.loop-word.invariant word behind front other x
           (λ e. let s = w.word_of.ensures.below in absurd (omega arith)) more))

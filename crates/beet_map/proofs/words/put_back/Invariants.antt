@@ -2,4 +2,4 @@ use Rattle.beet_map.proofs.WordLists.{Back}
 use Rattle.beet_map.proofs.words.put_back.Given as goal
 
 abbrev pub invariant-loop-word : goal.invariant-loop-word
-invariant-loop-word l = Back l.words l.numbers l.back.items l.word-index l.place
+invariant-loop-word l = Back l.words l.numbers l.back l.word-index l.place

@@ -1,4 +1,4 @@
-use Rattle.std.proofs.Common.{rules}
+use Rattle.std.proofs.lemmas.Result.{err_from_is_err_and}
 use Rattle.beet_field.specs.declared.point.Point.TheVariants.{One, Two, Three}
 use Rattle.beet_field.specs.declared.trio.Trio.{Trio}
 use Rattle.beet_plan.specs.Auction.{Auction}
@@ -14,6 +14,11 @@ start-requires-2-clause-inputs c = inputs-wanted _ c.args.grid.now _ c.script_ov
 
 pub start-requires-3-clause-inputs : goal.start-requires-3-clause-inputs
 start-requires-3-clause-inputs c = inputs-wanted _ c.args.grid.now _ c.script_over-script.ensures (c.requires.inputs Three)
+
+pub returns-in_err-three-clause-memory : goal.returns-in_err-three-clause-memory
+returns-in_err-three-clause-memory c =
+    let p = err_from_is_err_and c.from_residual-in_err-three.result c.from_residual-in_err-three.ensures.1 in
+    rw (p.1, p.2) c.in_err-three.ensures.memory
 
 pub returns-clause-starts : goal.returns-clause-starts
 returns-clause-starts c =

@@ -1,7 +1,7 @@
 use Rattle.std.proofs.Common.{arith, ap, ◌∙◌, ◌≡◌, ◌<◌}
 use Rattle.beet_bids.specs.Grids.{comparisons_of}
-use Rattle.beet_plan.proofs.AuctionLaw.{comparisons-le, comparisons-zero, comparisons-half}
 use Rattle.beet_search.proofs.script.comparisons.Goals as goal
+use Rattle.beet_bids.proofs.GridFacts.{comparisons-le, comparisons-zero, comparisons-half}
 
 pub loop-rest-init : goal.loop-rest-init
 loop-rest-init c = record { counted = omega arith; small = comparisons-le c.args.prices 13 (omega arith) }

@@ -1,7 +1,7 @@
 use Rattle.std.proofs.Common.{◌≡◌, ◌+◌, ◌++◌, length, vec_capacity}
 use Rattle.beet_shamir.specs.Line.{recombined}
 use Rattle.beet_gates.specs.Each.{each}
-use Rattle.beet_server.specs.Steps.{three_at}
+use Rattle.beet_sharing.specs.Steps.{three_at}
 use Rattle.beet_server.proofs.parts.append_opened.Given as goal
 
 abbrev pub invariant-loop-k : goal.invariant-loop-k

@@ -1,11 +1,15 @@
-use Rattle.std.proofs.Common.{◌+◌}
+use Rattle.std.proofs.Common.{ℕ, ◌+◌}
 use Rattle.beet_field.specs.Trio.{member}
 use Rattle.beet_field.specs.declared.point.Point.TheVariants.{One, Two, Three}
 use Rattle.beet_field.specs.declared.trio.Trio.{Trio}
 use Rattle.beet_server.specs.Cores.{Core}
-use Rattle.beet_server.specs.Events.{all_delivered}
-use Rattle.beet_world.specs.Lockstep.{IsAtRound}
+use Rattle.beet_delivery.specs.Events.{all_delivered}
+use Rattle.beet_server.specs.Fits.{IsRound}
+use Rattle.beet_sharing.specs.Runs.{Setup}
+use Rattle.beet_world.specs.Lockstep.{AreAtRound, IsAtRound, MayTake}
 use Rattle.beet_world.proofs.Rounds.{by_point, hands-out, loud-then, sent-high, sent-low}
+use Rattle.beet_world.proofs.stepping.exchange.Given.{Over}
+use Rattle.beet_world.proofs.stepping.exchange.Goals.{After-send-three_one}
 use Rattle.beet_world.proofs.stepping.exchange.Goals as goal
 
 pub send-one_two-requires : goal.send-one_two-requires
@@ -20,82 +24,68 @@ pub send-three_one-requires : goal.send-three_one-requires
 send-three_one-requires g c =
     let r = c.requires in loud-then g.S.Script.batch_of r.o r.t Three c.args.cores.now.three (r.stand Three) r.is_round
 
+-- what each server may take, once all three have handed out their messages
+module _ (g : Over) (c : After-send-three_one g) (o : Setup) (t : ℕ) (is : IsRound o t) (stand : AreAtRound g.S.Script.batch_of o t c.args.cores.now) where
+  may-one : MayTake g.S.Script.batch_of c.send-one_two.new.core c.send-two_one.result.0 c.send-three_one.result.0
+  may-one = record {
+    o = o;
+    t = t;
+    s = One;
+    is_round = is;
+    waits =
+        hands-out g.S.Script.batch_of o t One c.args.cores.now.one c.send-one_two.new.core (stand One)
+        (c.send-one_two.ensures.fits o (all_delivered t) (stand One).fits) c.send-one_two.ensures.keeps.me c.send-one_two.ensures.moves;
+    is_low = sent-low g.S.Script.batch_of o t Two c.args.cores.now.two _ _ (stand Two) (c.send-two_one.ensures.messages o (all_delivered t) (stand Two).fits);
+    is_high = sent-low g.S.Script.batch_of o t Three c.args.cores.now.three _ _ (stand Three) (c.send-three_one.ensures.messages o (all_delivered t) (stand Three).fits);
+  }
+
+  may-two : MayTake g.S.Script.batch_of c.send-two_one.new.core c.send-one_two.result.0 c.send-three_one.result.1
+  may-two = record {
+    o = o;
+    t = t;
+    s = Two;
+    is_round = is;
+    waits =
+        hands-out g.S.Script.batch_of o t Two c.args.cores.now.two c.send-two_one.new.core (stand Two)
+        (c.send-two_one.ensures.fits o (all_delivered t) (stand Two).fits) c.send-two_one.ensures.keeps.me c.send-two_one.ensures.moves;
+    is_low = sent-low g.S.Script.batch_of o t One c.args.cores.now.one _ _ (stand One) (c.send-one_two.ensures.messages o (all_delivered t) (stand One).fits);
+    is_high = sent-high g.S.Script.batch_of o t Three c.args.cores.now.three _ _ (stand Three) (c.send-three_one.ensures.messages o (all_delivered t) (stand Three).fits);
+  }
+
+  may-three : MayTake g.S.Script.batch_of c.send-three_one.new.core c.send-one_two.result.1 c.send-two_one.result.1
+  may-three = record {
+    o = o;
+    t = t;
+    s = Three;
+    is_round = is;
+    waits =
+        hands-out g.S.Script.batch_of o t Three c.args.cores.now.three c.send-three_one.new.core (stand Three)
+        (c.send-three_one.ensures.fits o (all_delivered t) (stand Three).fits) c.send-three_one.ensures.keeps.me c.send-three_one.ensures.moves;
+    is_low = sent-high g.S.Script.batch_of o t One c.args.cores.now.one _ _ (stand One) (c.send-one_two.ensures.messages o (all_delivered t) (stand One).fits);
+    is_high = sent-high g.S.Script.batch_of o t Two c.args.cores.now.two _ _ (stand Two) (c.send-two_one.ensures.messages o (all_delivered t) (stand Two).fits);
+  }
+
 pub take_both-requires : goal.take_both-requires
 take_both-requires g c =
-    let next = g.S.Script.batch_of in
-    let r = c.requires in
-    let x = all_delivered r.t in
-    let old = c.args.cores.now in
-    let one = c.send-one_two.ensures in
-    let two = c.send-two_one.ensures in
-    let three = c.send-three_one.ensures in
-    record {
-      o = r.o;
-      t = r.t;
-      s = One;
-      is_round = r.is_round;
-      waits = hands-out next r.o r.t One old.one c.send-one_two.new.core (r.stand One) (one.fits r.o x (r.stand One).fits) one.keeps.me one.moves;
-      is_low = sent-low next r.o r.t Two old.two _ _ (r.stand Two) (two.messages r.o x (r.stand Two).fits);
-      is_high = sent-low next r.o r.t Three old.three _ _ (r.stand Three) (three.messages r.o x (r.stand Three).fits);
-    }
+    let r = c.requires in may-one g (goal.at.take_both-requires g c).After-send-three_one r.o r.t r.is_round r.stand
 
 pub take_both-requires-2 : goal.take_both-requires-2
 take_both-requires-2 g c =
-    let next = g.S.Script.batch_of in
-    let r = c.requires in
-    let x = all_delivered r.t in
-    let old = c.args.cores.now in
-    let one = c.send-one_two.ensures in
-    let two = c.send-two_one.ensures in
-    let three = c.send-three_one.ensures in
-    record {
-      o = r.o;
-      t = r.t;
-      s = Two;
-      is_round = r.is_round;
-      waits = hands-out next r.o r.t Two old.two c.send-two_one.new.core (r.stand Two) (two.fits r.o x (r.stand Two).fits) two.keeps.me two.moves;
-      is_low = sent-low next r.o r.t One old.one _ _ (r.stand One) (one.messages r.o x (r.stand One).fits);
-      is_high = sent-high next r.o r.t Three old.three _ _ (r.stand Three) (three.messages r.o x (r.stand Three).fits);
-    }
+    let r = c.requires in may-two g (goal.at.take_both-requires-2 g c).After-send-three_one r.o r.t r.is_round r.stand
 
 pub take_both-requires-3 : goal.take_both-requires-3
 take_both-requires-3 g c =
-    let next = g.S.Script.batch_of in
-    let r = c.requires in
-    let x = all_delivered r.t in
-    let old = c.args.cores.now in
-    let one = c.send-one_two.ensures in
-    let two = c.send-two_one.ensures in
-    let three = c.send-three_one.ensures in
-    record {
-      o = r.o;
-      t = r.t;
-      s = Three;
-      is_round = r.is_round;
-      waits = hands-out next r.o r.t Three old.three c.send-three_one.new.core (r.stand Three) (three.fits r.o x (r.stand Three).fits) three.keeps.me three.moves;
-      is_low = sent-high next r.o r.t One old.one _ _ (r.stand One) (one.messages r.o x (r.stand One).fits);
-      is_high = sent-high next r.o r.t Two old.two _ _ (r.stand Two) (two.messages r.o x (r.stand Two).fits);
-    }
+    let r = c.requires in may-three g (goal.at.take_both-requires-3 g c).After-send-three_one r.o r.t r.is_round r.stand
 
 pub returns-clause-passed : goal.returns-clause-passed
+unfolding may-one may-two may-three
 returns-clause-passed g c = λ o t is stand.
-    let next = g.S.Script.batch_of in
-    let x = all_delivered t in
-    let old = c.args.cores.now in
-    let one = c.send-one_two.ensures in
-    let two = c.send-two_one.ensures in
-    let three = c.send-three_one.ensures in
+    let sent = (goal.at.returns-clause-passed g c).After-send-three_one in
+    let one = may-one g sent o t is stand in
+    let two = may-two g sent o t is stand in
+    let three = may-three g sent o t is stand in
     let new : Trio (Core g.row.S.Denot) = record { one = c.take_both.new.core; two = c.take_both-2.new.core; three = c.take_both-3.new.core } in
-    by_point (λ s. IsAtRound next o (t + 1) s (member new s))
-    (c.take_both.ensures.passed o t One is
-    (hands-out next o t One old.one c.send-one_two.new.core (stand One) (one.fits o x (stand One).fits) one.keeps.me one.moves)
-    (sent-low next o t Two old.two _ _ (stand Two) (two.messages o x (stand Two).fits))
-    (sent-low next o t Three old.three _ _ (stand Three) (three.messages o x (stand Three).fits)))
-    (c.take_both-2.ensures.passed o t Two is
-    (hands-out next o t Two old.two c.send-two_one.new.core (stand Two) (two.fits o x (stand Two).fits) two.keeps.me two.moves)
-    (sent-low next o t One old.one _ _ (stand One) (one.messages o x (stand One).fits))
-    (sent-high next o t Three old.three _ _ (stand Three) (three.messages o x (stand Three).fits)))
-    (c.take_both-3.ensures.passed o t Three is
-    (hands-out next o t Three old.three c.send-three_one.new.core (stand Three) (three.fits o x (stand Three).fits) three.keeps.me three.moves)
-    (sent-high next o t One old.one _ _ (stand One) (one.messages o x (stand One).fits))
-    (sent-high next o t Two old.two _ _ (stand Two) (two.messages o x (stand Two).fits)))
+    by_point (λ s. IsAtRound g.S.Script.batch_of o (t + 1) s (member new s))
+    (c.take_both.ensures.passed o t One is one.waits one.is_low one.is_high)
+    (c.take_both-2.ensures.passed o t Two is two.waits two.is_low two.is_high)
+    (c.take_both-3.ensures.passed o t Three is three.waits three.is_low three.is_high)

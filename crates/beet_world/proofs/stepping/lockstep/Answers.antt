@@ -1,6 +1,6 @@
 use Rattle.std.proofs.Common.{◌≡◌, arith, refl, sym, ◌∙◌, ap}
 use Rattle.beet_gates.specs.Scripts.{bounds_of}
-use Rattle.beet_server.specs.Cores.{opening_of}
+use Rattle.beet_server.specs.Cores.{setup_of}
 use Rattle.beet_world.proofs.Beginning.{at-the-end, at-the-most, fresh-stand, goes-on, have-ended, may-pass}
 use Rattle.beet_world.proofs.stepping.lockstep.Goals as goal
 
@@ -16,13 +16,13 @@ loop-round-init g c =
 pub exchange-requires : goal.exchange-requires
 exchange-requires g c =
     let script = g.S.Script in
-    may-pass script.batch_of script.inputs_of script.rounds_of (opening_of script.batch_of script.inputs_of c.args.cores) c.loop-round._round c.loop-round.cores c.loop-round.invariant.stand
+    may-pass script.batch_of script.inputs_of script.rounds_of (setup_of script.batch_of script.inputs_of c.args.cores) c.loop-round._round c.loop-round.cores c.loop-round.invariant.stand
     (sym c.ended.ensures ∙ c.if-ended.false)
 
 pub loop-round-preserved : goal.loop-round-preserved
 loop-round-preserved g c =
     let script = g.S.Script in
-    let o = opening_of script.batch_of script.inputs_of c.args.cores in
+    let o = setup_of script.batch_of script.inputs_of c.args.cores in
     let inv = c.loop-round.invariant in
     let on = goes-on script.batch_of script.inputs_of script.rounds_of o c.loop-round._round c.loop-round.cores inv.stand (sym c.ended.ensures ∙ c.if-ended.false) in
     record {

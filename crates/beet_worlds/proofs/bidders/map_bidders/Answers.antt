@@ -1,5 +1,7 @@
-use Rattle.std.proofs.Common.{rules, ◌≡◌, map, length, refl, sym, ap, ◌∙◌, arith}
+use Rattle.std.proofs.Common.{All, rules, ◌≡◌, map, length, refl, sym, ap, ◌∙◌, arith}
+use Rattle.std.proofs.lemmas.List.Elements.{All-more, All-push}
 use Rattle.std.proofs.lemmas.Option.{slice_get_read}
+use Rattle.beet_words.specs.Words.{IsWord}
 use Rattle.beet_bids.specs.declared.book.Bidder.{Bidder}
 use Rattle.beet_worlds.proofs.EachMapped.{as-many, bidders-mapped, each-mapped-more, mark-at}
 use Rattle.beet_worlds.proofs.bidders.map_bidders.Goals as goal
@@ -34,9 +36,11 @@ loop-i-preserved c =
     (slice_get_read bidders (length bidders) c.loop-i.i c.index-bidders-i.result refl (omega (arith, few, lt, c.requires.count)) c.index-bidders-i.is)
     (slice_get_read others (length others) c.loop-i.i c.index-others-i.result refl (omega (arith, many, few, lt, c.requires.count)) c.index-others-i.is)
     (slice_get_read words (length words) c.loop-i.i c.index-words-i.result refl lt c.index-words-i.is)
-    c.in_ok-words_in_second.ensures in
+    c.in_ok-words_in_second.ensures.mapped in
     record {
       count = search rules;
+      below = All-more (λ list. All IsWord list) words c.loop-i.i c.index-words-i.result lt inv.below (rw (← c.index-words-i.is) c.in_ok-words_in_second.ensures.below);
+      words = rw items (All-push (λ list. All IsWord list) c.loop-i.mapped.items c.in_ok-words_in_second.field-0 inv.words c.in_ok-words_in_second.ensures.words);
       each = rw items more;
     }
 

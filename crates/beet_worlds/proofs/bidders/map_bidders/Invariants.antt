@@ -1,9 +1,12 @@
-use Rattle.std.proofs.Common.{◌≡◌, length}
+use Rattle.std.proofs.Common.{◌≡◌, All, length, take}
+use Rattle.beet_words.specs.Words.{IsWord}
 use Rattle.beet_worlds.proofs.EachMapped.{EachMapped}
 use Rattle.beet_worlds.proofs.bidders.map_bidders.Given as goal
 
 abbrev pub invariant-loop-i : goal.invariant-loop-i
 invariant-loop-i l = record {
   count : length l.mapped.items ≡ l.i;
+  below : All (λ list. All IsWord list) (take l.i l.words);
+  words : All (λ list. All IsWord list) l.mapped.items;
   each : EachMapped l.me l.grid.prices l.bidders l.others l.words l.mapped.items;
 }

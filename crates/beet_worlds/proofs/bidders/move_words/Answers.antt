@@ -10,15 +10,15 @@ loop-word-preserved c =
     let counted = c.count_drawn-drawn.ensures in
     record {
       few = grind (arith, few, counted);
-      moved_to = moved-more c.args.me (2 * c.args.grid.now.prices) c.args.first.now c.args.second.now c.as_slice-words.result.now c.loop-word.moved.items c.push.new.self.items
+      moved_to = moved-more c.args.me (2 * c.args.grid.now.prices) c.args.first.now c.args.second.now c.as_slice-words.result.now c.loop-word.moved c.push.new.self
           c.loop-word.word-index c.loop-word.drawn c.count_drawn-drawn.result c.word-item.result c.word_for.result
-          (omega arith) inv.moved_to c.word-item.is c.word_for.ensures c.in_ok-push.ensures.items counted;
+          (omega arith) inv.moved_to c.word-item.is c.word_for.ensures c.in_ok-push.ensures counted;
     }
 
 pub returns : goal.returns
 returns c =
     let same = c.as_slice-words.ensures.value in
     let enough : 2 * c.args.grid.now.prices ≤ length (accepted c.as_slice-words.result.now) = rw same c.requires.enough in
-    let all = moved-all c.args.me (2 * c.args.grid.now.prices) c.args.first.now c.args.second.now c.as_slice-words.result.now c.loop-word.moved.items c.loop-word.word-index
+    let all = moved-all c.args.me (2 * c.args.grid.now.prices) c.args.first.now c.args.second.now c.as_slice-words.result.now c.loop-word.moved c.loop-word.word-index
     c.loop-word.drawn (omega arith) enough c.loop-word.invariant.moved_to in
-    rw (c.of.ensures, ← same) all
+    rw (← same) all

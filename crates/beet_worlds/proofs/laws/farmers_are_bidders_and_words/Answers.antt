@@ -1,5 +1,6 @@
-use Rattle.beet_worlds.proofs.Drawn.{book-whole, farmers-words, words-told}
+use Rattle.beet_worlds.proofs.Drawn.{farmers-words, words-told}
 use Rattle.beet_worlds.proofs.laws.farmers_are_bidders_and_words.Goals as goal
+use Rattle.beet_book.proofs.FarmerLists.{book-whole}
 
 pub returns-clause-book : goal.returns-clause-book
 returns-clause-book c = book-whole

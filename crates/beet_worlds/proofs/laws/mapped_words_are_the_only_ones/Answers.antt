@@ -1,4 +1,4 @@
-use Rattle.beet_book.specs.Farmers.{book_of}
+use Rattle.beet_book.specs.Farmers.{book_with}
 use Rattle.beet_bids.specs.Books.{IsBook}
 use Rattle.beet_worlds.proofs.BidderFacts.{bidders-only, mapped-back}
 use Rattle.beet_worlds.proofs.MasksBack.{masks-back, masks-only}
@@ -16,5 +16,5 @@ returns-clause-sources_of_masks c = λ s first second words u v agree small smal
 
 pub returns-clause-sources_of_bidders : goal.returns-clause-sources_of_bidders
 returns-clause-sources_of_bidders c = λ s grid farmers u v book books words words' same a b.
-    let other : IsBook (book_of grid v) = rw same at book in
+    let other : IsBook (book_with grid v) = rw same at book in
     bidders-only s grid.prices farmers u v same (mapped-back s grid u farmers books book words a) (mapped-back s grid v farmers books other words' b)

@@ -5,9 +5,9 @@ use Rattle.beet_worlds.proofs.masks.turning_words.Given as goal
 
 abbrev pub invariant-loop-i : goal.invariant-loop-i
 invariant-loop-i l = record {
-  count : length l.turned.items ≡ l.i;
+  count : length l.turned ≡ l.i;
   rejected : l.rejected ≡ length (rejected_among (mask_at l.masks) l.i);
   few : l.rejected ≤ l.i;
-  turns : (k : ℕ) → k < l.i → slice_index l.turned.items k
+  turns : (k : ℕ) → k < l.i → slice_index l.turned k
       ≡ word_mapped l.first l.second (mask_at l.masks k) (slice_index l.words k) (compared_in l.first l.masks k);
 }

@@ -1,5 +1,5 @@
 use Rattle.std.proofs.Common.{ap, ◌∙◌, map}
-use Rattle.beet_load.proofs.FarmerLists.{farmers-bidders, farmers-words}
+use Rattle.beet_book.proofs.FarmerLists.{farmers-bidders, farmers-words}
 use Rattle.beet_load.proofs.keeping.Farmers.into_parts.Goals as goal
 
 pub returns-clause-bidders : goal.returns-clause-bidders

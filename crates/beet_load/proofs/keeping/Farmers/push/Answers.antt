@@ -1,5 +1,5 @@
 use Rattle.std.proofs.Common.{[], ◌∷◌, ◌++◌, ap, ◌∙◌}
-use Rattle.beet_load.proofs.FarmerLists.{farmers-pushed}
+use Rattle.beet_book.proofs.FarmerLists.{farmers-pushed}
 use Rattle.beet_load.proofs.keeping.Farmers.push.Goals as goal
 
 pub returns : goal.returns

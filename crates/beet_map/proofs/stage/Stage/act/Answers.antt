@@ -1,9 +1,9 @@
 use Rattle.std.proofs.Common.{◌≡◌, ◌+◌, ◌++◌, List, ap, ◌∙◌}
 use Rattle.beet_field.specs.Trio.{member, trio_of}
 use Rattle.beet_shamir.specs.declared.Line.{Line}
-use Rattle.beet_server.specs.Runs.{Shared, opened_by}
+use Rattle.beet_sharing.specs.Runs.{Shared, opened_by}
 use Rattle.beet_map.specs.Steps.{lines_gained}
-use Rattle.beet_map.specs.Worlds.{shares_of}
+use Rattle.beet_map.specs.Secrets.{shares_of}
 use Rattle.beet_map.proofs.Gained.{acted}
 use Rattle.beet_map.proofs.stage.Stage.act.Goals as goal
 

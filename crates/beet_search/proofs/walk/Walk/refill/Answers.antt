@@ -31,7 +31,7 @@ pub returns-then-step-compare_rounds : goal.returns-then-step-compare_rounds
 returns-then-step-compare_rounds c = rw (facts.batch-borrow c.args.self.now c.in-Borrow.c c.in-Borrow.is c.args.step) (search rules)
 
 pub returns-else-step-compare_rounds : goal.returns-else-step-compare_rounds
-returns-else-step-compare_rounds c = rw (facts.past-borrow c.args.self.now c.in-Borrow.c c.in-Borrow.is c.args.step (omega (arith, facts.compare-rounds c.args.self.now.gates c.requires.chain))) (search rules)
+returns-else-step-compare_rounds c = rw (facts.past-borrow c.args.self.now c.in-Borrow.c c.in-Borrow.is c.args.step (omega (arith, c.compare_rounds.ensures))) (search rules)
 
 pub returns-in-Ended : goal.returns-in-Ended
 returns-in-Ended c = rw (facts.batch-ended c.args.self.now c.in-Ended.field-0 c.in-Ended.is c.args.step) (search rules)

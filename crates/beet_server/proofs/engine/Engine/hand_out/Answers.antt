@@ -2,7 +2,7 @@ use Rattle.std.proofs.Common.{◌≡◌, ◌<◌, subst, length, ap, ◌∙◌, 
 use Rattle.beet_words.specs.Tapes.{left_of}
 use Rattle.beet_words.proofs.DrawnFrom.{left-drawn}
 use Rattle.beet_gates.specs.Scripts.{size_of}
-use Rattle.beet_server.specs.Runs.{draws_in}
+use Rattle.beet_sharing.specs.Runs.{draws_in}
 use Rattle.beet_server.specs.Steps.{Work}
 use Rattle.beet_server.proofs.Soundness.{hands-sound, length-numbers_for, still-going}
 use Rattle.beet_gates.specs.Clear.{is_end}

@@ -1,48 +1,53 @@
-use Rattle.std.proofs.Common.{◌≡◌, ◌+◌, length, length-append, ap, ◌∙◌, arith, true, false}
+use Rattle.std.proofs.Common.{◌≡◌, ◌+◌, ℕ, List, length, length-append, ap, ◌∙◌, arith, true, false}
 use Rattle.beet_gates.specs.Clear.{with_lets, is_end}
 use Rattle.beet_gates.specs.Scripts.{revealed}
 use Rattle.beet_gates.specs.declared.Batch.{Batch}
-use Rattle.beet_server.specs.Steps.{Work, batch_of, numbers_opened}
+use Rattle.beet_server.specs.Steps.{Work, batch_of}
+use Rattle.beet_sharing.specs.Steps.{numbers_opened}
 use Rattle.beet_server.proofs.Soundness.{next-lets, next-room, passes-sound}
+use Rattle.beet_server.proofs.engine.Engine.pass.Given.{Over}
+use Rattle.beet_server.proofs.engine.Engine.pass.Goals.{After-absorb}
 use Rattle.beet_server.proofs.engine.Engine.pass.Goals as goal
+
+-- what the round has brought
+module _ (g : Over) (c : After-absorb g) where
+  is-handed : c.self.inside.handed ≡ true
+  is-handed = ap (λ (w : Work g.row.S.Denot). w.handed) c.self.view_is ∙ c.requires.handed
+
+  goes-on : is_end c.self.inside.batch.act ≡ false
+  goes-on =
+      ap (λ (b : Batch). is_end b.act) c.self.invariant.coming ∙ ap (λ (w : Work g.row.S.Denot). is_end (batch_of g.S.Script.batch_of w).act) c.self.view_is
+      ∙ c.requires.goes
+
+  abbrev new_numbers : List ℕ
+  new_numbers = numbers_opened c.self.inside.batch.act c.of_sender-one.result.now c.of_sender-two.result.now c.of_sender-three.result.now
+
+  count : length new_numbers ≡ revealed c.self.inside.batch.act
+  count =
+      omega (arith, ap length c.absorb.ensures.opened, length-append c.self.inside.opened.items new_numbers, c.absorb.ensures.opened_count)
 
 pub append_lets-requires-clause-below : goal.append_lets-requires-clause-below
 append_lets-requires-clause-below g c =
-    let s = c.self.invariant in
-    let handed : c.self.inside.handed ≡ true = ap (λ (w : Work g.row.S.Denot). w.handed) c.self.view_is ∙ c.requires.handed in
-    let goes : is_end c.self.inside.batch.act ≡ false =
-    ap (λ (b : Batch). is_end b.act) s.coming ∙ ap (λ (w : Work g.row.S.Denot). is_end (batch_of g.S.Script.batch_of w).act) c.self.view_is ∙ c.requires.goes in
-    let new = numbers_opened c.self.inside.batch.act c.of_sender-one.result.now c.of_sender-two.result.now c.of_sender-three.result.now in
-    let count : length new ≡ revealed c.self.inside.batch.act =
-    omega (arith, ap length c.absorb.ensures.opened, length-append c.self.inside.opened.items new, c.absorb.ensures.opened_count) in
+    let after = (goal.at.append_lets-requires-clause-below g c).After-absorb in
     let batch_is = c.refill.ensures ∙ ap (λ l. g.S.Script.batch_of c.self.inside.script (c.self.inside.round + 1) l) c.as_slice.ensures.value in
     let lets_are = c.as_slice-2.ensures.value ∙ ap (λ (b : Batch). b.lets.items) batch_is in
-    rw lets_are (next-lets _ _ _ _ _ _ _ _ _ _ _ _ _ s handed goes _ _ new c.absorb.ensures.wires_count c.absorb.ensures.opened count)
+    rw lets_are (next-lets _ _ _ _ _ _ _ _ _ _ _ _ _ c.self.invariant (is-handed g after) (goes-on g after) _ _ (new_numbers g after) c.absorb.ensures.wires_count
+    c.absorb.ensures.opened (count g after))
 
 pub append_lets-requires-clause-room : goal.append_lets-requires-clause-room
 append_lets-requires-clause-room g c =
-    let s = c.self.invariant in
-    let handed : c.self.inside.handed ≡ true = ap (λ (w : Work g.row.S.Denot). w.handed) c.self.view_is ∙ c.requires.handed in
-    let goes : is_end c.self.inside.batch.act ≡ false =
-    ap (λ (b : Batch). is_end b.act) s.coming ∙ ap (λ (w : Work g.row.S.Denot). is_end (batch_of g.S.Script.batch_of w).act) c.self.view_is ∙ c.requires.goes in
-    let new = numbers_opened c.self.inside.batch.act c.of_sender-one.result.now c.of_sender-two.result.now c.of_sender-three.result.now in
-    let count : length new ≡ revealed c.self.inside.batch.act =
-    omega (arith, ap length c.absorb.ensures.opened, length-append c.self.inside.opened.items new, c.absorb.ensures.opened_count) in
+    let after = (goal.at.append_lets-requires-clause-room g c).After-absorb in
     let batch_is = c.refill.ensures ∙ ap (λ l. g.S.Script.batch_of c.self.inside.script (c.self.inside.round + 1) l) c.as_slice.ensures.value in
     let lets_are = c.as_slice-2.ensures.value ∙ ap (λ (b : Batch). b.lets.items) batch_is in
     rw (lets_are, c.absorb.ensures.wires_capacity)
-    (next-room _ _ _ _ _ _ _ _ _ _ _ _ _ s handed goes _ _ new c.absorb.ensures.wires_count c.absorb.ensures.opened count)
+    (next-room _ _ _ _ _ _ _ _ _ _ _ _ _ c.self.invariant (is-handed g after) (goes-on g after) _ _ (new_numbers g after) c.absorb.ensures.wires_count
+    c.absorb.ensures.opened (count g after))
 
 pub invariant_of-self : goal.invariant_of-self
 invariant_of-self g c =
-    let s = c.self.invariant in
-    let handed : c.self.inside.handed ≡ true = ap (λ (w : Work g.row.S.Denot). w.handed) c.self.view_is ∙ c.requires.handed in
-    let goes : is_end c.self.inside.batch.act ≡ false =
-    ap (λ (b : Batch). is_end b.act) s.coming ∙ ap (λ (w : Work g.row.S.Denot). is_end (batch_of g.S.Script.batch_of w).act) c.self.view_is ∙ c.requires.goes in
-    let new = numbers_opened c.self.inside.batch.act c.of_sender-one.result.now c.of_sender-two.result.now c.of_sender-three.result.now in
-    let count : length new ≡ revealed c.self.inside.batch.act =
-    omega (arith, ap length c.absorb.ensures.opened, length-append c.self.inside.opened.items new, c.absorb.ensures.opened_count) in
+    let after = (goal.at.invariant_of-self g c).After-absorb in
     let batch_is = c.refill.ensures ∙ ap (λ l. g.S.Script.batch_of c.self.inside.script (c.self.inside.round + 1) l) c.as_slice.ensures.value in
     rw (c.append_lets.ensures.capacity, c.absorb.ensures.wires_capacity, c.absorb.ensures.opened_capacity)
-    (passes-sound _ _ _ _ _ _ _ _ _ _ _ _ _ s handed goes _ _ new c.absorb.ensures.wires_count c.absorb.ensures.opened count
+    (passes-sound _ _ _ _ _ _ _ _ _ _ _ _ _ c.self.invariant (is-handed g after) (goes-on g after) _ _ (new_numbers g after) c.absorb.ensures.wires_count
+    c.absorb.ensures.opened (count g after)
     _ _ _ batch_is (c.append_lets.ensures.wires ∙ ap (λ l. with_lets c.absorb.new.wires.items l) c.as_slice-2.ensures.value) c.clear.ensures)

@@ -2,6 +2,7 @@ use Rattle.std.proofs.Common.{◌≡◌, ◌*◌, ◌^◌, ◌<◌, ◌≤◌, �
 use Rattle.beet_gates.specs.Clear.{with_lets}
 use Rattle.beet_gates.specs.Scripts.{bounds_of}
 use Rattle.beet_gates.specs.declared.Batch.{Batch}
+use Rattle.beet_gates.specs.declared.TheConstants.{MOST_NUMBERS}
 use Rattle.beet_server.proofs.Soundness.{first-room, first-lets, first-sound}
 use Rattle.beet_server.proofs.engine.Engine.start.Goals as goal
 
@@ -32,7 +33,7 @@ invariant_of-result g c =
     let lets_are = c.as_slice.ensures.value in
     let wires_fit : g.S.Script.wires_of c.args.script ≤ vec_capacity c.append_lets.new.wires =
     omega (arith, c.append_lets.ensures.capacity, c.append_all.ensures.capacity, c.in_ok-wires.ensures.exact, c.wires.ensures) in
-    let opened_fit : 64 * g.S.Script.rounds_of c.args.script ≤ vec_capacity c.in_ok-opened.opened =
+    let opened_fit : MOST_NUMBERS * g.S.Script.rounds_of c.args.script ≤ vec_capacity c.in_ok-opened.opened =
     omega (arith, c.in_ok-opened.ensures.exact, c.rounds.ensures) in
     let small : g.S.Script.rounds_of c.args.script < 2 ^ 32 = omega (arith, c.rounds.type_inv, c.rounds.ensures) in
     first-sound (g.S.Script.batch_of c.args.script)

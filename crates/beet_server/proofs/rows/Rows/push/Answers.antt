@@ -1,13 +1,13 @@
 use Rattle.std.proofs.Common.{arith, ap, sym, ◌∙◌, ◌≡◌, ◌+◌, ◌++◌, ◌∷◌, [], length, length-append}
-use Rattle.beet_server.specs.Rows.{Kept}
+use Rattle.beet_server.specs.Rows.{Rows}
 use Rattle.beet_server.proofs.RowFacts.{rows-more, ends-more, length-rows}
 use Rattle.beet_server.proofs.rows.Rows.push.Goals as goal
 
 pub push_reserved-requires : goal.push_reserved-requires
 push_reserved-requires c =
     let count : length c.args.self.now.rows ≡ length c.self.inside.ends.items =
-    ap (λ (v : Kept). length v.rows) (sym c.self.view_is) ∙ length-rows c.self.inside.items.items 0 c.self.inside.ends.items in
-    let room = ap (λ (v : Kept). v.ends_room) c.self.view_is in
+    ap (λ (v : Rows). length v.rows) (sym c.self.view_is) ∙ length-rows c.self.inside.items.items 0 c.self.inside.ends.items in
+    let room = ap (λ (v : Rows). v.ends_room) c.self.view_is in
     omega (arith, count, room, c.requires.ends)
 
 pub invariant_of-self : goal.invariant_of-self
@@ -23,4 +23,4 @@ returns-clause-rows c =
     omega (arith, c.len-end.ensures, ap length c.append_all.ensures.items, length-append c.self.inside.items.items c.args.row.now) in
     rw (c.push_reserved.ensures.items, n, c.append_all.ensures.items)
     (rows-more c.self.inside.items.items c.args.row.now 0 c.self.inside.ends.items c.self.invariant)
-    ∙ ap (λ (v : Kept). v.rows ++ c.args.row.now ∷ []) c.self.view_is
+    ∙ ap (λ (v : Rows). v.rows ++ c.args.row.now ∷ []) c.self.view_is

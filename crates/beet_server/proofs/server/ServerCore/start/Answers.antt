@@ -1,5 +1,5 @@
 use Rattle.std.proofs.Common.{sym, subst}
-use Rattle.beet_server.specs.Events.{nothing}
+use Rattle.beet_delivery.specs.Events.{nothing}
 use Rattle.beet_server.specs.Cores.{Core, IsFresh}
 use Rattle.beet_server.specs.Fits.{Fits}
 use Rattle.beet_server.proofs.Starting.{started, is-fresh, begins}

@@ -4,8 +4,8 @@ use Rattle.beet_field.specs.Trio.{member}
 use Rattle.beet_field.specs.declared.trio.Trio.{Trio}
 use Rattle.beet_gates.specs.Scripts.{bounds_of}
 use Rattle.beet_round.specs.declared.message.RoundMessage.{RoundMessage}
-use Rattle.beet_server.specs.Cores.{Core, opening_of}
-use Rattle.beet_server.proofs.Rounds.{lawful-rounds}
+use Rattle.beet_server.specs.Cores.{Core, setup_of}
+use Rattle.beet_sharing.proofs.Rounds.{lawful-rounds}
 use Rattle.beet_world.specs.Marks.{unmarked}
 use Rattle.beet_world.proofs.Founding.{HasHandedOut, world-begins}
 use Rattle.beet_world.proofs.Rounds.{by_point}
@@ -18,7 +18,7 @@ invariant_of-result g c =
     let start = c.args.cores in
     let first = start.one.script in
     let f = c.requires in
-    let o = opening_of next script.inputs_of start in
+    let o = setup_of next script.inputs_of start in
     let bounds = bounds_of (script.wires_of first) (script.masks_of first) (script.coefficients_of first) in
     let h = (lawful-rounds o bounds (script.rounds_of first) (script.inputs_of first) (g.met.S.Script.lawful first)).0 in
     let cores : Trio (Core g.row.S.Denot) = record { one = c.hand_out.new.core; two = c.hand_out-2.new.core; three = c.hand_out-3.new.core } in

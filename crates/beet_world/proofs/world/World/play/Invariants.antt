@@ -1,5 +1,5 @@
 use Rattle.std.proofs.Common.{◌≡◌, drop}
-use Rattle.beet_server.specs.Events.{after_from}
+use Rattle.beet_delivery.specs.Events.{after_from}
 use Rattle.beet_world.specs.Worlds.{delivered_in, named_in, rounds_in}
 use Rattle.beet_world.proofs.world.World.play.Given as goal
 

@@ -2,8 +2,8 @@ use Rattle.std.proofs.Common.{◌≡◌, ◌≤◌, ◌+◌, arith, refl, sym, �
 use Rattle.std.specs.Prelude.{min}
 use Rattle.beet_field.specs.Trio.{member}
 use Rattle.beet_gates.specs.Scripts.{bounds_of}
-use Rattle.beet_server.specs.Events.{undelivered}
-use Rattle.beet_server.proofs.Undelivered.{passed_all}
+use Rattle.beet_delivery.specs.Events.{undelivered}
+use Rattle.beet_delivery.proofs.Undelivered.{passed_all}
 use Rattle.beet_world.specs.Missing.{is_missing, six}
 use Rattle.beet_world.specs.Worlds.{World, delivered_in, rounds_in}
 use Rattle.beet_world.proofs.Delivered.{two-rounds}

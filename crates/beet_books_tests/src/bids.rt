@@ -1,0 +1,316 @@
+use crate::samples::{Refusal, expect_refusal, grid_of};
+use beet_bids::{Bidder, Book, Curve, Grid, Outcome, outcome, read_auction, read_bid};
+use beet_forms::ReadFault;
+use beet_gates::Gates;
+use std::alloc::{AllocError, Global};
+use std::process::Abort;
+use std::test::Fail;
+
+/// The sizes of grids, and how many comparisons find a price of theirs.
+const COMPARISONS: [(u32, u32); 7] = [
+    (1, 1),
+    (2, 2),
+    (3, 2),
+    (4, 3),
+    (250, 8),
+    (4_095, 12),
+    (4_096, 13),
+];
+
+/// Makes the grid of each case.
+fn expect_comparisons(rt: &impl Abort, cases: &[(u32, u32)]) -> Result<(), Fail> {
+    for (prices, wanted) in cases {
+        assert!(rt; grid_of(*prices)?.comparisons() == *wanted, "of {prices}");
+    }
+    Ok(())
+}
+
+/// Prices that the grid of 100, 105, 110 and 115 has not.
+const NO_PRICES: [u64; 5] = [95, 99, 114, 116, 120];
+
+/// Expects that the grid has none of the prices.
+fn expect_no_places(rt: &impl Abort, grid: &Grid, prices: &[u64]) {
+    for price in prices {
+        assert!(rt; grid.place(*price).is_none(), "at {price}");
+    }
+}
+
+#[test]
+fn grids(rt: HostRuntime) -> Result<(), Fail> {
+    let grid = grid_of(4)?;
+    assert!(rt; (grid.base(), grid.tick(), grid.prices()) == (100, 5, 4));
+    assert!(rt; grid.gates() == Gates::Chain);
+    assert!(rt; grid.place(115) == Some(3));
+    expect_no_places(&rt, &grid, &NO_PRICES);
+    expect_comparisons(&rt, &COMPARISONS)
+}
+
+/// An auction of four prices with chains of gates.
+const CHAIN: &str = "beet-auction,1\nbase,100\ntick,5\nprices,4\ngates,chain\n";
+
+/// The same with trees of gates.
+const TREE: &str = "beet-auction,1\nbase,100\ntick,5\nprices,4\ngates,tree\n";
+
+/// Auction files, and how they are refused.
+const AUCTIONS: [(&str, Refusal); 13] = [
+    (CHAIN, None),
+    (TREE, None),
+    ("", Some((1, 1))),
+    ("beet-bid,1\n", Some((1, 1))),
+    ("beet-auction,2\n", Some((1, 4))),
+    ("beet-auction,1\ntick,5\n", Some((2, 2))),
+    ("beet-auction,1\nbase,1000000000001\n", Some((2, 3))),
+    ("beet-auction,1\nbase,100\ntick,0\n", Some((3, 3))),
+    (
+        "beet-auction,1\nbase,100\ntick,5\nprices,4097\n",
+        Some((4, 3)),
+    ),
+    ("beet-auction,1\nbase,100\ntick,5\nprices,4\n", Some((5, 2))),
+    (
+        "beet-auction,1\nbase,100\ntick,5\nprices,4\ngates,trees\n",
+        Some((5, 3)),
+    ),
+    (
+        "beet-auction,1\nbase,100\ntick,5\nprices,4\ngates,\n",
+        Some((5, 3)),
+    ),
+    (
+        "beet-auction,1\nbase,100\ntick,5\nprices,4\ngates,chain\nmore,1\n",
+        Some((6, 2)),
+    ),
+];
+
+/// Why an auction file is refused.
+fn auction_fault(rt: &impl Abort, alloc: Global, text: &str) -> Option<ReadFault> {
+    assert!(rt; text.len() <= 1_000);
+    read_auction(alloc, text.as_bytes()).err()
+}
+
+/// Reads the auction file of each case.
+fn expect_auctions(rt: &impl Abort, alloc: Global, cases: &[(&str, Refusal)]) {
+    for (text, wanted) in cases {
+        expect_refusal(rt, auction_fault(rt, alloc, text), *wanted, text);
+    }
+}
+
+#[test]
+fn auctions(rt: HostRuntime) {
+    expect_auctions(&rt, rt.alloc(), &AUCTIONS);
+}
+
+/// The kind of gates of an auction file, if it is read.
+fn gates_in(rt: &impl Abort, alloc: Global, text: &str) -> Option<Gates> {
+    assert!(rt; text.len() <= 1_000);
+    Some(read_auction(alloc, text.as_bytes()).ok()?.gates())
+}
+
+#[test]
+fn kinds_of_gates(rt: HostRuntime) {
+    assert!(rt; gates_in(&rt, rt.alloc(), CHAIN) == Some(Gates::Chain));
+    assert!(rt; gates_in(&rt, rt.alloc(), TREE) == Some(Gates::Tree));
+}
+
+/// Bid files at four prices, and how they are refused.
+const BIDS: [(&str, Refusal); 14] = [
+    ("", Some((1, 1))),
+    ("beet-bid,2", Some((1, 1))),
+    ("beet-bid,1", Some((2, 8))),
+    ("beet-bid,1\n100,5", Some((2, 2))),
+    ("beet-bid,1\n100,05,0", Some((2, 2))),
+    ("beet-bid,1\n107,1,0", Some((2, 3))),
+    (
+        "beet-bid,1\n999999999999999999999999999999,1,0",
+        Some((2, 3)),
+    ),
+    ("beet-bid,1\n105,1,0", Some((2, 8))),
+    ("beet-bid,1\n100,5,0\n100,4,0", Some((3, 4))),
+    ("beet-bid,1\n100,281474976710656,0", Some((2, 7))),
+    ("beet-bid,1\n100,281474976710655,0", None),
+    ("beet-bid,1\n100,5,0\n105,6,0", Some((3, 5))),
+    ("beet-bid,1\n100,0,20\n105,0,20\n110,0,19", Some((4, 6))),
+    ("beet-bid,1\n100,0,20\n105,0,20\n110,0,20", None),
+];
+
+/// The curve of a bid file.
+fn curve_of(rt: &impl Abort, alloc: Global, grid: &Grid, text: &str) -> Result<Curve, ReadFault> {
+    assert!(rt; text.len() <= 1_000);
+    read_bid(alloc, grid, text.as_bytes())
+}
+
+/// Reads the bid file of each case.
+fn expect_bids(rt: &impl Abort, alloc: Global, grid: &Grid, cases: &[(&str, Refusal)]) {
+    for (text, wanted) in cases {
+        expect_refusal(rt, curve_of(rt, alloc, grid, text).err(), *wanted, text);
+    }
+}
+
+/// What is bought and sold at each price of a curve.
+const QUANTITIES: [(u64, u64); 4] = [(45, 0), (45, 0), (30, 7), (30, 7)];
+
+/// Compares the quantities of a curve from this place on.
+fn expect_curve(rt: &impl Abort, grid: &Grid, curve: &Curve, wanted: &[(u64, u64)]) {
+    assert!(rt; curve.is_of(grid));
+    assert!(rt; grid.prices() as usize == wanted.len());
+    for place in 0..grid.prices() {
+        let found = (curve.buy(place), curve.sell(place));
+        assert!(rt; found == wanted[place as usize], "at {place}");
+    }
+}
+
+#[test]
+fn bids(rt: HostRuntime) -> Result<(), Fail> {
+    let grid = grid_of(4)?;
+    expect_bids(&rt, rt.alloc(), &grid, &BIDS);
+    let text = "beet-bid,1\n100,45,0\n110,30,7\n";
+    let curve = curve_of(&rt, rt.alloc(), &grid, text)?.copy(rt.alloc())?;
+    expect_curve(&rt, &grid, &curve, &QUANTITIES);
+    Ok(())
+}
+
+/// Bids, each as a file.
+const ANNA: &str = "beet-bid,1\n100,45,0\n110,30,0\n115,10,0";
+
+const BO: &str = "beet-bid,1\n100,0,0\n105,0,20\n110,0,40\n115,0,60";
+
+const CARL: &str = "beet-bid,1\n100,5,0\n115,0,0";
+
+const TIE: &str = "beet-bid,1\n100,50,0\n105,30,30\n110,20,40\n115,10,50";
+
+const SHORT: &str = "beet-bid,1\n100,50,0\n105,50,10\n110,50,20\n115,50,49";
+
+/// Numbers of prices, the bids of a book, and its outcome.
+const BOOKS: [(u32, &[&str], Outcome); 6] = [
+    (
+        4,
+        &[ANNA, BO, CARL],
+        Outcome::Price {
+            place: 2,
+            price: 110,
+            volume: 35,
+        },
+    ),
+    (
+        4,
+        &[],
+        Outcome::Price {
+            place: 0,
+            price: 100,
+            volume: 0,
+        },
+    ),
+    (
+        4,
+        &[TIE],
+        Outcome::Price {
+            place: 1,
+            price: 105,
+            volume: 30,
+        },
+    ),
+    (4, &[SHORT], Outcome::No),
+    (
+        1,
+        &["beet-bid,1\n100,0,0"],
+        Outcome::Price {
+            place: 0,
+            price: 100,
+            volume: 0,
+        },
+    ),
+    (1, &["beet-bid,1\n100,1,0"], Outcome::No),
+];
+
+/// The bidders with these bids.
+fn bidders_of(
+    rt: &impl Abort,
+    alloc: Global,
+    grid: &Grid,
+    bids: &[&str],
+) -> Result<Vec<Bidder>, ReadFault> {
+    let mut bidders = Vec::new(alloc);
+    for bid in bids {
+        let curve = curve_of(rt, alloc, grid, bid)?;
+        bidders.push(Bidder { known: None, curve })?;
+    }
+    Ok(bidders)
+}
+
+/// Whether these bidders have this outcome.
+fn has_outcome(grid: Grid, bidders: Vec<Bidder>, wanted: Outcome) -> bool {
+    Book::new(grid, bidders).is_some_and(|book| outcome(&book) == wanted)
+}
+
+/// Clears the book of each case.
+fn expect_outcomes(
+    rt: &impl Abort,
+    alloc: Global,
+    cases: &[(u32, &[&str], Outcome)],
+) -> Result<(), Fail> {
+    for (prices, bids, wanted) in cases {
+        let grid = grid_of(*prices)?;
+        let bidders = bidders_of(rt, alloc, &grid, bids)?;
+        assert!(rt; has_outcome(grid, bidders, *wanted));
+    }
+    Ok(())
+}
+
+#[test]
+fn outcomes(rt: HostRuntime) -> Result<(), Fail> {
+    expect_outcomes(&rt, rt.alloc(), &BOOKS)
+}
+
+/// How many bidders a book has at most.
+const MOST: usize = 2_000;
+
+/// The most bidders with this curve.
+fn many_of(alloc: Global, curve: &Curve) -> Result<Vec<Bidder>, AllocError> {
+    let mut bidders = Vec::new(alloc);
+    for _ in 0..MOST {
+        let curve = curve.copy(alloc)?;
+        bidders.push(Bidder { known: None, curve })?;
+    }
+    Ok(bidders)
+}
+
+/// Compares how many bidders a book has, and its outcome.
+fn expect_full(rt: &impl Abort, book: &Book, wanted: Outcome) {
+    assert_eq!(rt; book.bidders().len(), MOST);
+    assert!(rt; outcome(book) == wanted);
+}
+
+/// Clears the largest book, where all bidders have this curve.
+fn expect_largest_of(
+    rt: &impl Abort,
+    alloc: Global,
+    grid: Grid,
+    curve: &Curve,
+    wanted: Outcome,
+) -> Result<(), Fail> {
+    let book = Book::new(grid, many_of(alloc, curve)?).ok_or("no book")?;
+    expect_full(rt, &book, wanted);
+    Ok(())
+}
+
+/// Clears the largest book at one price, where all bids are this one.
+fn expect_largest(rt: &impl Abort, alloc: Global, bid: &str, wanted: Outcome) -> Result<(), Fail> {
+    let grid = grid_of(1)?;
+    let curve = curve_of(rt, alloc, &grid, bid)?;
+    expect_largest_of(rt, alloc, grid, &curve, wanted)
+}
+
+#[test]
+fn largest_book(rt: HostRuntime) -> Result<(), Fail> {
+    let alloc = rt.alloc();
+    expect_largest(&rt, alloc, "beet-bid,1\n100,281474976710655,0", Outcome::No)?;
+    let both = "beet-bid,1\n100,281474976710655,281474976710655";
+    expect_largest(
+        &rt,
+        alloc,
+        both,
+        Outcome::Price {
+            place: 0,
+            price: 100,
+            volume: 562_949_953_421_310_000,
+        },
+    )
+}

@@ -1,0 +1,330 @@
+ghost use Rattle.std.specs.Prelude.{◌*◌, All, IfOk};
+ghost use Rattle.beet_bids.specs.Curves.{IsOfGrid};
+ghost use Rattle.beet_book.specs.Dealing.{HasLengths};
+
+use crate::samples::{POINTS, Refusal, are, expect_refusal, grid_of, numbered_rows, tape_of_eight};
+use beet_bids::{Curve, Grid, read_bid};
+use beet_book::{
+    BidderSource, Dealt, Entry, Servers, Totals, deal_bidder, deal_many, read_book, read_servers,
+};
+use beet_field::{Point, Trio};
+use beet_forms::ReadFault;
+use beet_shamir::recombine;
+use beet_words::{FeList, Tape};
+use std::alloc::{AllocError, Global};
+use std::process::Abort;
+use std::test::Fail;
+
+/// Servers files, and how they are refused.
+const SERVERS: [(&str, Refusal); 11] = [
+    ("beet-servers,1\n", Some((2, 2))),
+    ("beet-servers,1\n2,seed,zz\n", Some((2, 2))),
+    ("beet-servers,1\n1,seed,zz\n", Some((2, 3))),
+    ("beet-servers,1\n1,tape,c\n", Some((2, 3))),
+    ("beet-servers,1\n1,tape,c,m\n", Some((3, 2))),
+    ("beet-servers,1\nbundle\n", Some((2, 3))),
+    ("beet-servers,1\nbundle,w\nbundle,w\n", Some((3, 5))),
+    (
+        "beet-servers,1\n1,tape,c,m\n2,tape,c,m\n3,tape,c,m\n4\n",
+        Some((5, 5)),
+    ),
+    ("beet-book,1\n", Some((1, 1))),
+    (THREE, None),
+    (BUNDLE, None),
+];
+
+/// The servers file of a seed and four tapes, and that of a bundle.
+const THREE: &str =
+    "beet-servers,1\n1,seed,0a0A0a0a0a0a0a0a0a0a0a0a0a0a0a0a0a0a0a0a0a0a0a0a0a0a0a0a0a0a0a0a\n2,tape,c,m\n3,tape,d,n\n";
+
+const BUNDLE: &str = "beet-servers,1\nbundle,w\n";
+
+/// What a servers file says.
+fn servers_of(rt: &impl Abort, alloc: Global, text: &str) -> Result<Servers, ReadFault> {
+    assert!(rt; text.len() <= 4_096);
+    read_servers(alloc, text.as_bytes())
+}
+
+/// Reads the servers file of each case.
+fn expect_servers(rt: &impl Abort, alloc: Global, cases: &[(&str, Refusal)]) {
+    for (text, wanted) in cases {
+        expect_refusal(rt, servers_of(rt, alloc, text).err(), *wanted, text);
+    }
+}
+
+/// Whether a servers file names the words of each server.
+fn says_three(rt: &impl Abort, alloc: Global, text: &str) -> Result<bool, ReadFault> {
+    Ok(matches!(servers_of(rt, alloc, text)?, Servers::Three(_)))
+}
+
+/// Whether a servers file names a bundle.
+fn says_bundle(rt: &impl Abort, alloc: Global, text: &str) -> Result<bool, ReadFault> {
+    Ok(matches!(servers_of(rt, alloc, text)?, Servers::Bundle(_)))
+}
+
+#[test]
+fn servers(rt: HostRuntime) -> Result<(), Fail> {
+    expect_servers(&rt, rt.alloc(), &SERVERS);
+    assert!(rt; says_three(&rt, rt.alloc(), THREE)?);
+    assert!(rt; says_bundle(&rt, rt.alloc(), BUNDLE)?);
+    Ok(())
+}
+
+/// Books, and how they are refused.
+const BOOKS: [(&str, Refusal); 6] = [
+    (
+        "beet-book,1\nanna,0,anna.bid,tape,anna.tape\nbo,0,bo.bid,tape\n",
+        Some((3, 2)),
+    ),
+    (
+        "beet-book,1\nanna,0,anna.bid,tape,anna.tape\nbo,4,bo.bid,cup,w\n",
+        Some((3, 2)),
+    ),
+    (
+        "beet-book,1\nanna,0,anna.bid,tape,anna.tape\nbo,0,bo.bid,cup,w\n",
+        Some((3, 3)),
+    ),
+    (
+        "beet-book,1\nanna,0,anna.bid,tape,anna.tape\nanna,0,bo.bid,seed,0a\n",
+        Some((3, 3)),
+    ),
+    (
+        "beet-book,1\nanna,0,anna.bid,tape,anna.tape\nanna,0,anna.bid,tape,anna.tape\n",
+        Some((3, 4)),
+    ),
+    (ANNA_AND_BO, None),
+];
+
+/// A book of two bidders.
+const ANNA_AND_BO: &str =
+    "beet-book,1\nanna,0,anna.bid,tape,anna.tape\nbo,3,bo.bid,seed,0a0A0a0a0a0a0a0a0a0a0a0a0a0a0a0a0a0a0a0a0a0a0a0a0a0a0a0a0a0a0a0a\n";
+
+/// The entries of a book.
+fn entries_of(rt: &impl Abort, alloc: Global, text: &str) -> Result<Vec<Entry>, ReadFault> {
+    assert!(rt; text.len() <= 4_194_304);
+    read_book(alloc, text.as_bytes())
+}
+
+/// Reads the book of each case.
+fn expect_books(rt: &impl Abort, alloc: Global, cases: &[(&str, Refusal)]) {
+    for (text, wanted) in cases {
+        expect_refusal(rt, entries_of(rt, alloc, text).err(), *wanted, text);
+    }
+}
+
+/// Compares the entries of the two bidders.
+fn expect_two(rt: &impl Abort, entries: &[Entry]) {
+    assert!(rt; entries.len() == 2);
+    assert!(rt; entries[0].name.as_str() == "anna");
+    assert!(rt; entries[0].known.is_none());
+    assert!(rt; entries[1].known == Some(Point::Three));
+    assert!(rt; matches!(&entries[1].source, BidderSource::Seed(_)));
+}
+
+#[test]
+fn books(rt: HostRuntime) -> Result<(), Fail> {
+    expect_books(&rt, rt.alloc(), &BOOKS);
+    let entries = entries_of(&rt, rt.alloc(), ANNA_AND_BO)?;
+    expect_two(&rt, &entries);
+    Ok(())
+}
+
+/// How many bidders a book has.
+fn count_of(rt: &impl Abort, alloc: Global, text: &str) -> Result<usize, ReadFault> {
+    Ok(entries_of(rt, alloc, text)?.len())
+}
+
+/// Reads a book of the most bidders, and then with a row more.
+fn expect_most(rt: &impl Abort, alloc: Global, text: &mut String) -> Result<(), Fail> {
+    assert!(rt; count_of(rt, alloc, text.as_str())? == 2_000);
+    text.push_str("x\n")?;
+    let found = count_of(rt, alloc, text.as_str()).err();
+    expect_refusal(rt, found, Some((2_002, 5)), "the longer book");
+    Ok(())
+}
+
+#[test]
+fn one_bidder_too_many(rt: HostRuntime) -> Result<(), Fail> {
+    let mut text = numbered_rows(rt.alloc(), "beet-book,1\n", 2_000, ",0,b,tape,t")?;
+    expect_most(&rt, rt.alloc(), &mut text)
+}
+
+/// What is bought at four prices, or sold.
+const BOUGHT: [u64; 4] = [45, 45, 30, 10];
+
+const SOLD: [u64; 4] = [0, 20, 40, 60];
+
+/// The curve of these quantities.
+fn curve_of(alloc: Global, grid: &Grid, buy: &[u64], sell: &[u64]) -> Result<Curve, Fail> {
+    let (buy, sell) = (Vec::from_slice(alloc, buy)?, Vec::from_slice(alloc, sell)?);
+    Ok(Curve::of(grid, buy, sell).ok_or("no curve")?)
+}
+
+/// A curve that buys at four prices, and one that sells there.
+fn two_curves(alloc: Global, grid: &Grid) -> Result<Vec<Curve>, Fail> {
+    let mut curves = Vec::new(alloc);
+    curves.push(curve_of(alloc, grid, &BOUGHT, &[0; 4])?)?;
+    curves.push(curve_of(alloc, grid, &[0; 4], &SOLD)?)?;
+    Ok(curves)
+}
+
+/// The tapes by which they are dealt.
+fn two_tapes(alloc: Global) -> Result<Vec<Tape>, Fail> {
+    let mut tapes = Vec::new(alloc);
+    tapes.push(tape_of_eight(alloc)?)?;
+    tapes.push(tape_of_eight(alloc)?)?;
+    Ok(tapes)
+}
+
+/// Compares the points of the buyer at each server.
+fn expect_points(rt: &impl Abort, dealt: &Dealt) {
+    assert!(rt; are(dealt.points(Point::One), POINTS.one));
+    assert!(rt; are(dealt.points(Point::Two), POINTS.two));
+    assert!(rt; are(dealt.points(Point::Three), POINTS.three));
+}
+
+/// The value of a wire, of its three points.
+fn value_at(wires: &Trio<FeList>, wire: usize) -> Option<u64> {
+    let points = Trio {
+        one: *wires.one.as_slice().get(wire)?,
+        two: *wires.two.as_slice().get(wire)?,
+        three: *wires.three.as_slice().get(wire)?,
+    };
+    Some(recombine(points).value())
+}
+
+/// Compares the values of wires.
+fn expect_values(rt: &impl Abort, wires: &Trio<FeList>, cases: &[(usize, u64)]) {
+    for (wire, wanted) in cases {
+        assert!(rt; value_at(wires, *wire) == Some(*wanted), "at {wire}");
+    }
+}
+
+/// Compares the points of the first of two bidders, and answers the sums of both.
+fn sums_of(
+    rt: &impl Abort,
+    alloc: Global,
+    grid: &Grid,
+    dealt: &[Dealt],
+) -> Result<Trio<FeList>, AllocError>
+    requires { All (λ points. HasLengths points (2 * grid.now.prices)) dealt.now }
+{
+    assert!(rt; dealt.len() == 2);
+    expect_points(rt, &dealt[0]);
+    let mut totals = Totals::new(alloc, grid)?;
+    totals.add(&dealt[0]);
+    totals.add(&dealt[1]);
+    Ok(totals.inputs())
+}
+
+/// Deals two curves by tapes, which are used up, and answers the sums of both.
+fn deal_two(
+    rt: &impl Abort,
+    alloc: Global,
+    grid: &Grid,
+    curves: &[Curve],
+    tapes: &mut [Tape],
+) -> Result<Trio<FeList>, AllocError> {
+    assert!(rt; curves.iter().all(|curve| curve.is_of(grid)));
+    assert!(rt;
+        tapes
+            .iter()
+            .all(|tape| tape.accepted_left() >= 2 * grid.prices())
+    );
+    assert!(rt; tapes.len() == curves.len());
+    let dealt = deal_many(alloc, grid, curves, tapes)?;
+    assert!(rt; tapes.iter().all(|tape| tape.masks_left() == 0));
+    sums_of(rt, alloc, grid, &dealt)
+}
+
+/// The sums of supply and of demand at each price.
+const SUMS: [(usize, u64); 8] = [
+    (0, 0),
+    (1, 20),
+    (2, 40),
+    (3, 60),
+    (4, 45),
+    (5, 45),
+    (6, 30),
+    (7, 10),
+];
+
+/// Deals two curves, and compares their sums.
+fn expect_sums(rt: &impl Abort, alloc: Global, grid: &Grid, curves: &[Curve]) -> Result<(), Fail> {
+    let mut tapes = two_tapes(alloc)?;
+    let wires = deal_two(rt, alloc, grid, curves, &mut tapes)?;
+    expect_values(rt, &wires, &SUMS);
+    Ok(())
+}
+
+#[test]
+fn dealing(rt: HostRuntime) -> Result<(), Fail> {
+    let grid = grid_of(4)?;
+    let curves = two_curves(rt.alloc(), &grid)?;
+    expect_sums(&rt, rt.alloc(), &grid, &curves)
+}
+
+/// A bid at 250 prices, which buys less and sells more from price to price.
+fn long_bid(alloc: Global) -> Result<String, AllocError> {
+    let mut text = String::from_str(alloc, "beet-bid,1\n")?;
+    for place in 0..250u32 {
+        let (price, buy, sell) = (100 + 5 * place, 1_000 - place, 2 * place);
+        let row = format!(in alloc; "{price},{buy},{sell}\n")?;
+        text.push_str(row.as_str())?;
+    }
+    Ok(text)
+}
+
+/// The curve of that bid.
+fn long_curve(alloc: Global, grid: &Grid) -> Result<Curve, Fail>
+    ensures { IfOk result (IsOfGrid grid.now) }
+{
+    let bid = long_bid(alloc)?;
+    if bid.len() > 65_536 {
+        return Err(Fail::new("too long a bid"));
+    }
+    Ok(read_bid(alloc, grid, bid.as_bytes())?)
+}
+
+/// The points of the bidder of this number, who has this curve.
+fn deal_curve(alloc: Global, grid: &Grid, curve: &Curve, number: u64) -> Result<Dealt, Fail>
+    requires { IsOfGrid grid.now curve.now }
+    ensures { IfOk result (λ dealt. HasLengths dealt (2 * grid.now.prices)) }
+{
+    let mut tape = Tape::of_seed(alloc, &[7; 32], number, 508)?;
+    if tape.accepted_left() < 2 * grid.prices() {
+        return Err(Fail::new("too few words"));
+    }
+    Ok(deal_bidder(alloc, grid, curve, &mut tape)?)
+}
+
+/// The inputs of 2,000 bidders with this curve.
+fn inputs_of_many(alloc: Global, grid: &Grid, curve: &Curve) -> Result<Trio<FeList>, Fail>
+    requires { IsOfGrid grid.now curve.now }
+{
+    let mut totals = Totals::new(alloc, grid)?;
+    for number in 0..2_000u64 {
+        let dealt = deal_curve(alloc, grid, curve, number)?;
+        totals.add(&dealt);
+    }
+    Ok(totals.inputs())
+}
+
+/// Sums of 2,000 bids.
+const MANY_SUMS: [(usize, u64); 6] = [
+    (0, 0),
+    (125, 2_000 * 250),
+    (249, 2_000 * 498),
+    (250, 2_000 * 1_000),
+    (375, 2_000 * 875),
+    (499, 2_000 * 751),
+];
+
+#[test]
+fn full_book(rt: HostRuntime) -> Result<(), Fail> {
+    let grid = grid_of(250)?;
+    let curve = long_curve(rt.alloc(), &grid)?;
+    let wires = inputs_of_many(rt.alloc(), &grid, &curve)?;
+    expect_values(&rt, &wires, &MANY_SUMS);
+    Ok(())
+}

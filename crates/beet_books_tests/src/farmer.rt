@@ -1,0 +1,238 @@
+ghost use Rattle.std.specs.Prelude.{◌≡◌, ◌*◌, IfOk, length};
+ghost use Rattle.beet_bids.specs.Curves.{IsOfGrid};
+ghost use Rattle.beet_book.specs.Dealing.{HasLengths};
+ghost use Rattle.beet_farmer.specs.Sealing.{points_in};
+
+use crate::samples::{
+    POINTS, Refusal, are, expect_offset, expect_refusal, grid_of, numbered_rows, tape_of_eight,
+};
+use beet_bids::{Curve, Grid, read_bid};
+use beet_farmer::{Envelope, ListEntry, read_envelope, read_list, seal, write_envelope};
+use beet_field::{P, Point, Trio};
+use beet_forms::ReadFault;
+use beet_words::Tape;
+use std::alloc::{AllocError, Global};
+use std::process::Abort;
+use std::test::Fail;
+
+/// The envelopes of a curve, by which the tape is used up.
+fn seal_all(
+    alloc: Global,
+    grid: &Grid,
+    curve: &Curve,
+    tape: &mut Tape,
+) -> Result<Trio<Envelope>, Fail>
+    requires { IsOfGrid grid.now curve.now }
+    ensures { IfOk result (λ envelopes. HasLengths (points_in envelopes) (2 * grid.now.prices)) }
+{
+    if tape.accepted_left() < 2 * grid.prices() {
+        return Err(Fail::new("too few words"));
+    }
+    let envelopes = seal(alloc, grid, curve, tape)?;
+    if tape.masks_left() != 0 {
+        return Err(Fail::new("words are left"));
+    }
+    Ok(envelopes)
+}
+
+/// The envelopes of a buyer, dealt by the words from 1 to 8.
+fn sealed(alloc: Global, grid: &Grid) -> Result<Trio<Envelope>, Fail>
+    ensures { IfOk result (λ envelopes. HasLengths (points_in envelopes) (2 * grid.now.prices)) }
+{
+    let curve = read_bid(alloc, grid, b"beet-bid,1\n100,45,0\n110,30,0\n115,10,0\n")?;
+    let mut tape = tape_of_eight(alloc)?;
+    seal_all(alloc, grid, &curve, &mut tape)
+}
+
+/// Whether the file is one of 104 bytes, which the server reads as its envelope with these points.
+fn is_file(
+    rt: &impl Abort,
+    alloc: Global,
+    grid: &Grid,
+    server: Point,
+    file: &[u8],
+    points: &[u64],
+) -> bool {
+    assert!(rt; file.len() == SIZE);
+    read_envelope(alloc, grid, server, file).is_ok_and(|read| read.server == server
+        && are(read.points.as_slice(), points))
+}
+
+/// Compares an envelope, and its file, with one for this server with these points.
+fn expect_envelope(
+    rt: &impl Abort,
+    alloc: Global,
+    grid: &Grid,
+    envelope: &Envelope,
+    server: Point,
+    points: &[u64],
+) -> Result<(), AllocError>
+    requires { length envelope.now.points ≡ 2 * grid.now.prices }
+{
+    assert!(rt; envelope.server == server);
+    assert!(rt; are(envelope.points.as_slice(), points));
+    let file = write_envelope(alloc, grid, envelope)?;
+    assert!(rt; is_file(rt, alloc, grid, server, &file, points));
+    Ok(())
+}
+
+/// Compares the envelopes of the buyer.
+fn expect_envelopes(
+    rt: &impl Abort,
+    alloc: Global,
+    grid: &Grid,
+    envelopes: &Trio<Envelope>,
+) -> Result<(), AllocError>
+    requires { HasLengths (points_in envelopes.now) (2 * grid.now.prices) }
+{
+    expect_envelope(rt, alloc, grid, &envelopes.one, Point::One, POINTS.one)?;
+    expect_envelope(rt, alloc, grid, &envelopes.two, Point::Two, POINTS.two)?;
+    expect_envelope(
+        rt,
+        alloc,
+        grid,
+        &envelopes.three,
+        Point::Three,
+        POINTS.three,
+    )
+}
+
+#[test]
+fn sealing(rt: HostRuntime) -> Result<(), Fail> {
+    let grid = grid_of(4)?;
+    let envelopes = sealed(rt.alloc(), &grid)?;
+    expect_envelopes(&rt, rt.alloc(), &grid, &envelopes)?;
+    Ok(())
+}
+
+/// How many bytes an envelope of four prices has.
+const SIZE: usize = 104;
+
+/// The buyer's envelope for server 1 as a file.
+fn file_one(alloc: Global, grid: &Grid) -> Result<Vec<u8>, Fail> {
+    let envelopes = sealed(alloc, grid)?;
+    Ok(write_envelope(alloc, grid, &envelopes.one)?)
+}
+
+/// Expects that the first bytes of an envelope are refused by a server.
+fn expect_refused(
+    rt: &impl Abort,
+    alloc: Global,
+    server: Point,
+    file: &[u8],
+    count: usize,
+    offset: u64,
+    reason: u32,
+) -> Result<(), Fail> {
+    assert!(rt; count <= file.len() && count <= 200);
+    let found = read_envelope(alloc, &grid_of(4)?, server, &file[..count]).err();
+    expect_offset(rt, found, offset, reason);
+    Ok(())
+}
+
+/// Gives the buyer's envelope to another server, and changes its tick.
+fn expect_others(rt: &impl Abort, alloc: Global, file: &mut [u8]) -> Result<(), Fail> {
+    assert!(rt; file.len() == SIZE);
+    expect_refused(rt, alloc, Point::Two, file, SIZE, 8, 6)?;
+    file[31] = 6;
+    expect_refused(rt, alloc, Point::One, file, SIZE, 24, 2)?;
+    expect_refused(rt, alloc, Point::Two, file, SIZE, 8, 6)
+}
+
+#[test]
+fn other_envelopes(rt: HostRuntime) -> Result<(), Fail> {
+    let mut file = file_one(rt.alloc(), &grid_of(4)?)?;
+    expect_others(&rt, rt.alloc(), &mut file)
+}
+
+/// Cuts the buyer's envelope off.
+fn expect_cuts(rt: &impl Abort, alloc: Global, file: &[u8]) -> Result<(), Fail> {
+    expect_refused(rt, alloc, Point::One, file, 7, 0, 1)?;
+    expect_refused(rt, alloc, Point::Two, file, 15, 8, 3)?;
+    expect_refused(rt, alloc, Point::One, file, SIZE - 1, 96, 3)
+}
+
+#[test]
+fn cut_envelopes(rt: HostRuntime) -> Result<(), Fail> {
+    let file = file_one(rt.alloc(), &grid_of(4)?)?;
+    expect_cuts(&rt, rt.alloc(), &file)
+}
+
+/// Puts the numbers p and p - 1 in the place of the first point.
+fn expect_numbers(rt: &impl Abort, alloc: Global, file: &mut [u8]) -> Result<(), Fail> {
+    assert!(rt; file.len() == SIZE);
+    file[40..48].copy_from_slice(&P.to_be_bytes());
+    expect_refused(rt, alloc, Point::One, file, SIZE, 40, 4)?;
+    file[47] = 0xfe;
+    let points = [P - 1, 47, 33, 14, 5, 6, 7, 8];
+    assert!(rt; is_file(rt, alloc, &grid_of(4)?, Point::One, file, &points));
+    Ok(())
+}
+
+#[test]
+fn points(rt: HostRuntime) -> Result<(), Fail> {
+    let mut file = file_one(rt.alloc(), &grid_of(4)?)?;
+    expect_numbers(&rt, rt.alloc(), &mut file)?;
+    file.push(0)?;
+    expect_refused(&rt, rt.alloc(), Point::One, &file, SIZE + 1, 104, 5)
+}
+
+/// Lists, and how they are refused.
+const LISTS: [(&str, Refusal); 5] = [
+    ("", Some((1, 1))),
+    ("beet-book,1\n", Some((1, 1))),
+    ("beet-list,1\nanna,a.1,a.2\n", Some((2, 2))),
+    ("beet-list,1\nbo,1,2,3\nanna,a.1,,a.3\n", Some((3, 2))),
+    ("beet-list,1\nbo,1,2,3\nbo,4,5,6\n", Some((3, 4))),
+];
+
+/// The entries of a list.
+fn entries_of(rt: &impl Abort, alloc: Global, text: &str) -> Result<Vec<ListEntry>, ReadFault> {
+    assert!(rt; text.len() <= 4_194_304);
+    read_list(alloc, text.as_bytes())
+}
+
+/// How many entries a list has.
+fn count_of(rt: &impl Abort, alloc: Global, text: &str) -> Result<usize, ReadFault> {
+    Ok(entries_of(rt, alloc, text)?.len())
+}
+
+/// Reads the list of each case.
+fn expect_lists(rt: &impl Abort, alloc: Global, cases: &[(&str, Refusal)]) {
+    for (text, wanted) in cases {
+        expect_refusal(rt, count_of(rt, alloc, text).err(), *wanted, text);
+    }
+}
+
+/// Compares the entries of two bidders.
+fn expect_two(rt: &impl Abort, entries: &[ListEntry]) {
+    assert!(rt; entries.len() == 2);
+    assert!(rt; entries[0].name.as_str() == "anna");
+    assert!(rt; entries[1].envelopes.one.as_str() == "b.1");
+    assert!(rt; entries[1].envelopes.three.as_str() == "b.3");
+}
+
+#[test]
+fn lists(rt: HostRuntime) -> Result<(), Fail> {
+    expect_lists(&rt, rt.alloc(), &LISTS);
+    assert!(rt; count_of(&rt, rt.alloc(), "beet-list,1\n")? == 0);
+    let text = "beet-list,1\nanna,a.1,a.2,a.3\nbo,b.1,b.2,b.3\n";
+    let entries = entries_of(&rt, rt.alloc(), text)?;
+    expect_two(&rt, &entries);
+    Ok(())
+}
+
+/// Reads a list of the most bidders, and then with a row more.
+fn expect_most(rt: &impl Abort, alloc: Global, text: &mut String) -> Result<(), Fail> {
+    assert!(rt; count_of(rt, alloc, text.as_str())? == 2_000);
+    text.push_str("x\n")?;
+    let found = count_of(rt, alloc, text.as_str()).err();
+    expect_refusal(rt, found, Some((2_002, 5)), "the longer list");
+    Ok(())
+}
+
+#[test]
+fn one_bidder_too_many(rt: HostRuntime) -> Result<(), Fail> {
+    let mut text = numbered_rows(rt.alloc(), "beet-list,1\n", 2_000, ",a,b,c")?;
+    expect_most(&rt, rt.alloc(), &mut text)
+}

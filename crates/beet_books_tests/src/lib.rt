@@ -1,0 +1,11 @@
+//! The tests of the books: of beet_bids, beet_book and beet_farmer, which are proved over their contracts alone.
+#![tactic(auto)]
+
+#[cfg(test)]
+mod bids;
+#[cfg(test)]
+mod book;
+#[cfg(test)]
+mod farmer;
+#[cfg(test)]
+mod samples;

@@ -1,0 +1,82 @@
+//! What the tests of several crates share.
+
+use beet_bids::Grid;
+use beet_field::{Fe, Trio};
+use beet_forms::ReadFault;
+use beet_gates::Gates;
+use beet_words::{Tape, read_tape};
+use std::alloc::{AllocError, Global};
+use std::process::Abort;
+use std::test::Fail;
+
+/// The row and the reason that a text is refused with, or none where it is read.
+pub type Refusal = Option<(u32, u32)>;
+
+/// Compares how a text was read with what is wanted of it.
+pub fn expect_refusal(rt: &impl Abort, found: Option<ReadFault>, wanted: Refusal, text: &str) {
+    let wanted = wanted.map(|(row, reason)| ReadFault::at_row(row, reason));
+    assert!(rt; found == wanted, "of {text}");
+}
+
+/// Compares how bytes were read with the offset and the reason that they are to be refused with.
+pub fn expect_offset(rt: &impl Abort, found: Option<ReadFault>, offset: u64, reason: u32) {
+    assert!(rt;
+        found == Some(ReadFault::at_offset(offset, reason)),
+        "at {offset}"
+    );
+}
+
+/// The grid of the prices 100, 105 and so on.
+pub fn grid_of(prices: u32) -> Result<Grid, Fail> {
+    Ok(Grid::new(100, 5, prices, Gates::Chain).ok_or("no grid")?)
+}
+
+/// Whether the numbers are these.
+pub fn are(numbers: &[Fe], wanted: &[u64]) -> bool {
+    numbers
+        .iter()
+        .map(|number| number.value())
+        .eq(wanted.iter().copied())
+}
+
+/// The points of a buyer at each server, who buys 45, 45, 30 and 10 and draws the words from 1 to 8.
+pub const POINTS: Trio<&[u64]> = Trio {
+    one: &[46, 47, 33, 14, 5, 6, 7, 8],
+    two: &[47, 49, 36, 18, 10, 12, 14, 16],
+    three: &[48, 51, 39, 22, 15, 18, 21, 24],
+};
+
+/// The words from 1 to 8, as a tape file.
+const EIGHT: &[u8] = b"0000000000000001
+0000000000000002
+0000000000000003
+0000000000000004
+0000000000000005
+0000000000000006
+0000000000000007
+0000000000000008
+";
+
+/// The tape of the words from 1 to 8.
+pub fn tape_of_eight(alloc: Global) -> Result<Tape, Fail> {
+    let words = read_tape(alloc, EIGHT, 8)?;
+    if words.len() != 8 {
+        return Err(Fail::new("not eight words"));
+    }
+    Ok(Tape::of_words(words))
+}
+
+/// A text of this header and of so many rows, each its number and then the same.
+pub fn numbered_rows(
+    alloc: Global,
+    header: &str,
+    count: u32,
+    then: &str,
+) -> Result<String, AllocError> {
+    let mut text = String::from_str(alloc, header)?;
+    for i in 0..count {
+        let row = format!(in alloc; "{i}{then}\n")?;
+        text.push_str(row.as_str())?;
+    }
+    Ok(text)
+}

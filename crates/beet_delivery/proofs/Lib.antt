@@ -1,0 +1,4 @@
+pub mod EventFacts
+pub mod Undelivered
+pub mod Counting
+pub mod Listing

@@ -1,0 +1,223 @@
+//! The listed failures of the memory types, and the host types on real files.
+
+use crate::printing::Printing;
+use beet_store::{
+    Desk, FetchFault, Held, HostDesk, HostShelf, MemoryDesk, MemoryShelf, PutFault, Shelf,
+};
+use std::alloc::{AllocError, Global};
+use std::fs;
+use std::process::Abort;
+use std::rt::Files;
+use std::test::Fail;
+
+/// Appends a file of this name and these bytes.
+fn push_held(
+    alloc: Global,
+    files: &mut Vec<Held>,
+    name: &str,
+    bytes: &[u8],
+) -> Result<(), AllocError> {
+    let name = String::from_str(alloc, name)?;
+    let bytes = Vec::from_slice(alloc, bytes)?;
+    files.push(Held { name, bytes })?;
+    Ok(())
+}
+
+/// Fetches, and compares the answer.
+fn expect_fetch<S: Shelf>(
+    rt: &impl Abort,
+    alloc: Global,
+    shelf: &mut S,
+    name: &str,
+    limit: u64,
+    wanted: Result<&[u8], FetchFault>,
+) {
+    match shelf.fetch(alloc, name, limit) {
+        Ok(bytes) => assert!(rt; wanted == Ok(bytes.as_slice()), "of {name}"),
+        Err(fault) => assert!(rt; wanted == Err(fault), "of {name}"),
+    }
+}
+
+/// Puts, and compares the answer.
+fn expect_put<K: Desk>(
+    rt: &impl Abort,
+    alloc: Global,
+    desk: &mut K,
+    name: &str,
+    bytes: &[u8],
+    wanted: Result<(), PutFault>,
+) {
+    assert!(rt; desk.put(alloc, name, bytes) == wanted, "of {name}");
+}
+
+/// Says, and compares the answer.
+fn expect_say<K: Desk>(rt: &impl Abort, desk: &mut K, text: &str, wanted: Result<(), PutFault>) {
+    assert!(rt; desk.say(text.as_bytes()) == wanted, "of {text}");
+}
+
+/// Fetches from a shelf of the file `a`, one after another, and what each answers where the second fails.
+const FETCHES: [(&str, u64, Result<&[u8], FetchFault>); 4] = [
+    ("a", 3, Ok(b"one")),
+    ("a", 3, Err(FetchFault::Failed)),
+    ("a", 2, Err(FetchFault::TooLong(3))),
+    ("b", 3, Err(FetchFault::Failed)),
+];
+
+/// A shelf with two files of one name, of which the second fetch fails.
+fn shelf_of_two(alloc: Global) -> Result<MemoryShelf, AllocError> {
+    let mut files = Vec::new(alloc);
+    push_held(alloc, &mut files, "a", b"one")?;
+    push_held(alloc, &mut files, "a", b"two")?;
+    Ok(MemoryShelf::new(files, vec![in alloc; 2]?))
+}
+
+/// Does the fetches, and compares how many failed.
+fn expect_fetches<S: Shelf>(
+    rt: &impl Abort,
+    alloc: Global,
+    shelf: &mut S,
+    cases: &[(&str, u64, Result<&[u8], FetchFault>)],
+) {
+    for (name, limit, wanted) in cases {
+        expect_fetch(rt, alloc, shelf, name, *limit, *wanted);
+    }
+}
+
+#[test]
+fn memory_shelf_fails_where_listed(rt: HostRuntime) -> Result<(), Fail> {
+    let mut shelf = shelf_of_two(rt.alloc())?;
+    expect_fetches(&rt, rt.alloc(), &mut shelf, &FETCHES);
+    assert_eq!(rt; shelf.faults(), 2);
+    Ok(())
+}
+
+/// What follows is put, where the second call and the fifth fail.
+fn expect_files(rt: &impl Abort, alloc: Global, desk: &mut MemoryDesk) {
+    expect_put(rt, alloc, desk, "a", b"one", Ok(()));
+    expect_put(rt, alloc, desk, "a", b"two", Err(PutFault::Failed));
+    assert!(rt; desk.file("a") == Some(b"one".as_slice()));
+    expect_put(rt, alloc, desk, "a", b"three", Ok(()));
+    assert!(rt; desk.file("a") == Some(b"three".as_slice()));
+    assert!(rt; desk.file("b").is_none());
+}
+
+/// And then this is said.
+fn expect_text(rt: &impl Abort, desk: &mut MemoryDesk) {
+    expect_say(rt, desk, "so", Ok(()));
+    expect_say(rt, desk, "not", Err(PutFault::Failed));
+    expect_say(rt, desk, " it is", Ok(()));
+    assert!(rt; desk.said() == b"so it is".as_slice());
+    assert_eq!(rt; desk.faults(), 2);
+}
+
+#[test]
+fn memory_desk_fails_where_listed(rt: HostRuntime) -> Result<(), Fail> {
+    let mut desk = MemoryDesk::new(vec![in rt.alloc(); 2, 5]?);
+    expect_files(&rt, rt.alloc(), &mut desk);
+    expect_text(&rt, &mut desk);
+    Ok(())
+}
+
+/// Bytes of more than one piece, each unlike its neighbours.
+fn long_bytes(alloc: Global) -> Result<Vec<u8>, AllocError> {
+    let mut bytes = Vec::new(alloc);
+    for i in 0..20_000u64 {
+        bytes.push((i % 251) as u8)?;
+    }
+    Ok(bytes)
+}
+
+/// Puts a long file and fetches it, and then a short one in its place.
+fn expect_file<S: Shelf, K: Desk>(
+    rt: &impl Abort,
+    alloc: Global,
+    shelf: &mut S,
+    desk: &mut K,
+    name: &str,
+) -> Result<(), AllocError> {
+    let long = long_bytes(alloc)?;
+    expect_long_file(rt, alloc, shelf, desk, name, &long);
+    expect_put(rt, alloc, desk, name, b"short", Ok(()));
+    expect_fetch(rt, alloc, shelf, name, 5, Ok(b"short"));
+    Ok(())
+}
+
+/// Puts the long file and fetches it.
+fn expect_long_file<S: Shelf, K: Desk>(
+    rt: &impl Abort,
+    alloc: Global,
+    shelf: &mut S,
+    desk: &mut K,
+    name: &str,
+    long: &[u8],
+) {
+    expect_put(rt, alloc, desk, name, long, Ok(()));
+    expect_fetch(rt, alloc, shelf, name, 20_000, Ok(long));
+    let too_long = Err(FetchFault::TooLong(20_000));
+    expect_fetch(rt, alloc, shelf, name, 19_999, too_long);
+}
+
+/// Fetches a file that is gone and a folder, and puts into a folder that is missing.
+fn expect_failures<S: Shelf, K: Desk>(
+    rt: &impl Abort,
+    alloc: Global,
+    shelf: &mut S,
+    desk: &mut K,
+    gone: &str,
+) {
+    expect_fetch(rt, alloc, shelf, gone, 5, Err(FetchFault::Failed));
+    expect_fetch(rt, alloc, shelf, ".", 5, Err(FetchFault::Failed));
+    let missing = "beet_store_missing/file";
+    expect_put(rt, alloc, desk, missing, b"", Err(PutFault::Failed));
+    expect_say(rt, desk, "", Ok(()));
+}
+
+/// A file that the tests write and remove.
+const FILE: &str = "beet_store_test.tmp";
+
+/// Compares how many calls have failed.
+fn expect_faults<R>(rt: &impl Abort, shelf: &HostShelf<R>, desk: &HostDesk<R>) {
+    assert!(rt; shelf.faults() == 3);
+    assert!(rt; desk.faults() == 1);
+}
+
+#[test]
+fn host_types_reach_real_files(rt: HostRuntime) -> Result<(), Fail> {
+    let (mut shelf, mut desk) = (HostShelf::new(&rt), HostDesk::new(&rt));
+    expect_file(&rt, rt.alloc(), &mut shelf, &mut desk, FILE)?;
+    fs::remove_file(&rt, FILE)?;
+    expect_failures(&rt, rt.alloc(), &mut shelf, &mut desk, FILE);
+    expect_faults(&rt, &shelf, &desk);
+    Ok(())
+}
+
+/// The file that a text is printed to.
+const SAID: &str = "beet_store_said.tmp";
+
+/// Fetches a real file, which is this text.
+fn expect_text_file<R: Abort + Files>(rt: &R, alloc: Global, name: &str, text: &[u8]) {
+    let mut shelf = HostShelf::new(rt);
+    expect_fetch(rt, alloc, &mut shelf, name, 30_000, Ok(text));
+}
+
+/// Says a text to a desk that prints it to a file.
+fn expect_said<R: Abort + Files>(rt: &R, alloc: Global, text: &[u8]) {
+    let mut desk = HostDesk::new(Printing { rt, name: SAID });
+    assert!(rt; desk.say(text) == Ok(()));
+    expect_text_file(rt, alloc, SAID, text);
+}
+
+/// Says something to a desk that prints to a file of this name, which cannot be.
+fn expect_not_said<R: Abort + Files>(rt: &R, name: &'static str) {
+    let mut desk = HostDesk::new(Printing { rt, name });
+    expect_say(rt, &mut desk, "not", Err(PutFault::Failed));
+}
+
+#[test]
+fn a_long_text_is_said_whole(rt: HostRuntime) -> Result<(), Fail> {
+    let text = long_bytes(rt.alloc())?;
+    expect_said(&rt, rt.alloc(), &text);
+    fs::remove_file(&rt, SAID)?;
+    expect_not_said(&rt, "beet_store_missing/said");
+    Ok(())
+}

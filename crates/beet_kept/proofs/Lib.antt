@@ -1,0 +1,3 @@
+pub mod DealtPoints
+pub mod HasRuns
+pub mod FittingViews

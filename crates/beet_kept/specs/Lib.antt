@@ -1,0 +1,2 @@
+pub mod DealtBooks
+pub mod BookRuns

@@ -1,6 +1,0 @@
-use Rattle.std.proofs.Common.{take, All}
-use Rattle.beet_words.specs.Words.{IsWord}
-use Rattle.beet_run.proofs.running.look_at.Given as goal
-
-abbrev pub invariant-loop-word : goal.invariant-loop-word
-invariant-loop-word l = All IsWord (take l.word-index l.words)

@@ -1,0 +1,279 @@
+ghost use Rattle.std.specs.Prelude.{IsTrue};
+ghost use Rattle.beet_gates.specs.Scripts.{HasWords};
+ghost use Rattle.beet_sharing.specs.Runs.{numbers_of};
+ghost use Rattle.beet_map.specs.Refused.{HasSecrets};
+
+use crate::samples::{ONES, lists};
+use arrayvec::ArrayVec;
+use beet_field::{Fe, Point, Trio};
+use beet_gates::{Act, Batch, Product, Script};
+use beet_map::{GateFault, Secrets, gate_map};
+use beet_shamir::Line;
+use beet_words::{WordList, count_accepted};
+use std::alloc::{AllocError, Global};
+use std::process::Abort;
+
+/// A half in the field.
+const HALF: u64 = 1_152_921_504_606_846_976;
+
+/// The script in which each server deals one word.
+#[derive(Clone, Copy)]
+struct OneDeal;
+
+impl Script for OneDeal {
+    ghost use Rattle.std.specs.Prelude.{◌==◌, if◌then◌else◌};
+    ghost use Rattle.std.proofs.Common.{rules};
+    ghost use Rattle.beet_gates.specs.Batches.{deal_batch, end_batch};
+
+    ghost inputs_of = { λ _. 0 };
+
+    ghost rounds_of = { λ _. 1 };
+
+    ghost masks_of = { λ _. 1 };
+
+    ghost coefficients_of = { λ _. 61 };
+
+    ghost wires_of = { λ _. 183 };
+
+    ghost batch_of = { λ _ done _. if done == 0 then deal_batch else end_batch };
+
+    ghost lawful = { Prim.search rules };
+
+    fn inputs(&self) -> u32 {
+        0
+    }
+
+    fn rounds(&self) -> u32 {
+        1
+    }
+
+    fn masks(&self) -> u32 {
+        1
+    }
+
+    fn coefficients(&self) -> u32 {
+        61
+    }
+
+    fn wires(&self) -> u32 {
+        183
+    }
+
+    fn next(&self, done: u32, _opened: &[Fe]) -> Batch {
+        Batch {
+            lets: ArrayVec::new(),
+            act: if done == 0 { Act::Deal } else { Act::End },
+        }
+    }
+}
+
+/// The line of this value and slope.
+fn line((value, slope): (u64, u64)) -> Line {
+    Line {
+        value: Fe::reduce(value as u128),
+        slope: Fe::reduce(slope as u128),
+    }
+}
+
+/// A world with two inputs and no words to deal.
+fn world(alloc: Global, first: (u64, u64), second: (u64, u64)) -> Result<Secrets, AllocError> {
+    let inputs = vec![in alloc; line(first), line(second)]?;
+    let masks = lists(alloc, [&[], &[], &[]])?;
+    Ok(Secrets { inputs, masks })
+}
+
+/// Whether each list has so many words.
+fn have_words(words: &Trio<WordList>, wanted: u32) -> bool
+    ensures { IsTrue result → HasWords wanted words.now }
+{
+    words.one.as_slice().len() >= wanted as usize
+        && words.two.as_slice().len() >= wanted as usize
+        && words.three.as_slice().len() >= wanted as usize
+}
+
+/// Whether so many numbers can be drawn from each list.
+fn have_numbers(words: &Trio<WordList>, wanted: u32) -> bool
+    ensures { IsTrue result → HasWords wanted (numbers_of words.now) }
+{
+    count_accepted(words.one.as_slice()) >= wanted as usize
+        && count_accepted(words.two.as_slice()) >= wanted as usize
+        && count_accepted(words.three.as_slice()) >= wanted as usize
+}
+
+/// Whether a world is one of the script.
+fn has_secrets<S: Script>(script: &S, secrets: &Secrets) -> bool
+    ensures { IsTrue result → HasSecrets (S.inputs_of script.now) (S.masks_of script.now) secrets.now }
+{
+    secrets.inputs.len() == script.inputs() as usize && have_words(&secrets.masks, script.masks())
+}
+
+/// The map for server 2, or `OutOfMemory` where the script asks for more.
+fn map<S: Script>(
+    alloc: Global,
+    script: &S,
+    first: &Secrets,
+    second: &Secrets,
+    words: &Trio<WordList>,
+) -> Result<Trio<WordList>, GateFault> {
+    if !has_secrets(script, first) || !has_secrets(script, second) {
+        return Err(GateFault::OutOfMemory);
+    }
+    if !have_numbers(words, script.coefficients()) {
+        return Err(GateFault::OutOfMemory);
+    }
+    gate_map(alloc, Point::Two, script, first, second, words)
+}
+
+/// The map between two worlds of a script for server 2, with these words for the servers.
+fn map_with<S: Script>(
+    alloc: Global,
+    script: &S,
+    first: &Secrets,
+    second: &Secrets,
+    words: [&[u64]; 3],
+) -> Result<Trio<WordList>, GateFault> {
+    let drawn = lists(alloc, words)?;
+    map(alloc, script, first, second, &drawn)
+}
+
+/// The map of the product's script from a world to that of these inputs, with the words 1; 2; 4.
+fn product_map_from(
+    alloc: Global,
+    here: &Secrets,
+    first: (u64, u64),
+    second: (u64, u64),
+) -> Result<Trio<WordList>, GateFault> {
+    let there = world(alloc, first, second)?;
+    map_with(alloc, &Product, here, &there, [&[1], &[2], &[4]])
+}
+
+/// The same from the inputs (3, 5), (4, 2).
+fn product_map(
+    alloc: Global,
+    first: (u64, u64),
+    second: (u64, u64),
+) -> Result<Trio<WordList>, GateFault> {
+    let here = world(alloc, (3, 5), (4, 2))?;
+    product_map_from(alloc, &here, first, second)
+}
+
+/// Why there is no map to these inputs.
+fn product_fault(alloc: Global, first: (u64, u64), second: (u64, u64)) -> Option<GateFault> {
+    product_map(alloc, first, second).err()
+}
+
+/// The word at a place of a list, if there is one.
+fn word(list: &WordList, place: usize) -> Option<u64> {
+    list.as_slice().get(place).map(|word| word.value())
+}
+
+/// Whether the servers' lists have these words, each at its place.
+fn hold(words: &Trio<WordList>, expected: &[(Point, usize, Option<u64>)]) -> bool {
+    for (server, place, number) in expected {
+        if word(words.get(*server), *place) != *number {
+            return false;
+        }
+    }
+    true
+}
+
+/// The first factor of another world, of which server 2 has the same point.
+const SIX: (u64, u64) = (6, HALF + 3);
+
+/// Compares words of a map.
+fn expect_words(
+    rt: &impl Abort,
+    mapped: Result<Trio<WordList>, GateFault>,
+    expected: &[(Point, usize, Option<u64>)],
+) {
+    match mapped {
+        Ok(words) => assert!(rt; hold(&words, expected)),
+        Err(_) => assert!(rt; false, "there is no map"),
+    }
+}
+
+/// Words of the product's other world: the messages to server 2 are 50 and 188 in both worlds, and 12 is opened.
+const OTHER_FACTORS: [(Point, usize, Option<u64>); 4] = [
+    (Point::One, 0, Some(576_460_752_303_423_489)),
+    (Point::Two, 0, Some(2)),
+    (Point::Three, 0, Some(576_460_752_303_423_491)),
+    (Point::Three, 1, None),
+];
+
+#[test]
+fn product_of_other_factors(rt: HostRuntime) {
+    expect_words(&rt, product_map(rt.alloc(), SIX, (2, 3)), &OTHER_FACTORS);
+}
+
+#[test]
+fn other_product(rt: HostRuntime) {
+    let expected = GateFault::RevealDiffers {
+        place: 0,
+        first: Some(Fe::reduce(12)),
+        second: Some(Fe::reduce(24)),
+    };
+    assert!(rt; product_fault(rt.alloc(), SIX, (4, 2)) == Some(expected));
+}
+
+#[test]
+fn other_points(rt: HostRuntime) {
+    let second = product_fault(rt.alloc(), SIX, (2, 2));
+    assert!(rt; second == Some(GateFault::InputsDiffer(1)));
+    let both = product_fault(rt.alloc(), (6, 5), (2, 2));
+    assert!(rt; both == Some(GateFault::InputsDiffer(0)));
+}
+
+/// A world with no inputs, in which these words are dealt.
+fn dealers(alloc: Global, one: u64, two: u64, three: u64) -> Result<Secrets, AllocError> {
+    let masks = lists(alloc, [&[one], &[two], &[three]])?;
+    let inputs = Vec::new(alloc);
+    Ok(Secrets { inputs, masks })
+}
+
+/// The map of the dealing script from a world to that in which these words are dealt. Each server draws a word of ones, and
+/// then 61 times the word 5.
+fn deal_map_from(
+    alloc: Global,
+    here: &Secrets,
+    one: u64,
+    two: u64,
+) -> Result<Trio<WordList>, GateFault> {
+    let there = dealers(alloc, one, two, 3)?;
+    let mut numbers = [5; 62];
+    numbers[0] = ONES;
+    map_with(
+        alloc,
+        &OneDeal,
+        here,
+        &there,
+        [&numbers, &numbers, &numbers],
+    )
+}
+
+/// The same from the world in which 1, 2 and 3 are dealt.
+fn deal_map(alloc: Global, one: u64, two: u64) -> Result<Trio<WordList>, GateFault> {
+    let here = dealers(alloc, 1, 2, 3)?;
+    deal_map_from(alloc, &here, one, two)
+}
+
+#[test]
+fn other_word_of_the_server(rt: HostRuntime) {
+    let fault = deal_map(rt.alloc(), 1, 6).err();
+    assert!(rt; fault == Some(GateFault::OwnMaskDiffers(0)));
+}
+
+/// Words of the dealing script's other world: the lowest bit of server 1 is 1 in the first world and 0 in the second, so its
+/// number gains 1/2. The words of ones stay.
+const OTHER_BIT: [(Point, usize, Option<u64>); 6] = [
+    (Point::One, 0, Some(ONES)),
+    (Point::One, 1, Some(HALF + 5)),
+    (Point::One, 2, Some(5)),
+    (Point::Two, 1, Some(5)),
+    (Point::Three, 1, Some(5)),
+    (Point::Three, 62, None),
+];
+
+#[test]
+fn other_bit_of_another_server(rt: HostRuntime) {
+    expect_words(&rt, deal_map(rt.alloc(), 0, 2), &OTHER_BIT);
+}

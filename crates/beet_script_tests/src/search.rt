@@ -1,0 +1,210 @@
+use crate::samples::{ONES, are, lists};
+use beet_field::{Fe, Trio};
+use beet_gates::{ClearRun, Gates, Script, clear_run};
+use beet_search::{AuctionScript, Finish};
+use beet_words::WordList;
+use std::alloc::{AllocError, Global};
+use std::array;
+use std::process::Abort;
+use std::test::Fail;
+
+/// So many times the first word, and then the other, sixteen in all.
+fn words(rejected: usize, first: u64, other: u64) -> [u64; 16] {
+    array::from_fn(|place| if place < rejected { first } else { other })
+}
+
+/// The words of three servers, of which so many masks are all ones and all others are 100.
+fn masks(alloc: Global, rejected: usize) -> Result<Trio<WordList>, AllocError> {
+    let one = words(rejected, ONES, 100 ^ 7 ^ 9);
+    let two = words(rejected, 0, 7);
+    let three = words(rejected, 0, 9);
+    lists(alloc, [&one, &two, &three])
+}
+
+/// The numbers of these sums.
+fn numbers(alloc: Global, sums: &[u64]) -> Result<Vec<Fe>, AllocError> {
+    let mut numbers = Vec::new(alloc);
+    for sum in sums {
+        numbers.push(Fe::reduce(*sum as u128))?;
+    }
+    Ok(numbers)
+}
+
+/// The run of the script on inputs of its number, with masks that are enough.
+fn run(
+    rt: &impl Abort,
+    alloc: Global,
+    script: &AuctionScript,
+    inputs: &[Fe],
+    masks: &Trio<WordList>,
+) -> Result<ClearRun, AllocError> {
+    let wanted = script.masks() as usize;
+    assert!(rt; masks.one.len() >= wanted);
+    assert!(rt; masks.two.len() >= wanted);
+    assert!(rt; masks.three.len() >= wanted);
+    assert!(rt; inputs.len() == script.inputs() as usize);
+    clear_run(alloc, script, inputs, masks)
+}
+
+/// How a run is to end: with a price at a place and the demand there, or else.
+type Ending = Result<(u32, u64), Finish>;
+
+/// The end as the script has it.
+fn finish_of(ending: Ending) -> Finish {
+    match ending {
+        Ok((place, volume)) => Finish::Price {
+            place,
+            volume: Fe::reduce(volume as u128),
+        },
+        Err(finish) => finish,
+    }
+}
+
+/// The rounds with chains of gates, and those with trees.
+type Rounds = (u32, u32);
+
+/// The rounds with this kind of gates.
+fn rounds_with(gates: Gates, (chain, tree): Rounds) -> u32 {
+    match gates {
+        Gates::Chain => chain,
+        Gates::Tree => tree,
+    }
+}
+
+/// Compares how a run ends, and its rounds.
+fn expect_end(
+    rt: &impl Abort,
+    script: &AuctionScript,
+    run: &ClearRun,
+    ending: Ending,
+    rounds: u32,
+) {
+    assert!(rt; script.finish(run.opened.as_slice()) == Some(finish_of(ending)));
+    assert_eq!(rt; run.rounds, rounds);
+}
+
+/// Runs a book whose sums are these, supply first, where so many masks are rejected, and compares how it ends and its rounds.
+fn expect_run(
+    rt: &impl Abort,
+    alloc: Global,
+    script: &AuctionScript,
+    sums: &[u64],
+    rejected: usize,
+    ending: Ending,
+    rounds: u32,
+) -> Result<ClearRun, AllocError> {
+    let masks = masks(alloc, rejected)?;
+    let inputs = numbers(alloc, sums)?;
+    let run = run(rt, alloc, script, &inputs, &masks)?;
+    expect_end(rt, script, &run, ending, rounds);
+    Ok(run)
+}
+
+/// Sums at one price, how many masks are rejected, the numbers that are opened, the end and the rounds.
+const OPENINGS: [(&[u64], usize, &[u64], Ending, Rounds); 3] = [
+    (&[20, 50], 0, &[0, 40, 0], Err(Finish::NoPrice), (127, 19)),
+    (&[40, 35], 0, &[0, 110, 1, 35], Ok((0, 35)), (128, 20)),
+    (&[40, 35], 3, &[1, 1, 1], Err(Finish::MasksSpent), (192, 30)),
+];
+
+/// Runs the book of each case with this kind of gates.
+fn expect_openings(
+    rt: &impl Abort,
+    alloc: Global,
+    gates: Gates,
+    cases: &[(&[u64], usize, &[u64], Ending, Rounds)],
+) -> Result<(), Fail> {
+    let script = AuctionScript::new(1, gates).ok_or("no script")?;
+    for (sums, rejected, wanted, ending, rounds) in cases {
+        let rounds = rounds_with(gates, *rounds);
+        let run = expect_run(rt, alloc, &script, sums, *rejected, *ending, rounds)?;
+        assert!(rt; are(run.opened.as_slice(), wanted));
+    }
+    Ok(())
+}
+
+#[test]
+fn opened_numbers_of_one_price(rt: HostRuntime) -> Result<(), Fail> {
+    expect_openings(&rt, rt.alloc(), Gates::Chain, &OPENINGS)
+}
+
+#[test]
+fn opened_numbers_of_one_price_with_trees(rt: HostRuntime) -> Result<(), Fail> {
+    expect_openings(&rt, rt.alloc(), Gates::Tree, &OPENINGS)
+}
+
+/// The most that all bidders can buy at a price.
+const MOST: u64 = 562_949_953_421_310_000;
+
+/// The sums of a worked book.
+const WORKED: &[u64] = &[0, 20, 40, 60, 50, 50, 35, 10];
+
+/// Numbers of prices, sums, how many masks are rejected, the end and the rounds.
+const BOOKS: [(u32, &[u64], usize, Ending, Rounds); 11] = [
+    (4, WORKED, 0, Ok((2, 35)), (255, 39)),
+    (4, WORKED, 1, Ok((2, 35)), (319, 49)),
+    (4, WORKED, 3, Err(Finish::MasksSpent), (192, 30)),
+    (4, &[0, 0, 0, 0, 0, 0, 0, 0], 0, Ok((0, 0)), (382, 58)),
+    (
+        4,
+        &[0, 30, 40, 50, 50, 30, 20, 10],
+        0,
+        Ok((1, 30)),
+        (382, 58),
+    ),
+    (
+        4,
+        &[0, 10, 20, 49, 50, 50, 50, 50],
+        0,
+        Err(Finish::NoPrice),
+        (254, 38),
+    ),
+    (1, &[0, 0], 0, Ok((0, 0)), (128, 20)),
+    (1, &[0, 1], 0, Err(Finish::NoPrice), (127, 19)),
+    (1, &[0, MOST], 0, Err(Finish::NoPrice), (127, 19)),
+    (1, &[MOST, MOST], 0, Ok((0, MOST)), (128, 20)),
+    (1, &[MOST, MOST], 2, Ok((0, MOST)), (256, 40)),
+];
+
+/// Runs the book of each case with this kind of gates.
+fn expect_books(
+    rt: &impl Abort,
+    alloc: Global,
+    gates: Gates,
+    cases: &[(u32, &[u64], usize, Ending, Rounds)],
+) -> Result<(), Fail> {
+    for (prices, sums, rejected, ending, rounds) in cases {
+        let script = AuctionScript::new(*prices, gates).ok_or("no script")?;
+        let rounds = rounds_with(gates, *rounds);
+        expect_run(rt, alloc, &script, sums, *rejected, *ending, rounds)?;
+    }
+    Ok(())
+}
+
+#[test]
+fn worked_books(rt: HostRuntime) -> Result<(), Fail> {
+    expect_books(&rt, rt.alloc(), Gates::Chain, &BOOKS)
+}
+
+#[test]
+fn worked_books_with_trees(rt: HostRuntime) -> Result<(), Fail> {
+    expect_books(&rt, rt.alloc(), Gates::Tree, &BOOKS)
+}
+
+/// Makes the script of the most prices with this kind of gates, and none beyond the limits. Compares its bounds.
+fn expect_limits(rt: &impl Abort, gates: Gates, rounds: u32) -> Result<(), Fail> {
+    assert!(rt; AuctionScript::new(0, gates).is_none());
+    assert!(rt; AuctionScript::new(4_097, gates).is_none());
+    let script = AuctionScript::new(4_096, gates).ok_or("no script")?;
+    assert_eq!(rt; script.rounds(), rounds);
+    assert_eq!(rt; script.masks(), 15);
+    assert_eq!(rt; script.coefficients(), 7_680);
+    assert_eq!(rt; script.wires(), 20_255);
+    Ok(())
+}
+
+#[test]
+fn limits_of_the_prices(rt: HostRuntime) -> Result<(), Fail> {
+    expect_limits(&rt, Gates::Chain, 1_780)?;
+    expect_limits(&rt, Gates::Tree, 268)
+}

@@ -1,0 +1,325 @@
+use crate::product::{product, three_and_four};
+use crate::samples::{NO_WORD, ONES, tape};
+use arrayvec::ArrayVec;
+use beet_field::{Fe, Point, Trio};
+use beet_gates::{Act, Batch, Product, Script};
+use beet_round::{RoundMessage, Verdict};
+use beet_server::{ServerCore, StartFault};
+use beet_words::{FeList, Tape};
+use std::alloc::Global;
+use std::process::Abort;
+use std::test::Fail;
+
+/// Each server deals a word, and the lowest bits of the three words are opened.
+#[derive(Clone, Copy)]
+struct LowestBits;
+
+impl Script for LowestBits {
+    ghost use Rattle.std.proofs.Common.{rules, ◌==◌, if◌then◌else◌, [], ◌∷◌};
+    ghost use Rattle.beet_gates.specs.Batches.{deal_batch, reveal_batch, end_batch};
+
+    ghost inputs_of = { λ _. 0 };
+
+    ghost rounds_of = { λ _. 2 };
+
+    ghost masks_of = { λ _. 1 };
+
+    ghost coefficients_of = { λ _. 61 };
+
+    ghost wires_of = { λ _. 183 };
+
+    ghost batch_of = { λ _ done _. if done == 0 then deal_batch else
+        (if done == 1 then reveal_batch [] (0 ∷ 61 ∷ 122 ∷ []) else end_batch) };
+
+    ghost lawful = { Prim.search rules };
+
+    fn inputs(&self) -> u32 {
+        0
+    }
+
+    fn rounds(&self) -> u32 {
+        2
+    }
+
+    fn masks(&self) -> u32 {
+        1
+    }
+
+    fn coefficients(&self) -> u32 {
+        61
+    }
+
+    fn wires(&self) -> u32 {
+        183
+    }
+
+    fn next(&self, done: u32, _opened: &[Fe]) -> Batch {
+        let act = if done == 0 {
+            Act::Deal
+        } else if done == 1 {
+            let mut wires = ArrayVec::new();
+            wires.push(0);
+            wires.push(61);
+            wires.push(122);
+            Act::Reveal(wires)
+        } else {
+            Act::End
+        };
+        Batch {
+            lets: ArrayVec::new(),
+            act,
+        }
+    }
+}
+
+/// A server of the script that opens three bits, with the word that it may deal and so many coefficient words.
+fn lowest_bits(
+    alloc: Global,
+    me: Point,
+    word: u64,
+    count: u32,
+) -> Result<ServerCore<LowestBits>, StartFault> {
+    let masks = tape(alloc, word)?;
+    let coefficients = Tape::of_seed(alloc, &[7; 32], me.number(), count)?;
+    let inputs = FeList::of(Vec::new(alloc));
+    ServerCore::start(alloc, me, LowestBits, inputs, masks, coefficients)
+}
+
+/// Three such servers, which deal 1, 2 and 5.
+fn one_two_five(alloc: Global) -> Result<Trio<ServerCore<LowestBits>>, StartFault> {
+    Ok(Trio {
+        one: lowest_bits(alloc, Point::One, 1, 70)?,
+        two: lowest_bits(alloc, Point::Two, 2, 70)?,
+        three: lowest_bits(alloc, Point::Three, 5, 70)?,
+    })
+}
+
+/// What the server says of the message, or `None` where its own are not handed out.
+fn give<S: Script>(core: &mut ServerCore<S>, m: RoundMessage) -> Option<Verdict> {
+    if core.sent() {
+        Some(core.deliver(m))
+    } else {
+        None
+    }
+}
+
+/// Whether the server says this of the message.
+fn says<S: Script>(core: &mut ServerCore<S>, m: RoundMessage, verdict: Verdict) -> bool {
+    give(core, m) == Some(verdict)
+}
+
+/// The two messages that the server hands out.
+fn send<S: Script>(core: &mut ServerCore<S>) -> Option<(RoundMessage, RoundMessage)> {
+    let [low, high] = core.out()?;
+    Some((low, high))
+}
+
+/// Passes a round at each server; answers whether all verdicts are as they should be.
+fn pass_round<S: Script>(cores: &mut Trio<ServerCore<S>>) -> Option<bool> {
+    let (one_two, one_three) = send(&mut cores.one)?;
+    let (two_one, two_three) = send(&mut cores.two)?;
+    let (three_one, three_two) = send(&mut cores.three)?;
+    let stored = says(&mut cores.one, two_one, Verdict::Stored)
+        & says(&mut cores.two, three_two, Verdict::Stored)
+        & says(&mut cores.three, one_three, Verdict::Stored);
+    let ready = says(&mut cores.one, three_one, Verdict::Ready)
+        & says(&mut cores.two, one_two, Verdict::Ready)
+        & says(&mut cores.three, two_three, Verdict::Ready);
+    Some(stored && ready)
+}
+
+/// Whether the server has received these numbers in the round from its lower and its higher peer.
+fn has_received(core: &ServerCore<Product>, round: u32, (low, high): (u128, u128)) -> bool {
+    let [lower, higher] = core.me().others();
+    core.received(round, lower) == Some([Fe::reduce(low)].as_slice())
+        && core.received(round, higher) == Some([Fe::reduce(high)].as_slice())
+}
+
+/// Whether the servers have received these numbers in the round.
+fn have_received(
+    cores: &Trio<ServerCore<Product>>,
+    round: u32,
+    [one, two, three]: [(u128, u128); 3],
+) -> bool {
+    has_received(&cores.one, round, one)
+        && has_received(&cores.two, round, two)
+        && has_received(&cores.three, round, three)
+}
+
+/// Whether each server has opened these numbers.
+fn have_opened<S: Script>(cores: &Trio<ServerCore<S>>, numbers: &[Fe]) -> bool {
+    cores.one.opened() == numbers
+        && cores.two.opened() == numbers
+        && cores.three.opened() == numbers
+}
+
+/// The run of the product, of which each message is known.
+fn expect_product(rt: &impl Abort, cores: &mut Trio<ServerCore<Product>>) {
+    assert!(rt; !cores.one.sent());
+    assert!(rt; cores.one.received(0, Point::Two).is_none());
+    assert!(rt; pass_round(cores) == Some(true));
+    assert!(rt; have_received(cores, 0, [(106, 184), (50, 188), (51, 110)]));
+    assert!(rt; pass_round(cores) == Some(true));
+    assert!(rt; have_received(cores, 1, [(14, 15), (13, 15), (13, 14)]));
+    assert!(rt; cores.one.ended());
+    assert!(rt; have_opened(cores, &[Fe::reduce(12)]));
+}
+
+/// Passes the first round at servers 1 and 2. The messages to server 3 are the answer.
+fn pass_without_three(
+    cores: &mut Trio<ServerCore<Product>>,
+) -> Option<(RoundMessage, RoundMessage)> {
+    let (one_two, one_three) = send(&mut cores.one)?;
+    let (two_one, two_three) = send(&mut cores.two)?;
+    let (three_one, three_two) = send(&mut cores.three)?;
+    give(&mut cores.one, two_one);
+    give(&mut cores.one, three_one);
+    give(&mut cores.two, one_two);
+    give(&mut cores.two, three_two);
+    Some((one_three, two_three))
+}
+
+/// Gives server 3 what another server sends to it now.
+fn give_three(from: &mut ServerCore<Product>, three: &mut ServerCore<Product>) -> Option<Verdict> {
+    let (_, early) = send(from)?;
+    give(three, early)
+}
+
+/// Server 3 gets both messages of the second round before the last of the first, and passes the second round as it hands
+/// out its own messages. The answer is how many rounds it has passed before and after.
+fn pass_early(cores: &mut Trio<ServerCore<Product>>) -> Option<(u32, u32)> {
+    let (one_three, two_three) = pass_without_three(cores)?;
+    let early = [
+        give_three(&mut cores.one, &mut cores.three),
+        give_three(&mut cores.two, &mut cores.three),
+    ];
+    let late = [
+        give(&mut cores.three, one_three),
+        give(&mut cores.three, two_three),
+    ];
+    if early.contains(&None) || late.contains(&None) {
+        return None;
+    }
+    let before = cores.three.round();
+    send(&mut cores.three)?;
+    Some((before, cores.three.round()))
+}
+
+/// The run of the product where messages to server 3 are early.
+fn expect_early(rt: &impl Abort, cores: &mut Trio<ServerCore<Product>>) {
+    assert!(rt; pass_early(cores) == Some((1, 2)));
+    assert!(rt; cores.three.ended());
+    assert!(rt; cores.three.opened() == [Fe::reduce(12)].as_slice());
+    assert!(rt; cores.three.out().is_none());
+}
+
+/// Messages of no number, by sender, receiver and round, and what server 1 says of each after its last round.
+const LATE: [(Point, Point, u32, Verdict); 4] = [
+    (Point::Two, Point::One, 1, Verdict::Old),
+    (Point::Two, Point::One, 2, Verdict::TooEarly(2)),
+    (Point::One, Point::One, 2, Verdict::Stranger),
+    (Point::One, Point::Two, 1, Verdict::Stranger),
+];
+
+/// What the server says of a message of no number.
+fn give_empty(
+    core: &mut ServerCore<Product>,
+    from: Point,
+    to: Point,
+    round: u32,
+) -> Option<Verdict> {
+    let message = RoundMessage {
+        from,
+        to,
+        round,
+        numbers: ArrayVec::new(),
+    };
+    give(core, message)
+}
+
+/// The run of the product, and messages after it.
+fn expect_late(rt: &impl Abort, cores: &mut Trio<ServerCore<Product>>) {
+    assert!(rt; pass_round(cores) == Some(true));
+    assert!(rt; pass_round(cores) == Some(true));
+    for (from, to, round, verdict) in LATE {
+        assert!(rt; give_empty(&mut cores.one, from, to, round) == Some(verdict));
+    }
+}
+
+/// What is done with the three servers of the product.
+#[derive(Clone, Copy)]
+enum Course {
+    InOrder,
+    Early,
+    Late,
+}
+
+/// Does it with servers at their beginning.
+fn follow(rt: &impl Abort, cores: &mut Trio<ServerCore<Product>>, course: Course) {
+    match course {
+        Course::InOrder => expect_product(rt, cores),
+        Course::Early => expect_early(rt, cores),
+        Course::Late => expect_late(rt, cores),
+    }
+}
+
+/// Starts the three servers, and does it with them.
+fn expect_course(rt: &impl Abort, alloc: Global, course: Course) -> Result<(), StartFault> {
+    let mut cores = three_and_four(alloc)?;
+    follow(rt, &mut cores, course);
+    Ok(())
+}
+
+#[test]
+fn product_of_three_and_four(rt: HostRuntime) -> Result<(), Fail> {
+    expect_course(&rt, rt.alloc(), Course::InOrder)?;
+    Ok(())
+}
+
+#[test]
+fn both_messages_are_early(rt: HostRuntime) -> Result<(), Fail> {
+    expect_course(&rt, rt.alloc(), Course::Early)?;
+    Ok(())
+}
+
+#[test]
+fn an_ended_server_changes_nothing(rt: HostRuntime) -> Result<(), Fail> {
+    expect_course(&rt, rt.alloc(), Course::Late)?;
+    Ok(())
+}
+
+/// The run in which the words 1, 2 and 5 are dealt.
+fn expect_bits(rt: &impl Abort, cores: &mut Trio<ServerCore<LowestBits>>) {
+    assert!(rt; pass_round(cores) == Some(true));
+    assert_eq!(rt; cores.one.masks().masks_left(), 0);
+    assert_eq!(rt; cores.one.coefficients().accepted_left(), 9);
+    assert!(rt; pass_round(cores) == Some(true));
+    assert!(rt; cores.two.ended());
+    assert!(rt; have_opened(cores, &[Fe::reduce(1), Fe::reduce(0), Fe::reduce(1)]));
+}
+
+#[test]
+fn bits_of_each_server(rt: HostRuntime) -> Result<(), Fail> {
+    let mut cores = one_two_five(rt.alloc())?;
+    expect_bits(&rt, &mut cores);
+    Ok(())
+}
+
+/// Why server 1 of the product does not start with this coefficient word.
+fn product_fault(alloc: Global, word: u64) -> Option<StartFault> {
+    product(alloc, Point::One, Product, (8, 6), word).err()
+}
+
+/// Why server 2 of the three bits does not start with no word to deal and so many coefficient words.
+fn bits_fault(alloc: Global, count: u32) -> Option<StartFault> {
+    lowest_bits(alloc, Point::Two, NO_WORD, count).err()
+}
+
+#[test]
+fn too_few(rt: HostRuntime) {
+    let alloc = rt.alloc();
+    assert!(rt; product_fault(alloc, NO_WORD) == Some(StartFault::TooFewWords(0)));
+    assert!(rt; product_fault(alloc, ONES) == Some(StartFault::TooFewWords(0)));
+    assert!(rt; bits_fault(alloc, 60) == Some(StartFault::TooFewWords(60)));
+    assert!(rt; bits_fault(alloc, 61) == Some(StartFault::TooFewMasks(0)));
+}

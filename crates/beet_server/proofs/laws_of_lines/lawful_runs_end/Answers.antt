@@ -1,5 +1,0 @@
-use Rattle.beet_server.proofs.Rounds.{lawful-rounds}
-use Rattle.beet_server.proofs.laws_of_lines.lawful_runs_end.Goals as goal
-
-pub returns : goal.returns
-returns c = lawful-rounds

@@ -1,5 +1,0 @@
-use Rattle.beet_server.proofs.LinesLaw.{at-one}
-use Rattle.beet_server.proofs.laws_of_lines.wires_stay_on_lines.Goals as goal
-
-pub returns : goal.returns
-returns c = at-one

@@ -1,0 +1,5 @@
+pub mod Runs
+pub mod Lines
+pub mod Rounds
+pub mod Examples
+pub mod Steps

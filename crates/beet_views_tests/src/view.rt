@@ -1,0 +1,223 @@
+use crate::transcript::fault_of;
+use beet_field::{P, Point};
+use beet_view::{View, read_view, write_view};
+use std::alloc::{AllocError, Global};
+use std::process::Abort;
+use std::test::Fail;
+
+/// The numbers of a small transcript: the server 2, a grid of 2 prices, a bidder that no server knows, one that the
+/// server knows, a mask word, 2 coefficient words, and a round.
+const SMALL: [u64; 33] = [
+    2, 100, 5, 2, 0, 2, 0, 1, 2, 3, 4, 2, 5, 6, 7, 8, 9, 3, 1, 4, 1, 70, 1, 80, 2, 90, 91, 1, 1,
+    11, 2, 12, 13,
+];
+
+/// The places of its numbers of prices and of bidders.
+const PRICES: usize = 3;
+
+const BIDDERS: usize = 5;
+
+/// The transcript of these numbers.
+fn file_of(alloc: Global, numbers: &[u64]) -> Result<Vec<u8>, AllocError> {
+    let mut file = Vec::from_slice(alloc, b"BEETVW01")?;
+    for number in numbers {
+        file.extend_from_slice(&number.to_be_bytes())?;
+    }
+    Ok(file)
+}
+
+/// The numbers of the small transcript, of which one is another.
+fn small_with(rt: &impl Abort, place: usize, number: u64) -> [u64; 33] {
+    let mut numbers = SMALL;
+    assert!(rt; place < 33);
+    numbers[place] = number;
+    numbers
+}
+
+/// Compares the offset and the reason that the transcript of these numbers is refused with.
+fn expect_fault(
+    rt: &impl Abort,
+    alloc: Global,
+    numbers: &[u64],
+    fault: Option<(u64, u32)>,
+) -> Result<(), AllocError> {
+    let file = file_of(alloc, numbers)?;
+    assert!(rt; fault_of(rt, alloc, file.as_slice()) == fault);
+    Ok(())
+}
+
+/// A place of the small transcript, another number there, and the offset and the reason that this is refused with.
+type Case = (usize, u64, Option<(u64, u32)>);
+
+/// Compares what becomes of the small transcript with other numbers.
+fn expect_faults(rt: &impl Abort, alloc: Global, cases: &[Case]) -> Result<(), Fail> {
+    for (place, number, fault) in cases {
+        expect_fault(rt, alloc, &small_with(rt, *place, *number), *fault)?;
+    }
+    Ok(())
+}
+
+/// Compares the fault of the small transcript where it has 4,096 prices and so many bidders.
+fn expect_product(
+    rt: &impl Abort,
+    alloc: Global,
+    bidders: u64,
+    fault: (u64, u32),
+) -> Result<(), Fail> {
+    let mut numbers = SMALL;
+    numbers[PRICES] = 4_096;
+    numbers[BIDDERS] = bidders;
+    expect_fault(rt, alloc, &numbers, Some(fault))?;
+    Ok(())
+}
+
+/// The view of the small transcript.
+fn small(rt: &impl Abort, alloc: Global) -> Result<View, Fail> {
+    let file = file_of(alloc, &SMALL)?;
+    assert!(rt; file.len() <= 1_000);
+    Ok(read_view(alloc, file.as_slice())?)
+}
+
+/// The first number of a message, if there is one.
+fn first_number(view: &View, round: u32, sender: Point) -> Option<u64> {
+    let numbers = view.numbers(round, sender)?;
+    Some(numbers.first()?.value())
+}
+
+/// What the small view tells of its server and the run.
+fn expect_run(rt: &impl Abort, view: &View) {
+    assert_eq!(rt; view.server(), Point::Two);
+    assert_eq!(rt; view.grid().prices(), 2);
+    assert_eq!(rt; view.masks().len(), 1);
+    assert_eq!(rt; view.coefficients().len(), 2);
+    assert_eq!(rt; view.rounds(), 1);
+    assert_eq!(rt; first_number(view, 0, Point::One), Some(11));
+    assert_eq!(rt; first_number(view, 0, Point::Three), Some(12));
+    assert_eq!(rt; first_number(view, 0, Point::Two), None);
+    assert_eq!(rt; first_number(view, 1, Point::One), None);
+}
+
+#[test]
+fn small_view(rt: HostRuntime) -> Result<(), Fail> {
+    let view = small(&rt, rt.alloc())?;
+    expect_run(&rt, &view);
+    Ok(())
+}
+
+/// What the bidder of a place buys at the last price and the number of its words, where the server knows it.
+fn bought_last(view: &View, place: usize) -> Option<(u64, usize)> {
+    let seen = view.bidders().get(place)?;
+    let (curve, words) = seen.own.as_ref()?;
+    if !curve.is_of(view.grid()) {
+        return None;
+    }
+    Some((curve.buy(view.grid().prices() - 1), words.as_slice().len()))
+}
+
+/// What the small view tells of its bidders.
+fn expect_bidders(rt: &impl Abort, view: &View) {
+    assert_eq!(rt; bought_last(view, 0), None);
+    assert_eq!(rt; bought_last(view, 1), Some((3, 1)));
+    assert_eq!(rt; bought_last(view, 2), None);
+}
+
+#[test]
+fn small_bidders(rt: HostRuntime) -> Result<(), Fail> {
+    let view = small(&rt, rt.alloc())?;
+    expect_bidders(&rt, &view);
+    Ok(())
+}
+
+/// Compares what is written of the small view with the small transcript.
+fn expect_written(rt: &impl Abort, written: &Vec<u8>, file: &[u8]) {
+    assert_eq!(rt; written.len(), 272);
+    assert_eq!(rt; written.capacity(), 272);
+    assert!(rt; written.as_slice() == file);
+}
+
+#[test]
+fn written_as_read(rt: HostRuntime) -> Result<(), Fail> {
+    let alloc = rt.alloc();
+    let written = write_view(alloc, &small(&rt, alloc)?)?;
+    let file = file_of(alloc, &SMALL)?;
+    expect_written(&rt, &written, file.as_slice());
+    Ok(())
+}
+
+/// Compares the fault of the first bytes of a transcript.
+fn expect_front(
+    rt: &impl Abort,
+    alloc: Global,
+    bytes: &[u8],
+    length: usize,
+    fault: Option<(u64, u32)>,
+) {
+    assert!(rt; length <= bytes.len());
+    assert!(rt;
+        fault_of(rt, alloc, &bytes[..length]) == fault,
+        "of {length}"
+    );
+}
+
+#[test]
+fn cut_off(rt: HostRuntime) -> Result<(), Fail> {
+    let file = file_of(rt.alloc(), &SMALL)?;
+    let bytes = file.as_slice();
+    expect_front(&rt, rt.alloc(), bytes, 272, None);
+    expect_front(&rt, rt.alloc(), bytes, 7, Some((0, 1)));
+    expect_front(&rt, rt.alloc(), bytes, 50, Some((48, 2)));
+    expect_front(&rt, rt.alloc(), bytes, 271, Some((264, 2)));
+    Ok(())
+}
+
+#[test]
+fn longer(rt: HostRuntime) -> Result<(), Fail> {
+    let mut file = file_of(rt.alloc(), &SMALL)?;
+    file.push(0)?;
+    assert!(rt; fault_of(&rt, rt.alloc(), file.as_slice()) == Some((272, 4)));
+    Ok(())
+}
+
+/// Numbers that a field may not hold.
+const OUTSIDE: [Case; 7] = [
+    (0, 0, Some((8, 3))),
+    (4, 2, Some((40, 3))),
+    (BIDDERS, 2_001, Some((48, 3))),
+    (6, 4, Some((56, 3))),
+    (32, P, Some((264, 3))),
+    (28, 0, Some((232, 3))),
+    (28, 65, Some((232, 3))),
+];
+
+#[test]
+fn fields_outside(rt: HostRuntime) -> Result<(), Fail> {
+    expect_faults(&rt, rt.alloc(), &OUTSIDE)
+}
+
+/// Lengths that a list may not have.
+const TOO_LONG: [Case; 4] = [
+    (20, 13, Some((168, 3))),
+    (22, 5, Some((184, 3))),
+    (24, 2_057, Some((200, 3))),
+    (27, 4_097, Some((224, 3))),
+];
+
+#[test]
+fn lists_too_long(rt: HostRuntime) -> Result<(), Fail> {
+    expect_faults(&rt, rt.alloc(), &TOO_LONG)?;
+    expect_product(&rt, rt.alloc(), 123, (48, 3))?;
+    expect_product(&rt, rt.alloc(), 122, (272, 2))
+}
+
+/// Quantities that are too large or out of order, and one that is neither.
+const QUANTITIES: [Case; 4] = [
+    (16, 1 << 48, Some((136, 3))),
+    (17, 10, Some((144, 3))),
+    (19, 0, Some((160, 3))),
+    (17, 9, None),
+];
+
+#[test]
+fn quantities_out_of_order(rt: HostRuntime) -> Result<(), Fail> {
+    expect_faults(&rt, rt.alloc(), &QUANTITIES)
+}
