@@ -62,8 +62,10 @@ module _ (book : Book) where
       points_finish auction inputs masks ≡ book_finish book masks
   points-finish slopes inputs masks b lines =
       let prices = book.grid.prices in
+      let policy = book.grid.policy in
+      let supply = slice_index (sums_of book) in
       let demand = λ (k : ℕ). slice_index (sums_of book) (prices + k) in
-      ap (λ (values : List ℕ). run_finish prices (mask_at masks) (points_place auction inputs) (found prices (λ k. slice_index values (prices + k)) (points_place auction inputs)))
+      ap (λ (values : List ℕ). run_finish prices (mask_at masks) (points_place auction inputs) (found policy prices (slice_index values) (λ k. slice_index values (prices + k)) (points_place auction inputs)))
       (book-values slopes inputs lines)
-      ∙ ap (λ (z : ℕ). run_finish prices (mask_at masks) z (found prices demand z)) (points-place slopes inputs b lines)
-      ∙ ap (run_finish prices (mask_at masks) (clearing_place book)) (found-outcome book demand (sums-demand book))
+      ∙ ap (λ (z : ℕ). run_finish prices (mask_at masks) z (found policy prices supply demand z)) (points-place slopes inputs b lines)
+      ∙ ap (run_finish prices (mask_at masks) (clearing_place book)) (found-outcome book supply demand (sums-supply book) (sums-demand book))

@@ -36,7 +36,7 @@ same-opened : (a : Auction) (o : Setup) (points : List ℕ) → o.next ≡ aucti
     (t : ℕ) → SameOpened o points t
 same-opened a o points next long as_long t =
     subst (SameOpened o points) (zero-add t)
-    (search-goes o points (blocks_of a.gates) (own-blocks a.gates) a.prices (comparisons_of a.prices + 3) 0 a.prices (2 * a.prices) 0 0 (start-alike o points (2 * a.prices) long as_long)
+    (search-goes o points (blocks_of a.gates) (own-blocks a.gates) a.policy a.prices (comparisons_of a.prices + 3) 0 a.prices (2 * a.prices) 0 0 (start-alike o points (2 * a.prices) long as_long)
     (subst (λ n. Follows n 0 [] (auction_plan a)) (sym next) (follows-itself a)) t)
 
 -- and end alike
@@ -119,5 +119,5 @@ any-ends a o are masks next =
     let z = points_place a o.inputs in
     let run = auction-run a values o.masks (length-each (opened_at o.inputs) n) (values-small a o.inputs are) masks in
     same-ending a o third (same-opened a o third next long (are.lengths Three)) (points_rounds a o.inputs o.masks) (points_finish a o.inputs o.masks)
-    (lines-end a (with_third third o) values (each (slope_at o.inputs) n) z (found a.prices (λ k. slice_index values (a.prices + k)) z)
+    (lines-end a (with_third third o) values (each (slope_at o.inputs) n) z (found a.policy a.prices (slice_index values) (λ k. slice_index values (a.prices + k)) z)
     (length-each (opened_at o.inputs) n) next (new-lines a o.inputs are) run)

@@ -1,5 +1,5 @@
 -- Runs of the auction that differ in server 3's points of the inputs open the same numbers.
-use Rattle.std.proofs.Common.{◌≡◌, ℕ, zero, suc, ◌+◌, ◌/◌, Bool, true, false, List, [], ◌∷◌, ◌++◌, length, slice_index, refl, sym, ◌∙◌, ap, subst, arith, add-zero, add-one, append-nil}
+use Rattle.std.proofs.Common.{◌≡◌, ℕ, zero, suc, ◌+◌, ◌/◌, Bool, true, false, List, [], ◌∷◌, ◌++◌, length, refl, sym, ◌∙◌, ap, subst, arith, add-zero, add-one, append-nil}
 use Rattle.std.specs.Prelude.{nat_lt, if◌then◌else◌, ◌==◌}
 use Rattle.std.proofs.Math.ListN.{get_or-eq_default}
 use Rattle.beet_gates.specs.Batches.{end_batch, reveal_batch}
@@ -10,9 +10,11 @@ use Rattle.beet_gates.specs.declared.Act.TheVariants.{Deal, Mul, Reveal, End}
 use Rattle.beet_gates.specs.declared.Batch.{Batch}
 use Rattle.beet_gates.proofs.PlanFacts.{Follows, follows-last, follows-now, follows-next, follows-tail, now-block, now-last}
 use Rattle.beet_plan.specs.Blocks.{Blocks, after_both, after_mask}
-use Rattle.beet_plan.specs.Auction.{search_plan, end_plan, compare_plan, after_answer, after_product}
+use Rattle.beet_bids.specs.Outcomes.{shown_by}
+use Rattle.beet_bids.specs.declared.outcomes.Policy.{Policy}
+use Rattle.beet_plan.specs.Auction.{search_plan, end_plan, opening_plan, price_with, compare_plan, after_answer, after_product}
 use Rattle.beet_plan.specs.declared.Finish.{Finish}
-use Rattle.beet_plan.specs.declared.Finish.TheVariants.{Price, NoPrice, MasksSpent}
+use Rattle.beet_plan.specs.declared.Finish.TheVariants.{NoPrice, MasksSpent}
 use Rattle.beet_sharing.specs.Runs.{Setup, Shared, batch_among, opened_at, opened_by, shared_at, with_batch_lets}
 use Rattle.beet_auction.proofs.Apart.{Agree, Alike, BatchOwn, BlockOwn, batch-alike, wires_after, wires_after_all, with_third}
 use Rattle.beet_auction.proofs.OwnBlocks.{AreOwn}
@@ -140,8 +142,8 @@ module _ (o : Setup) (points : List ℕ) where
         subst SameOpened e (ended-goes f start (wires_after n end_batch) (suc t) (advance start n t end_batch now (tt, tt) a)
         (subst (λ x. Follows o.next (suc t) x (Ended f)) (sym opened) later) j)
 
-  shows-own : (start n w : ℕ) → BatchOwn start n (reveal_batch [] (w ∷ []))
-  shows-own start n w = (tt, tt)
+  shows-own : (start n : ℕ) (wires : List ℕ) → BatchOwn start n (reveal_batch [] wires)
+  shows-own start n wires = (tt, tt)
 
   last-goes : (b : Batch) (k : ℕ) (named : List ℕ → Finish) (start n t : ℕ) → BatchOwn start n b → AlikeAt start n t → FollowsAt t (Last b k named) →
       (j : ℕ) → SameOpened (t + j)
@@ -155,43 +157,47 @@ module _ (o : Setup) (points : List ℕ) where
       subst SameOpened e (ended-goes (named new) start (wires_after n b) (suc t) (advance start n t b now h a)
       (subst (λ x. Follows o.next (suc t) x (Ended (named new))) (sym opened) (rw add-one at (follows-last o.next t s.opened new b k named f))) j)
 
-  end-goes : (prices place start n t : ℕ) → AlikeAt start n t → FollowsAt t (end_plan prices place) → (j : ℕ) → SameOpened (t + j)
-  end-goes prices place start n t a f =
-      let shows = reveal_batch [] ((prices + place) ∷ []) in
-      let named : List ℕ → Finish = λ opened. Price place (slice_index opened 0) in
-      follows-if o.next t (shared_at o t).opened (nat_lt place prices) (Last shows 1 named) (Ended NoPrice) f
-      (λ g. last-goes shows 1 named start n t (shows-own start n (prices + place)) a g)
+  -- wires are opened, where there are some
+  opening-goes : (wires : List ℕ) (named : List ℕ → Finish) (start n t : ℕ) → AlikeAt start n t → FollowsAt t (opening_plan wires named) → (j : ℕ) → SameOpened (t + j)
+  opening-goes [] named start n t a f = ended-goes (named []) start n t a f
+  opening-goes (w ∷ ws) named start n t a f =
+      last-goes (reveal_batch [] (w ∷ ws)) (length (w ∷ ws)) named start n t (shows-own start n (w ∷ ws)) a f
+
+  end-goes : (policy : Policy) (prices place start n t : ℕ) → AlikeAt start n t → FollowsAt t (end_plan policy prices place) → (j : ℕ) → SameOpened (t + j)
+  end-goes policy prices place start n t a f =
+      follows-if o.next t (shared_at o t).opened (nat_lt place prices) (opening_plan (shown_by policy (prices + place) place) (price_with place)) (Ended NoPrice) f
+      (λ g. opening-goes (shown_by policy (prices + place) place) (price_with place) start n t a g)
       (λ g. ended-goes NoPrice start n t a g)
 
   -- the whole search
-  module _ (g : Blocks) (own : AreOwn g) where
-    pub search-goes : (prices n lo hi first rej t : ℕ) → AlikeAt first first t → FollowsAt t (search_plan g prices n lo hi first rej) → (j : ℕ) → SameOpened (t + j)
+  module _ (g : Blocks) (own : AreOwn g) (policy : Policy) where
+    pub search-goes : (prices n lo hi first rej t : ℕ) → AlikeAt first first t → FollowsAt t (search_plan g policy prices n lo hi first rej) → (j : ℕ) → SameOpened (t + j)
     unfolding search_plan
-    search-goes prices zero lo hi first rej t a f = end-goes prices lo first first t a f
+    search-goes prices zero lo hi first rej t a f = end-goes policy prices lo first first t a f
     search-goes prices (suc n) lo hi first rej t a f =
         let mid = (lo + hi) / 2 in
         let next = after_mask g first in
         let both = after_both g first in
-        let spent = if rej == 2 then Ended MasksSpent else search_plan g prices n lo hi next (rej + 1) in
-        let compares = compare_plan g prices next first mid (after_answer g prices n lo hi first rej) in
-        let answers : ℕ → Plan Finish = λ c. Block (g.answer next first c) (after_answer g prices n lo hi first rej) in
+        let spent = if rej == 2 then Ended MasksSpent else search_plan g policy prices n lo hi next (rej + 1) in
+        let compares = compare_plan g prices next first mid (after_answer g policy prices n lo hi first rej) in
+        let answers : ℕ → Plan Finish = λ c. Block (g.answer next first c) (after_answer g policy prices n lo hi first rej) in
         let masked = g.masked next first mid (prices + mid) in
         let middle = wires_after_all next (masked ∷ []) in
-        follows-if o.next t (shared_at o t).opened (nat_lt lo hi) (Block (g.mask first) (after_product g prices n lo hi first rej)) (end_plan prices lo) f
-        (λ f. block-goes first first (g.mask first) (after_product g prices n lo hi first rej) t (own.mask first).0 a f
+        follows-if o.next t (shared_at o t).opened (nat_lt lo hi) (Block (g.mask first) (after_product g policy prices n lo hi first rej)) (end_plan policy prices lo) f
+        (λ f. block-goes first first (g.mask first) (after_product g policy prices n lo hi first rej) t (own.mask first).0 a f
         (λ product u b h.
         let b' : AlikeAt first next u = subst (λ m. AlikeAt first m u) (own.mask first).1 b in
         follows-if o.next u (shared_at o u).opened (product == 1) spent compares h
-        (λ h'. follows-if o.next u (shared_at o u).opened (rej == 2) (Ended MasksSpent) (search_plan g prices n lo hi next (rej + 1)) h'
+        (λ h'. follows-if o.next u (shared_at o u).opened (rej == 2) (Ended MasksSpent) (search_plan g policy prices n lo hi next (rej + 1)) h'
         (λ g'. ended-goes MasksSpent first next u b' g')
         (λ g'. search-goes prices n lo hi next (rej + 1) u (renew first next _ _ b') g'))
         (λ h'. block-goes first next (masked ∷ []) answers u (own.masked first mid (prices + mid)) b' h'
         (λ c v d i.
         let answer = own.answer first mid (prices + mid) c in
-        block-goes first middle (g.answer next first c) (after_answer g prices n lo hi first rej) v answer.0 d i
+        block-goes first middle (g.answer next first c) (after_answer g policy prices n lo hi first rej) v answer.0 d i
         (λ reached w x y.
         let x' : AlikeAt both both w = renew first both _ _ (subst (λ m. AlikeAt first m w) answer.1 x) in
-        follows-if o.next w (shared_at o w).opened (reached == 1) (search_plan g prices n lo mid both rej) (search_plan g prices n (mid + 1) hi both rej) y
+        follows-if o.next w (shared_at o w).opened (reached == 1) (search_plan g policy prices n lo mid both rej) (search_plan g policy prices n (mid + 1) hi both rej) y
         (λ z. search-goes prices n lo mid both rej w x' z)
         (λ z. search-goes prices n (mid + 1) hi both rej w x' z))))))
-        (λ f. end-goes prices lo first first t a f)
+        (λ f. end-goes policy prices lo first first t a f)

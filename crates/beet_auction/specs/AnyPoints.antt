@@ -29,8 +29,8 @@ points_place a inputs = place_of_inputs a (values_on (2 * a.prices) inputs)
 abbrev pub points_finish : Auction → Trio (List ℕ) → Trio (List ℕ) → Finish
 points_finish a inputs masks =
     let z = points_place a inputs in
-    let demand = λ (k : ℕ). slice_index (values_on (2 * a.prices) inputs) (a.prices + k) in
-    run_finish a.prices (mask_at masks) z (found a.prices demand z)
+    let values = values_on (2 * a.prices) inputs in
+    run_finish a.prices (mask_at masks) z (found a.policy a.prices (slice_index values) (λ k. slice_index values (a.prices + k)) z)
 
 -- and after how many rounds
 abbrev pub points_rounds : Auction → Trio (List ℕ) → Trio (List ℕ) → ℕ

@@ -1,5 +1,5 @@
--- The auction file: a header, and four rows of a key and a value.
-use Rattle.std.specs.Prelude.{ℕ, Bool, false, if◌then◌else◌, List, [], ◌∷◌, Option, None, Some, Result, Ok, Err, is_some, nat_le, slice_get, option_and_then, unwrap_or, codes}
+-- The auction file: a header, and four rows of a key and a value; in version 2 a fifth one says what is opened.
+use Rattle.std.specs.Prelude.{ℕ, Bool, true, false, ◌||◌, if◌then◌else◌, List, [], ◌∷◌, Option, None, Some, Result, Ok, Err, is_some, nat_le, drop, slice_get, option_and_then, unwrap_or, codes}
 use Rattle.beet_forms.specs.Faults.{Reading, reading_of}
 use Rattle.beet_forms.specs.Numbers.{number_of, decimal_value}
 use Rattle.beet_forms.specs.Rows.{rows_of, same_bytes, two_of}
@@ -7,6 +7,8 @@ use Rattle.beet_forms.specs.declared.decimals.NumberFault.{NumberFault}
 use Rattle.beet_forms.specs.declared.row.Row.{Row}
 use Rattle.beet_gates.specs.declared.Gates.{Gates}
 use Rattle.beet_gates.specs.declared.Gates.TheVariants.{Chain, Tree}
+use Rattle.beet_bids.specs.declared.outcomes.Policy.{Policy}
+use Rattle.beet_bids.specs.declared.outcomes.Policy.TheVariants.{Price, Volume, Full}
 use Rattle.beet_forms.specs.declared.faults.TheConstants.{BAD_HEADER}
 use Rattle.beet_bids.specs.declared.auction_file.TheConstants.{BAD_KEY, BAD_VALUE, WRONG_VERSION}
 use Rattle.beet_bids.specs.declared.grid.TheConstants.{LARGEST_BASE, LARGEST_TICK, MOST_PRICES}
@@ -25,7 +27,13 @@ value_of key row = value_in key (option_and_then two_of row)
 -- row 1: no such row, or another version
 abbrev pub version_reason : Option (List ℕ) → Option ℕ
 version_reason None = Some BAD_HEADER
-version_reason (Some version) = if same_bytes version (codes "1") then None else Some WRONG_VERSION
+version_reason (Some version) =
+    if same_bytes version (codes "1") || same_bytes version (codes "2") then None else Some WRONG_VERSION
+
+-- whether it is version 2, whose last row says what is opened
+abbrev pub tells_policy : Option (List ℕ) → Bool
+tells_policy None = false
+tells_policy (Some version) = same_bytes version (codes "2")
 
 -- whether there is a number that is not below this one
 abbrev pub is_from : ℕ → Result ℕ NumberFault → Bool
@@ -42,10 +50,18 @@ abbrev pub gates_named : List ℕ → Option Gates
 gates_named name =
     if same_bytes name (codes "chain") then Some Chain else if same_bytes name (codes "tree") then Some Tree else None
 
--- the row of the gates: no such row, or no kind of gates
-abbrev pub gates_reason : Option (List ℕ) → Option ℕ
-gates_reason None = Some BAD_KEY
-gates_reason (Some kind) = if is_some (gates_named kind) then None else Some BAD_VALUE
+-- what is opened by this name
+abbrev pub policy_named : List ℕ → Option Policy
+policy_named name =
+    if same_bytes name (codes "price") then Some Price
+    else if same_bytes name (codes "volume") then Some Volume
+    else if same_bytes name (codes "full") then Some Full
+    else None
+
+-- the row of a name: no such row, or nothing has this name
+abbrev pub name_reason : {A : Type 0} → (List ℕ → Option A) → Option (List ℕ) → Option ℕ
+name_reason named None = Some BAD_KEY
+name_reason named (Some name) = if is_some (named name) then None else Some BAD_VALUE
 
 -- a row after the last one
 abbrev pub extra_reason : Option Row → Option ℕ
@@ -56,9 +72,19 @@ extra_reason (Some row) = Some BAD_KEY
 abbrev pub number_in : Option (List ℕ) → ℕ
 number_in value = decimal_value (unwrap_or value [])
 
--- the kind of gates of a row's value
-abbrev pub gates_in : Option (List ℕ) → Gates
-gates_in value = unwrap_or (option_and_then gates_named value) Chain
+-- what a row's value names; where the file is refused, anything
+abbrev pub named_in : {A : Type 0} → (List ℕ → Option A) → A → Option (List ℕ) → A
+named_in named other value = unwrap_or (option_and_then named value) other
+
+-- the rows behind the gates: in version 2 the row that says what is opened, and none after it
+abbrev pub last_reasons : Bool → List Row → List (Option ℕ)
+last_reasons false rows = extra_reason (slice_get rows 0) ∷ []
+last_reasons true rows = name_reason policy_named (value_of (codes "opens") (slice_get rows 0)) ∷ extra_reason (slice_get rows 1) ∷ []
+
+-- what is opened; in version 1 it is the volume
+abbrev pub policy_in : Bool → List Row → Policy
+policy_in false rows = Volume
+policy_in true rows = named_in policy_named Volume (value_of (codes "opens") (slice_get rows 0))
 
 -- the grid of the rows, or the first row that is refused
 abbrev pub auction_in : List Row → Reading Grid
@@ -74,10 +100,15 @@ auction_in rows =
     ∷ number_reason 0 LARGEST_BASE base
     ∷ number_reason 1 LARGEST_TICK tick
     ∷ number_reason 1 MOST_PRICES prices
-    ∷ gates_reason gates
-    ∷ extra_reason (slice_get rows 5)
-    ∷ []))
-    (record { base = number_in base; tick = number_in tick; prices = number_in prices; gates = gates_in gates })
+    ∷ name_reason gates_named gates
+    ∷ last_reasons (tells_policy version) (drop 5 rows)))
+    (record {
+      base = number_in base;
+      tick = number_in tick;
+      prices = number_in prices;
+      gates = named_in gates_named Chain gates;
+      policy = policy_in (tells_policy version) (drop 5 rows);
+    })
 
 -- what an auction file reads as
 abbrev pub auction_of : List ℕ → Reading Grid

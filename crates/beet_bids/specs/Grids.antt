@@ -3,14 +3,16 @@ use Rattle.std.specs.Prelude.{ℕ, ◌+◌, ◌*◌, ◌≤◌, ◌==◌, List, 
 use Rattle.std.specs.List.{range_with_len}
 use Rattle.std.specs.Int.Digits.{digits_of}
 use Rattle.beet_gates.specs.declared.Gates.{Gates}
+use Rattle.beet_bids.specs.declared.outcomes.Policy.{Policy}
 use Rattle.beet_bids.specs.declared.grid.TheConstants.{LARGEST_BASE, LARGEST_TICK, MOST_PRICES}
 
--- a lowest price, the step from one price to the next, how many prices there are, and the kind of gates
+-- a lowest price, the step from one price to the next, how many prices there are, the kind of gates, and what is opened beside the price
 pub record Grid : Type 0 where
   pub base : ℕ
   pub tick : ℕ
   pub prices : ℕ
   pub gates : Gates
+  pub policy : Policy
 
 -- the limits of a grid
 pub record IsGrid (grid : Grid) : Type 0 where

@@ -1,11 +1,13 @@
 //! The reader of an auction file.
 
 ghost use Rattle.std.specs.Prelude.{◌≡◌, ◌≤◌, ◌∷◌, IfOk, OnOk, length, option_map, slice_get, codes};
-ghost use Rattle.beet_forms.specs.Faults.{Answers, row_reading};
+ghost use Rattle.beet_bids.specs.Reasons.{first_fault};
+ghost use Rattle.beet_forms.specs.Faults.{Answers, reading_of, row_reading};
 ghost use Rattle.beet_forms.specs.Rows.{two_of};
-ghost use Rattle.beet_bids.specs.AuctionFiles.{auction_in, auction_of, gates_in, gates_reason, number_in, number_reason, value_in, value_of, version_reason};
+ghost use Rattle.beet_bids.specs.AuctionFiles.{auction_in, auction_of, gates_named, last_reasons, name_reason, named_in, number_in, number_reason, policy_in, policy_named, tells_policy, value_in, value_of, version_reason};
 
 use crate::grid::{Grid, LARGEST_BASE, LARGEST_TICK, MOST_PRICES};
+use crate::outcomes::Policy;
 use beet_forms::{BAD_HEADER, LONGEST_FILE, ReadFault, Row, RowReader, two_fields};
 use beet_gates::Gates;
 use std::alloc::Global;
@@ -13,10 +15,10 @@ use std::alloc::Global;
 /// The most bytes of an auction file.
 pub const AUCTION_LIMIT: u64 = 4_096;
 
-/// The reason against a row that is missing, has not two fields, has another key, or is a sixth one.
+/// The reason against a row that is missing, has not two fields, has another key, or comes after the last.
 pub const BAD_KEY: u32 = 2;
 
-/// The reason against a value that is no number within its limits, or no kind of gates.
+/// The reason against a value that is no number within its limits, no kind of gates, or no policy.
 pub const BAD_VALUE: u32 = 3;
 
 /// The reason against another version.
@@ -33,10 +35,10 @@ fn value<'a>(row: &'a Row, key: &[u8]) -> Option<&'a [u8]>
     if first == key { Some(second) } else { None }
 }
 
-/// Takes row 1.
-fn read_version(rows: &mut RowReader, row: &mut Row) -> Result<(), ReadFault>
+/// Takes row 1, and tells whether it names version 2, which says what is opened.
+fn read_version(rows: &mut RowReader, row: &mut Row) -> Result<bool, ReadFault>
     ensures reads { let version = value_of (codes "beet-auction") (slice_get rows.old 0) in
-        Answers (λ done. done) (row_reading 1 (version_reason version) tt) result }
+        Answers (λ tells. tells) (row_reading 1 (version_reason version) (tells_policy version)) result }
     ensures row { OnOk result (rows.old ≡ row.new ∷ rows.new) }
 {
     if !rows.next(row)? {
@@ -44,7 +46,8 @@ fn read_version(rows: &mut RowReader, row: &mut Row) -> Result<(), ReadFault>
     }
     match value(row, b"beet-auction") {
         None => Err(ReadFault::at_row(1, BAD_HEADER)),
-        Some(version) if version == b"1".as_slice() => Ok(()),
+        Some(version) if version == b"1".as_slice() => Ok(false),
+        Some(version) if version == b"2".as_slice() => Ok(true),
         Some(_) => Err(ReadFault::at_row(1, WRONG_VERSION)),
     }
 }
@@ -79,7 +82,7 @@ fn read_number(
 /// Takes row 5, which has the kind of gates.
 fn read_gates(rows: &mut RowReader, row: &mut Row) -> Result<Gates, ReadFault>
     ensures reads { let kind = value_of (codes "gates") (slice_get rows.old 0) in
-        Answers (λ gates. gates) (row_reading 5 (gates_reason kind) (gates_in kind)) result }
+        Answers (λ gates. gates) (row_reading 5 (name_reason gates_named kind) (named_in gates_named Gates.Chain kind)) result }
     ensures row { OnOk result (rows.old ≡ row.new ∷ rows.new) }
 {
     if !rows.next(row)? {
@@ -97,27 +100,64 @@ fn read_gates(rows: &mut RowReader, row: &mut Row) -> Result<Gates, ReadFault>
     }
 }
 
+/// Takes row 6, which says what is opened.
+fn read_policy(rows: &mut RowReader, row: &mut Row) -> Result<Policy, ReadFault>
+    ensures reads { let policy = value_of (codes "opens") (slice_get rows.old 0) in
+        Answers (λ policy. policy) (row_reading 6 (name_reason policy_named policy) (named_in policy_named Policy.Volume policy)) result }
+    ensures row { OnOk result (rows.old ≡ row.new ∷ rows.new) }
+{
+    if !rows.next(row)? {
+        return Err(ReadFault::at_row(6, BAD_KEY));
+    }
+    let Some(policy) = value(row, b"opens") else {
+        return Err(ReadFault::at_row(6, BAD_KEY));
+    };
+    if policy == b"price".as_slice() {
+        Ok(Policy::Price)
+    } else if policy == b"volume".as_slice() {
+        Ok(Policy::Volume)
+    } else if policy == b"full".as_slice() {
+        Ok(Policy::Full)
+    } else {
+        Err(ReadFault::at_row(6, BAD_VALUE))
+    }
+}
+
+/// Takes what comes behind the gates, to the end: row 6, where the version has one.
+fn read_rest(rows: &mut RowReader, row: &mut Row, tells: bool) -> Result<Policy, ReadFault>
+    ensures { Answers (λ policy. policy) (reading_of (first_fault 6 (last_reasons tells rows.old)) (policy_in tells rows.old)) result }
+{
+    let policy = if tells {
+        read_policy(rows, row)?
+    } else {
+        Policy::Volume
+    };
+    if rows.next(row)? {
+        return Err(ReadFault::at_row(6 + tells as u32, BAD_KEY));
+    }
+    Ok(policy)
+}
+
 /// The grid of all rows.
 fn read_grid(rows: &mut RowReader, row: &mut Row) -> Result<Grid, ReadFault>
     ensures { Answers (λ grid. grid) (auction_in rows.old) result }
 {
-    read_version(rows, row)?;
+    let tells = read_version(rows, row)?;
     let base = read_number(rows, row, 2, b"base", 0, LARGEST_BASE)?;
     let tick = read_number(rows, row, 3, b"tick", 1, LARGEST_TICK)?;
     let prices = read_number(rows, row, 4, b"prices", 1, MOST_PRICES as u64)?;
     let gates = read_gates(rows, row)?;
-    if rows.next(row)? {
-        return Err(ReadFault::at_row(6, BAD_KEY));
-    }
+    let policy = read_rest(rows, row, tells)?;
     match Grid::new(base, tick, prices as u32, gates) {
-        Some(grid) => Ok(grid),
+        Some(grid) => Ok(grid.with_policy(policy)),
         None => unreachable!(),
     }
 }
 
 /// The grid of an auction file: the rows `beet-auction,1`, `base,N`, `tick,N`, `prices,N`, and `gates,chain` or
-/// `gates,tree`. The first row that breaks this is named: row 1 as [`BAD_HEADER`] or [`WRONG_VERSION`], each other one
-/// as [`BAD_KEY`] or [`BAD_VALUE`].
+/// `gates,tree`. It opens the volume. After `beet-auction,2` a sixth row says what it opens: `opens,price`, `opens,volume` or
+/// `opens,full`. The first row that breaks this is named: row 1 as [`BAD_HEADER`] or [`WRONG_VERSION`], each other one as
+/// [`BAD_KEY`] or [`BAD_VALUE`].
 pub fn read_auction(alloc: Global, bytes: &[u8]) -> Result<Grid, ReadFault>
     requires { length bytes.now ≤ LONGEST_FILE }
     ensures { Answers (λ grid. grid) (auction_of bytes.now) result }

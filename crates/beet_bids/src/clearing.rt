@@ -5,7 +5,7 @@ ghost use Rattle.beet_bids.specs.Sums.{supply_at, demand_at};
 ghost use Rattle.beet_bids.specs.Outcomes.{outcome_of};
 
 use crate::book::Book;
-use crate::outcomes::Outcome;
+use crate::outcomes::{Outcome, Policy};
 
 /// What all bidders together sell at a place.
 fn supply(book: &Book, place: u32) -> u64
@@ -31,18 +31,25 @@ fn demand(book: &Book, place: u32) -> u64
     sum
 }
 
-/// The first price of a book at which supply reaches demand. The volume is the demand there.
+/// The first price of a book at which supply reaches demand, with what the policy of its grid opens there: the demand is the
+/// volume.
 pub fn outcome(book: &Book) -> Outcome
     ensures { result ≡ outcome_of book.now }
 {
     let grid = book.grid();
     for place in 0..grid.prices() {
-        let demand = demand(book, place);
-        if supply(book, place) >= demand {
+        let (supply, demand) = (supply(book, place), demand(book, place));
+        if supply >= demand {
+            let (volume, supply) = match grid.policy() {
+                Policy::Price => (None, None),
+                Policy::Volume => (Some(demand), None),
+                Policy::Full => (Some(demand), Some(supply)),
+            };
             return Outcome::Price {
                 place,
                 price: grid.price(place),
-                volume: demand,
+                volume,
+                supply,
             };
         }
     }

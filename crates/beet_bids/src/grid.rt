@@ -3,6 +3,7 @@
 ghost use Rattle.std.specs.Prelude.{◌≡◌, ◌≢◌, ◌<◌, ◌≤◌, ◌^◌, ℕ, SomeIff, MatchOption};
 ghost use Rattle.beet_bids.specs.Grids.{IsGrid, price_of, place_of, comparisons_of};
 
+use crate::outcomes::Policy;
 use beet_gates::Gates;
 use std::marker::Model;
 
@@ -22,6 +23,7 @@ pub struct Grid {
     tick: u64,
     prices: u32,
     gates: Gates,
+    policy: Policy,
 }
 
 impl Model for Grid {
@@ -30,21 +32,21 @@ impl Model for Grid {
     ghost Value = { Seen };
 
     ghost view = { λ a.
-        record { base = a.base; tick = a.tick; prices = a.prices; gates = a.gates } };
+        record { base = a.base; tick = a.tick; prices = a.prices; gates = a.gates; policy = a.policy } };
 
     ghost invariant = { λ a.
-        IsGrid (record { base = a.base; tick = a.tick; prices = a.prices; gates = a.gates }) };
+        IsGrid (record { base = a.base; tick = a.tick; prices = a.prices; gates = a.gates; policy = a.policy }) };
 
     ghost inverse = { λ n.
-        record { base = n.base; tick = n.tick; prices = n.prices; gates = n.gates } };
+        record { base = n.base; tick = n.tick; prices = n.prices; gates = n.gates; policy = n.policy } };
 }
 
 impl Grid {
-    /// The grid, or none where a number is outside its limits.
+    /// The grid of an auction that opens the price and the volume, or none where a number is outside its limits.
     pub fn new(base: u64, tick: u64, prices: u32, gates: Gates) -> Option<Grid>
         ensures { SomeIff result
-            (IsGrid (record { base = base; tick = tick; prices = prices; gates = gates }))
-            (record { base = base; tick = tick; prices = prices; gates = gates }) }
+            (IsGrid (record { base = base; tick = tick; prices = prices; gates = gates; policy = Policy.Volume }))
+            (record { base = base; tick = tick; prices = prices; gates = gates; policy = Policy.Volume }) }
     {
         if base > LARGEST_BASE || tick < 1 || tick > LARGEST_TICK {
             return None;
@@ -57,7 +59,15 @@ impl Grid {
             tick,
             prices,
             gates,
+            policy: Policy::Volume,
         })
+    }
+
+    /// The same prices and gates, for an auction that opens what the policy says.
+    pub fn with_policy(self, policy: Policy) -> Grid
+        ensures { result ≡ record self { policy = policy } }
+    {
+        Grid { policy, ..self }
     }
 
     /// The lowest price.
@@ -89,6 +99,13 @@ impl Grid {
         ensures { result ≡ self.now.gates }
     {
         self.gates
+    }
+
+    /// What the auction opens beside the price.
+    pub fn policy(&self) -> Policy
+        ensures { result ≡ self.now.policy }
+    {
+        self.policy
     }
 
     /// The price at this place, counted from 0.

@@ -19,4 +19,4 @@ pub use clearing::outcome;
 pub use curve::{Curve, LARGEST_QUANTITY};
 pub use grid::{Grid, LARGEST_BASE, LARGEST_TICK, MOST_PRICES};
 pub use lines::{BUY_RISES, NO_BASE, NOT_ASCENDING, OFF_GRID, SELL_FALLS, TOO_LARGE};
-pub use outcomes::Outcome;
+pub use outcomes::{Outcome, Policy};

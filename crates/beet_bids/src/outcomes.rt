@@ -1,6 +1,17 @@
 //! What comes out of an auction.
 
-/// The price at which a book clears and the quantity that is bought there, if there is such a price.
+/// What an auction opens beside the price.
+#[derive(Clone, Copy, PartialEq, Eq, Debug)]
+pub enum Policy {
+    /// Nothing.
+    Price,
+    /// The volume.
+    Volume,
+    /// The volume and the supply.
+    Full,
+}
+
+/// The price at which a book clears and what is opened of the quantities there, if there is such a price.
 #[derive(Clone, Copy, PartialEq, Eq, Debug)]
 pub enum Outcome {
     /// The first price at which supply reaches demand.
@@ -9,8 +20,10 @@ pub enum Outcome {
         place: u32,
         /// The price.
         price: u64,
-        /// What all bidders together buy at the price.
-        volume: u64,
+        /// What all bidders together buy at the price, where it is opened.
+        volume: Option<u64>,
+        /// What all bidders together sell at the price, where it is opened.
+        supply: Option<u64>,
     },
     /// Supply stays below demand at every price.
     No,

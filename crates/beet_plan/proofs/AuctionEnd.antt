@@ -1,5 +1,5 @@
 -- How the auction's run on plain values ends.
-use Rattle.std.proofs.Common.{◌≡◌, ◌≢◌, ℕ, zero, suc, ◌+◌, ◌-◌, ◌*◌, ◌/◌, ◌^◌, ◌<◌, ◌≤◌, inl, inr, Bool, true, false, List, [], ◌∷◌, length, slice_index, refl, ap, ◌∙◌, arith, eq-eqb, ne_eqb, pow-suc}
+use Rattle.std.proofs.Common.{◌≡◌, ◌≢◌, ℕ, zero, suc, ◌+◌, ◌-◌, ◌*◌, ◌/◌, ◌^◌, ◌<◌, ◌≤◌, inl, inr, Bool, true, false, List, [], ◌∷◌, length, slice_index, refl, ap, sym, ◌∙◌, arith, eq-eqb, ne_eqb, pow-suc, zero-add}
 use Rattle.std.specs.Prelude.{nat_lt, if◌then◌else◌, ◌==◌}
 use Rattle.std.proofs.Math.Seq.{drop-append_seam}
 use Rattle.std.proofs.lemmas.Bool.{cases_eq, cases_lt, cases_Bool}
@@ -12,33 +12,65 @@ use Rattle.beet_field.specs.Field.{p}
 use Rattle.beet_compare.specs.Compare.{is_doubled_even}
 use Rattle.beet_plan.specs.Blocks.{Blocks, after_mask, after_both}
 use Rattle.beet_plan.proofs.BlockLaws.{AreBlocks}
-use Rattle.beet_plan.specs.Auction.{search_plan, compare_plan, end_plan, after_answer, after_product}
+use Rattle.beet_bids.specs.Outcomes.{shown_by}
+use Rattle.beet_bids.specs.declared.outcomes.Policy.{Policy}
+use Rattle.beet_bids.specs.declared.outcomes.Policy.TheVariants.{Price as PriceAlone, Volume, Full}
+use Rattle.beet_plan.specs.Auction.{search_plan, compare_plan, end_plan, opening_plan, price_with, after_answer, after_product}
 use Rattle.beet_plan.specs.Search.{tested, place_between}
 use Rattle.beet_plan.specs.Runs.{found}
 use Rattle.beet_plan.proofs.Counts.{all_ones_among, spent_from}
 use Rattle.beet_plan.proofs.Searches.{tested-none, tested-open, place-none, place-open}
 use Rattle.beet_plan.specs.declared.Finish.{Finish}
-use Rattle.beet_plan.specs.declared.Finish.TheVariants.{MasksSpent}
+use Rattle.beet_plan.specs.declared.Finish.TheVariants.{NoPrice, MasksSpent}
 use Rattle.beet_plan.proofs.BlockSteps.{Stands, Deals, AreElements, mask-step, compare-step, after_masked}
 
--- the last batch opens the demand at the place of the price
-pub volume-opened : (deals : ℕ → List ℕ) (prices : ℕ) (supply demand : ℕ → ℕ) (first i z : ℕ) (v : Values) → Stands prices supply demand first i v → z < prices →
-    all_opened_by v (batch_on deals (reveal_batch [] ((prices + z) ∷ [])) v) ≡ demand z ∷ []
-volume-opened deals prices supply demand first i z v s h =
-    drop-append_seam v.opened (slice_index v.wires (prices + z) ∷ []) ∙ ap (λ n. n ∷ []) (s.demands.at z h)
+module _ (deals : ℕ → List ℕ) (v : Values) where
+  end-block : (bs : List Batch) (next : ℕ → Plan Finish) →
+      plan_end deals (Block bs next) v ≡ plan_end deals (next (opened_by v (batches_on deals bs v))) (batches_on deals bs v)
+  unfolding plan_end
+  end-block bs next = refl
 
--- the end, where the search ends at z
-end-at : (deals : ℕ → List ℕ) (prices : ℕ) (supply demand : ℕ → ℕ) (first i z : ℕ) (v : Values) → Stands prices supply demand first i v →
-    plan_end deals (end_plan prices z) v ≡ found prices demand z
-unfolding plan_end
-end-at deals prices supply demand first i z v s = elim (cases_lt z prices) [
-  | inl h ↦
-      let t : nat_lt z prices ≡ true = grind (arith, nat_tests) in
-      rw (t, volume-opened deals prices supply demand first i z v s h) refl
-  | inr h ↦
-      let t : nat_lt z prices ≡ false = grind (arith, nat_tests) in
-      rw t refl
-]
+  end-ended : (f : Finish) → plan_end deals (Ended f) v ≡ f
+  unfolding plan_end
+  end-ended f = refl
+
+  end-true : (b : Bool) (p q : Plan Finish) → b ≡ true → plan_end deals (if b then p else q) v ≡ plan_end deals p v
+  end-true b p q e = ap (λ (c : Bool). plan_end deals (if c then p else q) v) e
+
+  end-false : (b : Bool) (p q : Plan Finish) → b ≡ false → plan_end deals (if b then p else q) v ≡ plan_end deals q v
+  end-false b p q e = ap (λ (c : Bool). plan_end deals (if c then p else q) v) e
+
+module _ (deals : ℕ → List ℕ) (prices : ℕ) (supply demand : ℕ → ℕ) (first i z : ℕ) (v : Values) (s : Stands prices supply demand first i v) where
+  -- the supply at a place of the grid has its wire
+  supply-at : z < prices → slice_index v.wires z ≡ supply z
+  supply-at h = ap (slice_index v.wires) (sym zero-add) ∙ s.supplies.at z h
+
+  -- the last batch opens what the policy shows of the place of the price
+  pub shown-opened : (policy : Policy) → z < prices →
+      all_opened_by v (batch_on deals (reveal_batch [] (shown_by policy (prices + z) z)) v) ≡ shown_by policy (demand z) (supply z)
+  shown-opened PriceAlone h = drop-append_seam v.opened []
+  shown-opened Volume h = drop-append_seam v.opened (slice_index v.wires (prices + z) ∷ []) ∙ ap (λ n. n ∷ []) (s.demands.at z h)
+  shown-opened Full h =
+      drop-append_seam v.opened (slice_index v.wires (prices + z) ∷ slice_index v.wires z ∷ []) ∙ (λ j. s.demands.at z h j ∷ supply-at h j ∷ [])
+
+  -- and that names the finish
+  end-shown : (policy : Policy) → z < prices →
+      plan_end deals (opening_plan (shown_by policy (prices + z) z) (price_with z)) v ≡ price_with z (shown_by policy (demand z) (supply z))
+  unfolding plan_end
+  end-shown PriceAlone h = refl
+  end-shown Volume h = ap (price_with z) (shown-opened Volume h)
+  end-shown Full h = ap (price_with z) (shown-opened Full h)
+
+  -- the end, where the search ends at z
+  end-at : (policy : Policy) → plan_end deals (end_plan policy prices z) v ≡ found policy prices supply demand z
+  end-at policy = elim (cases_lt z prices) [
+    | inl h ↦
+        let t : nat_lt z prices ≡ true = grind (arith, nat_tests) in
+        rw t (end-shown policy h)
+    | inr h ↦
+        let t : nat_lt z prices ≡ false = grind (arith, nat_tests) in
+        rw t (end-ended deals v NoPrice)
+  ]
 
 -- what a rejected and what an accepted mask leave of the count
 module _ (masks : ℕ → ℕ) (i rej c : ℕ) where
@@ -83,30 +115,14 @@ spent-none masks i rej h =
     let b = among-le masks i (2 - rej) in
     rw e (grind (arith, nat_tests))
 
-pub search_plan-open : (g : Blocks) (prices n lo hi first rej : ℕ) → nat_lt lo hi ≡ true →
-    search_plan g prices (suc n) lo hi first rej ≡ Block (g.mask first) (after_product g prices n lo hi first rej)
+pub search_plan-open : (g : Blocks) (policy : Policy) (prices n lo hi first rej : ℕ) → nat_lt lo hi ≡ true →
+    search_plan g policy prices (suc n) lo hi first rej ≡ Block (g.mask first) (after_product g policy prices n lo hi first rej)
 unfolding search_plan
-search_plan-open g prices n lo hi first rej t = rw t refl
+search_plan-open g policy prices n lo hi first rej t = rw t refl
 
-pub search_plan-done : (g : Blocks) (prices n lo hi first rej : ℕ) → nat_lt lo hi ≡ false → search_plan g prices (suc n) lo hi first rej ≡ end_plan prices lo
+pub search_plan-done : (g : Blocks) (policy : Policy) (prices n lo hi first rej : ℕ) → nat_lt lo hi ≡ false → search_plan g policy prices (suc n) lo hi first rej ≡ end_plan policy prices lo
 unfolding search_plan
-search_plan-done g prices n lo hi first rej t = rw t refl
-
-module _ (deals : ℕ → List ℕ) (v : Values) where
-  end-block : (bs : List Batch) (next : ℕ → Plan Finish) →
-      plan_end deals (Block bs next) v ≡ plan_end deals (next (opened_by v (batches_on deals bs v))) (batches_on deals bs v)
-  unfolding plan_end
-  end-block bs next = refl
-
-  end-ended : (f : Finish) → plan_end deals (Ended f) v ≡ f
-  unfolding plan_end
-  end-ended f = refl
-
-  end-true : (b : Bool) (p q : Plan Finish) → b ≡ true → plan_end deals (if b then p else q) v ≡ plan_end deals p v
-  end-true b p q e = ap (λ (c : Bool). plan_end deals (if c then p else q) v) e
-
-  end-false : (b : Bool) (p q : Plan Finish) → b ≡ false → plan_end deals (if b then p else q) v ≡ plan_end deals q v
-  end-false b p q e = ap (λ (c : Bool). plan_end deals (if c then p else q) v) e
+search_plan-done g policy prices n lo hi first rej t = rw t refl
 
 -- whether a mask was rejected, as it was opened
 pub opened-rejected : (x mask : ℕ) → x ≡ (if mask == p then 1 else 0) → (x == 1) ≡ (mask == p)
@@ -115,24 +131,24 @@ opened-rejected x mask e = elim (cases_eq mask p) [
   | inr some ↦ rw (e, ne_eqb mask p some) refl
 ]
 
-module _ (g : Blocks) (are : AreBlocks g) (deals : ℕ → List ℕ) (masks : ℕ → ℕ) (prices : ℕ) (supply demand : ℕ → ℕ) (test : ℕ → Bool)
+module _ (g : Blocks) (are : AreBlocks g) (policy : Policy) (deals : ℕ → List ℕ) (masks : ℕ → ℕ) (prices : ℕ) (supply demand : ℕ → ℕ) (test : ℕ → Bool)
     (d : Deals deals masks) (elements : AreElements prices supply demand)
     (reached : (k : ℕ) → k < prices → is_doubled_even (supply k) (demand k) ≡ test k) where
   pub search-end : (n m lo hi first i rej : ℕ) (v : Values) → Stands prices supply demand first i v →
       lo ≤ hi → hi ≤ prices → hi < lo + 2 ^ m → m + 3 ≤ n + rej → rej < 3 →
-      plan_end deals (search_plan g prices n lo hi first rej) v
-      ≡ (if spent_from masks i rej (length (tested test m lo hi)) then MasksSpent else found prices demand (place_between test m lo hi))
+      plan_end deals (search_plan g policy prices n lo hi first rej) v
+      ≡ (if spent_from masks i rej (length (tested test m lo hi)) then MasksSpent else found policy prices supply demand (place_between test m lo hi))
   search-end zero m lo hi first i rej v s hl hp hm hn hr = absurd (omega arith)
   search-end (suc n) zero lo hi first i rej v s hl hp hm hn hr =
       let h : hi ≤ lo = omega arith in
       let t : nat_lt lo hi ≡ false = grind (arith, nat_tests) in
-      ap (λ (q : Plan Finish). plan_end deals q v) (search_plan-done g prices n lo hi first rej t)
-      ∙ rw (tested-none test zero lo hi h, place-none test zero lo hi h, spent-none masks i rej hr) (end-at deals prices supply demand first i lo v s)
+      ap (λ (q : Plan Finish). plan_end deals q v) (search_plan-done g policy prices n lo hi first rej t)
+      ∙ rw (tested-none test zero lo hi h, place-none test zero lo hi h, spent-none masks i rej hr) (end-at deals prices supply demand first i lo v s policy)
   search-end (suc n) (suc m) lo hi first i rej v s hl hp hm hn hr = elim (cases_lt lo hi) [
     | inr h ↦
         let t : nat_lt lo hi ≡ false = grind (arith, nat_tests) in
-        ap (λ (q : Plan Finish). plan_end deals q v) (search_plan-done g prices n lo hi first rej t)
-        ∙ rw (tested-none test (suc m) lo hi h, place-none test (suc m) lo hi h, spent-none masks i rej hr) (end-at deals prices supply demand first i lo v s)
+        ap (λ (q : Plan Finish). plan_end deals q v) (search_plan-done g policy prices n lo hi first rej t)
+        ∙ rw (tested-none test (suc m) lo hi h, place-none test (suc m) lo hi h, spent-none masks i rej hr) (end-at deals prices supply demand first i lo v s policy)
     | inl h ↦
         let t : nat_lt lo hi ≡ true = grind (arith, nat_tests) in
         let mid = (lo + hi) / 2 in
@@ -143,11 +159,11 @@ module _ (g : Blocks) (are : AreBlocks g) (deals : ℕ → List ℕ) (masks : �
         let end = place-open test m lo hi t in
         let a = mask-step g are deals masks prices supply demand first i v d s in
         let o : (x == 1) ≡ (masks i == p) = opened-rejected x (masks i) a.opened in
-        let begun : plan_end deals (search_plan g prices (suc n) lo hi first rej) v ≡ plan_end deals (after_product g prices n lo hi first rej x) after =
-        ap (λ (q : Plan Finish). plan_end deals q v) (search_plan-open g prices n lo hi first rej t)
-        ∙ end-block deals v (g.mask first) (after_product g prices n lo hi first rej) in
-        let no = search_plan g prices n lo hi (after_mask g first) (rej + 1) in
-        let yes = compare_plan g prices (after_mask g first) first mid (after_answer g prices n lo hi first rej) in
+        let begun : plan_end deals (search_plan g policy prices (suc n) lo hi first rej) v ≡ plan_end deals (after_product g policy prices n lo hi first rej x) after =
+        ap (λ (q : Plan Finish). plan_end deals q v) (search_plan-open g policy prices n lo hi first rej t)
+        ∙ end-block deals v (g.mask first) (after_product g policy prices n lo hi first rej) in
+        let no = search_plan g policy prices n lo hi (after_mask g first) (rej + 1) in
+        let yes = compare_plan g prices (after_mask g first) first mid (after_answer g policy prices n lo hi first rej) in
         begun ∙ elim (cases_eq (masks i) p) [
           | inl all ↦
               let o' : (x == 1) ≡ true = o ∙ eq-eqb (masks i) p all in
@@ -171,12 +187,12 @@ module _ (g : Blocks) (are : AreBlocks g) (deals : ℕ → List ℕ) (masks : �
               let b = compare-step g are deals prices supply demand (after_mask g first) first (masks i) (i + 1) mid after elements a.stands (omega arith) a.bits r within in
               let place : after_mask g first + g.compare_wires ≡ after_both g first = omega arith in
               let stands : Stands prices supply demand (after_both g first) (i + 1) late = rw place at b.stands in
-              let p : plan_end deals yes after ≡ plan_end deals (after_answer g prices n lo hi first rej y) late =
-              end-block deals after (g.masked (after_mask g first) first mid (prices + mid) ∷ []) (λ (c : ℕ). Block (g.answer (after_mask g first) first c) (after_answer g prices n lo hi first rej))
-              ∙ end-block deals middle (g.answer (after_mask g first) first c) (after_answer g prices n lo hi first rej) in
+              let p : plan_end deals yes after ≡ plan_end deals (after_answer g policy prices n lo hi first rej y) late =
+              end-block deals after (g.masked (after_mask g first) first mid (prices + mid) ∷ []) (λ (c : ℕ). Block (g.answer (after_mask g first) first c) (after_answer g policy prices n lo hi first rej))
+              ∙ end-block deals middle (g.answer (after_mask g first) first c) (after_answer g policy prices n lo hi first rej) in
               let answer : y ≡ (if test mid then 1 else 0) = rw (reached mid within) at b.opened in
-              let low = search_plan g prices n lo mid (after_both g first) rej in
-              let high = search_plan g prices n (mid + 1) hi (after_both g first) rej in
+              let low = search_plan g policy prices n lo mid (after_both g first) rej in
+              let high = search_plan g policy prices n (mid + 1) hi (after_both g first) rej in
               let power : 2 ^ suc m ≡ 2 ^ m * 2 = pow-suc 2 m in
               end-false deals after (x == 1) (if rej == 2 then Ended MasksSpent else no) yes o' ∙ p ∙ elim (cases_Bool (test mid)) [
                 | inr above ↦

@@ -31,7 +31,7 @@ auction-stands a =
       room_coefficients = omega (arith, draws);
       room_rounds = omega arith;
     } in
-    search-stands bounds g are a.prices (l + 3) l 0 a.prices 0 (most_rounds a) (start_of (2 * a.prices))
+    search-stands bounds g are a.policy a.prices (l + 3) l 0 a.prices 0 (most_rounds a) (start_of (2 * a.prices))
     (omega arith) (omega arith) (omega (arith, below_comparisons a.prices)) (omega arith) room
 
 pub auction-law : (a : Auction) →

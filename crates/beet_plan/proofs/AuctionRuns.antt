@@ -24,7 +24,7 @@ use Rattle.beet_plan.specs.declared.Finish.{Finish}
 use Rattle.beet_plan.specs.declared.Finish.TheVariants.{MasksSpent}
 use Rattle.beet_plan.proofs.AuctionEnd.{search-end}
 use Rattle.beet_plan.proofs.AuctionLaw.{auction-stands, follows-itself}
-use Rattle.beet_plan.proofs.AuctionRounds.{Rounds, search-rounds, volume_round}
+use Rattle.beet_plan.proofs.AuctionRounds.{Rounds, search-rounds, rounds_opening}
 use Rattle.beet_plan.proofs.BlockSteps.{Stands, Deals, AreElements}
 use Rattle.beet_plan.proofs.Counts.{spent_from, dealt_until_accepted, spent-start, dealt-spent, dealt-three, dealt-found}
 use Rattle.beet_plan.proofs.Searches.{tested-path}
@@ -56,7 +56,7 @@ deals-words words m = record {
 
 -- the rounds of a run from the first mask on, by the places of the rejected and the accepted masks
 rounds-whole : (a : Auction) (masks : ℕ → ℕ) (z rounds : ℕ) →
-    Rounds (blocks_of a.gates) masks 0 0 (length (path a.prices z)) (volume_round a.prices z) rounds → rounds ≡ run_rounds a masks z
+    Rounds (blocks_of a.gates) masks 0 0 (length (path a.prices z)) (rounds_opening a.policy a.prices z) rounds → rounds ≡ run_rounds a masks z
 rounds-whole a masks z rounds r =
     let g = blocks_of a.gates in
     let prices = a.prices in
@@ -72,13 +72,13 @@ rounds-whole a masks z rounds r =
           ap (λ (k : ℕ). g.compare_rounds * k) three ∙ mul-add g.compare_rounds (dealt_until_spent masks c - 3) 3 in
           rw t (omega (arith, e, split))
       | inr f ↦
-          let e : rounds ≡ g.mask_rounds * dealt_until_accepted masks 0 c (c + 2) + g.compare_rounds * c + volume_round prices z = rw n at (r.found (start ∙ f)) in
+          let e : rounds ≡ g.mask_rounds * dealt_until_accepted masks 0 c (c + 2) + g.compare_rounds * c + rounds_opening a.policy prices z = rw n at (r.found (start ∙ f)) in
           rw f (rw (dealt-found masks c f) at e)
     ]
 
 module _ (a : Auction) (inputs : List ℕ) (words : Trio (List ℕ)) where
   pub auction-run : length inputs ≡ 2 * a.prices → All IsElement inputs → AreMasks words →
-      RunEnds a inputs words (place_of_inputs a inputs) (found a.prices (λ k. slice_index inputs (a.prices + k)) (place_of_inputs a inputs))
+      RunEnds a inputs words (place_of_inputs a inputs) (found a.policy a.prices (slice_index inputs) (λ k. slice_index inputs (a.prices + k)) (place_of_inputs a inputs))
   auction-run len all m =
       let prices = a.prices in
       let l = comparisons_of prices in
@@ -107,15 +107,15 @@ module _ (a : Auction) (inputs : List ℕ) (words : Trio (List ℕ)) where
       let same : tested test l 0 prices ≡ path prices z = tested-path test l 0 prices z refl in
       let e = plan-ends deals bounds plan (start_of (2 * prices)) (most_rounds a) start stands in
       let run = plan-runs (auction_batch a) words inputs bounds plan (start_of (2 * prices)) (most_rounds a) stands (follows-itself a) in
-      let end = search-end (blocks_of a.gates) (are-blocks a.gates) deals masks prices supply demand test d elements (λ k h. refl)
+      let end = search-end (blocks_of a.gates) (are-blocks a.gates) a.policy deals masks prices supply demand test d elements (λ k h. refl)
       (l + 3) l 0 prices (2 * prices) 0 0 start s (omega arith) (omega arith) few (omega arith) (omega arith) in
-      let rounds = search-rounds (blocks_of a.gates) (are-blocks a.gates) deals masks prices supply demand test d elements (λ k h. refl)
+      let rounds = search-rounds (blocks_of a.gates) (are-blocks a.gates) a.policy deals masks prices supply demand test d elements (λ k h. refl)
       (l + 3) l 0 prices (2 * prices) 0 0 start s (omega arith) (omega arith) few (omega arith) (omega arith) in
       let spent : spent_from masks 0 0 (length (tested test l 0 prices)) ≡ is_spent masks (length (path prices z)) =
       ap (λ (t : List ℕ). spent_from masks 0 0 (length t)) same ∙ spent-start masks (length (path prices z)) in
       record {
         ends =
             ap (λ (v : Values). plan_finish plan v.opened) run.values ∙ ap (plan_finish plan) e.1 ∙ e.2
-            ∙ ap (λ (f : Finish). Some f) (end ∙ ap (λ (b : Bool). if b then MasksSpent else found prices demand z) spent);
+            ∙ ap (λ (f : Finish). Some f) (end ∙ ap (λ (b : Bool). if b then MasksSpent else found a.policy prices supply demand z) spent);
         rounds = run.rounds ∙ rounds-whole a masks z _ (rw same at rounds);
       }

@@ -11,9 +11,12 @@ use Rattle.beet_gates.proofs.Standings.{Moved}
 use Rattle.beet_gates.proofs.PlanFacts.{within-all}
 use Rattle.beet_plan.specs.Blocks.{Blocks, after_mask, after_both}
 use Rattle.beet_plan.proofs.BlockLaws.{AreBlocks}
-use Rattle.beet_plan.specs.Auction.{search_plan, end_plan, after_answer, after_product}
+use Rattle.beet_bids.specs.Outcomes.{shown_by}
+use Rattle.beet_bids.specs.declared.outcomes.Policy.{Policy}
+use Rattle.beet_bids.specs.declared.outcomes.Policy.TheVariants.{Price as PriceAlone, Volume, Full}
+use Rattle.beet_plan.specs.Auction.{search_plan, end_plan, opening_plan, price_with, after_answer, after_product}
 use Rattle.beet_plan.specs.declared.Finish.{Finish}
-use Rattle.beet_plan.specs.declared.Finish.TheVariants.{Price, NoPrice, MasksSpent}
+use Rattle.beet_plan.specs.declared.Finish.TheVariants.{NoPrice, MasksSpent}
 
 -- what l more comparisons and the masks that may still be rejected need
 pub record Room (g : Blocks) (bounds s : Standing) (n l rej : ℕ) : Type 0 where
@@ -66,14 +69,24 @@ module _ (bounds : Standing) where
   stands-if n s true p q h k = h
   stands-if n s false p q h k = k
 
-  end-stands : (prices place n : ℕ) (s : Standing) → 2 * prices ≤ s.wires → IsWithin bounds s → 1 ≤ n → PlanStands bounds n s (end_plan prices place)
-  end-stands prices place n s h w l = elim (cases_lt place prices) [
+  shown-stands : (policy : Policy) (prices place n : ℕ) (s : Standing) → place < prices → 2 * prices ≤ s.wires → IsWithin bounds s → 1 ≤ n →
+      PlanStands bounds n s (opening_plan (shown_by policy (prices + place) place) (price_with place))
+  shown-stands PriceAlone prices place n s below h w l = stands-ended n s (price_with place []) w
+  shown-stands Volume prices place n s below h w l =
+      let b = reveal_batch [] ((prices + place) ∷ []) in
+      let within : IsWithin bounds (after s b) = (omega (arith, w.0), w.1, w.2) in
+      stands-last n s b 1 (price_with place) (tt, (omega arith, (omega arith, tt)), (omega arith, omega arith)) within refl (omega arith) l
+  shown-stands Full prices place n s below h w l =
+      let b = reveal_batch [] ((prices + place) ∷ place ∷ []) in
+      let within : IsWithin bounds (after s b) = (omega (arith, w.0), w.1, w.2) in
+      stands-last n s b 2 (price_with place) (tt, (omega arith, (omega arith, (omega arith, tt))), (omega arith, omega arith)) within refl (omega arith) l
+
+  end-stands : (policy : Policy) (prices place n : ℕ) (s : Standing) → 2 * prices ≤ s.wires → IsWithin bounds s → 1 ≤ n →
+      PlanStands bounds n s (end_plan policy prices place)
+  end-stands policy prices place n s h w l = elim (cases_lt place prices) [
     | inl below ↦
         let t : nat_lt place prices ≡ true = grind (arith, nat_tests) in
-        let b = reveal_batch [] ((prices + place) ∷ []) in
-        let within : IsWithin bounds (after s b) = (omega (arith, w.0), w.1, w.2) in
-        rw t (stands-last n s b 1 (λ opened. Price place (slice_index opened 0)) (tt, (omega arith, (omega arith, tt)), (omega arith, omega arith))
-        within refl (omega arith) l)
+        rw t (shown-stands policy prices place n s below h w l)
     | inr past ↦
         let t : nat_lt place prices ≡ false = grind (arith, nat_tests) in
         rw t (stands-ended n s NoPrice w)
@@ -82,20 +95,20 @@ module _ (bounds : Standing) where
   room-within : (g : Blocks) (s : Standing) (n l rej : ℕ) → Room g bounds s n l rej → IsWithin bounds s
   room-within g s n l rej r = (omega (arith, r.room_wires), omega (arith, r.room_masks), omega (arith, r.room_coefficients))
 
-  module _ (g : Blocks) (are : AreBlocks g) where
+  module _ (g : Blocks) (are : AreBlocks g) (policy : Policy) where
     pub search-stands : (prices fuel l lo hi rej n : ℕ) (s : Standing) → 2 * prices ≤ s.wires → hi ≤ prices → hi < lo + 2 ^ l → rej < 3 →
-        Room g bounds s n l rej → PlanStands bounds n s (search_plan g prices fuel lo hi s.wires rej)
+        Room g bounds s n l rej → PlanStands bounds n s (search_plan g policy prices fuel lo hi s.wires rej)
     unfolding search_plan
     search-stands prices zero l lo hi rej n s hw hp hl hr room =
-        end-stands prices lo n s hw (room-within g s n l rej room) (omega (arith, room.room_rounds))
+        end-stands policy prices lo n s hw (room-within g s n l rej room) (omega (arith, room.room_rounds))
     search-stands prices (suc fuel) zero lo hi rej n s hw hp hl hr room =
         let h : hi ≤ lo = omega arith in
         let t : nat_lt lo hi ≡ false = grind (arith, nat_tests) in
-        rw t (end-stands prices lo n s hw (room-within g s n zero rej room) (omega (arith, room.room_rounds)))
+        rw t (end-stands policy prices lo n s hw (room-within g s n zero rej room) (omega (arith, room.room_rounds)))
     search-stands prices (suc fuel) (suc l) lo hi rej n s hw hp hl hr room = elim (cases_lt lo hi) [
       | inr h ↦
           let t : nat_lt lo hi ≡ false = grind (arith, nat_tests) in
-          rw t (end-stands prices lo n s hw (room-within g s n (suc l) rej room) (omega (arith, room.room_rounds)))
+          rw t (end-stands policy prices lo n s hw (room-within g s n (suc l) rej room) (omega (arith, room.room_rounds)))
       | inl h ↦
           let t : nat_lt lo hi ≡ true = grind (arith, nat_tests) in
           let first = s.wires in
@@ -128,7 +141,7 @@ module _ (bounds : Standing) where
           λ c. room-within g (after_all s2 (g.answer next first c)) (n2 - length (g.answer next first c)) l rej (left c) in
           let within2 : IsWithin bounds s2 = within-all bounds s2 (g.answer next first 0) (within3 0) in
           let within1 : IsWithin bounds s1 = within-all bounds s1 masked within2 in
-          rw t (stands-block n s (g.mask first) (after_product g prices fuel lo hi first rej) (are.masks.stands s) within1 (omega (arith, len, enough))
+          rw t (stands-block n s (g.mask first) (after_product g policy prices fuel lo hi first rej) (are.masks.stands s) within1 (omega (arith, len, enough))
           (λ product. stands-if n1 s1 (product == 1) _ _
           (elim (cases_eq rej 2) [
             | inl two ↦ rw (eq-eqb rej 2 two) (stands-ended n1 s1 MasksSpent within1)
@@ -141,10 +154,10 @@ module _ (bounds : Standing) where
           let s3 = after_all s2 answers in
           let n3 = n2 - length answers in
           let w3 : s3.wires ≡ after_both g first = omega (arith, (k c).more_wires, w1) in
-          let low : PlanStands bounds n3 s3 (search_plan g prices fuel lo mid (after_both g first) rej) =
+          let low : PlanStands bounds n3 s3 (search_plan g policy prices fuel lo mid (after_both g first) rej) =
           rw w3 at (search-stands prices fuel l lo mid rej n3 s3 (omega (arith, w3)) (omega arith) (omega arith) hr (left c)) in
-          let high : PlanStands bounds n3 s3 (search_plan g prices fuel (mid + 1) hi (after_both g first) rej) =
+          let high : PlanStands bounds n3 s3 (search_plan g policy prices fuel (mid + 1) hi (after_both g first) rej) =
           rw w3 at (search-stands prices fuel l (mid + 1) hi rej n3 s3 (omega (arith, w3)) hp (omega arith) hr (left c)) in
-          stands-block n2 s2 answers (after_answer g prices fuel lo hi first rej) (b c) (within3 c) (omega (arith, len, enough, are.comparisons.rounds next first c))
+          stands-block n2 s2 answers (after_answer g policy prices fuel lo hi first rej) (b c) (within3 c) (omega (arith, len, enough, are.comparisons.rounds next first c))
           (λ answer. stands-if n3 s3 (answer == 1) _ _ low high)))))
     ]

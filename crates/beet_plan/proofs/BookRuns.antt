@@ -43,5 +43,6 @@ book-run book words b m =
     let place : place_found prices test ≡ clearing_place book =
     place-turn test (comparisons_of prices) 0 prices (clearing_place book) (omega arith) (clearing-within book) (omega (arith, below_comparisons prices)) turns in
     let run = auction-run a inputs words (length-sums book) (sums-elements book b) m in
-    let finish : found prices demand (clearing_place book) ≡ finish_of (outcome_of book) = found-outcome book demand (sums-demand book) in
+    let finish : found book.grid.policy prices (slice_index inputs) demand (clearing_place book) ≡ finish_of (outcome_of book) =
+    found-outcome book (slice_index inputs) demand (sums-supply book) (sums-demand book) in
     rw (place, finish) at run

@@ -1,8 +1,10 @@
 -- The auction's script as a plan: blocks of masks until one is accepted, the comparison with that mask, and on with the search; at
--- the end the demand at the place found is opened. The third rejected mask ends it.
-use Rattle.std.specs.Prelude.{◌≤◌, ◌+◌, ◌*◌, ◌/◌, ◌==◌, ℕ, zero, suc, List, [], ◌∷◌, slice_index, nat_lt, if◌then◌else◌}
+-- the end what the policy shows of the place found is opened. The third rejected mask ends it.
+use Rattle.std.specs.Prelude.{◌≤◌, ◌+◌, ◌*◌, ◌/◌, ◌==◌, ℕ, zero, suc, List, [], ◌∷◌, length, slice_get, nat_lt, if◌then◌else◌}
 use Rattle.beet_bids.specs.declared.grid.TheConstants.{MOST_PRICES}
 use Rattle.beet_bids.specs.Grids.{Grid, comparisons_of}
+use Rattle.beet_bids.specs.Outcomes.{shown_by}
+use Rattle.beet_bids.specs.declared.outcomes.Policy.{Policy}
 use Rattle.beet_gates.specs.declared.Batch.{Batch}
 use Rattle.beet_gates.specs.Batches.{reveal_batch}
 use Rattle.beet_gates.specs.Plans.{Plan, Ended, Block, Last, plan_batch}
@@ -14,14 +16,16 @@ use Rattle.beet_plan.specs.declared.TheConstants.{MASK_COEFFICIENTS, SPARE_MASKS
 use Rattle.beet_plan.specs.declared.Finish.{Finish}
 use Rattle.beet_plan.specs.declared.Finish.TheVariants.{Price, NoPrice, MasksSpent}
 
--- an auction: how many prices it has, and its kind of gates; the supply at place k is wire k, the demand there is wire `prices + k`
+-- an auction: how many prices it has, its kind of gates, and what it opens beside the price; the supply at place k is wire k, the
+-- demand there is wire `prices + k`
 pub record Auction : Type 0 where
   pub prices : ℕ
   pub gates : Gates
+  pub policy : Policy
 
 -- the auction over a grid
 abbrev pub auction_over : Grid → Auction
-auction_over grid = record { prices = grid.prices; gates = grid.gates }
+auction_over grid = record { prices = grid.prices; gates = grid.gates; policy = grid.policy }
 
 -- the numbers of prices that an auction may have
 pub record IsGridSize (prices : ℕ) : Type 0 where
@@ -33,42 +37,50 @@ abbrev pub compare_plan : {F : Type 0} → Blocks → ℕ → ℕ → ℕ → �
 compare_plan blocks prices first mask place next =
     Block (blocks.masked first mask place (prices + place) ∷ []) (λ c. Block (blocks.answer first mask c) next)
 
--- the end of the search at a place: the demand there is opened, where it is a place of the grid
-abbrev pub end_plan : ℕ → ℕ → Plan Finish
-end_plan prices place =
-    if nat_lt place prices then Last (reveal_batch [] ((prices + place) ∷ [])) 1 (λ opened. Price place (slice_index opened 0))
-    else Ended NoPrice
+-- wires are opened, where there are some, and what they hold names the finish
+abbrev pub opening_plan : {F : Type 0} → List ℕ → (List ℕ → F) → Plan F
+opening_plan [] named = Ended (named [])
+opening_plan (wire ∷ wires) named = Last (reveal_batch [] (wire ∷ wires)) (length (wire ∷ wires)) named
+
+-- a price at a place, with the numbers that were opened there: the first is the volume, and the second the supply
+abbrev pub price_with : ℕ → List ℕ → Finish
+price_with place shown = Price place (slice_get shown 0) (slice_get shown 1)
+
+-- the end of the search at a place: what the policy shows of it is opened, where it is a place of the grid
+abbrev pub end_plan : Policy → ℕ → ℕ → Plan Finish
+end_plan policy prices place =
+    if nat_lt place prices then opening_plan (shown_by policy (prices + place) place) (price_with place) else Ended NoPrice
 
 -- the search between two places, where `first` is the first free wire, so many masks were rejected, and at most n more are dealt
-unfoldable pub search_plan : Blocks → ℕ → ℕ → ℕ → ℕ → ℕ → ℕ → Plan Finish
-search_plan blocks prices zero lo hi first rejected = end_plan prices lo
-search_plan blocks prices (suc n) lo hi first rejected =
+unfoldable pub search_plan : Blocks → Policy → ℕ → ℕ → ℕ → ℕ → ℕ → ℕ → Plan Finish
+search_plan blocks policy prices zero lo hi first rejected = end_plan policy prices lo
+search_plan blocks policy prices (suc n) lo hi first rejected =
     if nat_lt lo hi then
     Block (blocks.mask first) (λ product.
     if product == 1 then
-    (if rejected == SPARE_MASKS then Ended MasksSpent else search_plan blocks prices n lo hi (after_mask blocks first) (rejected + 1))
+    (if rejected == SPARE_MASKS then Ended MasksSpent else search_plan blocks policy prices n lo hi (after_mask blocks first) (rejected + 1))
     else
     compare_plan blocks prices (after_mask blocks first) first ((lo + hi) / 2) (λ answer.
-    if answer == 1 then search_plan blocks prices n lo ((lo + hi) / 2) (after_both blocks first) rejected
-    else search_plan blocks prices n ((lo + hi) / 2 + 1) hi (after_both blocks first) rejected))
-    else end_plan prices lo
+    if answer == 1 then search_plan blocks policy prices n lo ((lo + hi) / 2) (after_both blocks first) rejected
+    else search_plan blocks policy prices n ((lo + hi) / 2 + 1) hi (after_both blocks first) rejected))
+    else end_plan policy prices lo
 
 -- how it goes on after the answer of a comparison
-abbrev pub after_answer : Blocks → ℕ → ℕ → ℕ → ℕ → ℕ → ℕ → ℕ → Plan Finish
-after_answer blocks prices n lo hi first rejected answer =
-    if answer == 1 then search_plan blocks prices n lo ((lo + hi) / 2) (after_both blocks first) rejected
-    else search_plan blocks prices n ((lo + hi) / 2 + 1) hi (after_both blocks first) rejected
+abbrev pub after_answer : Blocks → Policy → ℕ → ℕ → ℕ → ℕ → ℕ → ℕ → ℕ → Plan Finish
+after_answer blocks policy prices n lo hi first rejected answer =
+    if answer == 1 then search_plan blocks policy prices n lo ((lo + hi) / 2) (after_both blocks first) rejected
+    else search_plan blocks policy prices n ((lo + hi) / 2 + 1) hi (after_both blocks first) rejected
 
 -- how it goes on after the opened product of a mask's bits
-abbrev pub after_product : Blocks → ℕ → ℕ → ℕ → ℕ → ℕ → ℕ → ℕ → Plan Finish
-after_product blocks prices n lo hi first rejected product =
+abbrev pub after_product : Blocks → Policy → ℕ → ℕ → ℕ → ℕ → ℕ → ℕ → ℕ → Plan Finish
+after_product blocks policy prices n lo hi first rejected product =
     if product == 1 then
-    (if rejected == SPARE_MASKS then Ended MasksSpent else search_plan blocks prices n lo hi (after_mask blocks first) (rejected + 1))
-    else compare_plan blocks prices (after_mask blocks first) first ((lo + hi) / 2) (after_answer blocks prices n lo hi first rejected)
+    (if rejected == SPARE_MASKS then Ended MasksSpent else search_plan blocks policy prices n lo hi (after_mask blocks first) (rejected + 1))
+    else compare_plan blocks prices (after_mask blocks first) first ((lo + hi) / 2) (after_answer blocks policy prices n lo hi first rejected)
 
 -- the whole script: a mask for each comparison, and three that may be rejected
 abbrev pub auction_plan : Auction → Plan Finish
-auction_plan a = search_plan (blocks_of a.gates) a.prices (comparisons_of a.prices + (SPARE_MASKS + 1)) 0 a.prices (2 * a.prices) 0
+auction_plan a = search_plan (blocks_of a.gates) a.policy a.prices (comparisons_of a.prices + (SPARE_MASKS + 1)) 0 a.prices (2 * a.prices) 0
 
 -- the batch after so many, with these numbers opened
 abbrev pub auction_batch : Auction → ℕ → List ℕ → Batch

@@ -4,28 +4,37 @@ use Rattle.beet_field.specs.declared.trio.Trio.{Trio}
 use Rattle.beet_words.specs.Words.{IsWord}
 use Rattle.beet_gates.specs.Clear.{clear_values, rounds_run}
 use Rattle.beet_gates.specs.Plans.{plan_finish}
+use Rattle.beet_bids.specs.Outcomes.{shown_by}
+use Rattle.beet_bids.specs.declared.outcomes.Policy.{Policy}
+use Rattle.beet_bids.specs.declared.outcomes.Policy.TheVariants.{Price as PriceAlone, Volume, Full}
 use Rattle.beet_bids.specs.declared.outcomes.Outcome.{Outcome}
 use Rattle.beet_bids.specs.declared.outcomes.Outcome.TheVariants.{Price as OutcomePrice, No}
 use Rattle.beet_compare.specs.Compare.{is_doubled_even}
 use Rattle.beet_plan.specs.Blocks.{blocks_of}
-use Rattle.beet_plan.specs.Auction.{Auction, auction_plan, auction_batch, most_rounds}
+use Rattle.beet_plan.specs.Auction.{Auction, auction_plan, auction_batch, most_rounds, price_with}
 use Rattle.beet_plan.specs.Search.{path, place_found, mask_at, is_spent, dealt_until_spent, dealt_for}
 use Rattle.beet_plan.specs.declared.Finish.{Finish}
 use Rattle.beet_plan.specs.declared.Finish.TheVariants.{Price, NoPrice, MasksSpent}
 
+-- the rounds in which a policy opens something at the place of the price
+abbrev pub opening_rounds : Policy → ℕ
+opening_rounds PriceAlone = 0
+opening_rounds Volume = 1
+opening_rounds Full = 1
+
 -- the number of rounds of a run whose search ends at z: of the masks that are dealt, of the comparisons with the accepted ones, and
--- one that opens the volume
+-- of the opening where there is a price
 abbrev pub run_rounds : Auction → (ℕ → ℕ) → ℕ → ℕ
 run_rounds a masks z =
     let blocks = blocks_of a.gates in
     let c = length (path a.prices z) in
     if is_spent masks c then
     blocks.mask_rounds * dealt_until_spent masks c + blocks.compare_rounds * (dealt_until_spent masks c - 3)
-    else blocks.mask_rounds * dealt_for masks c + blocks.compare_rounds * c + (if nat_lt z a.prices then 1 else 0)
+    else blocks.mask_rounds * dealt_for masks c + blocks.compare_rounds * c + (if nat_lt z a.prices then opening_rounds a.policy else 0)
 
--- the finish of a run whose search ends at z, where it is not spent
-abbrev pub found : ℕ → (ℕ → ℕ) → ℕ → Finish
-found prices demand z = if nat_lt z prices then Price z (demand z) else NoPrice
+-- the finish of a run whose search over these supplies and demands ends at z, where it is not spent
+abbrev pub found : Policy → ℕ → (ℕ → ℕ) → (ℕ → ℕ) → ℕ → Finish
+found policy prices supply demand z = if nat_lt z prices then price_with z (shown_by policy (demand z) (supply z)) else NoPrice
 
 -- the finish of a run whose search ends at z
 abbrev pub run_finish : ℕ → (ℕ → ℕ) → ℕ → Finish → Finish
@@ -55,5 +64,5 @@ place_of_inputs a inputs = place_found a.prices (λ k. is_doubled_even (slice_in
 
 -- the finish that tells an outcome
 abbrev pub finish_of : Outcome → Finish
-finish_of (OutcomePrice place price volume) = Price place volume
+finish_of (OutcomePrice place price volume supply) = Price place volume supply
 finish_of No = NoPrice

@@ -15,8 +15,12 @@ pub const SPARE_WORDS: u32 = 8;
 /// How a run ends.
 #[derive(Clone, Copy, PartialEq, Eq, Debug)]
 pub enum Finish {
-    /// The first place where supply reaches demand, and the demand there.
-    Price { place: u32, volume: Fe },
+    /// The first place where supply reaches demand. What was opened there, by the policy: the demand, as the volume, and the supply.
+    Price {
+        place: u32,
+        volume: Option<Fe>,
+        supply: Option<Fe>,
+    },
     /// Supply reaches demand at no place.
     NoPrice,
     /// Three masks were rejected.

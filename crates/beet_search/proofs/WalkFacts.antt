@@ -9,12 +9,13 @@ use Rattle.beet_gates.specs.Plans.{Plan, Ended, Block, Last, plan_batch, plan_le
 use Rattle.beet_gates.proofs.EachFacts.{get-past}
 use Rattle.beet_plan.specs.Blocks.{Blocks, blocks_of, after_mask}
 use Rattle.beet_plan.proofs.BlockLaws.{are-blocks}
-use Rattle.beet_plan.specs.Auction.{search_plan, end_plan, after_product}
+use Rattle.beet_bids.specs.declared.outcomes.Policy.{Policy}
+use Rattle.beet_plan.specs.Auction.{search_plan, end_plan, price_with, after_product}
 use Rattle.beet_plan.specs.declared.Finish.{Finish}
 use Rattle.beet_plan.specs.declared.Finish.TheVariants.{Price, NoPrice}
 use Rattle.beet_search.specs.Walk.{plan_at, stage_plan}
 use Rattle.beet_search.specs.declared.walk.Stage.{Stage}
-use Rattle.beet_search.specs.declared.walk.Stage.TheVariants.{Search, Masked, Borrow, Ended as StageEnded}
+use Rattle.beet_search.specs.declared.walk.Stage.TheVariants.{Search, Masked, Borrow, Supply, Ended as StageEnded}
 use Rattle.beet_search.specs.declared.walk.Walk.{Walk}
 use Rattle.beet_plan.proofs.AuctionEnd.{search_plan-open, search_plan-done}
 
@@ -22,21 +23,21 @@ use Rattle.beet_plan.proofs.AuctionEnd.{search_plan-open, search_plan-done}
 pub record IsOpen (b : Bool) (n lo hi : ℕ) : Type 0 where
   pub says : IsTrue b ↔ ((0 < n) × (lo < hi))
 
-module _ (g : Blocks) (prices n lo hi first rej : ℕ) where
-  pub open-plan : 0 < n → lo < hi → search_plan g prices n lo hi first rej ≡ Block (g.mask first) (after_product g prices (n - 1) lo hi first rej)
+module _ (g : Blocks) (policy : Policy) (prices n lo hi first rej : ℕ) where
+  pub open-plan : 0 < n → lo < hi → search_plan g policy prices n lo hi first rej ≡ Block (g.mask first) (after_product g policy prices (n - 1) lo hi first rej)
   open-plan hn h =
       let e : n ≡ suc (n - 1) = omega arith in
       let t : nat_lt lo hi ≡ true = grind (arith, nat_tests) in
-      ap (λ (k : ℕ). search_plan g prices k lo hi first rej) e ∙ search_plan-open g prices (n - 1) lo hi first rej t
+      ap (λ (k : ℕ). search_plan g policy prices k lo hi first rej) e ∙ search_plan-open g policy prices (n - 1) lo hi first rej t
 
-  pub closed-plan : (n ≡ 0) ⊎ (hi ≤ lo) → search_plan g prices n lo hi first rej ≡ end_plan prices lo
+  pub closed-plan : (n ≡ 0) ⊎ (hi ≤ lo) → search_plan g policy prices n lo hi first rej ≡ end_plan policy prices lo
   unfolding search_plan
   closed-plan (inl e) = rw e refl
   closed-plan (inr h) = elim (cases_lt 0 n) [
     | inl some ↦
         let e : n ≡ suc (n - 1) = omega arith in
         let t : nat_lt lo hi ≡ false = grind (arith, nat_tests) in
-        ap (λ (k : ℕ). search_plan g prices k lo hi first rej) e ∙ search_plan-done g prices (n - 1) lo hi first rej t
+        ap (λ (k : ℕ). search_plan g policy prices k lo hi first rej) e ∙ search_plan-done g policy prices (n - 1) lo hi first rej t
     | inr none ↦ let e : n ≡ 0 = omega arith in rw e refl
   ]
 
@@ -66,30 +67,23 @@ module _ (w : Walk) where
   stage-is s e = ap (λ (t : Stage). stage_plan t w) e
 
   open-at : w.stage ≡ Search → (b : Bool) → (IsTrue b ↔ ((0 < w.left) × (w.lo < w.hi))) → b ≡ true →
-      plan_at w ≡ Block ((blocks_of w.gates).mask w.first) (after_product (blocks_of w.gates) w.prices (w.left - 1) w.lo w.hi w.first w.rejected)
+      plan_at w ≡ Block ((blocks_of w.gates).mask w.first) (after_product (blocks_of w.gates) w.policy w.prices (w.left - 1) w.lo w.hi w.first w.rejected)
   open-at e b says t =
       let o = open-from b w.left w.lo w.hi says t in
-      stage-is Search e ∙ open-plan (blocks_of w.gates) w.prices w.left w.lo w.hi w.first w.rejected o.0 o.1
+      stage-is Search e ∙ open-plan (blocks_of w.gates) w.policy w.prices w.left w.lo w.hi w.first w.rejected o.0 o.1
 
-  closed-at : w.stage ≡ Search → (b : Bool) → (IsTrue b ↔ ((0 < w.left) × (w.lo < w.hi))) → b ≡ false → plan_at w ≡ end_plan w.prices w.lo
-  closed-at e b says t = stage-is Search e ∙ closed-plan (blocks_of w.gates) w.prices w.left w.lo w.hi w.first w.rejected (closed-from b w.left w.lo w.hi says t)
+  pub closed-at : w.stage ≡ Search → (b : Bool) → (IsTrue b ↔ ((0 < w.left) × (w.lo < w.hi))) → b ≡ false → plan_at w ≡ end_plan w.policy w.prices w.lo
+  closed-at e b says t = stage-is Search e ∙ closed-plan (blocks_of w.gates) w.policy w.prices w.left w.lo w.hi w.first w.rejected (closed-from b w.left w.lo w.hi says t)
 
-  volume-at : w.stage ≡ Search → (b : Bool) → (IsTrue b ↔ ((0 < w.left) × (w.lo < w.hi))) → b ≡ false → w.lo < w.prices →
-      plan_at w ≡ Last (reveal_batch [] ((w.prices + w.lo) ∷ [])) 1 (λ opened. Price w.lo (slice_index opened 0))
-  volume-at e b says t h = closed-at e b says t ∙ (let u : nat_lt w.lo w.prices ≡ true = grind (arith, nat_tests) in rw u refl)
 
-  none-at : w.stage ≡ Search → (b : Bool) → (IsTrue b ↔ ((0 < w.left) × (w.lo < w.hi))) → b ≡ false → w.prices ≤ w.lo → plan_at w ≡ Ended NoPrice
-  none-at e b says t h = closed-at e b says t ∙ (let u : nat_lt w.lo w.prices ≡ false = grind (arith, nat_tests) in rw u refl)
+  -- the supply is still to be read
+  pub supply-at : (volume : ℕ) → w.stage ≡ Supply volume → plan_at w ≡ Last end_batch 1 (λ opened. price_with w.lo (volume ∷ opened))
+  supply-at volume e = stage-is (Supply volume) e
 
   -- lengths
   pub length-open : w.stage ≡ Search → (b : Bool) → (IsTrue b ↔ ((0 < w.left) × (w.lo < w.hi))) → b ≡ true → plan_length (plan_at w) ≡ (blocks_of w.gates).mask_rounds
   length-open e b says t = ap plan_length (open-at e b says t) ∙ (are-blocks w.gates).masks.rounds w.first
 
-  pub length-volume : w.stage ≡ Search → (b : Bool) → (IsTrue b ↔ ((0 < w.left) × (w.lo < w.hi))) → b ≡ false → w.lo < w.prices → plan_length (plan_at w) ≡ 1
-  length-volume e b says t h = ap plan_length (volume-at e b says t h)
-
-  pub length-none : w.stage ≡ Search → (b : Bool) → (IsTrue b ↔ ((0 < w.left) × (w.lo < w.hi))) → b ≡ false → w.prices ≤ w.lo → plan_length (plan_at w) ≡ 0
-  length-none e b says t h = ap plan_length (none-at e b says t h)
 
   pub length-borrow : (c : ℕ) → w.stage ≡ Borrow c → plan_length (plan_at w) ≡ (blocks_of w.gates).compare_rounds - 1
   length-borrow c e = ap plan_length (stage-is (Borrow c) e) ∙ omega (arith, (are-blocks w.gates).comparisons.rounds (after_mask (blocks_of w.gates) w.first) w.first c)
@@ -99,13 +93,6 @@ module _ (w : Walk) where
       plan_batch (plan_at w) step [] ≡ batch_at ((blocks_of w.gates).mask w.first) step
   batch-open e b says t step = ap (λ (p : Plan Finish). plan_batch p step []) (open-at e b says t) ∙ block-batch _ _ step
 
-  pub batch-volume : w.stage ≡ Search → (b : Bool) → (IsTrue b ↔ ((0 < w.left) × (w.lo < w.hi))) → b ≡ false → w.lo < w.prices → (step : ℕ) →
-      plan_batch (plan_at w) step [] ≡ batch_at (reveal_batch [] ((w.prices + w.lo) ∷ []) ∷ []) step
-  batch-volume e b says t h step = ap (λ (p : Plan Finish). plan_batch p step []) (volume-at e b says t h) ∙ last-batch _ _ _ step
-
-  pub batch-none : w.stage ≡ Search → (b : Bool) → (IsTrue b ↔ ((0 < w.left) × (w.lo < w.hi))) → b ≡ false → w.prices ≤ w.lo → (step : ℕ) →
-      plan_batch (plan_at w) step [] ≡ end_batch
-  batch-none e b says t h step = ap (λ (p : Plan Finish). plan_batch p step []) (none-at e b says t h) ∙ ended-batch NoPrice step
 
   pub batch-masked : w.stage ≡ Masked → (step : ℕ) →
       plan_batch (plan_at w) step [] ≡ batch_at ((blocks_of w.gates).masked (after_mask (blocks_of w.gates) w.first) w.first ((w.lo + w.hi) / 2) (w.prices + (w.lo + w.hi) / 2) ∷ []) step
@@ -125,16 +112,9 @@ module _ (w : Walk) where
 
   -- the plan after a number
   pub after-open : w.stage ≡ Search → (b : Bool) → (IsTrue b ↔ ((0 < w.left) × (w.lo < w.hi))) → b ≡ true → (x : ℕ) →
-      plan_after (plan_at w) x ≡ after_product (blocks_of w.gates) w.prices (w.left - 1) w.lo w.hi w.first w.rejected x
+      plan_after (plan_at w) x ≡ after_product (blocks_of w.gates) w.policy w.prices (w.left - 1) w.lo w.hi w.first w.rejected x
   after-open e b says t x = ap (λ (p : Plan Finish). plan_after p x) (open-at e b says t)
 
-  pub after-volume : w.stage ≡ Search → (b : Bool) → (IsTrue b ↔ ((0 < w.left) × (w.lo < w.hi))) → b ≡ false → w.lo < w.prices → (x : ℕ) →
-      plan_after (plan_at w) x ≡ Ended (Price w.lo x)
-  after-volume e b says t h x = ap (λ (p : Plan Finish). plan_after p x) (volume-at e b says t h)
-
-  pub after-none : w.stage ≡ Search → (b : Bool) → (IsTrue b ↔ ((0 < w.left) × (w.lo < w.hi))) → b ≡ false → w.prices ≤ w.lo → (x : ℕ) →
-      plan_after (plan_at w) x ≡ Ended NoPrice
-  after-none e b says t h x = ap (λ (p : Plan Finish). plan_after p x) (none-at e b says t h)
 
 pub batch-past : (b : Batch) (step : ℕ) → (step ≡ 0 → ⊥) → batch_at (b ∷ []) step ≡ end_batch
 batch-past b zero h = absurd (h refl)
@@ -156,11 +136,6 @@ module _ (w : Walk) where
   pub finish-open : w.stage ≡ Search → (b : Bool) → (IsTrue b ↔ ((0 < w.left) × (w.lo < w.hi))) → b ≡ true → plan_finish (plan_at w) [] ≡ None
   finish-open e b says t = ap (λ (p : Plan Finish). plan_finish p []) (open-at w e b says t) ∙ block-finish _ _
 
-  pub finish-volume : w.stage ≡ Search → (b : Bool) → (IsTrue b ↔ ((0 < w.left) × (w.lo < w.hi))) → b ≡ false → w.lo < w.prices → plan_finish (plan_at w) [] ≡ None
-  finish-volume e b says t h = ap (λ (p : Plan Finish). plan_finish p []) (volume-at w e b says t h) ∙ last-finish _ 0 _
-
-  pub finish-none : w.stage ≡ Search → (b : Bool) → (IsTrue b ↔ ((0 < w.left) × (w.lo < w.hi))) → b ≡ false → w.prices ≤ w.lo → plan_finish (plan_at w) [] ≡ Some NoPrice
-  finish-none e b says t h = ap (λ (p : Plan Finish). plan_finish p []) (none-at w e b says t h) ∙ ended-finish NoPrice
 
   pub finish-masked : w.stage ≡ Masked → plan_finish (plan_at w) [] ≡ None
   finish-masked e = ap (λ (p : Plan Finish). plan_finish p []) (stage-is w Masked e) ∙ block-finish _ _

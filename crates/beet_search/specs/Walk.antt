@@ -1,27 +1,29 @@
 -- A place in the auction's script, and the plan that is left from there.
-use Rattle.std.specs.Prelude.{◌^◌, ◌≤◌, ◌<◌, ℕ, ◌+◌, ◌*◌, ◌/◌}
+use Rattle.std.specs.Prelude.{◌^◌, ◌≤◌, ◌<◌, ℕ, ◌+◌, ◌*◌, ◌/◌, ◌∷◌}
 use Rattle.beet_bids.specs.declared.grid.TheConstants.{MOST_PRICES}
-use Rattle.beet_gates.specs.Plans.{Plan, Ended, Block}
+use Rattle.beet_gates.specs.Batches.{end_batch}
+use Rattle.beet_gates.specs.Plans.{Plan, Ended, Block, Last}
 use Rattle.beet_gates.specs.declared.Gates.{Gates}
 use Rattle.beet_gates.specs.declared.Gates.TheVariants.{Tree}
 use Rattle.beet_mask.specs.Mask.{mask_wires_of}
 use Rattle.beet_compare.specs.Compare.{compare_wires_of}
 use Rattle.beet_plan.specs.Blocks.{blocks_of, after_mask}
-use Rattle.beet_plan.specs.Auction.{search_plan, compare_plan, after_answer}
+use Rattle.beet_plan.specs.Auction.{search_plan, compare_plan, after_answer, price_with}
 use Rattle.beet_plan.specs.declared.TheConstants.{SPARE_MASKS}
 use Rattle.beet_plan.specs.declared.Finish.{Finish}
 use Rattle.beet_search.specs.declared.walk.Stage.{Stage}
-use Rattle.beet_search.specs.declared.walk.Stage.TheVariants.{Search, Masked, Borrow, Ended as StageEnded}
+use Rattle.beet_search.specs.declared.walk.Stage.TheVariants.{Search, Masked, Borrow, Supply, Ended as StageEnded}
 use Rattle.beet_search.specs.declared.walk.Walk.{Walk}
 
 abbrev pub stage_plan : Stage → Walk → Plan Finish
-stage_plan Search w = search_plan (blocks_of w.gates) w.prices w.left w.lo w.hi w.first w.rejected
+stage_plan Search w = search_plan (blocks_of w.gates) w.policy w.prices w.left w.lo w.hi w.first w.rejected
 stage_plan Masked w =
     let blocks = blocks_of w.gates in
-    compare_plan blocks w.prices (after_mask blocks w.first) w.first ((w.lo + w.hi) / 2) (after_answer blocks w.prices w.left w.lo w.hi w.first w.rejected)
+    compare_plan blocks w.prices (after_mask blocks w.first) w.first ((w.lo + w.hi) / 2) (after_answer blocks w.policy w.prices w.left w.lo w.hi w.first w.rejected)
 stage_plan (Borrow c) w =
     let blocks = blocks_of w.gates in
-    Block (blocks.answer (after_mask blocks w.first) w.first c) (after_answer blocks w.prices w.left w.lo w.hi w.first w.rejected)
+    Block (blocks.answer (after_mask blocks w.first) w.first c) (after_answer blocks w.policy w.prices w.left w.lo w.hi w.first w.rejected)
+stage_plan (Supply volume) w = Last end_batch 1 (λ opened. price_with w.lo (volume ∷ opened))
 stage_plan (StageEnded f) w = Ended f
 
 -- the plan that is left
@@ -33,6 +35,7 @@ abbrev pub blocks_left : Stage → ℕ → ℕ
 blocks_left Search n = n
 blocks_left Masked n = n + 1
 blocks_left (Borrow c) n = n + 1
+blocks_left (Supply volume) n = 0
 blocks_left (StageEnded f) n = 0
 
 -- 1 while a comparison is under way, whose two places differ
@@ -40,6 +43,7 @@ abbrev pub busy : Stage → ℕ
 busy Search = 0
 busy Masked = 1
 busy (Borrow c) = 1
+busy (Supply volume) = 0
 busy (StageEnded f) = 0
 
 -- the most wires of a mask and the comparison with it, whatever the gates

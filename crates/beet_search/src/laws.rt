@@ -10,13 +10,13 @@ ghost use Rattle.beet_plan.specs.Runs.{AreMasks, RunEnds, found, finish_of, plac
 ghost use Rattle.beet_bids.specs.Sums.{sums_of};
 
 /// A run on any inputs ends at the place where the search ends whose tests answer whether twice the difference of supply and demand is
-/// even, with the demand there, or spent exactly where the third rejected mask comes first. Its rounds are counted by the path to that
-/// place and the masks.
+/// even, with what the policy shows there, or spent exactly where the third rejected mask comes first. Its rounds are counted by the path to
+/// that place and the masks.
 pub fn auction_law()
     ensures { (auction : Auction) (inputs : List ℕ) (words : Trio (List ℕ)) →
         length inputs ≡ 2 * auction.prices → All IsElement inputs → AreMasks words →
         RunEnds auction inputs words (place_of_inputs auction inputs)
-        (found auction.prices (λ k. slice_index inputs (auction.prices + k)) (place_of_inputs auction inputs)) }
+        (found auction.policy auction.prices (slice_index inputs) (λ k. slice_index inputs (auction.prices + k)) (place_of_inputs auction inputs)) }
 {}
 
 /// A run on the sums of a book ends with the outcome of the book, or spent exactly where at least three of the first masks that it may

@@ -3,11 +3,11 @@
 ghost use Rattle.std.specs.Prelude.{◌≡◌, ◌≤◌, ◌↔◌, IsSome, IfSome};
 ghost use Rattle.beet_bids.specs.Grids.{comparisons_of};
 ghost use Rattle.beet_gates.specs.Plans.{plan_finish};
-ghost use Rattle.beet_plan.specs.Auction.{auction_plan, IsGridSize};
+ghost use Rattle.beet_plan.specs.Auction.{auction_over, auction_plan, IsGridSize};
 ghost use Rattle.beet_search.specs.Walk.{plan_at, Fits};
 
 use crate::walk::{Stage, Walk};
-use beet_bids::MOST_PRICES;
+use beet_bids::{Grid, MOST_PRICES, Policy};
 use beet_compare::{compare_rounds, compare_wires};
 use beet_field::Fe;
 use beet_gates::{Batch, Gates, Script};
@@ -15,11 +15,13 @@ use beet_mask::{mask_rounds, mask_wires};
 use beet_plan::{Finish, MASK_COEFFICIENTS, SPARE_MASKS};
 use std::marker::Model;
 
-/// The script of an auction with so many prices and this kind of gates. With P prices, input k is the supply at place k, and input P + k the demand there.
+/// The script of an auction with so many prices, this kind of gates, and what it opens beside the price. With P prices, input k is the supply at
+/// place k, and input P + k the demand there.
 #[derive(Clone, Copy, PartialEq, Eq, Debug)]
 pub struct AuctionScript {
     prices: u32,
     gates: Gates,
+    policy: Policy,
 }
 
 impl Model for AuctionScript {
@@ -27,11 +29,11 @@ impl Model for AuctionScript {
 
     ghost Value = { Auction };
 
-    ghost view = { λ a. record { prices = a.prices; gates = a.gates } };
+    ghost view = { λ a. record { prices = a.prices; gates = a.gates; policy = a.policy } };
 
     ghost invariant = { λ a. IsGridSize a.prices };
 
-    ghost inverse = { λ v. record { prices = v.prices; gates = v.gates } };
+    ghost inverse = { λ v. record { prices = v.prices; gates = v.gates; policy = v.policy } };
 }
 
 /// How many comparisons a search among so many places makes at most.
@@ -53,16 +55,38 @@ impl AuctionScript {
     ghost use Rattle.beet_plan.specs.Auction.{auction_batch};
     ghost use Rattle.beet_plan.specs.Ends.{TellsEnd};
 
-    /// The script, or none where the number of prices is outside 1 to 4,096.
+    /// The script that opens the price and the volume, or none where the number of prices is outside 1 to 4,096.
     pub fn new(prices: u32, gates: Gates) -> Option<AuctionScript>
         ensures accepted { IsSome result ↔ IsGridSize prices }
-        ensures value { IfSome result (λ script. script ≡ record { prices = prices; gates = gates }) }
+        ensures value { IfSome result (λ script. script ≡ record { prices = prices; gates = gates; policy = Policy.Volume }) }
     {
         if prices >= 1 && prices <= MOST_PRICES {
-            Some(AuctionScript { prices, gates })
+            Some(AuctionScript {
+                prices,
+                gates,
+                policy: Policy::Volume,
+            })
         } else {
             None
         }
+    }
+
+    /// The script of the auction over a grid.
+    pub fn over(grid: &Grid) -> AuctionScript
+        ensures { result ≡ auction_over grid.now }
+    {
+        AuctionScript {
+            prices: grid.prices(),
+            gates: grid.gates(),
+            policy: grid.policy(),
+        }
+    }
+
+    /// The script of the same auction, but that it opens what the policy says.
+    pub fn with_policy(self, policy: Policy) -> AuctionScript
+        ensures { result ≡ record self { policy = policy } }
+    {
+        AuctionScript { policy, ..self }
     }
 
     /// The start of the script.
@@ -73,6 +97,7 @@ impl AuctionScript {
         Walk {
             stage: Stage::Search,
             gates: self.gates,
+            policy: self.policy,
             prices: self.prices,
             lo: 0,
             hi: self.prices,

@@ -1,28 +1,33 @@
 //! A place in the auction's script.
 
-ghost use Rattle.std.specs.Prelude.{◌≡◌, ◌↔◌, ◌<◌, ◌≤◌, ◌+◌, ◌-◌, ◌*◌, ◌/◌, ◌^◌, IsTrue, []};
+ghost use Rattle.std.specs.Prelude.{◌≡◌, ◌↔◌, ◌<◌, ◌≤◌, ◌+◌, ◌-◌, ◌*◌, ◌/◌, ◌^◌, IsTrue, MatchOption, None, [], ◌∷◌};
 ghost use Rattle.beet_gates.specs.Plans.{plan_length, plan_after, plan_batch, plan_finish, batch_at};
 ghost use Rattle.beet_plan.specs.Auction.{search_plan, end_plan, after_answer, after_product};
+ghost use Rattle.beet_gates.specs.declared.Act.TheVariants.{Reveal};
 ghost use Rattle.beet_plan.specs.Blocks.{blocks_of};
 ghost use Rattle.beet_mask.specs.Mask.{mask_wires_of};
 ghost use Rattle.beet_compare.specs.Compare.{compare_batches};
-ghost use Rattle.beet_search.specs.Walk.{plan_at, busy, widest, Fits};
+ghost use Rattle.beet_search.specs.Walk.{plan_at, stage_plan, busy, widest, Fits};
 
+use arrayvec::ArrayVec;
+use beet_bids::Policy;
 use beet_compare::{compare_rounds, compare_wires, refill_compare};
 use beet_field::Fe;
-use beet_gates::{Batch, Gates};
+use beet_gates::{Act, Batch, Gates};
 use beet_mask::{mask_rounds, mask_wires, refill_mask};
 use beet_plan::{Finish, SPARE_MASKS};
 
 /// The block that comes next.
 #[derive(Clone, Copy)]
 pub enum Stage {
-    /// A mask, or the volume, or nothing more.
+    /// A mask, or the opening, or nothing more.
     Search,
     /// The masked difference.
     Masked,
     /// The rest of a comparison.
     Borrow(Fe),
+    /// None; of the last batch the volume was read, and the supply comes next.
+    Supply(Fe),
     /// None.
     Ended(Finish),
 }
@@ -32,6 +37,7 @@ pub enum Stage {
 pub struct Walk {
     pub stage: Stage,
     pub gates: Gates,
+    pub policy: Policy,
     pub prices: u32,
     pub lo: u32,
     pub hi: u32,
@@ -42,12 +48,100 @@ pub struct Walk {
     pub left: u32,
 }
 
+/// The act that opens two wires.
+fn both_opened(first: u32, second: u32) -> Act
+    ensures { result ≡ Reveal (record { items = first ∷ second ∷ [] }) }
+{
+    let mut shown = ArrayVec::new();
+    shown.push(first);
+    shown.push(second);
+    Act::Reveal(shown)
+}
+
 impl Walk {
     /// Whether a mask comes next, where the search goes on.
     fn is_open(&self) -> bool
         ensures { IsTrue result ↔ ((0 < self.now.left) × (self.now.lo < self.now.hi)) }
     {
         self.left > 0 && self.lo < self.hi
+    }
+
+    /// A price at the place at which the search has ended, of which the volume alone may be opened.
+    fn price_with(&self, volume: Option<Fe>) -> Finish
+        ensures { result ≡ Finish.Price self.now.lo volume None }
+    {
+        Finish::Price {
+            place: self.lo,
+            volume,
+            supply: None,
+        }
+    }
+
+    /// What is shown of the place at which the search has ended, or none where that is no place of the grid.
+    fn shown(&self) -> Option<Policy>
+        ensures { MatchOption result (self.now.prices ≤ self.now.lo) (λ policy. (self.now.lo < self.now.prices) × (policy ≡ self.now.policy)) }
+    {
+        if self.lo < self.prices {
+            Some(self.policy)
+        } else {
+            None
+        }
+    }
+
+    /// How many batches come at the end of the search.
+    fn end_length(&self) -> u32
+        ensures { result ≡ plan_length (end_plan self.now.policy self.now.prices self.now.lo) }
+    {
+        match self.shown() {
+            None | Some(Policy::Price) => 0,
+            Some(Policy::Volume | Policy::Full) => 1,
+        }
+    }
+
+    /// Makes a batch that of the end of the search at this step.
+    fn refill_end(&self, step: u32, batch: &mut Batch)
+        requires { Fits self.now }
+        ensures { batch.new ≡ plan_batch (end_plan self.now.policy self.now.prices self.now.lo) step [] }
+    {
+        if step > 0 {
+            batch.set_end();
+            return;
+        }
+        let (demand, supply) = (self.prices + self.lo, self.lo);
+        match self.shown() {
+            None | Some(Policy::Price) => batch.set_end(),
+            Some(Policy::Volume) => {
+                batch.lets.clear();
+                batch.set_opening(demand);
+            }
+            Some(Policy::Full) => {
+                batch.lets.clear();
+                batch.act = both_opened(demand, supply);
+            }
+        }
+    }
+
+    /// The stage after a number that comes at the end of the search: the demand there, where it is opened.
+    fn after_end(&self, number: Fe) -> Stage
+        ensures { stage_plan result self.now ≡ plan_after (end_plan self.now.policy self.now.prices self.now.lo) number }
+    {
+        match self.shown() {
+            None => Stage::Ended(Finish::NoPrice),
+            Some(Policy::Price) => Stage::Ended(self.price_with(None)),
+            Some(Policy::Volume) => Stage::Ended(self.price_with(Some(number))),
+            Some(Policy::Full) => Stage::Supply(number),
+        }
+    }
+
+    /// How the script has ended at the end of the search, or none where something is still opened.
+    fn finish_end(&self) -> Option<Finish>
+        ensures { result ≡ plan_finish (end_plan self.now.policy self.now.prices self.now.lo) [] }
+    {
+        match self.shown() {
+            None => Some(Finish::NoPrice),
+            Some(Policy::Price) => Some(self.price_with(None)),
+            Some(Policy::Volume | Policy::Full) => None,
+        }
     }
 
     /// How many batches the next block has.
@@ -59,13 +153,11 @@ impl Walk {
             Stage::Search => {
                 if self.is_open() {
                     mask_rounds(self.gates)
-                } else if self.lo < self.prices {
-                    1
                 } else {
-                    0
+                    self.end_length()
                 }
             }
-            Stage::Masked => 1,
+            Stage::Masked | Stage::Supply(_) => 1,
             Stage::Borrow(_) => compare_rounds(self.gates) - 1,
             Stage::Ended(_) => 0,
         }
@@ -101,11 +193,8 @@ impl Walk {
             Stage::Search => {
                 if self.is_open() {
                     refill_mask(self.gates, step, self.first, batch);
-                } else if self.lo < self.prices && step == 0 {
-                    batch.lets.clear();
-                    batch.set_opening(self.prices + self.lo);
                 } else {
-                    batch.set_end();
+                    self.refill_end(step, batch);
                 }
             }
             Stage::Masked => {
@@ -122,7 +211,7 @@ impl Walk {
                     batch.set_end();
                 }
             }
-            Stage::Ended(_) => batch.set_end(),
+            Stage::Supply(_) | Stage::Ended(_) => batch.set_end(),
         }
     }
 
@@ -132,7 +221,7 @@ impl Walk {
         requires open { (0 < self.left) × (self.lo < self.hi) }
         requires search { self.stage ≡ Stage.Search }
         ensures fits { Fits result }
-        ensures plan { plan_at result ≡ after_product (blocks_of self.gates) self.prices (self.left - 1) self.lo self.hi self.first self.rejected product }
+        ensures plan { plan_at result ≡ after_product (blocks_of self.gates) self.policy self.prices (self.left - 1) self.lo self.hi self.first self.rejected product }
     {
         let mut walk = self;
         walk.left = self.left - 1;
@@ -152,7 +241,7 @@ impl Walk {
         requires fits { Fits self }
         requires busy { (self.lo < self.hi) × (self.first + widest self.gates * (self.left + 1) < 2 ^ 32) }
         ensures fits { Fits result }
-        ensures plan { plan_at result ≡ after_answer (blocks_of self.gates) self.prices self.left self.lo self.hi self.first self.rejected answer }
+        ensures plan { plan_at result ≡ after_answer (blocks_of self.gates) self.policy self.prices self.left self.lo self.hi self.first self.rejected answer }
     {
         let mid = (self.lo + self.hi) / 2;
         let mut walk = self;
@@ -178,14 +267,7 @@ impl Walk {
                     self.after_product(number)
                 } else {
                     let mut walk = self;
-                    walk.stage = Stage::Ended(if self.lo < self.prices {
-                        Finish::Price {
-                            place: self.lo,
-                            volume: number,
-                        }
-                    } else {
-                        Finish::NoPrice
-                    });
+                    walk.stage = self.after_end(number);
                     walk
                 }
             }
@@ -195,6 +277,15 @@ impl Walk {
                 walk
             }
             Stage::Borrow(_) => self.after_answer(number),
+            Stage::Supply(volume) => {
+                let mut walk = self;
+                walk.stage = Stage::Ended(Finish::Price {
+                    place: self.lo,
+                    volume: Some(volume),
+                    supply: Some(number),
+                });
+                walk
+            }
             Stage::Ended(_) => self,
         }
     }
@@ -207,14 +298,11 @@ impl Walk {
             Stage::Search => {
                 if self.is_open() {
                     None
-                } else if self.lo < self.prices {
-                    None
                 } else {
-                    Some(Finish::NoPrice)
+                    self.finish_end()
                 }
             }
-            Stage::Masked => None,
-            Stage::Borrow(_) => None,
+            Stage::Masked | Stage::Borrow(_) | Stage::Supply(_) => None,
             Stage::Ended(finish) => Some(finish),
         }
     }
