@@ -1,6 +1,6 @@
 -- The sums of a book: supply never falls and demand never rises, and so supply reaches demand from one place on.
-use Rattle.std.proofs.Common.{◌≡◌, ℕ, zero, suc, ◌+◌, ◌-◌, ◌*◌, ◌^◌, ◌<◌, ◌≤◌, inl, inr, Bool, true, false, List, [], ◌∷◌, map, length, slice_index, get_or, Option, Some, None, refl, ap, sym, ◌∙◌, arith}
-use Rattle.std.specs.Prelude.{All, find, unwrap_or, nat_le, nat_lt}
+use Rattle.std.proofs.Common.{◌≡◌, ℕ, zero, suc, ◌+◌, ◌-◌, ◌*◌, ◌^◌, ◌<◌, ◌≤◌, inl, inr, Bool, true, false, List, [], ◌∷◌, map, length, slice_index, get_or, Some, refl, ap, sym, ◌∙◌, arith}
+use Rattle.std.specs.Prelude.{All, find, unwrap_or, nat_le}
 use Rattle.std.specs.List.{range_with_len}
 use Rattle.std.proofs.lemmas.Bool.{cases_eq, cases_lt, cases_Bool, leb-true}
 use Rattle.std.proofs.lemmas.Bool.Decides.{nat_tests}
@@ -14,7 +14,7 @@ use Rattle.beet_bids.specs.Curves.{Curve, IsCurve, IsOfGrid}
 use Rattle.beet_bids.specs.declared.curve.TheConstants.{LARGEST_QUANTITY}
 use Rattle.beet_bids.specs.Books.{Book, IsBook}
 use Rattle.beet_bids.specs.Sums.{supply_at, demand_at, sums_of}
-use Rattle.beet_bids.specs.Outcomes.{is_reached, reached_place, clearing_place, outcome_at, outcome_of}
+use Rattle.beet_bids.specs.Outcomes.{is_reached, reached_place, clearing_place}
 use Rattle.beet_bids.specs.declared.book.Bidder.{Bidder}
 
 -- one curve

@@ -3,3 +3,4 @@ pub mod CurveFacts
 pub mod LineFacts
 pub mod HeldFacts
 pub mod BookSums
+pub mod AuctionRows

@@ -258,9 +258,9 @@ some_rows grid [] some = absurd (omega arith)
 some_rows grid (row ∷ rows) some = refl
 
 -- a row that was read is not refused
-pub row_read : (number : ℕ) (reason : Option ℕ) (row line : Option Line) → row_reading number reason row ≡ Ok line → (reason ≡ None) × (row ≡ line)
-row_read number None row line e = (refl, cc)
-row_read number (Some reason) row line e = absurd (cc)
+pub row_read : {A : Type 0} (number : ℕ) (reason : Option ℕ) (value read : A) → row_reading number reason value ≡ Ok read → (reason ≡ None) × (value ≡ read)
+row_read number None value read e = (refl, cc)
+row_read number (Some reason) value read e = absurd (cc)
 
 -- a row that is refused refuses the file
 pub row_refuses : {T : Type 0} (number : ℕ) (reason : Option ℕ) (row : Option Line) (rest : Option Fault) (lines : List Line) (view : T → List Line) (fault : ReadFault) →
@@ -279,20 +279,19 @@ pub header_passes : (grid : Grid) (rows rest : List Row) → begins_with rows (c
     bid_in grid rows ≡ reading_of (first_fault 2 (line_reasons grid (map line_of rest))) (curve_in grid (filter_map line_of rest))
 header_passes grid rows rest begins is = rw (is, begins) refl
 
--- lines that were read have no fault
-pub lines_read : (fault : Option Fault) (lines read : List Line) (curve : Curve) (grid : Grid) → reading_of fault lines ≡ Ok read →
-    curve ≡ curve_in grid read → reading_of fault (curve_in grid lines) ≡ Ok curve
-lines_read None lines read curve grid e is = let same : lines ≡ read = cc in ap (λ (l : List Line). Ok (curve_in grid l)) same ∙ ap Ok (sym is)
-lines_read (Some fault) lines read curve grid e is = absurd (cc)
-
--- lines that are refused refuse the file
-lines_refused : {T : Type 0} (fault : Option Fault) (lines : List Line) (curve : Curve) (view : T → List Line) (refused : ReadFault) →
-    Answers view (reading_of fault lines) (Err refused) → Answers (λ (c : Curve). c) (reading_of fault curve) (Err refused)
-lines_refused None lines curve view (Bad place reason) e = absurd (cc)
-lines_refused (Some fault) lines curve view (Bad place reason) e =
+-- a part that is refused refuses the file, whatever the file would read as
+pub part_refused : {A B T : Type 0} (fault : Option Fault) (part : A) (whole : B) (view : T → A) (refused : ReadFault) →
+    Answers view (reading_of fault part) (Err refused) → Answers (λ (x : B). x) (reading_of fault whole) (Err refused)
+part_refused None part whole view (Bad place reason) e = absurd (cc)
+part_refused (Some fault) part whole view (Bad place reason) e =
     let same : fault ≡ record { place = place; reason = reason } = cc in
     ap Err same
-lines_refused fault lines curve view OutOfMemory e = tt
+part_refused fault part whole view OutOfMemory e = tt
+
+-- and a part that is read has no fault
+pub part_read : {A B : Type 0} (fault : Option Fault) (part read : A) (whole : A → B) → reading_of fault part ≡ Ok read → reading_of fault (whole part) ≡ Ok (whole read)
+part_read None part read whole e = let same : part ≡ read = cc in ap (λ x. Ok (whole x)) same
+part_read (Some fault) part read whole e = absurd (cc)
 
 pub file_refused : {T : Type 0} (grid : Grid) (rows rest : List Row) (lines : List Line) (view : T → List Line) (refused : ReadFault) →
     begins_with rows (codes "beet-bid" ∷ codes "1" ∷ []) ≡ true → rest ≡ drop 1 rows →
@@ -300,4 +299,4 @@ pub file_refused : {T : Type 0} (grid : Grid) (rows rest : List Row) (lines : Li
     Answers (λ (c : Curve). c) (bid_in grid rows) (Err refused)
 file_refused grid rows rest lines view refused begins is reads =
     subst (λ (r : Reading Curve). Answers (λ (c : Curve). c) r (Err refused)) (sym (header_passes grid rows rest begins is))
-    (lines_refused (first_fault 2 (line_reasons grid (map line_of rest))) lines (curve_in grid (filter_map line_of rest)) view refused reads)
+    (part_refused (first_fault 2 (line_reasons grid (map line_of rest))) lines (curve_in grid (filter_map line_of rest)) view refused reads)

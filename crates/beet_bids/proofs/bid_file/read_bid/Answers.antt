@@ -1,8 +1,9 @@
-use Rattle.std.proofs.Common.{arith, ap, sym, ◌∙◌, length, length-drop, Vec}
+use Rattle.std.proofs.Common.{arith, ap, sym, ◌∙◌, length, length-drop, Ok, Vec}
 use Rattle.std.specs.Global.{Global}
 use Rattle.std.proofs.lemmas.Result.{err_from_is_err_and}
+use Rattle.beet_bids.specs.BidFiles.{curve_in}
 use Rattle.beet_bids.specs.declared.lines.Line.{Line}
-use Rattle.beet_bids.proofs.LineFacts.{header_passes, lines_read, file_refused}
+use Rattle.beet_bids.proofs.LineFacts.{header_passes, part_read, file_refused}
 use Rattle.beet_bids.proofs.bid_file.read_bid.Goals as goal
 
 pub read_lines-requires : goal.read_lines-requires
@@ -25,6 +26,7 @@ returns c =
     record {
       reads = rw (← c.new-rows.ensures.rows)
           (header_passes c.args.grid.now c.new-rows.result c.begins_with.new.self (sym header.0 ∙ same) (header.1 same)
-          ∙ lines_read _ _ c.in_ok-lines.lines.items c.in_ok-curve_of.field-0 c.args.grid.now c.in_ok-lines.ensures.reads (rw c.deref.ensures.value at c.in_ok-curve_of.ensures.value));
+          ∙ part_read _ _ c.in_ok-lines.lines.items (curve_in c.args.grid.now) c.in_ok-lines.ensures.reads
+          ∙ ap Ok (sym (rw c.deref.ensures.value at c.in_ok-curve_of.ensures.value)));
       of_grid = c.in_ok-curve_of.ensures.of_grid;
     }
