@@ -43,7 +43,7 @@ module _ (deals : ℕ → List ℕ) (v : Values) where
 module _ (deals : ℕ → List ℕ) (prices : ℕ) (supply demand : ℕ → ℕ) (first i z : ℕ) (v : Values) (s : Stands prices supply demand first i v) where
   -- the supply at a place of the grid has its wire
   supply-at : z < prices → slice_index v.wires z ≡ supply z
-  supply-at h = ap (slice_index v.wires) (sym zero-add) ∙ s.supplies.at z h
+  supply-at h = ap (slice_index v.wires) (sym (zero-add z)) ∙ s.supplies.at z h
 
   -- the last batch opens what the policy shows of the place of the price
   pub shown-opened : (policy : Policy) → z < prices →
