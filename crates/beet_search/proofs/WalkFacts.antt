@@ -1,5 +1,5 @@
 -- The plan that is left at a place of the script.
-use Rattle.std.proofs.Common.{◌≡◌, ◌↔◌, ℕ, zero, suc, ◌+◌, ◌-◌, ◌/◌, ◌<◌, ◌≤◌, ◌⊎◌, inl, inr, Bool, true, false, List, slice_index, [], ◌∷◌, Option, Some, None, refl, ap, ◌∙◌, arith}
+use Rattle.std.proofs.Common.{◌≡◌, ◌↔◌, ℕ, zero, suc, ◌+◌, ◌-◌, ◌/◌, ◌<◌, ◌≤◌, ◌⊎◌, inl, inr, Bool, true, false, List, [], ◌∷◌, Option, Some, None, refl, ap, sym, ◌∙◌, arith}
 use Rattle.std.specs.Prelude.{nat_lt, IsTrue, unwrap_or}
 use Rattle.std.proofs.lemmas.Bool.{cases_lt, iff_false}
 use Rattle.std.proofs.lemmas.Bool.Decides.{nat_tests}
@@ -10,9 +10,10 @@ use Rattle.beet_gates.proofs.EachFacts.{get-past}
 use Rattle.beet_plan.specs.Blocks.{Blocks, blocks_of, after_mask}
 use Rattle.beet_plan.proofs.BlockLaws.{are-blocks}
 use Rattle.beet_bids.specs.declared.outcomes.Policy.{Policy}
-use Rattle.beet_plan.specs.Auction.{search_plan, end_plan, price_with, after_product}
+use Rattle.beet_bids.specs.Outcomes.{shown_by}
+use Rattle.beet_plan.specs.Auction.{search_plan, end_plan, opening_plan, price_with, after_product}
 use Rattle.beet_plan.specs.declared.Finish.{Finish}
-use Rattle.beet_plan.specs.declared.Finish.TheVariants.{Price, NoPrice}
+use Rattle.beet_plan.specs.declared.Finish.TheVariants.{NoPrice}
 use Rattle.beet_search.specs.Walk.{plan_at, stage_plan}
 use Rattle.beet_search.specs.declared.walk.Stage.{Stage}
 use Rattle.beet_search.specs.declared.walk.Stage.TheVariants.{Search, Masked, Borrow, Supply, Ended as StageEnded}
@@ -53,6 +54,30 @@ pub ended-batch : {F : Type 0} (f : F) (step : ℕ) → plan_batch (Ended f) ste
 unfolding plan_batch
 ended-batch f step = refl
 
+pub batch-past : (b : Batch) (step : ℕ) → (step ≡ 0 → ⊥) → batch_at (b ∷ []) step ≡ end_batch
+batch-past b zero h = absurd (h refl)
+batch-past b (suc step) h = refl
+
+module _ (policy : Policy) (prices place : ℕ) where
+  -- the end of the search at no place of the grid, and at one of which this is shown
+  pub end-past : prices ≤ place → end_plan policy prices place ≡ Ended NoPrice
+  end-past h = let t : nat_lt place prices ≡ false = grind (arith, nat_tests) in rw t refl
+
+  pub end-shows : (shown : Policy) → shown ≡ policy → place < prices → end_plan policy prices place ≡ opening_plan (shown_by shown (prices + place) place) (price_with place)
+  end-shows shown e h =
+      let t : nat_lt place prices ≡ true = grind (arith, nat_tests) in
+      rw t (ap (λ (q : Policy). opening_plan (shown_by q (prices + place) place) (price_with place)) (sym e))
+
+  -- it has one batch at most
+  pub end-later : (step : ℕ) → 0 < step → plan_batch (end_plan policy prices place) step [] ≡ end_batch
+  end-later step some = elim (cases_lt place prices) [
+    | inl h ↦ ap (λ (p : Plan Finish). plan_batch p step []) (end-shows policy refl h) ∙ by_wires (shown_by policy (prices + place) place)
+    | inr h ↦ ap (λ (p : Plan Finish). plan_batch p step []) (end-past h) ∙ ended-batch NoPrice step
+  ] where
+    by_wires : (wires : List ℕ) → plan_batch (opening_plan wires (price_with place)) step [] ≡ end_batch
+    by_wires [] = ended-batch (price_with place []) step
+    by_wires (w ∷ ws) = last-batch _ _ _ step ∙ batch-past (reveal_batch [] (w ∷ ws)) step (λ e. omega (arith, e))
+
 pub open-from : (b : Bool) (n lo hi : ℕ) → (IsTrue b ↔ ((0 < n) × (lo < hi))) → b ≡ true → (0 < n) × (lo < hi)
 open-from b n lo hi e h = e.0 h
 
@@ -75,7 +100,6 @@ module _ (w : Walk) where
   pub closed-at : w.stage ≡ Search → (b : Bool) → (IsTrue b ↔ ((0 < w.left) × (w.lo < w.hi))) → b ≡ false → plan_at w ≡ end_plan w.policy w.prices w.lo
   closed-at e b says t = stage-is Search e ∙ closed-plan (blocks_of w.gates) w.policy w.prices w.left w.lo w.hi w.first w.rejected (closed-from b w.left w.lo w.hi says t)
 
-
   -- the supply is still to be read
   pub supply-at : (volume : ℕ) → w.stage ≡ Supply volume → plan_at w ≡ Last end_batch 1 (λ opened. price_with w.lo (volume ∷ opened))
   supply-at volume e = stage-is (Supply volume) e
@@ -84,7 +108,6 @@ module _ (w : Walk) where
   pub length-open : w.stage ≡ Search → (b : Bool) → (IsTrue b ↔ ((0 < w.left) × (w.lo < w.hi))) → b ≡ true → plan_length (plan_at w) ≡ (blocks_of w.gates).mask_rounds
   length-open e b says t = ap plan_length (open-at e b says t) ∙ (are-blocks w.gates).masks.rounds w.first
 
-
   pub length-borrow : (c : ℕ) → w.stage ≡ Borrow c → plan_length (plan_at w) ≡ (blocks_of w.gates).compare_rounds - 1
   length-borrow c e = ap plan_length (stage-is (Borrow c) e) ∙ omega (arith, (are-blocks w.gates).comparisons.rounds (after_mask (blocks_of w.gates) w.first) w.first c)
 
@@ -92,7 +115,6 @@ module _ (w : Walk) where
   pub batch-open : w.stage ≡ Search → (b : Bool) → (IsTrue b ↔ ((0 < w.left) × (w.lo < w.hi))) → b ≡ true → (step : ℕ) →
       plan_batch (plan_at w) step [] ≡ batch_at ((blocks_of w.gates).mask w.first) step
   batch-open e b says t step = ap (λ (p : Plan Finish). plan_batch p step []) (open-at e b says t) ∙ block-batch _ _ step
-
 
   pub batch-masked : w.stage ≡ Masked → (step : ℕ) →
       plan_batch (plan_at w) step [] ≡ batch_at ((blocks_of w.gates).masked (after_mask (blocks_of w.gates) w.first) w.first ((w.lo + w.hi) / 2) (w.prices + (w.lo + w.hi) / 2) ∷ []) step
@@ -103,6 +125,12 @@ module _ (w : Walk) where
 
   pub batch-ended : (f : Finish) → w.stage ≡ StageEnded f → (step : ℕ) → plan_batch (plan_at w) step [] ≡ end_batch
   batch-ended f e step = ap (λ (p : Plan Finish). plan_batch p step []) (stage-is (StageEnded f) e) ∙ ended-batch f step
+
+  pub batch-supply : (volume : ℕ) → w.stage ≡ Supply volume → (step : ℕ) → plan_batch (plan_at w) step [] ≡ end_batch
+  batch-supply volume e step = ap (λ (p : Plan Finish). plan_batch p step []) (supply-at volume e) ∙ last-batch _ _ _ step ∙ past step where
+    past : (k : ℕ) → batch_at (end_batch ∷ []) k ≡ end_batch
+    past zero = refl
+    past (suc k) = refl
 
   -- a batch past the end of a short block
   pub past-borrow : (c : ℕ) → w.stage ≡ Borrow c → (step : ℕ) → (blocks_of w.gates).compare_rounds ≤ step + 1 → plan_batch (plan_at w) step [] ≡ end_batch
@@ -115,20 +143,15 @@ module _ (w : Walk) where
       plan_after (plan_at w) x ≡ after_product (blocks_of w.gates) w.policy w.prices (w.left - 1) w.lo w.hi w.first w.rejected x
   after-open e b says t x = ap (λ (p : Plan Finish). plan_after p x) (open-at e b says t)
 
-
-pub batch-past : (b : Batch) (step : ℕ) → (step ≡ 0 → ⊥) → batch_at (b ∷ []) step ≡ end_batch
-batch-past b zero h = absurd (h refl)
-batch-past b (suc step) h = refl
-
-block-finish : {F : Type 0} (bs : List Batch) (next : ℕ → Plan F) → plan_finish (Block bs next) [] ≡ None
+pub block-finish : {F : Type 0} (bs : List Batch) (next : ℕ → Plan F) → plan_finish (Block bs next) [] ≡ None
 unfolding plan_finish
 block-finish bs next = refl
 
-last-finish : {F : Type 0} (b : Batch) (n : ℕ) (named : List ℕ → F) → plan_finish (Last b (suc n) named) [] ≡ None
+pub last-finish : {F : Type 0} (b : Batch) (n : ℕ) (named : List ℕ → F) → plan_finish (Last b (suc n) named) [] ≡ None
 unfolding plan_finish
 last-finish b n named = refl
 
-ended-finish : {F : Type 0} (f : F) → plan_finish (Ended f) [] ≡ Some f
+pub ended-finish : {F : Type 0} (f : F) → plan_finish (Ended f) [] ≡ Some f
 unfolding plan_finish
 ended-finish f = refl
 
@@ -136,12 +159,14 @@ module _ (w : Walk) where
   pub finish-open : w.stage ≡ Search → (b : Bool) → (IsTrue b ↔ ((0 < w.left) × (w.lo < w.hi))) → b ≡ true → plan_finish (plan_at w) [] ≡ None
   finish-open e b says t = ap (λ (p : Plan Finish). plan_finish p []) (open-at w e b says t) ∙ block-finish _ _
 
-
   pub finish-masked : w.stage ≡ Masked → plan_finish (plan_at w) [] ≡ None
   finish-masked e = ap (λ (p : Plan Finish). plan_finish p []) (stage-is w Masked e) ∙ block-finish _ _
 
   pub finish-borrow : (c : ℕ) → w.stage ≡ Borrow c → plan_finish (plan_at w) [] ≡ None
   finish-borrow c e = ap (λ (p : Plan Finish). plan_finish p []) (stage-is w (Borrow c) e) ∙ block-finish _ _
+
+  pub finish-supply : (volume : ℕ) → w.stage ≡ Supply volume → plan_finish (plan_at w) [] ≡ None
+  finish-supply volume e = ap (λ (p : Plan Finish). plan_finish p []) (supply-at w volume e) ∙ last-finish _ 0 _
 
   pub finish-ended : (f : Finish) → w.stage ≡ StageEnded f → plan_finish (plan_at w) [] ≡ Some f
   finish-ended f e = ap (λ (p : Plan Finish). plan_finish p []) (stage-is w (StageEnded f) e) ∙ ended-finish f

@@ -1,13 +1,13 @@
 //! A place in the auction's script.
 
-ghost use Rattle.std.specs.Prelude.{◌≡◌, ◌↔◌, ◌<◌, ◌≤◌, ◌+◌, ◌-◌, ◌*◌, ◌/◌, ◌^◌, IsTrue, MatchOption, None, [], ◌∷◌};
+ghost use Rattle.std.specs.Prelude.{◌≡◌, ◌↔◌, ◌<◌, ◌≤◌, ◌+◌, ◌-◌, ◌*◌, ◌/◌, ◌^◌, IsTrue, MatchOption, None, Some, ℕ, [], ◌∷◌};
 ghost use Rattle.beet_gates.specs.Plans.{plan_length, plan_after, plan_batch, plan_finish, batch_at};
 ghost use Rattle.beet_plan.specs.Auction.{search_plan, end_plan, after_answer, after_product};
 ghost use Rattle.beet_gates.specs.declared.Act.TheVariants.{Reveal};
 ghost use Rattle.beet_plan.specs.Blocks.{blocks_of};
 ghost use Rattle.beet_mask.specs.Mask.{mask_wires_of};
 ghost use Rattle.beet_compare.specs.Compare.{compare_batches};
-ghost use Rattle.beet_search.specs.Walk.{plan_at, stage_plan, busy, widest, Fits};
+ghost use Rattle.beet_search.specs.Walk.{plan_at, busy, widest, Fits};
 
 use arrayvec::ArrayVec;
 use beet_bids::Policy;
@@ -109,7 +109,8 @@ impl Walk {
         }
         let (demand, supply) = (self.prices + self.lo, self.lo);
         match self.shown() {
-            None | Some(Policy::Price) => batch.set_end(),
+            None => batch.set_end(),
+            Some(Policy::Price) => batch.set_end(),
             Some(Policy::Volume) => {
                 batch.lets.clear();
                 batch.set_opening(demand);
@@ -123,13 +124,27 @@ impl Walk {
 
     /// The stage after a number that comes at the end of the search: the demand there, where it is opened.
     fn after_end(&self, number: Fe) -> Stage
-        ensures { stage_plan result self.now ≡ plan_after (end_plan self.now.policy self.now.prices self.now.lo) number }
+        ensures { plan_at (record self.now { stage = result }) ≡ plan_after (end_plan self.now.policy self.now.prices self.now.lo) number }
     {
         match self.shown() {
             None => Stage::Ended(Finish::NoPrice),
             Some(Policy::Price) => Stage::Ended(self.price_with(None)),
             Some(Policy::Volume) => Stage::Ended(self.price_with(Some(number))),
             Some(Policy::Full) => Stage::Supply(number),
+        }
+    }
+
+    /// The stage after the supply, where the volume was read before it.
+    fn after_supply(&self, supply: Fe) -> Stage
+        ensures { (volume : ℕ) → self.now.stage ≡ Stage.Supply volume → result ≡ Stage.Ended (Finish.Price self.now.lo (Some volume) (Some supply)) }
+    {
+        match self.stage {
+            Stage::Supply(volume) => Stage::Ended(Finish::Price {
+                place: self.lo,
+                volume: Some(volume),
+                supply: Some(supply),
+            }),
+            stage => stage,
         }
     }
 
@@ -140,7 +155,8 @@ impl Walk {
         match self.shown() {
             None => Some(Finish::NoPrice),
             Some(Policy::Price) => Some(self.price_with(None)),
-            Some(Policy::Volume | Policy::Full) => None,
+            Some(Policy::Volume) => None,
+            Some(Policy::Full) => None,
         }
     }
 
@@ -277,13 +293,9 @@ impl Walk {
                 walk
             }
             Stage::Borrow(_) => self.after_answer(number),
-            Stage::Supply(volume) => {
+            Stage::Supply(_) => {
                 let mut walk = self;
-                walk.stage = Stage::Ended(Finish::Price {
-                    place: self.lo,
-                    volume: Some(volume),
-                    supply: Some(number),
-                });
+                walk.stage = self.after_supply(number);
                 walk
             }
             Stage::Ended(_) => self,
