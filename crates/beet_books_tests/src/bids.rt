@@ -1,5 +1,5 @@
 use crate::samples::{Refusal, expect_refusal, grid_of};
-use beet_bids::{Bidder, Book, Curve, Grid, Outcome, outcome, read_auction, read_bid};
+use beet_bids::{Bidder, Book, Curve, Grid, Outcome, Policy, outcome, read_auction, read_bid};
 use beet_forms::ReadFault;
 use beet_gates::Gates;
 use std::alloc::{AllocError, Global};
@@ -51,13 +51,51 @@ const CHAIN: &str = "beet-auction,1\nbase,100\ntick,5\nprices,4\ngates,chain\n";
 /// The same with trees of gates.
 const TREE: &str = "beet-auction,1\nbase,100\ntick,5\nprices,4\ngates,tree\n";
 
+/// The same auction in version 2, which says what is opened.
+const PRICE: &str = "beet-auction,2\nbase,100\ntick,5\nprices,4\ngates,chain\nopens,price\n";
+
+const VOLUME: &str = "beet-auction,2\nbase,100\ntick,5\nprices,4\ngates,chain\nopens,volume\n";
+
+const FULL: &str = "beet-auction,2\nbase,100\ntick,5\nprices,4\ngates,tree\nopens,full\n";
+
 /// Auction files, and how they are refused.
-const AUCTIONS: [(&str, Refusal); 13] = [
+const AUCTIONS: [(&str, Refusal); 26] = [
     (CHAIN, None),
     (TREE, None),
+    (PRICE, None),
+    (VOLUME, None),
+    (FULL, None),
+    ("beet-auction,3\n", Some((1, 4))),
+    ("beet-auction,\n", Some((1, 4))),
+    ("beet-auction,1,2\n", Some((1, 1))),
+    ("beet-auction,2\nbase,x\n", Some((2, 3))),
+    (
+        "beet-auction,2\nbase,100\ntick,5\nprices,4\ngates,chain\n",
+        Some((6, 2)),
+    ),
+    (
+        "beet-auction,2\nbase,100\ntick,5\nprices,4\ngates,chain\nopen,price\n",
+        Some((6, 2)),
+    ),
+    (
+        "beet-auction,2\nbase,100\ntick,5\nprices,4\ngates,chain\nopens\n",
+        Some((6, 2)),
+    ),
+    (
+        "beet-auction,2\nbase,100\ntick,5\nprices,4\ngates,chain\nopens,all\n",
+        Some((6, 3)),
+    ),
+    (
+        "beet-auction,2\nbase,100\ntick,5\nprices,4\ngates,chain\nopens,full\nmore,1\n",
+        Some((7, 2)),
+    ),
+    (
+        "beet-auction,1\nbase,100\ntick,5\nprices,4\ngates,chain\nopens,price\n",
+        Some((6, 2)),
+    ),
     ("", Some((1, 1))),
     ("beet-bid,1\n", Some((1, 1))),
-    ("beet-auction,2\n", Some((1, 4))),
+    ("beet-auction,2\n", Some((2, 2))),
     ("beet-auction,1\ntick,5\n", Some((2, 2))),
     ("beet-auction,1\nbase,1000000000001\n", Some((2, 3))),
     ("beet-auction,1\nbase,100\ntick,0\n", Some((3, 3))),
@@ -98,16 +136,30 @@ fn auctions(rt: HostRuntime) {
     expect_auctions(&rt, rt.alloc(), &AUCTIONS);
 }
 
-/// The kind of gates of an auction file, if it is read.
-fn gates_in(rt: &impl Abort, alloc: Global, text: &str) -> Option<Gates> {
+/// Auction files, with their kinds of gates and what is opened.
+const KINDS: [(&str, Gates, Policy); 5] = [
+    (CHAIN, Gates::Chain, Policy::Volume),
+    (TREE, Gates::Tree, Policy::Volume),
+    (PRICE, Gates::Chain, Policy::Price),
+    (VOLUME, Gates::Chain, Policy::Volume),
+    (FULL, Gates::Tree, Policy::Full),
+];
+
+/// The kind of gates of an auction file and what is opened, if it is read.
+fn kinds_in(rt: &impl Abort, alloc: Global, text: &str) -> Option<(Gates, Policy)> {
     assert!(rt; text.len() <= 1_000);
-    Some(read_auction(alloc, text.as_bytes()).ok()?.gates())
+    let grid = read_auction(alloc, text.as_bytes()).ok()?;
+    Some((grid.gates(), grid.policy()))
 }
 
 #[test]
-fn kinds_of_gates(rt: HostRuntime) {
-    assert!(rt; gates_in(&rt, rt.alloc(), CHAIN) == Some(Gates::Chain));
-    assert!(rt; gates_in(&rt, rt.alloc(), TREE) == Some(Gates::Tree));
+fn kinds_of_auctions(rt: HostRuntime) {
+    for (text, gates, policy) in KINDS {
+        assert!(rt;
+            kinds_in(&rt, rt.alloc(), text) == Some((gates, policy)),
+            "of {text}"
+        );
+    }
 }
 
 /// Bid files at four prices, and how they are refused.
@@ -178,46 +230,45 @@ const TIE: &str = "beet-bid,1\n100,50,0\n105,30,30\n110,20,40\n115,10,50";
 
 const SHORT: &str = "beet-bid,1\n100,50,0\n105,50,10\n110,50,20\n115,50,49";
 
-/// Numbers of prices, the bids of a book, and its outcome.
-const BOOKS: [(u32, &[&str], Outcome); 6] = [
+/// A place, its price, and what is opened there: the demand, and then the supply; or none where there is no price.
+type Cleared = Option<(u32, u64, &'static [u64])>;
+
+/// The outcome as it is answered.
+fn outcome_of(cleared: Cleared) -> Outcome {
+    match cleared {
+        Some((place, price, shown)) => Outcome::Price {
+            place,
+            price,
+            volume: shown.first().copied(),
+            supply: shown.get(1).copied(),
+        },
+        None => Outcome::No,
+    }
+}
+
+/// Numbers of prices, what is opened, the bids of a book, and its outcome.
+type Case = (u32, Policy, &'static [&'static str], Cleared);
+
+const BOOKS: [Case; 9] = [
+    (4, Policy::Price, &[ANNA, BO, CARL], Some((2, 110, &[]))),
+    (4, Policy::Volume, &[ANNA, BO, CARL], Some((2, 110, &[35]))),
     (
         4,
+        Policy::Full,
         &[ANNA, BO, CARL],
-        Outcome::Price {
-            place: 2,
-            price: 110,
-            volume: 35,
-        },
+        Some((2, 110, &[35, 40])),
     ),
-    (
-        4,
-        &[],
-        Outcome::Price {
-            place: 0,
-            price: 100,
-            volume: 0,
-        },
-    ),
-    (
-        4,
-        &[TIE],
-        Outcome::Price {
-            place: 1,
-            price: 105,
-            volume: 30,
-        },
-    ),
-    (4, &[SHORT], Outcome::No),
+    (4, Policy::Volume, &[], Some((0, 100, &[0]))),
+    (4, Policy::Volume, &[TIE], Some((1, 105, &[30]))),
+    (4, Policy::Volume, &[SHORT], None),
+    (4, Policy::Full, &[SHORT], None),
     (
         1,
+        Policy::Volume,
         &["beet-bid,1\n100,0,0"],
-        Outcome::Price {
-            place: 0,
-            price: 100,
-            volume: 0,
-        },
+        Some((0, 100, &[0])),
     ),
-    (1, &["beet-bid,1\n100,1,0"], Outcome::No),
+    (1, Policy::Volume, &["beet-bid,1\n100,1,0"], None),
 ];
 
 /// The bidders with these bids.
@@ -241,15 +292,11 @@ fn has_outcome(grid: Grid, bidders: Vec<Bidder>, wanted: Outcome) -> bool {
 }
 
 /// Clears the book of each case.
-fn expect_outcomes(
-    rt: &impl Abort,
-    alloc: Global,
-    cases: &[(u32, &[&str], Outcome)],
-) -> Result<(), Fail> {
-    for (prices, bids, wanted) in cases {
-        let grid = grid_of(*prices)?;
+fn expect_outcomes(rt: &impl Abort, alloc: Global, cases: &[Case]) -> Result<(), Fail> {
+    for (prices, policy, bids, wanted) in cases {
+        let grid = grid_of(*prices)?.with_policy(*policy);
         let bidders = bidders_of(rt, alloc, &grid, bids)?;
-        assert!(rt; has_outcome(grid, bidders, *wanted));
+        assert!(rt; has_outcome(grid, bidders, outcome_of(*wanted)));
     }
     Ok(())
 }
@@ -273,9 +320,9 @@ fn many_of(alloc: Global, curve: &Curve) -> Result<Vec<Bidder>, AllocError> {
 }
 
 /// Compares how many bidders a book has, and its outcome.
-fn expect_full(rt: &impl Abort, book: &Book, wanted: Outcome) {
+fn expect_full(rt: &impl Abort, book: &Book, wanted: Cleared) {
     assert_eq!(rt; book.bidders().len(), MOST);
-    assert!(rt; outcome(book) == wanted);
+    assert!(rt; outcome(book) == outcome_of(wanted));
 }
 
 /// Clears the largest book, where all bidders have this curve.
@@ -284,7 +331,7 @@ fn expect_largest_of(
     alloc: Global,
     grid: Grid,
     curve: &Curve,
-    wanted: Outcome,
+    wanted: Cleared,
 ) -> Result<(), Fail> {
     let book = Book::new(grid, many_of(alloc, curve)?).ok_or("no book")?;
     expect_full(rt, &book, wanted);
@@ -292,7 +339,7 @@ fn expect_largest_of(
 }
 
 /// Clears the largest book at one price, where all bids are this one.
-fn expect_largest(rt: &impl Abort, alloc: Global, bid: &str, wanted: Outcome) -> Result<(), Fail> {
+fn expect_largest(rt: &impl Abort, alloc: Global, bid: &str, wanted: Cleared) -> Result<(), Fail> {
     let grid = grid_of(1)?;
     let curve = curve_of(rt, alloc, &grid, bid)?;
     expect_largest_of(rt, alloc, grid, &curve, wanted)
@@ -301,16 +348,7 @@ fn expect_largest(rt: &impl Abort, alloc: Global, bid: &str, wanted: Outcome) ->
 #[test]
 fn largest_book(rt: HostRuntime) -> Result<(), Fail> {
     let alloc = rt.alloc();
-    expect_largest(&rt, alloc, "beet-bid,1\n100,281474976710655,0", Outcome::No)?;
+    expect_largest(&rt, alloc, "beet-bid,1\n100,281474976710655,0", None)?;
     let both = "beet-bid,1\n100,281474976710655,281474976710655";
-    expect_largest(
-        &rt,
-        alloc,
-        both,
-        Outcome::Price {
-            place: 0,
-            price: 100,
-            volume: 562_949_953_421_310_000,
-        },
-    )
+    expect_largest(&rt, alloc, both, Some((0, 100, &[562_949_953_421_310_000])))
 }

@@ -1,4 +1,5 @@
 use crate::samples::{ONES, are, lists};
+use beet_bids::Policy;
 use beet_field::{Fe, Trio};
 use beet_gates::{ClearRun, Gates, Script, clear_run};
 use beet_search::{AuctionScript, Finish};
@@ -46,15 +47,16 @@ fn run(
     clear_run(alloc, script, inputs, masks)
 }
 
-/// How a run is to end: with a price at a place and the demand there, or else.
-type Ending = Result<(u32, u64), Finish>;
+/// How a run is to end: with a price at a place and what is opened there, the demand and then the supply, or else.
+type Ending = Result<(u32, &'static [u64]), Finish>;
 
 /// The end as the script has it.
 fn finish_of(ending: Ending) -> Finish {
     match ending {
-        Ok((place, volume)) => Finish::Price {
+        Ok((place, shown)) => Finish::Price {
             place,
-            volume: Fe::reduce(volume as u128),
+            volume: shown.first().map(|n| Fe::reduce(*n as u128)),
+            supply: shown.get(1).map(|n| Fe::reduce(*n as u128)),
         },
         Err(finish) => finish,
     }
@@ -100,11 +102,58 @@ fn expect_run(
     Ok(run)
 }
 
-/// Sums at one price, how many masks are rejected, the numbers that are opened, the end and the rounds.
-const OPENINGS: [(&[u64], usize, &[u64], Ending, Rounds); 3] = [
-    (&[20, 50], 0, &[0, 40, 0], Err(Finish::NoPrice), (127, 19)),
-    (&[40, 35], 0, &[0, 110, 1, 35], Ok((0, 35)), (128, 20)),
-    (&[40, 35], 3, &[1, 1, 1], Err(Finish::MasksSpent), (192, 30)),
+/// What a policy opens beside the price, sums at one price, how many masks are rejected, the numbers that are opened, the end and the rounds.
+type Opening = (Policy, &'static [u64], usize, &'static [u64], Ending, Rounds);
+
+const OPENINGS: [Opening; 6] = [
+    (
+        Policy::Volume,
+        &[20, 50],
+        0,
+        &[0, 40, 0],
+        Err(Finish::NoPrice),
+        (127, 19),
+    ),
+    (
+        Policy::Full,
+        &[20, 50],
+        0,
+        &[0, 40, 0],
+        Err(Finish::NoPrice),
+        (127, 19),
+    ),
+    (
+        Policy::Price,
+        &[40, 35],
+        0,
+        &[0, 110, 1],
+        Ok((0, &[])),
+        (127, 19),
+    ),
+    (
+        Policy::Volume,
+        &[40, 35],
+        0,
+        &[0, 110, 1, 35],
+        Ok((0, &[35])),
+        (128, 20),
+    ),
+    (
+        Policy::Full,
+        &[40, 35],
+        0,
+        &[0, 110, 1, 35, 40],
+        Ok((0, &[35, 40])),
+        (128, 20),
+    ),
+    (
+        Policy::Volume,
+        &[40, 35],
+        3,
+        &[1, 1, 1],
+        Err(Finish::MasksSpent),
+        (192, 30),
+    ),
 ];
 
 /// Runs the book of each case with this kind of gates.
@@ -112,10 +161,11 @@ fn expect_openings(
     rt: &impl Abort,
     alloc: Global,
     gates: Gates,
-    cases: &[(&[u64], usize, &[u64], Ending, Rounds)],
+    cases: &[Opening],
 ) -> Result<(), Fail> {
-    let script = AuctionScript::new(1, gates).ok_or("no script")?;
-    for (sums, rejected, wanted, ending, rounds) in cases {
+    let volume = AuctionScript::new(1, gates).ok_or("no script")?;
+    for (policy, sums, rejected, wanted, ending, rounds) in cases {
+        let script = volume.with_policy(*policy);
         let rounds = rounds_with(gates, *rounds);
         let run = expect_run(rt, alloc, &script, sums, *rejected, *ending, rounds)?;
         assert!(rt; are(run.opened.as_slice(), wanted));
@@ -139,31 +189,39 @@ const MOST: u64 = 562_949_953_421_310_000;
 /// The sums of a worked book.
 const WORKED: &[u64] = &[0, 20, 40, 60, 50, 50, 35, 10];
 
-/// Numbers of prices, sums, how many masks are rejected, the end and the rounds.
-const BOOKS: [(u32, &[u64], usize, Ending, Rounds); 11] = [
-    (4, WORKED, 0, Ok((2, 35)), (255, 39)),
-    (4, WORKED, 1, Ok((2, 35)), (319, 49)),
-    (4, WORKED, 3, Err(Finish::MasksSpent), (192, 30)),
-    (4, &[0, 0, 0, 0, 0, 0, 0, 0], 0, Ok((0, 0)), (382, 58)),
+/// Numbers of prices, what is opened, sums, how many masks are rejected, the end and the rounds.
+type Worked = (u32, Policy, &'static [u64], usize, Ending, Rounds);
+
+const BOOKS: [Worked; 15] = [
+    (4, Policy::Price, WORKED, 0, Ok((2, &[])), (254, 38)),
+    (4, Policy::Price, WORKED, 1, Ok((2, &[])), (318, 48)),
+    (4, Policy::Full, WORKED, 0, Ok((2, &[35, 40])), (255, 39)),
+    (4, Policy::Full, WORKED, 3, Err(Finish::MasksSpent), (192, 30)),
+    (4, Policy::Volume, WORKED, 0, Ok((2, &[35])), (255, 39)),
+    (4, Policy::Volume, WORKED, 1, Ok((2, &[35])), (319, 49)),
+    (4, Policy::Volume, WORKED, 3, Err(Finish::MasksSpent), (192, 30)),
+    (4, Policy::Volume, &[0, 0, 0, 0, 0, 0, 0, 0], 0, Ok((0, &[0])), (382, 58)),
     (
         4,
+        Policy::Volume,
         &[0, 30, 40, 50, 50, 30, 20, 10],
         0,
-        Ok((1, 30)),
+        Ok((1, &[30])),
         (382, 58),
     ),
     (
         4,
+        Policy::Volume,
         &[0, 10, 20, 49, 50, 50, 50, 50],
         0,
         Err(Finish::NoPrice),
         (254, 38),
     ),
-    (1, &[0, 0], 0, Ok((0, 0)), (128, 20)),
-    (1, &[0, 1], 0, Err(Finish::NoPrice), (127, 19)),
-    (1, &[0, MOST], 0, Err(Finish::NoPrice), (127, 19)),
-    (1, &[MOST, MOST], 0, Ok((0, MOST)), (128, 20)),
-    (1, &[MOST, MOST], 2, Ok((0, MOST)), (256, 40)),
+    (1, Policy::Volume, &[0, 0], 0, Ok((0, &[0])), (128, 20)),
+    (1, Policy::Volume, &[0, 1], 0, Err(Finish::NoPrice), (127, 19)),
+    (1, Policy::Volume, &[0, MOST], 0, Err(Finish::NoPrice), (127, 19)),
+    (1, Policy::Volume, &[MOST, MOST], 0, Ok((0, &[MOST])), (128, 20)),
+    (1, Policy::Volume, &[MOST, MOST], 2, Ok((0, &[MOST])), (256, 40)),
 ];
 
 /// Runs the book of each case with this kind of gates.
@@ -171,10 +229,11 @@ fn expect_books(
     rt: &impl Abort,
     alloc: Global,
     gates: Gates,
-    cases: &[(u32, &[u64], usize, Ending, Rounds)],
+    cases: &[Worked],
 ) -> Result<(), Fail> {
-    for (prices, sums, rejected, ending, rounds) in cases {
+    for (prices, policy, sums, rejected, ending, rounds) in cases {
         let script = AuctionScript::new(*prices, gates).ok_or("no script")?;
+        let script = script.with_policy(*policy);
         let rounds = rounds_with(gates, *rounds);
         expect_run(rt, alloc, &script, sums, *rejected, *ending, rounds)?;
     }
