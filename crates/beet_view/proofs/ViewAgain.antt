@@ -1,5 +1,5 @@
 -- A transcript that was written is read again.
-use Rattle.std.proofs.Common.{◌≡◌, ℕ, suc, ◌+◌, ◌-◌, ◌/◌, ◌^◌, ◌<◌, ◌≤◌, true, false, eqb, List, [], ◌∷◌, ◌++◌, length, All, AllPairs, Option, None, Some, IfSome, Ok, refl, sym, ap, subst, ◌∙◌, arith}
+use Rattle.std.proofs.Common.{◌≡◌, ℕ, suc, ◌+◌, ◌-◌, ◌/◌, ◌^◌, ◌<◌, ◌≤◌, Bool, true, false, eqb, List, [], ◌∷◌, ◌++◌, length, All, AllPairs, Option, None, Some, IfSome, Ok, refl, sym, ap, subst, ◌∙◌, arith}
 use Rattle.std.specs.List.{flat_map}
 use Rattle.std.proofs.Math.Nat.{le-div_iff_mul-le}
 use Rattle.std.proofs.lemmas.Bool.{le-ltb}
@@ -11,7 +11,7 @@ use Rattle.beet_field.specs.declared.point.Point.{Point}
 use Rattle.beet_field.specs.declared.point.Point.TheVariants.{One, Two, Three}
 use Rattle.beet_words.specs.Words.{IsWord, ones}
 use Rattle.beet_words.specs.Bundles.{up_to, word_at, words_at}
-use Rattle.beet_words.specs.Fields.{Part, number_bytes, number_at, times, counted_at, after_magic, ended}
+use Rattle.beet_words.specs.Fields.{Part, number_bytes, number_at, times, counted_at, ended}
 use Rattle.beet_words.proofs.FieldsAgain.{StandsAt, StandsAt-left, StandsAt-right, number_at-number, times-parts}
 use Rattle.beet_gates.specs.declared.Gates.{Gates}
 use Rattle.beet_gates.specs.declared.Gates.TheVariants.{Chain, Tree}
@@ -20,18 +20,20 @@ use Rattle.beet_bids.proofs.GridFacts.{comparisons-le}
 use Rattle.beet_bids.specs.Curves.{Curve, IsCurve}
 use Rattle.beet_bids.specs.declared.curve.TheConstants.{LARGEST_QUANTITY}
 use Rattle.beet_bids.specs.declared.grid.TheConstants.{LARGEST_BASE, LARGEST_TICK, MOST_PRICES}
+use Rattle.beet_bids.specs.declared.outcomes.Policy.{Policy}
+use Rattle.beet_bids.specs.declared.outcomes.Policy.TheVariants.{Price, Volume, Full}
 use Rattle.beet_book.specs.declared.book_file.TheConstants.{MOST_PRODUCT}
 use Rattle.beet_gates.specs.declared.TheConstants.{MOST_NUMBERS}
-use Rattle.beet_words.specs.declared.bundle.TheConstants.{BAD_MAGIC, TRAILING}
+use Rattle.beet_words.specs.declared.bundle.TheConstants.{TRAILING}
 use Rattle.beet_view.specs.declared.reading.TheConstants.{MOST_ROUNDS}
 use Rattle.beet_view.specs.declared.quantities.Course.{Course}
 use Rattle.beet_view.specs.declared.quantities.Course.TheVariants.{Falling, Rising}
 use Rattle.beet_view.specs.declared.view.Seen.{Seen}
 use Rattle.beet_view.specs.Views.{Viewed, IsSeenAt, IsView}
 use Rattle.beet_plan.specs.Kept.{words_kept, masks_kept, coefficients_kept}
-use Rattle.beet_view.specs.Transcripts.{magic, from_to, most_bidders, known_of, mark_of, gates_of, number_of_gates, server_at, grid_at, point_at, allowed_after, start_of, quantities_at, own_at, own_where_known, seen_at, message_at, round_at, view_in, numbers_bytes, counted_bytes, grid_bytes, own_bytes, seen_bytes, round_bytes, view_bytes, IsMessage, FitsFile, HasNumbers, HasElements, AreNumbers}
+use Rattle.beet_view.specs.Transcripts.{tells_policy, magic, from_to, most_bidders, known_of, mark_of, gates_of, number_of_gates, policy_field, form_in, server_at, policy_at, grid_at, point_at, allowed_after, start_of, quantities_at, own_at, own_where_known, seen_at, message_at, round_at, view_in, numbers_bytes, counted_bytes, grid_bytes, own_bytes, seen_bytes, round_bytes, view_bytes, IsMessage, FitsFile, HasNumbers, HasElements, AreNumbers}
 use Rattle.beet_view.proofs.ReadFacts.{OnCourse}
-use Rattle.beet_view.proofs.SeenFacts.{grid_at-parts}
+use Rattle.beet_view.proofs.SeenFacts.{grid_at-numbers}
 
 -- a number of so many bytes is read where it stands first
 number_first : (bytes : List ℕ) (low high at n : ℕ) (rest : List ℕ) →
@@ -252,38 +254,62 @@ number_of_gates-small : (gates : Gates) → number_of_gates gates ≤ 1
 number_of_gates-small Chain = omega arith
 number_of_gates-small Tree = omega arith
 
+-- a policy is read, where it is told
+policy_at-policy : (bytes : List ℕ) (policy : Policy) (at : ℕ) →
+    StandsAt bytes at (numbers_bytes (policy_field policy)) →
+    policy_at bytes (tells_policy policy) at ≡ Ok (policy, at + length (numbers_bytes (policy_field policy)))
+unfolding policy_at
+policy_at-policy bytes Price at s = rw (number_first bytes 0 2 at 0 [] (omega arith) (omega arith) (omega arith) s) refl
+policy_at-policy bytes Volume at s =
+    let place : at ≡ at + 0 = omega arith in
+    ap (λ n. Ok (Volume, n)) place
+policy_at-policy bytes Full at s = rw (number_first bytes 0 2 at 2 [] (omega arith) (omega arith) (omega arith) s) refl
+
 -- a grid is read after the server
-grid_at-grid : (bytes : List ℕ) (grid : Grid) → IsGrid grid → StandsAt bytes 16 (grid_bytes grid) → grid_at bytes 16 ≡ Ok (grid, 48)
+grid_at-grid : (bytes : List ℕ) (grid : Grid) → IsGrid grid → StandsAt bytes 16 (grid_bytes grid) →
+    grid_at bytes (tells_policy grid.policy) 16 ≡ Ok (grid, 16 + length (grid_bytes grid))
 grid_at-grid bytes grid is s =
     let base = number_bytes grid.base in
     let tick = number_bytes grid.tick in
     let prices = number_bytes grid.prices in
     let gates = number_bytes (number_of_gates grid.gates) in
-    let at_tick = StandsAt-right bytes 16 base (tick ++ (prices ++ (gates ++ []))) s in
-    let at_prices = StandsAt-right bytes 24 tick (prices ++ (gates ++ [])) at_tick in
-    let at_gates = StandsAt-right bytes 32 prices (gates ++ []) at_prices in
+    let policy = numbers_bytes (policy_field grid.policy) in
+    let at_tick = StandsAt-right bytes 16 base (tick ++ (prices ++ (gates ++ policy))) s in
+    let at_prices = StandsAt-right bytes 24 tick (prices ++ (gates ++ policy)) at_tick in
+    let at_gates = StandsAt-right bytes 32 prices (gates ++ policy) at_prices in
+    let at_policy = StandsAt-right bytes 40 gates policy at_gates in
     let small = number_of_gates-small grid.gates in
-    let made : Gates → Grid = λ kind. record { base = grid.base; tick = grid.tick; prices = grid.prices; gates = kind } in
-    grid_at-parts bytes 16 grid.base grid.tick grid.prices (number_of_gates grid.gates) 24 32 40 48
-    (number_first bytes 0 LARGEST_BASE 16 grid.base (tick ++ (prices ++ (gates ++ []))) (omega arith) is.base_limit (omega (arith, is.base_limit)) s)
-    (number_first bytes 1 LARGEST_TICK 24 grid.tick (prices ++ (gates ++ [])) is.tick_some is.tick_limit (omega (arith, is.tick_limit)) at_tick)
-    (number_first bytes 1 MOST_PRICES 32 grid.prices (gates ++ []) is.prices_some is.prices_limit (omega (arith, is.prices_limit)) at_prices)
-    (number_first bytes 0 1 40 (number_of_gates grid.gates) [] (omega arith) small (omega (arith, small)) at_gates)
-    ∙ ap (λ kind. Ok (made kind, 48)) (gates_of-number grid.gates)
+    let place : 48 + length policy ≡ 16 + length (grid_bytes grid) = omega arith in
+    let made : Gates → Grid = λ kind. record { base = grid.base; tick = grid.tick; prices = grid.prices; gates = kind; policy = grid.policy } in
+    grid_at-numbers bytes (tells_policy grid.policy) 16 grid.base grid.tick grid.prices (number_of_gates grid.gates) 24 32 40 48
+    (number_first bytes 0 LARGEST_BASE 16 grid.base (tick ++ (prices ++ (gates ++ policy))) (omega arith) is.base_limit (omega (arith, is.base_limit)) s)
+    (number_first bytes 1 LARGEST_TICK 24 grid.tick (prices ++ (gates ++ policy)) is.tick_some is.tick_limit (omega (arith, is.tick_limit)) at_tick)
+    (number_first bytes 1 MOST_PRICES 32 grid.prices (gates ++ policy) is.prices_some is.prices_limit (omega (arith, is.prices_limit)) at_prices)
+    (number_first bytes 0 1 40 (number_of_gates grid.gates) policy (omega arith) small (omega (arith, small)) at_gates)
+    ∙ rw (policy_at-policy bytes grid.policy 48 at_policy) (rw place (ap (λ kind. Ok (made kind, 16 + length (grid_bytes grid))) (gates_of-number grid.gates)))
+
+-- a transcript tells the policy as the text does that it begins with
+form_in-magic : (tells : Bool) (rest : List ℕ) → form_in (magic tells ++ rest) ≡ Ok (tells, 8)
+form_in-magic true rest = refl
+form_in-magic false rest = refl
+
+length-magic : (tells : Bool) → length (magic tells) ≡ 8
+length-magic true = refl
+length-magic false = refl
 
 -- a view whose parts are read one after another up to its end
-view_in-parts : (file : List ℕ) (view : Viewed) (bidders masks coefficients rounds : ℕ) →
-    after_magic file magic BAD_MAGIC ≡ Ok 8 →
+view_in-parts : (file : List ℕ) (view : Viewed) (tells : Bool) (grid bidders masks coefficients rounds : ℕ) →
+    form_in file ≡ Ok (tells, 8) →
     server_at file 8 ≡ Ok (view.server, 16) →
-    grid_at file 16 ≡ Ok (view.grid, 48) →
-    counted_at file (from_to 0 (most_bidders view.grid.prices)) (seen_at file view.server view.grid.prices) 48 ≡ Ok (view.bidders, bidders) →
+    grid_at file tells 16 ≡ Ok (view.grid, grid) →
+    counted_at file (from_to 0 (most_bidders view.grid.prices)) (seen_at file view.server view.grid.prices) grid ≡ Ok (view.bidders, bidders) →
     words_at file (masks_kept view.grid) bidders ≡ Ok (view.masks, masks) →
     words_at file (coefficients_kept view.grid) masks ≡ Ok (view.coefficients, coefficients) →
     counted_at file (from_to 0 MOST_ROUNDS) (round_at file) coefficients ≡ Ok (view.rounds, rounds) →
     ended file TRAILING rounds ≡ Ok tt →
     view_in file ≡ Ok view
 unfolding view_in
-view_in-parts file view bidders masks coefficients rounds a b c d e f g h = rw (a, b, c, d, e, f, g, h) refl
+view_in-parts file view tells grid bidders masks coefficients rounds a b c d e f g h = rw (a, b, c, d, e, f, g, h) refl
 
 -- at most 2^32 words, since a grid has few comparisons
 few_comparisons : (prices : ℕ) → prices ≤ MOST_PRICES → comparisons_of prices ≤ 13
@@ -301,6 +327,7 @@ rounds_fit view fits are k d h = record { lower = (fits.messages k d h).0; highe
 pub view_in-view : (view : Viewed) → IsView view → FitsFile view → AreNumbers view → view_in (view_bytes view) ≡ Ok view
 view_in-view view is fits are =
     let file = view_bytes view in
+    let tells = tells_policy view.grid.policy in
     let prices = view.grid.prices in
     let server = number_bytes (number_of view.server) in
     let grid = grid_bytes view.grid in
@@ -312,22 +339,24 @@ view_in-view view is fits are =
     let after_bidders = masks ++ after_masks in
     let after_grid = bidders ++ after_bidders in
     let after_server = grid ++ after_grid in
-    let place_masks = 48 + length bidders in
+    let place_bidders = 16 + length grid in
+    let place_masks = place_bidders + length bidders in
     let place_coefficients = place_masks + length masks in
     let place_rounds = place_coefficients + length coefficients in
     let at_magic : StandsAt file 0 file = record { front = []; rest = []; whole = sym (append-nil file); place = refl } in
-    let at_server = StandsAt-right file 0 magic (server ++ after_server) at_magic in
+    let start : 0 + length (magic tells) ≡ 8 = omega (arith, length-magic tells) in
+    let at_server = subst (λ n. StandsAt file n (server ++ after_server)) start (StandsAt-right file 0 (magic tells) (server ++ after_server) at_magic) in
     let at_grid = StandsAt-right file 8 server after_server at_server in
     let at_bidders = StandsAt-right file 16 grid after_grid at_grid in
-    let at_masks = StandsAt-right file 48 bidders after_bidders at_bidders in
+    let at_masks = StandsAt-right file place_bidders bidders after_bidders at_bidders in
     let at_coefficients = StandsAt-right file place_masks masks after_masks at_masks in
     let at_rounds = StandsAt-right file place_coefficients coefficients rounds at_coefficients in
     let comparisons = few_comparisons prices are.grid.prices_limit in
     let many : length view.bidders ≤ MOST_PRODUCT / prices = (le-div_iff_mul-le {k = prices} {x = length view.bidders} {y = MOST_PRODUCT} (omega (arith, are.grid.prices_some))).1 fits.product in
-    let read_bidders = counted_at-parts file 0 (most_bidders prices) (seen_at file view.server prices) seen_bytes (FitsSeen view.server view.grid) view.bidders 48
+    let read_bidders = counted_at-parts file 0 (most_bidders prices) (seen_at file view.server prices) seen_bytes (FitsSeen view.server view.grid) view.bidders place_bidders
     (omega arith) (omega (arith, many, is.few)) (omega (arith, is.few))
     (λ seen offset can stands. seen_at-seen file view.server view.grid seen offset are.grid.prices_limit can stands)
-    (bidders_fit view is fits are) (StandsAt-left file 48 bidders after_bidders at_bidders) in
+    (bidders_fit view is fits are) (StandsAt-left file place_bidders bidders after_bidders at_bidders) in
     let read_masks = words_at-words file view.masks (masks_kept view.grid) place_masks fits.masks (omega (arith, fits.masks, comparisons)) are.masks
     (StandsAt-left file place_masks masks after_masks at_masks) in
     let read_coefficients = words_at-words file view.coefficients (coefficients_kept view.grid) place_coefficients fits.coefficients (omega (arith, fits.coefficients, comparisons)) are.coefficients
@@ -336,8 +365,8 @@ view_in-view view is fits are =
     (omega arith) fits.rounds (omega (arith, fits.rounds)) (λ round offset can stands. round_at-round file round offset can stands)
     (rounds_fit view fits are) at_rounds in
     let all : length file ≡ place_rounds + length rounds =
-    omega (arith, length-append bidders after_bidders, length-append masks after_masks, length-append coefficients rounds) in
+    omega (arith, length-magic tells, length-append (magic tells) (server ++ after_server), length-append grid after_grid, length-append bidders after_bidders, length-append masks after_masks, length-append coefficients rounds) in
     let end : ended file TRAILING (place_rounds + length rounds) ≡ Ok tt = rw (le-ltb (place_rounds + length rounds) (length file) (omega arith)) refl in
-    view_in-parts file view place_masks place_coefficients place_rounds (place_rounds + length rounds)
-    refl (server_at-server file view.server 8 after_server at_server) (grid_at-grid file view.grid are.grid (StandsAt-left file 16 grid after_grid at_grid))
+    view_in-parts file view tells place_bidders place_masks place_coefficients place_rounds (place_rounds + length rounds)
+    (form_in-magic tells (server ++ after_server)) (server_at-server file view.server 8 after_server at_server) (grid_at-grid file view.grid are.grid (StandsAt-left file 16 grid after_grid at_grid))
     read_bidders read_masks read_coefficients read_rounds end

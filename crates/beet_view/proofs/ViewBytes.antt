@@ -1,7 +1,7 @@
 -- What was read of a transcript is what stands in it.
-use Rattle.std.proofs.Common.{◌≡◌, ℕ, zero, suc, ◌+◌, ◌*◌, ◌<◌, ◌≤◌, Bool, true, false, ◌||◌, if◌then◌else◌, eqb, ltb, List, [], ◌∷◌, ◌++◌, length, get_or, take, drop, Option, None, Some, Ok, Err, refl, sym, ap, subst, ◌∙◌, append_assoc, arith, inl, inr}
+use Rattle.std.proofs.Common.{◌≡◌, ◌⊎◌, ℕ, zero, suc, ◌+◌, ◌*◌, ◌<◌, ◌≤◌, Bool, true, false, ◌||◌, if◌then◌else◌, eqb, ltb, List, [], ◌∷◌, ◌++◌, length, get_or, take, drop, Option, None, Some, Ok, Err, refl, sym, ap, subst, ◌∙◌, append_assoc, arith, inl, inr}
 use Rattle.std.specs.List.{flat_map, starts_with}
-use Rattle.std.proofs.lemmas.Bool.{cases_lt, ltb-false}
+use Rattle.std.proofs.lemmas.Bool.{true≢false, cases_lt, ltb-false}
 use Rattle.std.proofs.lemmas.Bool.Decides.{Decides-eqb}
 use Rattle.std.proofs.lemmas.List.{append-nil, take-append-drop, length-take, length-drop, get_or-drop, get_or-take, get_or_past, drop-drop, drop_all}
 use Rattle.std.proofs.lemmas.Nat.{be_bytes_8}
@@ -11,19 +11,21 @@ use Rattle.beet_field.specs.declared.point.Point.{Point}
 use Rattle.beet_forms.specs.Faults.{Fault, Reading}
 use Rattle.beet_words.specs.declared.fields.Allowed.{Allowed}
 use Rattle.beet_words.specs.Bundles.{up_to, word_at, words_at}
-use Rattle.beet_words.specs.Fields.{◌>>=◌, Part, number_bytes, eight_bytes_at, at_offset, number_at, times, counted_at, after_magic, ended}
+use Rattle.beet_words.specs.Fields.{◌>>=◌, Part, number_bytes, eight_bytes_at, at_offset, number_at, times, counted_at, ended}
 use Rattle.beet_bids.specs.Grids.{Grid}
 use Rattle.beet_bids.specs.Curves.{Curve}
 use Rattle.beet_bids.specs.declared.grid.TheConstants.{LARGEST_BASE, LARGEST_TICK, MOST_PRICES}
+use Rattle.beet_bids.specs.declared.outcomes.Policy.{Policy}
+use Rattle.beet_bids.specs.declared.outcomes.Policy.TheVariants.{Price, Volume, Full}
 use Rattle.beet_gates.specs.declared.TheConstants.{MOST_NUMBERS}
-use Rattle.beet_words.specs.declared.bundle.TheConstants.{BAD_MAGIC, TRAILING}
+use Rattle.beet_words.specs.declared.bundle.TheConstants.{BAD_MAGIC, BAD_NUMBER, TRAILING}
 use Rattle.beet_view.specs.declared.reading.TheConstants.{MOST_ROUNDS}
 use Rattle.beet_view.specs.declared.quantities.Course.{Course}
 use Rattle.beet_view.specs.declared.quantities.Course.TheVariants.{Falling, Rising}
 use Rattle.beet_view.specs.declared.view.Seen.{Seen}
 use Rattle.beet_view.specs.Views.{Viewed}
 use Rattle.beet_plan.specs.Kept.{words_kept, masks_kept, coefficients_kept}
-use Rattle.beet_view.specs.Transcripts.{magic, from_to, most_bidders, server_of, known_of, mark_of, gates_of, number_of_gates, server_at, grid_at, point_at, allowed_after, start_of, quantities_at, own_at, own_where_known, seen_at, message_at, round_at, view_in, numbers_bytes, counted_bytes, grid_bytes, own_bytes, seen_bytes, round_bytes, view_bytes}
+use Rattle.beet_view.specs.Transcripts.{tells_policy, magic, from_to, most_bidders, server_of, known_of, mark_of, gates_of, number_of_gates, policy_of, policy_field, form_in, server_at, policy_at, grid_at, point_at, allowed_after, start_of, quantities_at, own_at, own_where_known, seen_at, message_at, round_at, view_in, numbers_bytes, counted_bytes, grid_bytes, own_bytes, seen_bytes, round_bytes, view_bytes}
 use Rattle.beet_view.proofs.ReadFacts.{same_value, value_has, no_value, number_at-within, times-all}
 use Rattle.beet_view.proofs.SeenFacts.{mark_of-known}
 
@@ -224,39 +226,97 @@ server_at-spans bytes at read small e =
     value_has (λ (r : Point × ℕ). Spans bytes at (number_bytes (number_of r.0)) r.1) (server_of number.0, number.1) read e
     (subst (λ n. Spans bytes at (number_bytes n) number.1) (sym (number_of-server number.0 within.0 within.1)) (number_at-spans bytes (from_to 1 3) at number small e0)))
 
--- a grid stands where it was read
-grid_at-spans : (bytes : List ℕ) (at : ℕ) (read : Grid × ℕ) → AreBytes bytes →
-    grid_at bytes at ≡ Ok read →
-    Spans bytes at (grid_bytes read.0) read.1
+-- the number that was read is the number of the policy that it tells
+policy_field-policy : (n : ℕ) → n ≤ 2 → eqb n 1 ≡ false → policy_field (policy_of n) ≡ n ∷ []
+policy_field-policy zero h other = refl
+policy_field-policy (suc zero) h other = absurd (true≢false other)
+policy_field-policy (suc (suc zero)) h other = refl
+policy_field-policy (suc (suc (suc n))) h other = absurd (omega arith)
+
+-- each number tells a policy that is told
+tells_policy-policy : (price : Bool) → tells_policy (if price then Price else Full) ≡ true
+tells_policy-policy true = refl
+tells_policy-policy false = refl
+
+-- a policy stands where it was read, if it is one that is told
+record IsPolicy (bytes : List ℕ) (tells : Bool) (at : ℕ) (policy : Policy) (after : ℕ) : Type 0 where
+  pub told : tells_policy policy ≡ tells
+  pub spans : Spans bytes at (numbers_bytes (policy_field policy)) after
+
+other_than_one : (one : Bool) (fault : Fault) (v r : Policy × ℕ) → (if one then Err fault else Ok v) ≡ Ok r → (one ≡ false) × (v ≡ r)
+other_than_one true fault v r e = absurd (no_value fault r e)
+other_than_one false fault v r e = (refl, same_value v r e)
+
+policy_at-is : (bytes : List ℕ) (tells : Bool) (at : ℕ) (read : Policy × ℕ) → AreBytes bytes →
+    policy_at bytes tells at ≡ Ok read →
+    IsPolicy bytes tells at read.0 read.1
+unfolding policy_at
+policy_at-is bytes false at read small e =
+    value_has (λ (r : Policy × ℕ). IsPolicy bytes false at r.0 r.1) (Volume, at) read e (record { told = refl; spans = record { stands = refl } })
+policy_at-is bytes true at read small e =
+    through (IsPolicy bytes true at read.0 read.1) (number_at bytes (from_to 0 2) at) _ read e (λ number e0 e.
+    let is = other_than_one (eqb number.0 1) (at_offset at BAD_NUMBER) (policy_of number.0, number.1) read e in
+    let field = policy_field-policy number.0 (number_at-within bytes (from_to 0 2) at number e0).1 is.0 in
+    let stands = Spans-then bytes at (number_bytes number.0) number.1 [] number.1 (number_at-spans bytes (from_to 0 2) at number small e0) (record { stands = refl }) in
+    subst (λ (r : Policy × ℕ). IsPolicy bytes true at r.0 r.1) is.1 (record {
+      told = tells_policy-policy (eqb number.0 0);
+      spans = subst (λ field. Spans bytes at (numbers_bytes field) number.1) (sym field) stands;
+    }))
+
+-- a grid stands where it was read, and its policy is one that is told
+record IsToldGrid (bytes : List ℕ) (tells : Bool) (at : ℕ) (grid : Grid) (after : ℕ) : Type 0 where
+  pub told : tells_policy grid.policy ≡ tells
+  pub spans : Spans bytes at (grid_bytes grid) after
+
+grid_at-is : (bytes : List ℕ) (tells : Bool) (at : ℕ) (read : Grid × ℕ) → AreBytes bytes →
+    grid_at bytes tells at ≡ Ok read →
+    IsToldGrid bytes tells at read.0 read.1
 unfolding grid_at
-grid_at-spans bytes at read small e =
-    let Is : Type 0 = Spans bytes at (grid_bytes read.0) read.1 in
-    let made : ℕ → ℕ → ℕ → ℕ → Grid = λ base tick prices gates. record { base = base; tick = tick; prices = prices; gates = gates_of gates } in
+grid_at-is bytes tells at read small e =
+    let Is : Type 0 = IsToldGrid bytes tells at read.0 read.1 in
+    let made : ℕ → ℕ → ℕ → ℕ → Policy → Grid = λ base tick prices gates policy. record { base = base; tick = tick; prices = prices; gates = gates_of gates; policy = policy } in
     through Is (number_at bytes (from_to 0 LARGEST_BASE) at) _ read e (λ base e0 e.
     through Is (number_at bytes (from_to 1 LARGEST_TICK) base.1) _ read e (λ tick e1 e.
     through Is (number_at bytes (from_to 1 MOST_PRICES) tick.1) _ read e (λ prices e2 e.
     through Is (number_at bytes (from_to 0 1) prices.1) _ read e (λ gates e3 e.
+    through Is (policy_at bytes tells gates.1) _ read e (λ policy e4 e.
     let is = number_of_gates-gates gates.0 (number_at-within bytes (from_to 0 1) prices.1 gates e3).1 in
+    let last = policy_at-is bytes tells gates.1 policy small e4 in
     let a = number_bytes base.0 in
     let b = number_bytes tick.0 in
     let c = number_bytes prices.0 in
     let d = number_bytes (number_of_gates (gates_of gates.0)) in
+    let f = numbers_bytes (policy_field policy.0) in
     let fourth = subst (λ n. Spans bytes prices.1 (number_bytes n) gates.1) (sym is) (number_at-spans bytes (from_to 0 1) prices.1 gates small e3) in
-    let last = Spans-then bytes prices.1 d gates.1 [] gates.1 fourth (record { stands = refl }) in
-    value_has (λ (r : Grid × ℕ). Spans bytes at (grid_bytes r.0) r.1) (made base.0 tick.0 prices.0 gates.0, gates.1) read e
-    (Spans-then bytes at a base.1 (b ++ (c ++ (d ++ []))) gates.1 (number_at-spans bytes (from_to 0 LARGEST_BASE) at base small e0)
-    (Spans-then bytes base.1 b tick.1 (c ++ (d ++ [])) gates.1 (number_at-spans bytes (from_to 1 LARGEST_TICK) base.1 tick small e1)
-    (Spans-then bytes tick.1 c prices.1 (d ++ []) gates.1 (number_at-spans bytes (from_to 1 MOST_PRICES) tick.1 prices small e2) last)))))))
+    value_has (λ (r : Grid × ℕ). IsToldGrid bytes tells at r.0 r.1) (made base.0 tick.0 prices.0 gates.0 policy.0, policy.1) read e
+    (record {
+      told = last.told;
+      spans =
+          Spans-then bytes at a base.1 (b ++ (c ++ (d ++ f))) policy.1 (number_at-spans bytes (from_to 0 LARGEST_BASE) at base small e0)
+          (Spans-then bytes base.1 b tick.1 (c ++ (d ++ f)) policy.1 (number_at-spans bytes (from_to 1 LARGEST_TICK) base.1 tick small e1)
+          (Spans-then bytes tick.1 c prices.1 (d ++ f) policy.1 (number_at-spans bytes (from_to 1 MOST_PRICES) tick.1 prices small e2)
+          (Spans-then bytes prices.1 d gates.1 f policy.1 fourth last.spans)));
+    }))))))
 
--- bytes that begin with the text
-begins : (begin : Bool) (n after : ℕ) (fault : Fault) → (if begin then Ok n else Err fault) ≡ Ok after → (begin ≡ true) × (n ≡ after)
-begins true n after fault e = (refl, same_value n after e)
-begins false n after fault e = absurd (no_value fault after e)
+-- bytes that begin with one text or the other
+begins : (first second : Bool) (form : Bool × ℕ) (fault : Fault) →
+    (if first then Ok (false, 8) else if second then Ok (true, 8) else Err fault) ≡ Ok form →
+    ((first ≡ true) × ((false, 8) ≡ form)) ⊎ ((second ≡ true) × ((true, 8) ≡ form))
+begins true second form fault e = inl (refl, same_value (false, 8) form e)
+begins false true form fault e = inr (refl, same_value (true, 8) form e)
+begins false false form fault e = absurd (no_value fault form e)
 
-magic-spans : (bytes : List ℕ) (after : ℕ) → after_magic bytes magic BAD_MAGIC ≡ Ok after → Spans bytes 0 magic after
-magic-spans bytes after e =
-    let is = begins (starts_with eqb bytes magic) (length magic) after (at_offset 0 BAD_MAGIC) e in
-    subst (λ n. Spans bytes 0 magic n) is.1 (record { stands = (starts_is Decides-eqb bytes magic (starts_with eqb bytes magic) refl).0 is.0 })
+-- the text stands first where the bytes begin with it
+magic-stands : (bytes : List ℕ) (tells : Bool) → starts_with eqb bytes (magic tells) ≡ true → Spans bytes 0 (magic tells) (length (magic tells))
+magic-stands bytes tells begin = record { stands = (starts_is Decides-eqb bytes (magic tells) (starts_with eqb bytes (magic tells)) refl).0 begin }
+
+form_in-spans : (bytes : List ℕ) (form : Bool × ℕ) → form_in bytes ≡ Ok form → Spans bytes 0 (magic form.0) form.1
+form_in-spans bytes form e =
+    let stands : Bool × ℕ → Type 0 = λ (f : Bool × ℕ). Spans bytes 0 (magic f.0) f.1 in
+    elim (begins (starts_with eqb bytes (magic false)) (starts_with eqb bytes (magic true)) form (at_offset 0 BAD_MAGIC) e) [
+      | inl is ↦ subst stands is.1 (magic-stands bytes false is.0)
+      | inr is ↦ subst stands is.1 (magic-stands bytes true is.0)
+    ]
 
 -- nothing stands after the end
 no_more : (more : Bool) (fault : Fault) (done : Unit {0}) → (if more then Err fault else Ok tt) ≡ Ok done → more ≡ false
@@ -268,7 +328,7 @@ ended-nothing bytes at done e = drop_all at bytes (ltb-false at (length bytes) (
 
 -- where the parts of a view stand one after another up to the end, the bytes are those of the view
 parts-bytes : (bytes : List ℕ) (view : Viewed) (a b c d e f g : ℕ) →
-    Spans bytes 0 magic a →
+    Spans bytes 0 (magic (tells_policy view.grid.policy)) a →
     Spans bytes a (number_bytes (number_of view.server)) b →
     Spans bytes b (grid_bytes view.grid) c →
     Spans bytes c (counted_bytes seen_bytes view.bidders) d →
@@ -283,7 +343,7 @@ parts-bytes bytes view a b c d e f g start server grid bidders masks coefficient
     let after_grid = Spans-then bytes c (counted_bytes seen_bytes view.bidders) d _ g bidders after_bidders in
     let after_server = Spans-then bytes b (grid_bytes view.grid) c _ g grid after_grid in
     let after_start = Spans-then bytes a (number_bytes (number_of view.server)) b _ g server after_server in
-    let all : bytes ≡ view_bytes view ++ drop g bytes = (Spans-then bytes 0 magic a _ g start after_start).stands in
+    let all : bytes ≡ view_bytes view ++ drop g bytes = (Spans-then bytes 0 (magic (tells_policy view.grid.policy)) a _ g start after_start).stands in
     sym (all ∙ ap (λ rest. view_bytes view ++ rest) nothing ∙ append-nil (view_bytes view))
 
 -- the bytes that were read as a view are the bytes of the view
@@ -291,20 +351,21 @@ pub view_in-bytes : (bytes : List ℕ) (view : Viewed) → AreBytes bytes → vi
 unfolding view_in
 view_in-bytes bytes view small e =
     let Is : Type 0 = view_bytes view ≡ bytes in
-    through Is (after_magic bytes magic BAD_MAGIC) _ view e (λ start e0 e.
-    through Is (server_at bytes start) _ view e (λ server e1 e.
-    through Is (grid_at bytes server.1) _ view e (λ grid e2 e.
+    through Is (form_in bytes) _ view e (λ form e0 e.
+    through Is (server_at bytes form.1) _ view e (λ server e1 e.
+    through Is (grid_at bytes form.0 server.1) _ view e (λ grid e2 e.
     through Is (counted_at bytes (from_to 0 (most_bidders grid.0.prices)) (seen_at bytes server.0 grid.0.prices) grid.1) _ view e (λ bidders e3 e.
     through Is (words_at bytes (masks_kept grid.0) bidders.1) _ view e (λ masks e4 e.
     through Is (words_at bytes (coefficients_kept grid.0) masks.1) _ view e (λ coefficients e5 e.
     through Is (counted_at bytes (from_to 0 MOST_ROUNDS) (round_at bytes) coefficients.1) _ view e (λ rounds e6 e.
     through Is (ended bytes TRAILING rounds.1) _ view e (λ done e7 e.
     let made : Viewed = record { server = server.0; grid = grid.0; bidders = bidders.0; masks = masks.0; coefficients = coefficients.0; rounds = rounds.0 } in
+    let told = grid_at-is bytes form.0 server.1 grid small e2 in
     subst (λ (v : Viewed). view_bytes v ≡ bytes) (same_value made view e)
-    (parts-bytes bytes made start server.1 grid.1 bidders.1 masks.1 coefficients.1 rounds.1
-    (magic-spans bytes start e0)
-    (server_at-spans bytes start server small e1)
-    (grid_at-spans bytes server.1 grid small e2)
+    (parts-bytes bytes made form.1 server.1 grid.1 bidders.1 masks.1 coefficients.1 rounds.1
+    (subst (λ tells. Spans bytes 0 (magic tells) form.1) (sym told.told) (form_in-spans bytes form e0))
+    (server_at-spans bytes form.1 server small e1)
+    told.spans
     (counted_at-spans bytes (from_to 0 (most_bidders grid.0.prices)) (seen_at bytes server.0 grid.0.prices) seen_bytes grid.1 bidders small (λ offset one is. seen_at-spans bytes server.0 grid.0.prices offset one small is) e3)
     (words_at-spans bytes (masks_kept grid.0) bidders.1 masks small e4)
     (words_at-spans bytes (coefficients_kept grid.0) masks.1 coefficients small e5)

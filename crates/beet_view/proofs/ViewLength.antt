@@ -3,15 +3,18 @@ use Rattle.std.proofs.Common.{◌≡◌, ℕ, ◌+◌, ◌*◌, ◌≤◌, List,
 use Rattle.std.specs.List.{flat_map}
 use Rattle.std.proofs.lemmas.List.{length-append}
 use Rattle.std.proofs.lemmas.List.Elements.{All-head, All-tail}
+use Rattle.beet_field.specs.Point.{number_of}
 use Rattle.beet_field.specs.declared.point.Point.{Point}
 use Rattle.beet_forms.specs.declared.faults.TheConstants.{LONGEST_FILE}
 use Rattle.beet_words.specs.Fields.{number_bytes}
 use Rattle.beet_bids.specs.Grids.{Grid, IsGrid}
 use Rattle.beet_bids.proofs.GridFacts.{comparisons-le}
 use Rattle.beet_bids.specs.Curves.{Curve}
+use Rattle.beet_bids.specs.declared.outcomes.Policy.{Policy}
+use Rattle.beet_bids.specs.declared.outcomes.Policy.TheVariants.{Price, Volume, Full}
 use Rattle.beet_view.specs.Views.{Viewed, IsSeenAt, IsView}
 use Rattle.beet_plan.specs.Kept.{words_kept}
-use Rattle.beet_view.specs.Transcripts.{mark_of, numbers_bytes, counted_bytes, own_bytes, seen_bytes, round_bytes, view_bytes, IsMessage, FitsFile}
+use Rattle.beet_view.specs.Transcripts.{tells_policy, magic, mark_of, policy_field, numbers_bytes, counted_bytes, grid_bytes, own_bytes, seen_bytes, round_bytes, view_bytes, IsMessage, FitsFile}
 
 -- texts that are at most so long, one after another
 texts-short : {A : Type 0} (text : A → List ℕ) (most : ℕ) (xs : List A) → All (λ x. length (text x) ≤ most) xs → length (flat_map text xs) ≤ length xs * most
@@ -67,6 +70,12 @@ rounds-short view fits =
     let all = texts-short round_bytes 1040 view.rounds (λ k d lt. round-short _ (fits.messages k d lt)) in
     omega (arith, all, fits.rounds)
 
+-- the text at the start, and the number of the policy where it is told
+policy-short : (policy : Policy) → length (magic (tells_policy policy)) + length (numbers_bytes (policy_field policy)) ≤ 16
+policy-short Price = omega arith
+policy-short Volume = omega arith
+policy-short Full = omega arith
+
 -- the whole transcript
 pub view_bytes-short : (view : Viewed) → IsGrid view.grid → IsView view → FitsFile view → length (view_bytes view) ≤ LONGEST_FILE
 view_bytes-short view grid is fits =
@@ -79,5 +88,9 @@ view_bytes-short view grid is fits =
     let masks : length b ≤ 128 = omega (arith, counted-short view.masks, fits.masks, comparisons) in
     let coefficients : length c ≤ 61512 = omega (arith, counted-short view.coefficients, fits.coefficients, comparisons) in
     let rounds : length d ≤ 4259848 = omega (arith, rounds-short view fits, length-append (number_bytes (length view.rounds)) (flat_map round_bytes view.rounds)) in
-    let front : length (view_bytes view) ≡ 48 + length (a ++ (b ++ (c ++ d))) = omega arith in
+    let start = magic (tells_policy view.grid.policy) in
+    let policy = numbers_bytes (policy_field view.grid.policy) in
+    let rest = a ++ (b ++ (c ++ d)) in
+    let front : length (view_bytes view) ≤ 56 + length rest =
+    omega (arith, policy-short view.grid.policy, length-append start (number_bytes (number_of view.server) ++ (grid_bytes view.grid ++ rest)), length-append policy rest) in
     omega (arith, front, bidders, masks, coefficients, rounds, length-append a (b ++ (c ++ d)), length-append b (c ++ d), length-append c d)

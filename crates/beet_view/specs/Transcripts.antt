@@ -1,6 +1,6 @@
 -- Transcripts: a view in one binary file.
-use Rattle.std.specs.Prelude.{ℕ, zero, suc, ◌+◌, ◌-◌, ◌*◌, ◌/◌, ◌≤◌, ◌++◌, min, nat_eq, if◌then◌else◌, List, [], ◌∷◌, length, codes, Option, None, Some, Ok, All, IfSome}
-use Rattle.std.specs.List.{flat_map}
+use Rattle.std.specs.Prelude.{ℕ, zero, suc, ◌-◌, ◌*◌, ◌/◌, ◌≤◌, ◌++◌, min, nat_eq, Bool, true, false, if◌then◌else◌, List, [], ◌∷◌, length, codes, Option, None, Some, Ok, Err, All, IfSome}
+use Rattle.std.specs.List.{flat_map, starts_with}
 use Rattle.beet_field.specs.Field.{p, IsElement}
 use Rattle.beet_field.specs.Point.{number_of}
 use Rattle.beet_field.specs.declared.point.Point.{Point}
@@ -10,7 +10,7 @@ use Rattle.beet_words.specs.declared.bundle.TheConstants.{MOST_BIDDERS, BAD_MAGI
 use Rattle.beet_words.specs.declared.fields.Allowed.{Allowed}
 use Rattle.beet_words.specs.Words.{IsWord}
 use Rattle.beet_words.specs.Bundles.{words_at}
-use Rattle.beet_words.specs.Fields.{◌>>=◌, Part, number_bytes, number_at, times, counted_at, after_magic, ended}
+use Rattle.beet_words.specs.Fields.{◌>>=◌, Part, at_offset, number_bytes, number_at, times, counted_at, ended}
 use Rattle.beet_gates.specs.declared.TheConstants.{MOST_NUMBERS}
 use Rattle.beet_gates.specs.declared.Gates.{Gates}
 use Rattle.beet_gates.specs.declared.Gates.TheVariants.{Chain, Tree}
@@ -18,6 +18,8 @@ use Rattle.beet_bids.specs.Grids.{Grid, IsGrid}
 use Rattle.beet_bids.specs.Curves.{Curve, IsCurve}
 use Rattle.beet_bids.specs.declared.curve.TheConstants.{LARGEST_QUANTITY}
 use Rattle.beet_bids.specs.declared.grid.TheConstants.{LARGEST_BASE, LARGEST_TICK, MOST_PRICES}
+use Rattle.beet_bids.specs.declared.outcomes.Policy.{Policy}
+use Rattle.beet_bids.specs.declared.outcomes.Policy.TheVariants.{Price, Volume, Full}
 use Rattle.beet_book.specs.declared.book_file.TheConstants.{MOST_PRODUCT}
 use Rattle.beet_plan.specs.Kept.{words_kept, masks_kept, coefficients_kept}
 use Rattle.beet_view.specs.declared.reading.TheConstants.{MOST_ROUNDS}
@@ -26,9 +28,15 @@ use Rattle.beet_view.specs.declared.quantities.Course.TheVariants.{Falling, Risi
 use Rattle.beet_view.specs.declared.view.Seen.{Seen}
 use Rattle.beet_view.specs.Views.{Viewed}
 
--- the text that a transcript begins with
-abbrev pub magic : List ℕ
-magic = codes "BEETVW01"
+-- whether a transcript tells the policy of the auction: it tells all but Volume
+abbrev pub tells_policy : Policy → Bool
+tells_policy Price = true
+tells_policy Volume = false
+tells_policy Full = true
+
+-- the text that a transcript begins with, by whether it tells the policy
+abbrev pub magic : Bool → List ℕ
+magic tells = if tells then codes "BEETVW02" else codes "BEETVW01"
 
 -- a number of a transcript, from the lowest to the highest
 abbrev pub from_to : ℕ → ℕ → Allowed
@@ -60,20 +68,45 @@ abbrev pub number_of_gates : Gates → ℕ
 number_of_gates Chain = 0
 number_of_gates Tree = 1
 
+-- the policy of a number, which is 0 or 2
+abbrev pub policy_of : ℕ → Policy
+policy_of n = if nat_eq n 0 then Price else Full
+
+-- the number of a policy, where a transcript tells it
+abbrev pub policy_field : Policy → List ℕ
+policy_field Price = 0 ∷ []
+policy_field Volume = []
+policy_field Full = 2 ∷ []
+
+-- whether a file tells the policy, by the text that it begins with, and the offset after that text
+abbrev pub form_in : List ℕ → Reading (Bool × ℕ)
+form_in bytes =
+    if starts_with nat_eq bytes (magic false) then Ok (false, 8)
+    else if starts_with nat_eq bytes (magic true) then Ok (true, 8)
+    else Err (at_offset 0 BAD_MAGIC)
+
 -- a server
 unfoldable pub server_at : List ℕ → Part Point
 server_at bytes at = do
   number ← number_at bytes (from_to 1 3) at
   Ok (server_of number.0, number.1)
 
+-- the policy, which is told by 0 or 2, or Volume where none is told
+unfoldable pub policy_at : List ℕ → Bool → Part Policy
+policy_at bytes false at = Ok (Volume, at)
+policy_at bytes true at = do
+  number ← number_at bytes (from_to 0 2) at
+  if nat_eq number.0 1 then Err (at_offset at BAD_NUMBER) else Ok (policy_of number.0, number.1)
+
 -- a grid within its limits
-unfoldable pub grid_at : List ℕ → Part Grid
-grid_at bytes at = do
+unfoldable pub grid_at : List ℕ → Bool → Part Grid
+grid_at bytes tells at = do
   base ← number_at bytes (from_to 0 LARGEST_BASE) at
   tick ← number_at bytes (from_to 1 LARGEST_TICK) base.1
   prices ← number_at bytes (from_to 1 MOST_PRICES) tick.1
   gates ← number_at bytes (from_to 0 1) prices.1
-  Ok (record { base = base.0; tick = tick.0; prices = prices.0; gates = gates_of gates.0 }, gates.1)
+  policy ← policy_at bytes tells gates.1
+  Ok (record { base = base.0; tick = tick.0; prices = prices.0; gates = gates_of gates.0; policy = policy.0 }, policy.1)
 
 -- a number of the field
 abbrev pub point_at : List ℕ → Part ℕ
@@ -132,9 +165,9 @@ round_at bytes at = do
 -- what a transcript reads as
 unfoldable pub view_in : List ℕ → Reading Viewed
 view_in bytes = do
-  start ← after_magic bytes magic BAD_MAGIC
-  server ← server_at bytes start
-  grid ← grid_at bytes server.1
+  form ← form_in bytes
+  server ← server_at bytes form.1
+  grid ← grid_at bytes form.0 server.1
   bidders ← counted_at bytes (from_to 0 (most_bidders grid.0.prices)) (seen_at bytes server.0 grid.0.prices) grid.1
   masks ← words_at bytes (masks_kept grid.0) bidders.1
   coefficients ← words_at bytes (coefficients_kept grid.0) masks.1
@@ -159,7 +192,7 @@ counted_bytes item_bytes items = number_bytes (length items) ++ flat_map item_by
 
 -- the bytes of a grid
 abbrev pub grid_bytes : Grid → List ℕ
-grid_bytes grid = numbers_bytes (grid.base ∷ grid.tick ∷ grid.prices ∷ number_of_gates grid.gates ∷ [])
+grid_bytes grid = numbers_bytes (grid.base ∷ grid.tick ∷ grid.prices ∷ number_of_gates grid.gates ∷ policy_field grid.policy)
 
 -- the bytes of the curve and the words of a known bidder
 abbrev pub own_bytes : Option (Curve × List ℕ) → List ℕ
@@ -177,7 +210,7 @@ round_bytes round = counted_bytes number_bytes round.0 ++ counted_bytes number_b
 -- the bytes of a view
 abbrev pub view_bytes : Viewed → List ℕ
 view_bytes view =
-    magic ++ (number_bytes (number_of view.server)
+    magic (tells_policy view.grid.policy) ++ (number_bytes (number_of view.server)
     ++ (grid_bytes view.grid
     ++ (counted_bytes seen_bytes view.bidders
     ++ (counted_bytes number_bytes view.masks

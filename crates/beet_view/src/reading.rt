@@ -5,28 +5,42 @@ ghost use Rattle.beet_forms.specs.Faults.{Answers};
 ghost use Rattle.beet_forms.specs.declared.faults.TheConstants.{LONGEST_FILE};
 ghost use Rattle.beet_words.specs.Fields.{times, counted_at};
 ghost use Rattle.beet_bids.specs.Grids.{IsGrid};
-ghost use Rattle.beet_view.specs.Transcripts.{from_to as allowed_from_to, gates_of, known_of, server_at, grid_at, most_bidders, own_at, own_where_known, seen_at, round_at, view_in, view_bytes, FitsFile};
+ghost use Rattle.beet_view.specs.Transcripts.{magic, from_to as allowed_from_to, gates_of, known_of, form_in, server_at, policy_at, grid_at, most_bidders, own_at, own_where_known, seen_at, round_at, view_in, view_bytes, FitsFile};
 
 use crate::parts::{read_message, read_points};
 use crate::quantities::{Course, from_to};
 use crate::view::{Received, Seen, View};
-use beet_bids::{Curve, Grid, LARGEST_BASE, LARGEST_TICK, MOST_PRICES};
+use beet_bids::{Curve, Grid, LARGEST_BASE, LARGEST_TICK, MOST_PRICES, Policy};
 use beet_book::MOST_PRODUCT;
 use beet_field::Point;
 use beet_forms::ReadFault;
 use beet_gates::Gates;
 use beet_plan::{MASK_COEFFICIENTS, SPARE_MASKS, SPARE_WORDS};
 use beet_words::{
-    BAD_MAGIC, MOST_BIDDERS, TRAILING, WordList, read_end, read_list, read_magic, read_many,
-    read_number,
+    BAD_MAGIC, BAD_NUMBER, MOST_BIDDERS, TRAILING, WordList, read_end, read_list, read_magic,
+    read_many, read_number,
 };
 use std::alloc::Global;
 
-/// The text that a transcript begins with.
-pub(crate) const MAGIC: &[u8] = b"BEETVW01";
-
 /// The largest number of rounds of a transcript.
 pub const MOST_ROUNDS: u64 = 4_096;
+
+/// The text that a transcript begins with, by whether it tells the policy.
+pub(crate) fn magic(tells: bool) -> &'static [u8]
+    ensures { result.now ≡ magic tells }
+{
+    if tells { b"BEETVW02" } else { b"BEETVW01" }
+}
+
+/// Whether a transcript tells the policy, and the offset after the text that it begins with.
+fn read_form(bytes: &[u8]) -> Result<(bool, usize), ReadFault>
+    ensures form { Answers (λ read. read) (form_in bytes.now) result }
+    ensures within { IfOk result (λ read. read.1 ≤ length bytes.now) }
+{
+    let tells = !bytes.starts_with(magic(false));
+    let at = read_magic(bytes, magic(tells), BAD_MAGIC)?;
+    Ok((tells, at))
+}
 
 /// A server.
 #[tactic(auto, unfolding(crate::specs::Transcripts::server_at))]
@@ -55,11 +69,29 @@ fn gates_of(number: u64) -> Gates
     }
 }
 
+/// The policy, where the transcript tells one, or Volume.
+#[tactic(auto, unfolding(crate::specs::Transcripts::policy_at))]
+fn read_policy(bytes: &[u8], tells: bool, at: usize) -> Result<(Policy, usize), ReadFault>
+    requires { at ≤ length bytes.now }
+    ensures policy { Answers (λ read. read) (policy_at bytes.now tells at) result }
+    ensures within { IfOk result (λ read. read.1 ≤ length bytes.now) }
+{
+    if !tells {
+        return Ok((Policy::Volume, at));
+    }
+    let (number, after) = read_number(bytes, from_to(0, 2), at)?;
+    match number {
+        0 => Ok((Policy::Price, after)),
+        1 => Err(ReadFault::at_offset(at as u64, BAD_NUMBER)),
+        _ => Ok((Policy::Full, after)),
+    }
+}
+
 /// A grid.
 #[tactic(auto, unfolding(crate::specs::Transcripts::grid_at))]
-fn read_grid(bytes: &[u8], at: usize) -> Result<(Grid, usize), ReadFault>
+fn read_grid(bytes: &[u8], tells: bool, at: usize) -> Result<(Grid, usize), ReadFault>
     requires { at ≤ length bytes.now }
-    ensures grid { Answers (λ read. read) (grid_at bytes.now at) result }
+    ensures grid { Answers (λ read. read) (grid_at bytes.now tells at) result }
     ensures limits { IfOk result (λ read. IsGrid read.0) }
     ensures within { IfOk result (λ read. read.1 ≤ length bytes.now) }
 {
@@ -67,10 +99,11 @@ fn read_grid(bytes: &[u8], at: usize) -> Result<(Grid, usize), ReadFault>
     let (tick, at) = read_number(bytes, from_to(1, LARGEST_TICK), at)?;
     let (prices, at) = read_number(bytes, from_to(1, MOST_PRICES as u64), at)?;
     let (gates, at) = read_number(bytes, from_to(0, 1), at)?;
+    let (policy, at) = read_policy(bytes, tells, at)?;
     let Some(grid) = Grid::new(base, tick, prices as u32, gates_of(gates)) else {
         unreachable!()
     };
-    Ok((grid, at))
+    Ok((grid.with_policy(policy), at))
 }
 
 /// The curve and the words of a known bidder.
@@ -247,9 +280,9 @@ fn read_parts(alloc: Global, bytes: &[u8]) -> Result<View, ReadFault>
     ensures view { Answers (λ view. view) (view_in bytes.now) result }
     ensures fits { IfOk result (λ view. FitsFile view) }
 {
-    let at = read_magic(bytes, MAGIC, BAD_MAGIC)?;
+    let (tells, at) = read_form(bytes)?;
     let (server, at) = read_server(bytes, at)?;
-    let (grid, at) = read_grid(bytes, at)?;
+    let (grid, at) = read_grid(bytes, tells, at)?;
     let (bidders, at) = read_bidders(alloc, bytes, server, &grid, at)?;
     let most_masks = grid.comparisons() as u64 + SPARE_MASKS as u64;
     let (masks, at) = read_list(alloc, bytes, most_masks, at)?;
@@ -269,15 +302,15 @@ fn read_parts(alloc: Global, bytes: &[u8]) -> Result<View, ReadFault>
 
 /// The view of a transcript.
 ///
-/// After `BEETVW01` all is numbers of 8 bytes, the highest byte first: the server, the base, the tick and the number of
-/// prices, 0 for a chain of gates or 1 for a tree, and the number of bidders. For each bidder: its mark, which is 0 or
-/// the number of the server that knows it, its buy points and its sell points; where the mark is the server, its buy and
-/// its sell quantities, and its words after their count. Then the mask words and the coefficient words, each after their
-/// count, the number of rounds, and for each round the numbers of the lower and then of the higher peer, each after
-/// their count.
+/// After `BEETVW01`, or `BEETVW02` where the policy is not Volume, all is numbers of 8 bytes, the highest byte first: the
+/// server, the base, the tick and the number of prices, 0 for a chain of gates or 1 for a tree, after `BEETVW02` alone 0
+/// for the policy Price or 2 for Full, and the number of bidders. For each bidder: its mark, which is 0 or the number of
+/// the server that knows it, its buy points and its sell points; where the mark is the server, its buy and its sell
+/// quantities, and its words after their count. Then the mask words and the coefficient words, each after their count,
+/// the number of rounds, and for each round the numbers of the lower and then of the higher peer, each after their count.
 ///
-/// A transcript is refused at the first place from the left that breaks its format: for the reason 1 at 0 where it does
-/// not begin so; for the reason 2 at a field that is cut off; for the reason 3 at a field with a number that is not
+/// A transcript is refused at the first place from the left that breaks its format: for the reason 1 at 0 where it begins
+/// with neither text; for the reason 2 at a field that is cut off; for the reason 3 at a field with a number that is not
 /// allowed; for the reason 4 at the first byte after the last field. Allowed are 1 to 3 for the server; the limits of a
 /// grid; at most 2,000 bidders, and at most 500,000 where each is counted once for each price; 0 to 3 for a mark;
 /// points below the modulus; quantities below 2^48, where none that is bought is above and none that is sold is below

@@ -8,11 +8,11 @@ ghost use Rattle.beet_words.specs.Fields.{number_bytes};
 ghost use Rattle.beet_bids.specs.Grids.{IsGrid};
 ghost use Rattle.beet_bids.specs.Curves.{IsCurve, IsOfGrid};
 ghost use Rattle.beet_view.specs.Views.{IsView};
-ghost use Rattle.beet_view.specs.Transcripts.{mark_of, number_of_gates, numbers_bytes, counted_bytes, grid_bytes, own_bytes, seen_bytes, round_bytes, view_bytes, view_in, FitsFile, HasElements, HasNumbers, AreNumbers};
+ghost use Rattle.beet_view.specs.Transcripts.{tells_policy, magic, mark_of, number_of_gates, policy_field, numbers_bytes, counted_bytes, grid_bytes, own_bytes, seen_bytes, round_bytes, view_bytes, view_in, FitsFile, HasElements, HasNumbers, AreNumbers};
 
-use crate::reading::MAGIC;
+use crate::reading::magic;
 use crate::view::{Received, Seen, View};
-use beet_bids::{Curve, Grid};
+use beet_bids::{Curve, Grid, Policy};
 use beet_field::{Fe, Point};
 use beet_gates::Gates;
 use beet_words::{push_list, push_number};
@@ -59,6 +59,17 @@ fn number_of_gates(gates: Gates) -> u64
     }
 }
 
+/// The number of a policy, where a transcript tells it.
+fn policy_field(policy: Policy) -> &'static [u64]
+    ensures { result.now ≡ policy_field policy }
+{
+    match policy {
+        Policy::Price => &[0],
+        Policy::Volume => &[],
+        Policy::Full => &[2],
+    }
+}
+
 /// Appends a grid.
 fn push_grid(file: &mut Vec<u8>, grid: &Grid) -> Result<(), AllocError>
     ensures bytes { OnOk result (file.new.items ≡ file.old.items ++ grid_bytes grid.now) }
@@ -72,7 +83,8 @@ fn push_grid(file: &mut Vec<u8>, grid: &Grid) -> Result<(), AllocError>
             grid.prices() as u64,
             number_of_gates(grid.gates()),
         ],
-    )
+    )?;
+    push_numbers(file, policy_field(grid.policy()))
 }
 
 /// Appends what a curve buys at so many prices.
@@ -156,7 +168,8 @@ fn push_rounds(file: &mut Vec<u8>, rounds: &[Received]) -> Result<(), AllocError
     Ok(())
 }
 
-/// The 8 bytes at the start, the server, the four numbers of the grid and the four counts, each as long as a number.
+/// The 8 bytes at the start, the server, the first four numbers of the grid and the four counts, each as long as a
+/// number.
 const NUMBERS_BESIDE: usize = 10;
 
 /// How many numbers stand for a bidder.
@@ -190,10 +203,20 @@ fn numbers_for_rounds(rounds: &[Received]) -> usize {
 /// How many bytes a view has, so that memory is taken once; no clause rests on it.
 fn room_for(view: &View) -> usize {
     let tapes = view.masks().len() + view.coefficients().len();
+    let beside = NUMBERS_BESIDE + policy_field(view.grid().policy()).len();
     let bidders = numbers_for_bidders(view.grid(), view.bidders());
     let rounds = numbers_for_rounds(view.received());
     let numbers = bidders.saturating_add(rounds).saturating_add(tapes);
-    numbers.saturating_add(NUMBERS_BESIDE).saturating_mul(8)
+    numbers.saturating_add(beside).saturating_mul(8)
+}
+
+/// A file with the text that the transcript of a view begins with, and with room for the rest.
+fn begin(alloc: Global, view: &View) -> Result<Vec<u8>, AllocError>
+    ensures { IfOk result (λ file. file.items ≡ magic (tells_policy view.now.grid.policy)) }
+{
+    let mut file = Vec::with_capacity(alloc, room_for(view))?;
+    file.extend_from_slice(magic(view.grid().policy() != Policy::Volume))?;
+    Ok(file)
 }
 
 /// The bytes of a view.
@@ -202,8 +225,7 @@ fn bytes_of(alloc: Global, view: &View) -> Result<Vec<u8>, AllocError>
     ensures view { OnOk result (IsView view.now) }
     ensures numbers { OnOk result (AreNumbers view.now) }
 {
-    let mut file = Vec::with_capacity(alloc, room_for(view))?;
-    file.extend_from_slice(MAGIC)?;
+    let mut file = begin(alloc, view)?;
     push_number(&mut file, view.server().number())?;
     push_grid(&mut file, view.grid())?;
     push_number(&mut file, view.bidders().len() as u64)?;
