@@ -1,5 +1,5 @@
 use crate::product::three_and_four;
-use beet_bids::Grid;
+use beet_bids::{Grid, Policy};
 use beet_field::Point;
 use beet_gates::{Gates, Product};
 use beet_server::ServerCore;
@@ -20,6 +20,7 @@ fn view_without_bidders(
     let Some(grid) = Grid::new(100, 5, 2, Gates::Tree) else {
         return Ok(None);
     };
+    let grid = grid.with_policy(Policy::Full);
     Ok(Some(view_of(alloc, core, &grid, Vec::new(alloc))?))
 }
 
@@ -31,6 +32,7 @@ fn first_number(view: &View, round: u32, sender: Point) -> Option<u64> {
 /// What server 2 saw of the product.
 fn expect_product(rt: &impl Abort, view: &View) {
     assert!(rt; view.server() == Point::Two);
+    assert!(rt; view.grid().policy() == Policy::Full);
     assert_eq!(rt; view.coefficients().len(), 1);
     assert_eq!(rt; view.rounds(), 2);
     assert!(rt; first_number(view, 0, Point::One) == Some(50));

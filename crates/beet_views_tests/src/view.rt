@@ -1,4 +1,5 @@
 use crate::transcript::fault_of;
+use beet_bids::Policy;
 use beet_field::{P, Point};
 use beet_view::{View, read_view, write_view};
 use std::alloc::{AllocError, Global};
@@ -17,13 +18,41 @@ const PRICES: usize = 3;
 
 const BIDDERS: usize = 5;
 
-/// The transcript of these numbers.
-fn file_of(alloc: Global, numbers: &[u64]) -> Result<Vec<u8>, AllocError> {
-    let mut file = Vec::from_slice(alloc, b"BEETVW01")?;
+/// A form of a transcript: the text at the start, and what stands before the number of bidders.
+type Form = (&'static [u8], &'static [u64]);
+
+/// The form for the policy Volume.
+const PLAIN: Form = (b"BEETVW01", &[]);
+
+/// The forms for the others.
+const PRICE: Form = (b"BEETVW02", &[0]);
+
+const FULL: Form = (b"BEETVW02", &[2]);
+
+/// Appends the fields of numbers.
+fn push_all(file: &mut Vec<u8>, numbers: &[u64]) -> Result<(), AllocError> {
     for number in numbers {
         file.extend_from_slice(&number.to_be_bytes())?;
     }
+    Ok(())
+}
+
+/// The transcript of these numbers in a form.
+fn file_in(
+    alloc: Global,
+    (magic, policy): Form,
+    numbers: &[u64; 33],
+) -> Result<Vec<u8>, AllocError> {
+    let mut file = Vec::from_slice(alloc, magic)?;
+    push_all(&mut file, &numbers[..BIDDERS])?;
+    push_all(&mut file, policy)?;
+    push_all(&mut file, &numbers[BIDDERS..])?;
     Ok(file)
+}
+
+/// The transcript of these numbers.
+fn file_of(alloc: Global, numbers: &[u64; 33]) -> Result<Vec<u8>, AllocError> {
+    file_in(alloc, PLAIN, numbers)
 }
 
 /// The numbers of the small transcript, of which one is another.
@@ -38,7 +67,7 @@ fn small_with(rt: &impl Abort, place: usize, number: u64) -> [u64; 33] {
 fn expect_fault(
     rt: &impl Abort,
     alloc: Global,
-    numbers: &[u64],
+    numbers: &[u64; 33],
     fault: Option<(u64, u32)>,
 ) -> Result<(), AllocError> {
     let file = file_of(alloc, numbers)?;
@@ -128,45 +157,72 @@ fn small_bidders(rt: HostRuntime) -> Result<(), Fail> {
     Ok(())
 }
 
-/// Compares what is written of the small view with the small transcript.
-fn expect_written(rt: &impl Abort, written: &Vec<u8>, file: &[u8]) {
-    assert_eq!(rt; written.len(), 272);
-    assert_eq!(rt; written.capacity(), 272);
+/// Compares the policy of a transcript, and what is written of its view with itself.
+fn expect_again(rt: &impl Abort, alloc: Global, file: &[u8], policy: Policy) -> Result<(), Fail> {
+    assert!(rt; file.len() <= 1_000);
+    let view = read_view(alloc, file)?;
+    assert_eq!(rt; view.grid().policy(), policy);
+    let written = write_view(alloc, &view)?;
     assert!(rt; written.as_slice() == file);
-}
-
-#[test]
-fn written_as_read(rt: HostRuntime) -> Result<(), Fail> {
-    let alloc = rt.alloc();
-    let written = write_view(alloc, &small(&rt, alloc)?)?;
-    let file = file_of(alloc, &SMALL)?;
-    expect_written(&rt, &written, file.as_slice());
+    assert_eq!(rt; written.capacity(), file.len());
     Ok(())
 }
 
-/// Compares the fault of the first bytes of a transcript.
-fn expect_front(
-    rt: &impl Abort,
-    alloc: Global,
-    bytes: &[u8],
-    length: usize,
-    fault: Option<(u64, u32)>,
-) {
-    assert!(rt; length <= bytes.len());
-    assert!(rt;
-        fault_of(rt, alloc, &bytes[..length]) == fault,
-        "of {length}"
-    );
+/// The small transcript in each form and in others, with its policy, or the offset and the reason that it is refused with.
+const FORMS: [(Form, Result<Policy, (u64, u32)>); 11] = [
+    (PLAIN, Ok(Policy::Volume)),
+    (PRICE, Ok(Policy::Price)),
+    (FULL, Ok(Policy::Full)),
+    ((b"BEETVW02", &[1]), Err((48, 3))),
+    ((b"BEETVW02", &[3]), Err((48, 3))),
+    ((b"BEETVW01", &[0]), Err((208, 4))),
+    ((b"BEETVW01", &[2]), Err((280, 2))),
+    ((b"BEETVW02", &[]), Err((272, 2))),
+    ((b"BEETVW00", &[]), Err((0, 1))),
+    ((b"BEETVW03", &[0]), Err((0, 1))),
+    ((b"BEETWD01", &[]), Err((0, 1))),
+];
+
+#[test]
+fn forms(rt: HostRuntime) -> Result<(), Fail> {
+    for (form, read) in FORMS {
+        let file = file_in(rt.alloc(), form, &SMALL)?;
+        match read {
+            Ok(policy) => expect_again(&rt, rt.alloc(), file.as_slice(), policy)?,
+            Err(fault) => {
+                assert!(rt; fault_of(&rt, rt.alloc(), file.as_slice()) == Some(fault));
+            }
+        }
+    }
+    Ok(())
 }
+
+/// Lengths of fronts of the small transcript in a form, with the offset and the reason that they are refused with.
+const FRONTS: [(Form, usize, Option<(u64, u32)>); 11] = [
+    (PLAIN, 272, None),
+    (PLAIN, 0, Some((0, 1))),
+    (PLAIN, 7, Some((0, 1))),
+    (PLAIN, 8, Some((8, 2))),
+    (PLAIN, 50, Some((48, 2))),
+    (PLAIN, 271, Some((264, 2))),
+    (FULL, 280, None),
+    (FULL, 7, Some((0, 1))),
+    (FULL, 48, Some((48, 2))),
+    (FULL, 55, Some((48, 2))),
+    (FULL, 279, Some((272, 2))),
+];
 
 #[test]
 fn cut_off(rt: HostRuntime) -> Result<(), Fail> {
-    let file = file_of(rt.alloc(), &SMALL)?;
-    let bytes = file.as_slice();
-    expect_front(&rt, rt.alloc(), bytes, 272, None);
-    expect_front(&rt, rt.alloc(), bytes, 7, Some((0, 1)));
-    expect_front(&rt, rt.alloc(), bytes, 50, Some((48, 2)));
-    expect_front(&rt, rt.alloc(), bytes, 271, Some((264, 2)));
+    for (form, length, fault) in FRONTS {
+        let file = file_in(rt.alloc(), form, &SMALL)?;
+        let bytes = file.as_slice();
+        assert!(rt; length <= bytes.len());
+        assert!(rt;
+            fault_of(&rt, rt.alloc(), &bytes[..length]) == fault,
+            "of {length}"
+        );
+    }
     Ok(())
 }
 
