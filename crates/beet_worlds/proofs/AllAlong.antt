@@ -1,6 +1,5 @@
 -- Runs on plain values that open the same numbers in the end did so all along.
-use Rattle.std.proofs.Common.{◌≡◌, ◌≤◌, ◌+◌, ◌-◌, ℕ, zero, suc, List, [], ◌++◌, length, take, sym, refl, ap, subst, ◌∙◌, arith, append-nil, append_assoc, length-append}
-use Rattle.std.proofs.Math.Seq.{take-append_seam}
+use Rattle.std.proofs.Common.{◌≡◌, ◌≤◌, ◌+◌, ◌-◌, ℕ, zero, suc, List, [], ◌++◌, length, sym, refl, ap, subst, ◌∙◌, arith, append-nil, append_assoc, length-append}
 use Rattle.beet_field.specs.declared.trio.Trio.{Trio}
 use Rattle.beet_gates.specs.Clear.{Values, clear_at}
 use Rattle.beet_gates.specs.Deals.{deals_of}

@@ -15,7 +15,7 @@ use Rattle.beet_gates.proofs.PlanFacts.{plan-runs}
 use Rattle.beet_bids.specs.Books.{Book, IsBook}
 use Rattle.beet_bids.specs.Grids.{Grid, comparisons_of}
 use Rattle.beet_bids.specs.Sums.{supply_at, demand_at, sums_of}
-use Rattle.beet_bids.specs.Outcomes.{clearing_place}
+use Rattle.beet_bids.specs.Outcomes.{clearing_place, shown_by}
 use Rattle.beet_compare.specs.Compare.{doubled, is_doubled_even}
 use Rattle.beet_compare.proofs.Parity.{doubled_even-≤}
 use Rattle.beet_plan.specs.Auction.{Auction, auction_plan, auction_batch, most_rounds, most_masks, most_coefficients, most_wires, auction_over}
@@ -35,7 +35,7 @@ use Rattle.beet_worlds.specs.Agreement.{Agree}
 use Rattle.beet_worlds.specs.Opened.{OpensAlike}
 use Rattle.beet_worlds.specs.Turn.{turned}
 use Rattle.beet_worlds.specs.MappedMasks.{MasksMapped, place_compared, doubled_at, lost_at, mask_mapped}
-use Rattle.beet_worlds.proofs.Agreed.{prices-same, clearing-same, volume-same}
+use Rattle.beet_worlds.proofs.Agreed.{prices-same, clearing-same, shown-same}
 use Rattle.beet_worlds.proofs.AllAlong.{opened-along}
 use Rattle.beet_worlds.proofs.BothRuns.{Turns, both-search}
 use Rattle.beet_worlds.proofs.MaskFacts.{Alike, mask-turned, mask-ones, spent-same, dealt-spent-same, dealt-for-same}
@@ -150,13 +150,16 @@ module _ (s : Point) (first second : Book) (words words' : Trio (List ℕ)) (b :
       let zs = clearing-same s first second agree in
       let ends : place_between (nat_le z) l 0 prices ≡ z =
       place-turn (nat_le z) l 0 prices z (omega arith) (clearing-within first) (omega (arith, below_comparisons prices)) (λ k h. refl) in
-      let volume : z < prices → slice_index (sums_of second) (prices + z) ≡ slice_index (sums_of first) (prices + z) = λ h.
-      sum-demand second prices z b' ps zs z h ∙ volume-same s first second agree h ∙ sym (sum-demand first prices z b refl refl z h) in
+      let shown : z < prices →
+      shown_by a.policy (slice_index (sums_of second) (prices + z)) (slice_index (sums_of second) z)
+      ≡ shown_by a.policy (slice_index (sums_of first) (prices + z)) (slice_index (sums_of first) z) = λ h.
+      (λ j. shown_by a.policy (sum-demand second prices z b' ps zs z h j) (sum-supply second prices z b' ps zs z h j))
+      ∙ shown-same s first second agree h ∙ sym (λ j. shown_by a.policy (sum-demand first prices z b refl refl z h j) (sum-supply first prices z b refl refl z h j)) in
       run-numbers a (sums_of second) words'
-      ∙ both-search (blocks_of a.gates) (are-blocks a.gates) (deals_of words) (deals_of words') (mask_at words) (mask_at words') prices z (path prices z)
+      ∙ both-search (blocks_of a.gates) (are-blocks a.gates) a.policy (deals_of words) (deals_of words') (mask_at words) (mask_at words') prices z (path prices z)
       (slice_index (sums_of first)) (λ k. slice_index (sums_of first) (prices + k)) (slice_index (sums_of second)) (λ k. slice_index (sums_of second) (prices + k))
       (deals-words words m) (deals-words words' (mapped-masks first second s words words' m mapped))
-      (sum-turns first prices z b refl refl) (sum-turns second prices z b' ps zs) alike same-opened volume
+      (sum-turns first prices z b refl refl) (sum-turns second prices z b' ps zs) alike same-opened shown
       (l + 3) l 0 prices (2 * prices) 0 0 (start_values (sums_of first)) (start_values (sums_of second))
       (sum-stands first prices z b refl refl) (sum-stands second prices z b' ps zs)
       (omega arith) (omega arith) (omega (arith, below_comparisons prices)) (omega arith) (omega arith) ends

@@ -9,29 +9,30 @@ use Rattle.beet_gates.specs.Plans.{Plan, Ended, Block, opened_by}
 use Rattle.beet_compare.specs.Compare.{doubled, is_doubled_even}
 use Rattle.beet_plan.specs.Blocks.{Blocks, after_both, after_mask}
 use Rattle.beet_plan.proofs.BlockLaws.{AreBlocks}
-use Rattle.beet_plan.specs.Auction.{search_plan, compare_plan, end_plan, after_answer, after_product}
+use Rattle.beet_bids.specs.Outcomes.{shown_by}
+use Rattle.beet_bids.specs.declared.outcomes.Policy.{Policy}
+use Rattle.beet_plan.specs.Auction.{search_plan, compare_plan, end_plan, price_with, after_answer, after_product}
 use Rattle.beet_plan.specs.Search.{tested, place_between}
 use Rattle.beet_plan.specs.declared.Finish.{Finish}
-use Rattle.beet_plan.specs.declared.Finish.TheVariants.{MasksSpent}
-use Rattle.beet_plan.proofs.AuctionEnd.{opened-rejected, search_plan-open, search_plan-done, volume-opened}
+use Rattle.beet_plan.specs.declared.Finish.TheVariants.{NoPrice, MasksSpent}
+use Rattle.beet_plan.proofs.AuctionEnd.{opened-rejected, search_plan-open, search_plan-done, shown-opened}
 use Rattle.beet_plan.proofs.BlockSteps.{Stands, Deals, AreElements, mask-step, compare-step, after_masked}
 use Rattle.beet_plan.proofs.Searches.{tested-open, place-none, place-open}
 use Rattle.beet_worlds.specs.MappedMasks.{place_compared}
 use Rattle.beet_worlds.proofs.MaskFacts.{Alike}
 use Rattle.beet_worlds.proofs.Places.{Along, along-rejected, along-accepted, along-compared}
-use Rattle.beet_worlds.proofs.PlanNumbers.{plan_numbers, numbers-block, numbers-ended, numbers-true, numbers-false}
+use Rattle.beet_worlds.proofs.PlanNumbers.{plan_numbers, numbers-block, numbers-ended, numbers-opening, numbers-true, numbers-false}
 
--- the end of a search at a place opens the demand there
-end-numbers : (deals : ℕ → List ℕ) (prices : ℕ) (supply demand : ℕ → ℕ) (first i z : ℕ) (v : Values) → Stands prices supply demand first i v →
-    plan_numbers deals (end_plan prices z) v ≡ (if nat_lt z prices then demand z ∷ [] else [])
-unfolding plan_numbers
-end-numbers deals prices supply demand first i z v s = elim (cases_lt z prices) [
+-- the end of a search at a place opens what the policy shows of it
+end-numbers : (policy : Policy) (deals : ℕ → List ℕ) (prices : ℕ) (supply demand : ℕ → ℕ) (first i z : ℕ) (v : Values) → Stands prices supply demand first i v →
+    plan_numbers deals (end_plan policy prices z) v ≡ (if nat_lt z prices then shown_by policy (demand z) (supply z) else [])
+end-numbers policy deals prices supply demand first i z v s = elim (cases_lt z prices) [
   | inl h ↦
       let t : nat_lt z prices ≡ true = grind (arith, nat_tests) in
-      rw (t, volume-opened deals prices supply demand first i z v s h) refl
+      rw t (numbers-opening deals v (shown_by policy (prices + z) z) (price_with z) ∙ shown-opened deals prices supply demand first i z v s policy h)
   | inr h ↦
       let t : nat_lt z prices ≡ false = grind (arith, nat_tests) in
-      rw t refl
+      rw t (numbers-ended deals v NoPrice)
 ]
 
 -- sums at which a comparison answers whether the clearing place is at most the place
@@ -39,29 +40,29 @@ pub record Turns (prices z : ℕ) (supply demand : ℕ → ℕ) : Type 0 where
   pub elements : AreElements prices supply demand
   pub reached : (k : ℕ) → k < prices → is_doubled_even (supply k) (demand k) ≡ nat_le z k
 
-module _ (g : Blocks) (are : AreBlocks g) (deals deals' : ℕ → List ℕ) (masks masks' : ℕ → ℕ) (prices z : ℕ) (places : List ℕ) (supply demand supply' demand' : ℕ → ℕ)
+module _ (g : Blocks) (are : AreBlocks g) (policy : Policy) (deals deals' : ℕ → List ℕ) (masks masks' : ℕ → ℕ) (prices z : ℕ) (places : List ℕ) (supply demand supply' demand' : ℕ → ℕ)
     (d : Deals deals masks) (d' : Deals deals' masks') (turns : Turns prices z supply demand) (turns' : Turns prices z supply' demand')
     (alike : Alike masks masks')
     (opens : (i m : ℕ) → m < prices → place_compared places masks i ≡ Some m →
     add_of (doubled (supply' m) (demand' m)) (masks' i) ≡ add_of (doubled (supply m) (demand m)) (masks i))
-    (volume : z < prices → demand' z ≡ demand z) where
+    (shown : z < prices → shown_by policy (demand' z) (supply' z) ≡ shown_by policy (demand z) (supply z)) where
   over : (n m lo hi first i rej : ℕ) (v v' : Values) → Stands prices supply demand first i v → Stands prices supply' demand' first i v' →
       hi ≤ lo → nat_lt lo hi ≡ false → place_between (nat_le z) m lo hi ≡ z →
-      plan_numbers deals' (search_plan g prices (suc n) lo hi first rej) v' ≡ plan_numbers deals (search_plan g prices (suc n) lo hi first rej) v
+      plan_numbers deals' (search_plan g policy prices (suc n) lo hi first rej) v' ≡ plan_numbers deals (search_plan g policy prices (suc n) lo hi first rej) v
   over n m lo hi first i rej v v' s s' h t end =
       let here : lo ≡ z = sym (place-none (nat_le z) m lo hi h) ∙ end in
-      let same : (if nat_lt lo prices then demand' lo ∷ [] else []) ≡ (if nat_lt lo prices then demand lo ∷ [] else []) = elim (cases_lt lo prices) [
-        | inl l ↦ let e : nat_lt lo prices ≡ true = grind (arith, nat_tests) in rw (e, here) (ap (λ k. k ∷ []) (volume (rw here at l)))
+      let same : (if nat_lt lo prices then shown_by policy (demand' lo) (supply' lo) else []) ≡ (if nat_lt lo prices then shown_by policy (demand lo) (supply lo) else []) = elim (cases_lt lo prices) [
+        | inl l ↦ let e : nat_lt lo prices ≡ true = grind (arith, nat_tests) in rw (e, here) (shown (rw here at l))
         | inr l ↦ let e : nat_lt lo prices ≡ false = grind (arith, nat_tests) in rw e refl
       ] in
-      ap (λ (q : Plan Finish). plan_numbers deals' q v') (search_plan-done g prices n lo hi first rej t) ∙ end-numbers deals' prices supply' demand' first i lo v' s'
+      ap (λ (q : Plan Finish). plan_numbers deals' q v') (search_plan-done g policy prices n lo hi first rej t) ∙ end-numbers policy deals' prices supply' demand' first i lo v' s'
       ∙ same
-      ∙ sym (ap (λ (q : Plan Finish). plan_numbers deals q v) (search_plan-done g prices n lo hi first rej t) ∙ end-numbers deals prices supply demand first i lo v s)
+      ∙ sym (ap (λ (q : Plan Finish). plan_numbers deals q v) (search_plan-done g policy prices n lo hi first rej t) ∙ end-numbers policy deals prices supply demand first i lo v s)
 
   pub both-search : (n m lo hi first i rej : ℕ) (v v' : Values) → Stands prices supply demand first i v → Stands prices supply' demand' first i v' →
       lo ≤ hi → hi ≤ prices → hi < lo + 2 ^ m → m + 3 ≤ n + rej → rej < 3 →
       place_between (nat_le z) m lo hi ≡ z → Along masks places i rej (tested (nat_le z) m lo hi) →
-      plan_numbers deals' (search_plan g prices n lo hi first rej) v' ≡ plan_numbers deals (search_plan g prices n lo hi first rej) v
+      plan_numbers deals' (search_plan g policy prices n lo hi first rej) v' ≡ plan_numbers deals (search_plan g policy prices n lo hi first rej) v
   both-search zero m lo hi first i rej v v' s s' hl hp hm hn hr end along = absurd (omega arith)
   both-search (suc n) zero lo hi first i rej v v' s s' hl hp hm hn hr end along =
       let h : hi ≤ lo = omega arith in
@@ -86,13 +87,13 @@ module _ (g : Blocks) (are : AreBlocks g) (deals deals' : ℕ → List ℕ) (mas
         let one : x' ≡ x = a'.opened ∙ ap (λ (b : Bool). if b then 1 else 0) (alike.same i) ∙ sym a.opened in
         let o : (x == 1) ≡ (masks i == p) = opened-rejected x (masks i) a.opened in
         let o2 : (x' == 1) ≡ (x == 1) = ap (λ n. n == 1) one in
-        let begun = ap (λ (q : Plan Finish). plan_numbers deals q v) (search_plan-open g prices n lo hi first rej t)
-        ∙ numbers-block deals v (g.mask first) (after_product g prices n lo hi first rej) in
-        let begun' = ap (λ (q : Plan Finish). plan_numbers deals' q v') (search_plan-open g prices n lo hi first rej t)
-        ∙ numbers-block deals' v' (g.mask first) (after_product g prices n lo hi first rej) in
-        let no = search_plan g prices n lo hi (after_mask g first) (rej + 1) in
-        let yes = compare_plan g prices (after_mask g first) first mid (after_answer g prices n lo hi first rej) in
-        let rest : plan_numbers deals' (after_product g prices n lo hi first rej x') after' ≡ plan_numbers deals (after_product g prices n lo hi first rej x) after =
+        let begun = ap (λ (q : Plan Finish). plan_numbers deals q v) (search_plan-open g policy prices n lo hi first rej t)
+        ∙ numbers-block deals v (g.mask first) (after_product g policy prices n lo hi first rej) in
+        let begun' = ap (λ (q : Plan Finish). plan_numbers deals' q v') (search_plan-open g policy prices n lo hi first rej t)
+        ∙ numbers-block deals' v' (g.mask first) (after_product g policy prices n lo hi first rej) in
+        let no = search_plan g policy prices n lo hi (after_mask g first) (rej + 1) in
+        let yes = compare_plan g prices (after_mask g first) first mid (after_answer g policy prices n lo hi first rej) in
+        let rest : plan_numbers deals' (after_product g policy prices n lo hi first rej x') after' ≡ plan_numbers deals (after_product g policy prices n lo hi first rej x) after =
         elim (cases_eq (masks i) p) [
           | inl all ↦
               let t1 : (x == 1) ≡ true = o ∙ eq-eqb (masks i) p all in
@@ -138,15 +139,15 @@ module _ (g : Blocks) (are : AreBlocks g) (deals deals' : ℕ → List ℕ) (mas
               let place : after_mask g first + g.compare_wires ≡ after_both g first = omega arith in
               let stands : Stands prices supply demand (after_both g first) (i + 1) late = rw place at b.stands in
               let stands' : Stands prices supply' demand' (after_both g first) (i + 1) late' = rw place at b'.stands in
-              let next = after_answer g prices n lo hi first rej in
+              let next = after_answer g policy prices n lo hi first rej in
               let q : plan_numbers deals yes after ≡ c ∷ y ∷ plan_numbers deals (next y) late =
               numbers-block deals after (g.masked (after_mask g first) first mid (prices + mid) ∷ []) (λ (c : ℕ). Block (g.answer (after_mask g first) first c) next)
               ∙ ap (λ (l : List ℕ). c ∷ l) (numbers-block deals middle (g.answer (after_mask g first) first c) next) in
               let q' : plan_numbers deals' yes after' ≡ c' ∷ y' ∷ plan_numbers deals' (next y') late' =
               numbers-block deals' after' (g.masked (after_mask g first) first mid (prices + mid) ∷ []) (λ (c : ℕ). Block (g.answer (after_mask g first) first c) next)
               ∙ ap (λ (l : List ℕ). c' ∷ l) (numbers-block deals' middle' (g.answer (after_mask g first) first c') next) in
-              let low = search_plan g prices n lo mid (after_both g first) rej in
-              let high = search_plan g prices n (mid + 1) hi (after_both g first) rej in
+              let low = search_plan g policy prices n lo mid (after_both g first) rej in
+              let high = search_plan g policy prices n (mid + 1) hi (after_both g first) rej in
               let power : 2 ^ suc m ≡ 2 ^ m * 2 = pow-suc 2 m in
               let go : plan_numbers deals' (next y') late' ≡ plan_numbers deals (next y) late = elim (cases_Bool (nat_le z mid)) [
                 | inr above ↦

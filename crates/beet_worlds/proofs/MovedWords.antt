@@ -1,10 +1,9 @@
 -- The loop that moves the words of a bidder.
 use Rattle.std.proofs.Common.{◌≡◌, ◌≢◌, ◌≤◌, ◌<◌, ◌+◌, ℕ, inl, inr, true, false, List, [], ◌∷◌, ◌++◌, take, length, slice_index, get_or, refl, sym, ap, ◌∙◌, arith, length-append, append-nil, eq-eqb, ne_eqb}
-use Rattle.std.specs.Prelude.{if◌then◌else◌, ◌==◌, nat_lt, not}
+use Rattle.std.specs.Prelude.{if◌then◌else◌, ◌==◌, nat_lt}
 use Rattle.std.proofs.lemmas.Bool.{cases_eq, cases_lt}
 use Rattle.std.proofs.lemmas.Bool.Decides.{nat_tests}
-use Rattle.std.proofs.lemmas.List.{get_or_append_left, get_or-append-add, get_or_past, map-append, take_more, take_all}
-use Rattle.std.proofs.lemmas.List.Elements.{filter-append}
+use Rattle.std.proofs.lemmas.List.{get_or-append-add, get_or_past, map-append, take_more, take_all}
 use Rattle.beet_field.specs.declared.point.Point.{Point}
 use Rattle.beet_words.specs.Words.{accepted, ones}
 use Rattle.beet_bids.specs.Curves.{Curve, quantity}

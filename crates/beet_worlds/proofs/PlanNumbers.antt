@@ -1,16 +1,18 @@
 -- The numbers that the run of a plan opens, block by block.
-use Rattle.std.proofs.Common.{◌≡◌, ℕ, ◌+◌, ◌-◌, Bool, true, false, List, [], ◌∷◌, ◌++◌, drop, length, slice_index, refl, ap, sym, ◌∙◌, append_assoc, append-nil}
+use Rattle.std.proofs.Common.{◌≡◌, ℕ, ◌-◌, Bool, true, false, List, [], ◌∷◌, ◌++◌, drop, length, slice_index, refl, ap, sym, ◌∙◌, append_assoc, append-nil}
 use Rattle.std.specs.Prelude.{if◌then◌else◌}
 use Rattle.std.proofs.Math.Seq.{drop-append_seam}
 use Rattle.std.proofs.lemmas.List.{nil_from_length}
 use Rattle.beet_field.specs.declared.trio.Trio.{Trio}
 use Rattle.beet_gates.specs.declared.Batch.{Batch}
+use Rattle.beet_gates.specs.Batches.{reveal_batch}
 use Rattle.beet_gates.specs.Clear.{Values, batch_on, batches_on}
 use Rattle.beet_gates.specs.Deals.{deals_of}
 use Rattle.beet_gates.specs.Plans.{Plan, Ended, Block, Last, all_opened_by, plan_run, opened_by, BlockStands, PlanStands, after_all}
 use Rattle.beet_gates.specs.Scripts.{Standing, after}
 use Rattle.beet_gates.proofs.ClearFacts.{opened-more}
 use Rattle.beet_gates.proofs.PlanFacts.{opened-last, single}
+use Rattle.beet_plan.specs.Auction.{opening_plan}
 
 -- the numbers that it opens
 unfoldable pub plan_numbers : {F : Type 0} → (ℕ → List ℕ) → Plan F → Values → List ℕ
@@ -69,6 +71,13 @@ module _ {F : Type 0} (deals : ℕ → List ℕ) (v : Values) where
   pub numbers-ended : (f : F) → plan_numbers deals (Ended f) v ≡ []
   unfolding plan_numbers
   numbers-ended f = refl
+
+  -- an opening opens what its wires hold, if there are some
+  pub numbers-opening : (wires : List ℕ) (named : List ℕ → F) →
+      plan_numbers deals (opening_plan wires named) v ≡ all_opened_by v (batch_on deals (reveal_batch [] wires) v)
+  unfolding plan_numbers
+  numbers-opening [] named = sym (drop-append_seam v.opened [])
+  numbers-opening (w ∷ ws) named = refl
 
   pub numbers-true : (b : Bool) (p q : Plan F) → b ≡ true → plan_numbers deals (if b then p else q) v ≡ plan_numbers deals p v
   numbers-true b p q e = ap (λ (c : Bool). plan_numbers deals (if c then p else q) v) e

@@ -15,7 +15,8 @@ SameKnown s first second =
     (k : ℕ) (one other : Bidder) → slice_get first.bidders k ≡ Some one → slice_get second.bidders k ≡ Some other → one.known ≡ Some s →
     other.curve ≡ one.curve
 
--- the same grid, as many bidders with the same marks, the same curves of those known to the server, and the same outcome
+-- the same grid, as many bidders with the same marks, the same curves of those known to the server, and the same outcome, which holds
+-- what the policy of the grid opens and nothing else
 pub record Agree (s : Point) (first second : Book) : Type 0 where
   pub grids : second.grid ≡ first.grid
   pub marks : marks_of second ≡ marks_of first

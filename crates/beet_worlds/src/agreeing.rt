@@ -116,8 +116,8 @@ fn is_changed(me: Point, grid: &Grid, first: &Bidder, second: &Bidder) -> bool
 }
 
 /// Whether two books over one grid agree for a server: as many bidders with the same marks, the same curves of those known to the
-/// server, and the same outcome. It tells the first of these that does not hold. It takes no memory, and never answers that it ran
-/// out.
+/// server, and the same outcome, which holds what the policy of the grid opens. It tells the first of these that does not hold. It
+/// takes no memory, and never answers that it ran out.
 pub fn agreement(me: Point, first: &Book, second: &Book) -> Result<(), MapFault>
     requires { second.now.grid ≡ first.now.grid }
     ensures agreed { IsOk result ↔ Agree me first.now second.now }

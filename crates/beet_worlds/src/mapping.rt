@@ -80,9 +80,7 @@ fn map_coefficients(
     requires same { LookSameIn grid.now me here.now there.now }
     ensures { IfOk result (CoefficientsMapped grid.now me here.now there.now words.now) }
 {
-    let Some(script) = AuctionScript::new(grid.prices(), grid.gates()) else {
-        unreachable!()
-    };
+    let script = AuctionScript::over(grid);
     match gate_map(alloc, me, &script, here, there, words) {
         Ok(mapped) => Ok(mapped),
         Err(GateFault::OutOfMemory) => Err(AllocError),
