@@ -1,4 +1,4 @@
-use beet_bids::{Bidder, Book, Curve, Grid, Outcome};
+use beet_bids::{Bidder, Book, Curve, Grid, Outcome, Policy};
 use beet_field::{Fe, P, Point, Trio};
 use beet_gates::Gates;
 use beet_words::{Word, WordList, Words, count_accepted};
@@ -40,24 +40,39 @@ const SELLS_MORE: Only = (None, 41, 35);
 /// The first where there is too little supply for a price.
 const SELLS_LESS: Only = (None, 34, 35);
 
+/// The first where it buys one less.
+const BUYS_LESS: Only = (None, 40, 34);
+
 /// The same bidders where server 2 knows them.
 const KNOWN: Only = (Some(Point::Two), 40, 35);
 
 const KNOWN_SELLS_MORE: Only = (Some(Point::Two), 41, 35);
 
-/// The outcome of the first bidder's book.
-const PRICE: Outcome = Outcome::Price {
-    place: 0,
-    price: 100,
-    volume: 35,
-};
+/// What is opened at the one price beside it: the volume, and the supply.
+type Shown = (Option<u64>, Option<u64>);
 
-/// A book of one bidder over a grid of one price.
-fn book(alloc: Global, (known, sell, buy): Only) -> Result<Book, Fail> {
+/// The outcome with the one price, and this.
+fn price_and((volume, supply): Shown) -> Outcome {
+    Outcome::Price {
+        place: 0,
+        price: 100,
+        volume,
+        supply,
+    }
+}
+
+/// A book of one bidder over a grid of one price with this policy.
+fn book_with(alloc: Global, policy: Policy, (known, sell, buy): Only) -> Result<Book, Fail> {
     let grid = Grid::new(100, 5, 1, Gates::Chain).ok_or("no grid")?;
+    let grid = grid.with_policy(policy);
     let curve = Curve::of(&grid, vec![in alloc; buy]?, vec![in alloc; sell]?).ok_or("no curve")?;
     let bidders = vec![in alloc; Bidder { known, curve }]?;
     Ok(Book::new(grid, bidders).ok_or("no book")?)
+}
+
+/// The same with the policy that opens the price and the volume.
+fn book(alloc: Global, only: Only) -> Result<Book, Fail> {
+    book_with(alloc, Policy::Volume, only)
 }
 
 /// The list of these words.
@@ -155,17 +170,33 @@ fn masks_of_the_second_world(rt: HostRuntime) -> Result<(), Fail> {
     Ok(())
 }
 
-/// What the two books differ in, for server 2.
-fn difference(alloc: Global, first: Only, second: Only) -> Result<Option<MapFault>, Fail> {
-    let first = book(alloc, first)?;
-    let second = book(alloc, second)?;
+/// What tells the books of two bidders apart for server 2, by itself and where words are to be mapped.
+fn differences(
+    alloc: Global,
+    policy: Policy,
+    first: Only,
+    second: Only,
+) -> Result<[Option<MapFault>; 2], Fail> {
+    let first = book_with(alloc, policy, first)?;
+    let second = book_with(alloc, policy, second)?;
     if first.grid() != second.grid() {
         return Err(Fail::new("two grids"));
     }
-    Ok(agreement(Point::Two, &first, &second).err())
+    let alone = agreement(Point::Two, &first, &second).err();
+    let words = words_of_one(alloc)?;
+    let mapped = mapped_words(alloc, &first, &second, &words)?;
+    Ok([alone, mapped.err()])
 }
 
-/// Two books, and what they differ in.
+/// The outcome of the first bidder's book.
+const PRICE: Outcome = Outcome::Price {
+    place: 0,
+    price: 100,
+    volume: Some(35),
+    supply: None,
+};
+
+/// Two books, and what tells them apart.
 const BOOKS: [(Only, Only, Option<MapFault>); 5] = [
     (UNKNOWN, SELLS_MORE, None),
     (KNOWN, KNOWN, None),
@@ -180,8 +211,46 @@ const BOOKS: [(Only, Only, Option<MapFault>); 5] = [
 
 #[test]
 fn differences_of_books(rt: HostRuntime) -> Result<(), Fail> {
-    for (first, second, found) in BOOKS {
-        assert!(rt; difference(rt.alloc(), first, second)? == found);
+    for (first, second, fault) in BOOKS {
+        assert!(rt; differences(rt.alloc(), Policy::Volume, first, second)? == [fault, fault]);
+    }
+    Ok(())
+}
+
+/// A policy and a second book with the same price, and where that tells them apart, what is opened of the first bidder's book and of
+/// the second.
+const OPENED: [(Policy, Only, Option<(Shown, Shown)>); 6] = [
+    (Policy::Price, BUYS_LESS, None),
+    (
+        Policy::Volume,
+        BUYS_LESS,
+        Some(((Some(35), None), (Some(34), None))),
+    ),
+    (
+        Policy::Full,
+        BUYS_LESS,
+        Some(((Some(35), Some(40)), (Some(34), Some(40)))),
+    ),
+    (Policy::Price, SELLS_MORE, None),
+    (Policy::Volume, SELLS_MORE, None),
+    (
+        Policy::Full,
+        SELLS_MORE,
+        Some(((Some(35), Some(40)), (Some(35), Some(41)))),
+    ),
+];
+
+/// Outcomes that differ in this.
+fn other_outcomes(shown: Option<(Shown, Shown)>) -> Option<MapFault> {
+    let (one, other) = shown?;
+    Some(MapFault::OutcomesDiffer(price_and(one), price_and(other)))
+}
+
+#[test]
+fn differences_that_are_opened(rt: HostRuntime) -> Result<(), Fail> {
+    for (policy, second, shown) in OPENED {
+        let fault = other_outcomes(shown);
+        assert!(rt; differences(rt.alloc(), policy, UNKNOWN, second)? == [fault, fault]);
     }
     Ok(())
 }
@@ -378,20 +447,20 @@ fn mapped_words(
     Ok(world_map(alloc, Point::Two, first, second, words))
 }
 
-/// The same of the books of these bidders.
-fn mapped(alloc: Global, first: Only, second: Only) -> Result<Result<Words, MapFault>, Fail> {
-    let first = book(alloc, first)?;
-    let second = book(alloc, second)?;
+/// The same of the books of the first bidder and of this one.
+fn mapped(alloc: Global, policy: Policy, second: Only) -> Result<Result<Words, MapFault>, Fail> {
+    let first = book_with(alloc, policy, UNKNOWN)?;
+    let second = book_with(alloc, policy, second)?;
     let words = words_of_one(alloc)?;
     mapped_words(alloc, &first, &second, &words)
 }
 
-/// The mapped words where supply is one more in the second world.
-fn expect_mapped(rt: &impl Abort, mapped: &Words) {
+/// The mapped words where the one bidder's become these, and supply exceeds demand by one more in the second world.
+fn expect_mapped(rt: &impl Abort, mapped: &Words, bidder: &[u64]) {
     assert!(rt; holds(&mapped.masks.one, &[5, 9, 11]));
     assert!(rt; holds(&mapped.masks.two, &[0, 0, 0]));
     assert!(rt; mapped.bidders.len() == 1);
-    assert!(rt; holds(&mapped.bidders[0], &[3, HALF + 3]));
+    assert!(rt; holds(&mapped.bidders[0], bidder));
     assert_eq!(rt; mapped.coefficients.one.as_slice().len(), 1_538);
     let mut own = mapped.coefficients.two.as_slice().iter();
     assert!(rt; own.all(|word| word.value() == 1));
@@ -399,42 +468,20 @@ fn expect_mapped(rt: &impl Abort, mapped: &Words) {
     assert!(rt; !moved.all(|word| word.value() == 1 || word.is_ones()));
 }
 
-#[test]
-fn words_of_the_second_world(rt: HostRuntime) -> Result<(), Fail> {
-    let Ok(mapped) = mapped(rt.alloc(), UNKNOWN, SELLS_MORE)? else {
-        return Err(Fail::new("no map"));
-    };
-    expect_mapped(&rt, &mapped);
-    Ok(())
-}
-
-/// Two books, and why there is no map.
-const REFUSED: [(Only, Only, MapFault); 3] = [
-    (KNOWN, UNKNOWN, MapFault::ShapeDiffers(1)),
-    (KNOWN, KNOWN_SELLS_MORE, MapFault::OwnBidsDiffer(1)),
-    (
-        UNKNOWN,
-        SELLS_LESS,
-        MapFault::OutcomesDiffer(PRICE, Outcome::No),
-    ),
+/// What is opened, the second book, and the one bidder's words in the second world.
+const MAPPED: [(Policy, Only, [u64; 2]); 3] = [
+    (Policy::Price, SELLS_MORE, [3, HALF + 3]),
+    (Policy::Price, BUYS_LESS, [HALF + 3, 4]),
+    (Policy::Volume, SELLS_MORE, [3, HALF + 3]),
 ];
 
-/// Compares why there is no map.
-fn expect_refused(
-    rt: &impl Abort,
-    alloc: Global,
-    first: Only,
-    second: Only,
-    fault: MapFault,
-) -> Result<(), Fail> {
-    assert!(rt; mapped(alloc, first, second)?.err() == Some(fault));
-    Ok(())
-}
-
 #[test]
-fn refused_books(rt: HostRuntime) -> Result<(), Fail> {
-    for (first, second, fault) in REFUSED {
-        expect_refused(&rt, rt.alloc(), first, second, fault)?;
+fn words_of_the_second_world(rt: HostRuntime) -> Result<(), Fail> {
+    for (policy, second, bidder) in MAPPED {
+        let Ok(mapped) = mapped(rt.alloc(), policy, second)? else {
+            return Err(Fail::new("no map"));
+        };
+        expect_mapped(&rt, &mapped, &bidder);
     }
     Ok(())
 }
