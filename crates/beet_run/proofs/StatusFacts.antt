@@ -7,6 +7,6 @@ use Rattle.beet_run.specs.Outcomes.{status_of}
 
 -- a run ends the job as one that is done
 pub status-done : (finish : Finish) → IsDone (status_of finish)
-status-done (Price place volume) = inl refl
+status-done (Price place volume supply) = inl refl
 status-done NoPrice = inl refl
 status-done MasksSpent = inr refl

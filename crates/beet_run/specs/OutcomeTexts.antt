@@ -1,17 +1,22 @@
 -- The lines that tell how a run ended.
-use Rattle.std.specs.Prelude.{ℕ, List, ◌++◌, codes, decimal}
+use Rattle.std.specs.Prelude.{ℕ, List, [], ◌++◌, Option, None, Some, codes, decimal}
 use Rattle.beet_bids.specs.Grids.{Grid, price_of}
 use Rattle.beet_errand.specs.Texts.{line_of}
 use Rattle.beet_plan.specs.declared.Finish.{Finish}
 use Rattle.beet_plan.specs.declared.Finish.TheVariants.{Price, NoPrice, MasksSpent}
 
--- how a run ended: with a price and the volume there, with none, or with the third rejected mask
-abbrev pub finish_text : Grid → Finish → List ℕ
-finish_text grid (Price place volume) =
-    line_of (codes "price " ++ decimal (price_of grid place)) ++ line_of (codes "volume " ++ decimal volume)
-finish_text grid NoPrice = line_of (codes "no price")
-finish_text grid MasksSpent = line_of (codes "masks spent")
+-- a number that may be opened, behind a text before it and its name; nothing where it is not opened
+abbrev pub opened_text : List ℕ → List ℕ → Option ℕ → List ℕ
+opened_text before name None = []
+opened_text before name (Some number) = before ++ name ++ decimal number
 
--- how a run ended, and after how many rounds
+-- how a run ended: with a price and the numbers that are opened there, each behind this text, with none, or with the third rejected mask
+abbrev pub finish_text : List ℕ → Grid → Finish → List ℕ
+finish_text between grid (Price place volume supply) =
+    codes "price " ++ decimal (price_of grid place) ++ opened_text between (codes "volume ") volume ++ opened_text between (codes "supply ") supply
+finish_text between grid NoPrice = codes "no price"
+finish_text between grid MasksSpent = codes "masks spent"
+
+-- how a run ended, a line for each number, and after how many rounds
 abbrev pub outcome_text : Grid → Finish → ℕ → List ℕ
-outcome_text grid finish rounds = finish_text grid finish ++ line_of (codes "rounds " ++ decimal rounds)
+outcome_text grid finish rounds = line_of (finish_text (codes "\n") grid finish) ++ line_of (codes "rounds " ++ decimal rounds)

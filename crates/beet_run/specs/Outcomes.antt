@@ -10,7 +10,7 @@ use Rattle.beet_run.specs.OutcomeTexts.{outcome_text}
 
 -- the status of a run that ends so
 abbrev pub status_of : Finish → Status
-status_of (Price place volume) = Done
+status_of (Price place volume supply) = Done
 status_of NoPrice = Done
 status_of MasksSpent = Spent
 

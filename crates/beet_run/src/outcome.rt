@@ -1,11 +1,12 @@
 //! The text of a run that has ended.
 
-ghost use Rattle.std.specs.Prelude.{◌≡◌, IfOk};
+ghost use Rattle.std.specs.Prelude.{◌≡◌, IfOk, string_bytes};
 ghost use Rattle.beet_run.specs.Outcomes.{outcome_answer, status_of};
-ghost use Rattle.beet_run.specs.OutcomeTexts.{outcome_text};
+ghost use Rattle.beet_run.specs.OutcomeTexts.{finish_text, opened_text, outcome_text};
 
 use beet_bids::Grid;
 use beet_errand::{Reply, Status};
+use beet_field::Fe;
 use beet_plan::Finish;
 use std::alloc::{AllocError, Global};
 
@@ -19,7 +20,52 @@ fn status_after(finish: &Finish) -> Status
     }
 }
 
-/// The lines of a price, of none, or of spent masks, and that of the rounds.
+/// The words of a number that may be opened.
+fn opened_words(
+    alloc: Global,
+    before: &str,
+    name: &str,
+    number: Option<Fe>,
+) -> Result<String, AllocError>
+    ensures { IfOk result (λ words. string_bytes words ≡ opened_text before.now name.now number) }
+{
+    let words = match number {
+        None => String::new(alloc),
+        Some(number) => {
+            let number = number.value();
+            format!(in alloc; "{before}{name}{number}")?
+        }
+    };
+    Ok(words)
+}
+
+/// The words of a price, of none, or of spent masks; behind a price, the numbers that are opened there, each after `between`.
+pub fn finish_words(
+    alloc: Global,
+    grid: &Grid,
+    finish: &Finish,
+    between: &str,
+) -> Result<String, AllocError>
+    ensures { IfOk result (λ words. string_bytes words ≡ finish_text between.now grid.now finish.now) }
+{
+    let words = match finish {
+        Finish::Price {
+            place,
+            volume,
+            supply,
+        } => {
+            let price = grid.base() + *place as u64 * grid.tick();
+            let volume = opened_words(alloc, between, "volume ", *volume)?;
+            let supply = opened_words(alloc, between, "supply ", *supply)?;
+            format!(in alloc; "price {price}{volume}{supply}")?
+        }
+        Finish::NoPrice => String::from_str(alloc, "no price")?,
+        Finish::MasksSpent => String::from_str(alloc, "masks spent")?,
+    };
+    Ok(words)
+}
+
+/// The lines of how a run ended, and that of the rounds.
 fn outcome_lines(
     alloc: Global,
     grid: &Grid,
@@ -28,16 +74,8 @@ fn outcome_lines(
 ) -> Result<Vec<u8>, AllocError>
     ensures { IfOk result (λ text. text.items ≡ outcome_text grid.now finish.now rounds) }
 {
-    let text = match finish {
-        Finish::Price { place, volume } => {
-            let price = grid.base() + *place as u64 * grid.tick();
-            let volume = volume.value();
-            format!(in alloc; "price {price}\nvolume {volume}\nrounds {rounds}\n")?
-        }
-        Finish::NoPrice => format!(in alloc; "no price\nrounds {rounds}\n")?,
-        Finish::MasksSpent => format!(in alloc; "masks spent\nrounds {rounds}\n")?,
-    };
-    Ok(text.into_bytes())
+    let words = finish_words(alloc, grid, finish, "\n")?;
+    Ok(format!(in alloc; "{words}\nrounds {rounds}\n")?.into_bytes())
 }
 
 /// The reply that tells how a run ended, and after how many rounds.

@@ -5,7 +5,7 @@ ghost use Rattle.beet_field.specs.Trio.{member};
 ghost use Rattle.beet_field.specs.declared.point.Point.{Point as Server};
 ghost use Rattle.beet_words.specs.Words.{IsWord, accepted};
 ghost use Rattle.beet_gates.specs.Plans.{plan_finish};
-ghost use Rattle.beet_plan.specs.Auction.{auction_batch, auction_over, auction_plan, most_coefficients, most_masks};
+ghost use Rattle.beet_plan.specs.Auction.{auction_batch, auction_plan, most_coefficients, most_masks};
 ghost use Rattle.beet_server.specs.Cores.{IsFresh, fresh};
 ghost use Rattle.beet_load.specs.Servers.{HaveEnough};
 ghost use Rattle.beet_run.specs.Runs.{EndsAuction, HasEndedRun, Starts};
@@ -20,16 +20,6 @@ use beet_server::{ServerCore, StartFault};
 use beet_words::FeList;
 use beet_world::lockstep;
 use std::alloc::Global;
-
-/// The script of an auction over the grid.
-fn script_over(grid: &Grid) -> AuctionScript
-    ensures { result ≡ auction_over grid.now }
-{
-    match AuctionScript::new(grid.prices(), grid.gates()) {
-        Some(script) => script,
-        None => unreachable!(),
-    }
-}
 
 /// A server that begins with these points and words.
 fn start(
@@ -72,7 +62,7 @@ pub fn start_servers(
     ensures memory { IfErr result (λ stop. stop ≡ Stop.OutOfMemory) }
     ensures starts { IfOk result (Starts grid.now inputs words) }
 {
-    let script = script_over(grid);
+    let script = AuctionScript::over(grid);
     let one = start(alloc, Point::One, script, inputs.one, words.one)?;
     let two = start(alloc, Point::Two, script, inputs.two, words.two)?;
     let three = start(alloc, Point::Three, script, inputs.three, words.three)?;

@@ -7,13 +7,13 @@ use Rattle.beet_run.proofs.Starting.{Begin, begins, inputs-wanted, starts}
 use Rattle.beet_run.proofs.running.start_servers.Goals as goal
 
 pub start-requires-clause-inputs : goal.start-requires-clause-inputs
-start-requires-clause-inputs c = inputs-wanted _ c.args.grid.now _ c.script_over-script.ensures (c.requires.inputs One)
+start-requires-clause-inputs c = inputs-wanted _ c.args.grid.now _ c.over-script.ensures (c.requires.inputs One)
 
 pub start-requires-2-clause-inputs : goal.start-requires-2-clause-inputs
-start-requires-2-clause-inputs c = inputs-wanted _ c.args.grid.now _ c.script_over-script.ensures (c.requires.inputs Two)
+start-requires-2-clause-inputs c = inputs-wanted _ c.args.grid.now _ c.over-script.ensures (c.requires.inputs Two)
 
 pub start-requires-3-clause-inputs : goal.start-requires-3-clause-inputs
-start-requires-3-clause-inputs c = inputs-wanted _ c.args.grid.now _ c.script_over-script.ensures (c.requires.inputs Three)
+start-requires-3-clause-inputs c = inputs-wanted _ c.args.grid.now _ c.over-script.ensures (c.requires.inputs Three)
 
 pub returns-in_err-three-clause-memory : goal.returns-in_err-three-clause-memory
 returns-in_err-three-clause-memory c =
@@ -26,7 +26,7 @@ returns-clause-starts c =
     let inputs = c.args.inputs in
     let words = c.args.words in
     let cores : Trio (Core Auction) = record { one = c.in_ok-one.one; two = c.in_ok-two.two; three = c.in_ok-three.three } in
-    let e = c.script_over-script.ensures in
+    let e = c.over-script.ensures in
     let one = c.in_ok-one.ensures in
     let two = c.in_ok-two.ensures in
     let three = c.in_ok-three.ensures in
