@@ -23,7 +23,7 @@ use Rattle.beet_world.specs.declared.schedule.TheConstants.{SCHEDULE_LIMIT}
 -- whether a server has ended with the third rejected mask
 abbrev pub is_spent : Standing → Bool
 is_spent (Waiting round) = false
-is_spent (Ended (Price place volume)) = false
+is_spent (Ended (Price place volume supply)) = false
 is_spent (Ended NoPrice) = false
 is_spent (Ended MasksSpent) = true
 

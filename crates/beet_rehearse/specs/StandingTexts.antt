@@ -3,20 +3,17 @@ use Rattle.std.specs.Prelude.{ℕ, List, ◌++◌, codes, decimal}
 use Rattle.beet_field.specs.Point.{number_of}
 use Rattle.beet_field.specs.declared.point.Point.{Point}
 use Rattle.beet_field.specs.declared.point.Point.TheVariants.{One, Two, Three}
-use Rattle.beet_bids.specs.Grids.{Grid, price_of}
+use Rattle.beet_bids.specs.Grids.{Grid}
 use Rattle.beet_errand.specs.Texts.{line_of}
-use Rattle.beet_plan.specs.declared.Finish.TheVariants.{Price, NoPrice, MasksSpent}
+use Rattle.beet_run.specs.OutcomeTexts.{finish_text}
 use Rattle.beet_rehearse.specs.declared.standing.Standing.{Standing}
 use Rattle.beet_rehearse.specs.declared.standing.Standing.TheVariants.{Waiting, Ended}
 use Rattle.beet_rehearse.specs.declared.standing.Rehearsal.{Rehearsal}
 
--- how a server stands: it waits in a round, or has ended with a price and the volume there, with none, or with the third rejected mask
+-- how a server stands: it waits in a round, or its run has ended so
 abbrev pub standing_text : Grid → Standing → List ℕ
 standing_text grid (Waiting round) = codes "round " ++ decimal round ++ codes " waiting"
-standing_text grid (Ended (Price place volume)) =
-    codes "price " ++ decimal (price_of grid place) ++ codes " volume " ++ decimal volume
-standing_text grid (Ended NoPrice) = codes "no price"
-standing_text grid (Ended MasksSpent) = codes "masks spent"
+standing_text grid (Ended finish) = finish_text (codes " ") grid finish
 
 -- the line of a server
 abbrev pub server_text : Grid → Point → Standing → List ℕ

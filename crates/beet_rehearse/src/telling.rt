@@ -9,6 +9,7 @@ use beet_bids::Grid;
 use beet_errand::{Reply, Status};
 use beet_field::Point;
 use beet_plan::Finish;
+use beet_run::finish_words;
 use std::alloc::{AllocError, Global};
 
 /// How a server stands, in words.
@@ -17,13 +18,7 @@ fn standing_words(alloc: Global, grid: &Grid, standing: &Standing) -> Result<Str
 {
     let words = match standing {
         Standing::Waiting(round) => format!(in alloc; "round {round} waiting")?,
-        Standing::Ended(Finish::Price { place, volume }) => {
-            let price = grid.base() + *place as u64 * grid.tick();
-            let volume = volume.value();
-            format!(in alloc; "price {price} volume {volume}")?
-        }
-        Standing::Ended(Finish::NoPrice) => String::from_str(alloc, "no price")?,
-        Standing::Ended(Finish::MasksSpent) => String::from_str(alloc, "masks spent")?,
+        Standing::Ended(finish) => finish_words(alloc, grid, finish, " ")?,
     };
     Ok(words)
 }

@@ -6,7 +6,7 @@ use Rattle.beet_load.specs.Loading.{Kept}
 use Rattle.beet_world.specs.Worlds.{named_in}
 use Rattle.beet_run.proofs.BookRuns.{kept-many}
 use Rattle.beet_rehearse.specs.Rehearsing.{Rehearses}
-use Rattle.beet_rehearse.proofs.JobEnds.{tells}
+use Rattle.beet_rehearse.proofs.JobEnds.{rehearsal-done, tells}
 use Rattle.beet_rehearse.proofs.rehearsing.rehearse.Goals as goal
 
 pub returns-in_err-loaded-clause-reads : goal.returns-in_err-loaded-clause-reads
@@ -39,3 +39,6 @@ returns-clause-reads g c =
     (rw c.as_slice.ensures.value at c.in_ok-rehearsal.ensures.rehearses) in
     bound c.in_ok-loaded.ensures (λ loaded kept. bind c.in_ok-deliveries.ensures (given
     (rw (c.in_ok-rehearsal_reply.ensures, ap (λ (k : Kept). k.grid) c.loaded.view_is) (tells c.in_ok-loaded.loaded loaded deliveries found kept rehearses))))
+
+pub returns-clause-done : goal.returns-clause-done
+returns-clause-done g c = rw (ap (λ answer. answer.status) c.in_ok-rehearsal_reply.ensures) (rehearsal-done c.in_ok-rehearsal.rehearsal)
