@@ -8,14 +8,15 @@ use Rattle.beet_gates.specs.declared.Gates.TheVariants.{Chain}
 use Rattle.beet_bids.specs.Books.{Book}
 use Rattle.beet_bids.specs.Curves.{Curve}
 use Rattle.beet_bids.specs.Grids.{Grid}
+use Rattle.beet_bids.specs.declared.outcomes.Policy.TheVariants.{Volume}
 use Rattle.beet_book.specs.Farmers.{Farmer, book_with}
 use Rattle.beet_plan.specs.Kept.{words_kept}
 use Rattle.beet_load.specs.Servers.{ServerWords, seeded}
 use Rattle.beet_trial.specs.declared.rules.TheConstants.{BASE, TICK, FIRST_SEED}
 
--- the grid with so many prices
+-- the grid with so many prices; the price and the volume are opened
 abbrev pub trial_grid : ℕ → Grid
-trial_grid prices = record { base = BASE; tick = TICK; prices = prices; gates = Chain }
+trial_grid prices = record { base = BASE; tick = TICK; prices = prices; gates = Chain; policy = Volume }
 
 -- the seed of a server: 32 bytes, each the server's number
 abbrev pub server_seed : ℕ → List ℕ
