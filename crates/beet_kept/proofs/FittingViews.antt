@@ -20,6 +20,7 @@ use Rattle.beet_gates.specs.declared.Act.TheVariants.{Deal, Mul, Reveal, End}
 use Rattle.beet_bids.specs.Books.{Book, IsBook}
 use Rattle.beet_bids.specs.Curves.{Curve, IsCurve}
 use Rattle.beet_bids.specs.Grids.{Grid, IsGrid}
+use Rattle.beet_bids.specs.declared.outcomes.Policy.{Policy}
 use Rattle.beet_bids.specs.declared.book.Bidder.{Bidder}
 use Rattle.beet_bids.specs.declared.grid.TheConstants.{MOST_PRICES}
 use Rattle.beet_bids.proofs.GridFacts.{comparisons-le}
@@ -89,9 +90,9 @@ sent-elements o s (Reveal shown) from to small = All-map IsElement (slice_index 
 sent-elements o s End from to small = All-nil IsElement
 
 -- an auction has no more rounds than a transcript holds
-rounds-few : (prices : ℕ) (gates : Gates) → prices ≤ MOST_PRICES → most_rounds (record { prices = prices; gates = gates }) ≤ MOST_ROUNDS
-rounds-few prices Chain few = let comparisons = comparisons-le prices 13 (omega (arith, few)) in omega (arith, comparisons)
-rounds-few prices Tree few = let comparisons = comparisons-le prices 13 (omega (arith, few)) in omega (arith, comparisons)
+rounds-few : (prices : ℕ) (gates : Gates) (policy : Policy) → prices ≤ MOST_PRICES → most_rounds (record { prices = prices; gates = gates; policy = policy }) ≤ MOST_ROUNDS
+rounds-few prices Chain policy few = let comparisons = comparisons-le prices 13 (omega (arith, few)) in omega (arith, comparisons)
+rounds-few prices Tree policy few = let comparisons = comparisons-le prices 13 (omega (arith, few)) in omega (arith, comparisons)
 
 module _ (book : Book) (words : Words) (g : IsGrid book.grid) (b : IsBook book) (can : CanRun book words) where
   abbrev auction : Auction
@@ -112,7 +113,7 @@ module _ (book : Book) (words : Words) (g : IsGrid book.grid) (b : IsBook book) 
   few-rounds : rounds_for book words ≤ MOST_ROUNDS
   few-rounds =
       let most = (lawful-rounds (setup_for book words) bounds (most_rounds auction) (2 * book.grid.prices) law).1 in
-      let few = rounds-few book.grid.prices book.grid.gates (omega (arith, g.prices_limit)) in
+      let few = rounds-few book.grid.prices book.grid.gates book.grid.policy (omega (arith, g.prices_limit)) in
       omega (arith, most, few)
 
   message-fits : (from to : Point) (t : ℕ) → t < rounds_for book words → IsMessage (message (setup_for book words) from to t)
