@@ -47,16 +47,21 @@ fn run(
     clear_run(alloc, script, inputs, masks)
 }
 
-/// How a run is to end: with a price at a place and what is opened there, the demand and then the supply, or else.
-type Ending = Result<(u32, &'static [u64]), Finish>;
+/// How a run is to end: with a price at a place and what is opened there of the demand and of the supply, or else.
+type Ending = Result<(u32, Option<u64>, Option<u64>), Finish>;
+
+/// An opened number, where it is opened.
+fn opened(number: Option<u64>) -> Option<Fe> {
+    number.map(|n| Fe::reduce(n as u128))
+}
 
 /// The end as the script has it.
 fn finish_of(ending: Ending) -> Finish {
     match ending {
-        Ok((place, shown)) => Finish::Price {
+        Ok((place, volume, supply)) => Finish::Price {
             place,
-            volume: shown.first().map(|n| Fe::reduce(*n as u128)),
-            supply: shown.get(1).map(|n| Fe::reduce(*n as u128)),
+            volume: opened(volume),
+            supply: opened(supply),
         },
         Err(finish) => finish,
     }
@@ -103,7 +108,14 @@ fn expect_run(
 }
 
 /// What a policy opens beside the price, sums at one price, how many masks are rejected, the numbers that are opened, the end and the rounds.
-type Opening = (Policy, &'static [u64], usize, &'static [u64], Ending, Rounds);
+type Opening = (
+    Policy,
+    &'static [u64],
+    usize,
+    &'static [u64],
+    Ending,
+    Rounds,
+);
 
 const OPENINGS: [Opening; 6] = [
     (
@@ -127,7 +139,7 @@ const OPENINGS: [Opening; 6] = [
         &[40, 35],
         0,
         &[0, 110, 1],
-        Ok((0, &[])),
+        Ok((0, None, None)),
         (127, 19),
     ),
     (
@@ -135,7 +147,7 @@ const OPENINGS: [Opening; 6] = [
         &[40, 35],
         0,
         &[0, 110, 1, 35],
-        Ok((0, &[35])),
+        Ok((0, Some(35), None)),
         (128, 20),
     ),
     (
@@ -143,7 +155,7 @@ const OPENINGS: [Opening; 6] = [
         &[40, 35],
         0,
         &[0, 110, 1, 35, 40],
-        Ok((0, &[35, 40])),
+        Ok((0, Some(35), Some(40))),
         (128, 20),
     ),
     (
@@ -193,20 +205,62 @@ const WORKED: &[u64] = &[0, 20, 40, 60, 50, 50, 35, 10];
 type Worked = (u32, Policy, &'static [u64], usize, Ending, Rounds);
 
 const BOOKS: [Worked; 15] = [
-    (4, Policy::Price, WORKED, 0, Ok((2, &[])), (254, 38)),
-    (4, Policy::Price, WORKED, 1, Ok((2, &[])), (318, 48)),
-    (4, Policy::Full, WORKED, 0, Ok((2, &[35, 40])), (255, 39)),
-    (4, Policy::Full, WORKED, 3, Err(Finish::MasksSpent), (192, 30)),
-    (4, Policy::Volume, WORKED, 0, Ok((2, &[35])), (255, 39)),
-    (4, Policy::Volume, WORKED, 1, Ok((2, &[35])), (319, 49)),
-    (4, Policy::Volume, WORKED, 3, Err(Finish::MasksSpent), (192, 30)),
-    (4, Policy::Volume, &[0, 0, 0, 0, 0, 0, 0, 0], 0, Ok((0, &[0])), (382, 58)),
+    (4, Policy::Price, WORKED, 0, Ok((2, None, None)), (254, 38)),
+    (4, Policy::Price, WORKED, 1, Ok((2, None, None)), (318, 48)),
+    (
+        4,
+        Policy::Full,
+        WORKED,
+        0,
+        Ok((2, Some(35), Some(40))),
+        (255, 39),
+    ),
+    (
+        4,
+        Policy::Full,
+        WORKED,
+        3,
+        Err(Finish::MasksSpent),
+        (192, 30),
+    ),
+    (
+        4,
+        Policy::Volume,
+        WORKED,
+        0,
+        Ok((2, Some(35), None)),
+        (255, 39),
+    ),
+    (
+        4,
+        Policy::Volume,
+        WORKED,
+        1,
+        Ok((2, Some(35), None)),
+        (319, 49),
+    ),
+    (
+        4,
+        Policy::Volume,
+        WORKED,
+        3,
+        Err(Finish::MasksSpent),
+        (192, 30),
+    ),
+    (
+        4,
+        Policy::Volume,
+        &[0, 0, 0, 0, 0, 0, 0, 0],
+        0,
+        Ok((0, Some(0), None)),
+        (382, 58),
+    ),
     (
         4,
         Policy::Volume,
         &[0, 30, 40, 50, 50, 30, 20, 10],
         0,
-        Ok((1, &[30])),
+        Ok((1, Some(30), None)),
         (382, 58),
     ),
     (
@@ -217,11 +271,46 @@ const BOOKS: [Worked; 15] = [
         Err(Finish::NoPrice),
         (254, 38),
     ),
-    (1, Policy::Volume, &[0, 0], 0, Ok((0, &[0])), (128, 20)),
-    (1, Policy::Volume, &[0, 1], 0, Err(Finish::NoPrice), (127, 19)),
-    (1, Policy::Volume, &[0, MOST], 0, Err(Finish::NoPrice), (127, 19)),
-    (1, Policy::Volume, &[MOST, MOST], 0, Ok((0, &[MOST])), (128, 20)),
-    (1, Policy::Volume, &[MOST, MOST], 2, Ok((0, &[MOST])), (256, 40)),
+    (
+        1,
+        Policy::Volume,
+        &[0, 0],
+        0,
+        Ok((0, Some(0), None)),
+        (128, 20),
+    ),
+    (
+        1,
+        Policy::Volume,
+        &[0, 1],
+        0,
+        Err(Finish::NoPrice),
+        (127, 19),
+    ),
+    (
+        1,
+        Policy::Volume,
+        &[0, MOST],
+        0,
+        Err(Finish::NoPrice),
+        (127, 19),
+    ),
+    (
+        1,
+        Policy::Volume,
+        &[MOST, MOST],
+        0,
+        Ok((0, Some(MOST), None)),
+        (128, 20),
+    ),
+    (
+        1,
+        Policy::Volume,
+        &[MOST, MOST],
+        2,
+        Ok((0, Some(MOST), None)),
+        (256, 40),
+    ),
 ];
 
 /// Runs the book of each case with this kind of gates.

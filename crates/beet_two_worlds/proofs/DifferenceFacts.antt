@@ -2,6 +2,7 @@
 use Rattle.std.proofs.Common.{◌≡◌, ◌≢◌, ◌<◌, ◌≤◌, ◌+◌, ◌==◌, ◌&&◌, ℕ, zero, suc, Bool, true, false, true≢false, not, max, List, [], ◌∷◌, map, length, slice_get, Option, Some, None, refl, sym, ap, ◌∙◌, arith}
 use Rattle.std.specs.Prelude.{option_map, nat_eq, if◌then◌else◌}
 use Rattle.std.specs.Cmp.Lexicographic.{pointwise, bytes_decides}
+use Rattle.std.specs.Option.{option_eq}
 use Rattle.std.proofs.lemmas.Bool.{eq-eqb, eqb-true, and_parts, false_from_ne_true}
 use Rattle.beet_field.specs.declared.point.Point.{Point}
 use Rattle.beet_bids.specs.Books.{Book}
@@ -11,6 +12,7 @@ use Rattle.beet_bids.specs.declared.book.Bidder.{Bidder}
 use Rattle.beet_bids.specs.declared.outcomes.Outcome.{Outcome}
 use Rattle.beet_bids.specs.declared.outcomes.Outcome.TheVariants.{Price, No}
 use Rattle.beet_bids.proofs.GridFacts.{find-range_none, find-range_some}
+use Rattle.beet_delivery.specs.Events.{same}
 use Rattle.beet_delivery.proofs.EventFacts.{same_is, same_self}
 use Rattle.beet_view.specs.BookViews.{names}
 use Rattle.beet_map.specs.Refused.{DifferFirst}
@@ -18,18 +20,20 @@ use Rattle.beet_worlds.specs.Agreement.{Agree, SameKnown, marks_of}
 use Rattle.beet_worlds.specs.Disagreement.{KnownDiffersAt, Refuses}
 use Rattle.beet_worlds.specs.declared.agreeing.MapFault.{MapFault}
 use Rattle.beet_worlds.specs.declared.agreeing.MapFault.TheVariants.{ShapeDiffers, OwnBidsDiffer, OutcomesDiffer, OutOfMemory}
-use Rattle.beet_two_worlds.specs.Differences.{same_mark, same_shape, same_curve, other_own, same_outcome, shape_between, own_between, outcomes_between, difference_between, or_then}
+use Rattle.beet_two_worlds.specs.Differences.{same_shape, same_curve, other_own, same_outcome, shape_between, own_between, outcomes_between, difference_between, or_then}
 use Rattle.std.proofs.lemmas.Option.{slice_get_past, slice_get_within}
 
-mark-own : (m : Option Point) → same_mark m m ≡ true
-mark-own None = refl
-mark-own (Some s) = same_self s
+-- a test that says of two values whether they are the same says it also where there may be none
+option-own : {A : Type 0} (test : A → A → Bool) → ((x : A) → test x x ≡ true) → (one : Option A) → option_eq test one one ≡ true
+option-own test own None = refl
+option-own test own (Some x) = own x
 
-mark-is : (m n : Option Point) → same_mark m n ≡ true → m ≡ n
-mark-is None None e = refl
-mark-is None (Some t) e = absurd (true≢false (sym e))
-mark-is (Some s) None e = absurd (true≢false (sym e))
-mark-is (Some s) (Some t) e = ap Some (same_is s t e)
+option-is : {A : Type 0} (test : A → A → Bool) → ((x y : A) → test x y ≡ true → x ≡ y) → (one other : Option A) →
+    option_eq test one other ≡ true → one ≡ other
+option-is test is None None e = refl
+option-is test is None (Some y) e = absurd (true≢false (sym e))
+option-is test is (Some x) None e = absurd (true≢false (sym e))
+option-is test is (Some x) (Some y) e = ap Some (is x y e)
 
 -- the mark of a bidder, if there is one
 abbrev mark_at : Option Bidder → Option (Option Point)
@@ -41,13 +45,13 @@ shape-own None (Some y) e = absurd (cc e)
 shape-own (Some x) None e = absurd (cc e)
 shape-own (Some x) (Some y) e =
     let known : x.known ≡ y.known = cc e in
-    ap (λ m. same_mark m y.known) known ∙ mark-own y.known
+    ap (λ m. option_eq same m y.known) known ∙ option-own same same_self y.known
 
 shape-is : (one other : Option Bidder) → same_shape one other ≡ true → mark_at one ≡ mark_at other
 shape-is None None e = refl
 shape-is None (Some y) e = absurd (true≢false (sym e))
 shape-is (Some x) None e = absurd (true≢false (sym e))
-shape-is (Some x) (Some y) e = ap Some (mark-is x.known y.known e)
+shape-is (Some x) (Some y) e = ap Some (option-is same same_is x.known y.known e)
 
 marks-at : (bidders : List Bidder) (n : ℕ) → slice_get (map (λ (bidder : Bidder). bidder.known) bidders) n ≡ mark_at (slice_get bidders n)
 marks-at [] n = refl
@@ -145,21 +149,24 @@ own-some s first second n d =
 
 outcome-own : (o : Outcome) → same_outcome o o ≡ true
 outcome-own No = refl
-outcome-own (Price place price volume) =
-    (λ i. (eq-eqb place place refl i) && (price == price) && (volume == volume))
-    ∙ (λ i. (eq-eqb price price refl i) && (volume == volume)) ∙ eq-eqb volume volume refl
+outcome-own (Price place price volume supply) =
+    let own = option-own nat_eq (λ n. eq-eqb n n refl) in
+    λ i. (eq-eqb place place refl i) && (eq-eqb price price refl i) && own volume i && own supply i
 
 outcome-is : (one other : Outcome) → same_outcome one other ≡ true → other ≡ one
 outcome-is No No e = refl
-outcome-is No (Price place price volume) e = absurd (true≢false (sym e))
-outcome-is (Price place price volume) No e = absurd (true≢false (sym e))
-outcome-is (Price place price volume) (Price place' price' volume') e =
-    let b = and_parts ((place == place') && (price == price')) (volume == volume') e in
-    let c = and_parts (place == place') (price == price') b.0 in
-    let x = eqb-true place place' c.0 in
-    let y = eqb-true price price' c.1 in
-    let z = eqb-true volume volume' b.1 in
-    sym (λ i. Price (x i) (y i) (z i))
+outcome-is No (Price place price volume supply) e = absurd (true≢false (sym e))
+outcome-is (Price place price volume supply) No e = absurd (true≢false (sym e))
+outcome-is (Price place price volume supply) (Price place' price' volume' supply') e =
+    let is = option-is nat_eq eqb-true in
+    let b = and_parts ((place == place') && (price == price') && option_eq nat_eq volume volume') (option_eq nat_eq supply supply') e in
+    let c = and_parts ((place == place') && (price == price')) (option_eq nat_eq volume volume') b.0 in
+    let d = and_parts (place == place') (price == price') c.0 in
+    let w = eqb-true place place' d.0 in
+    let x = eqb-true price price' d.1 in
+    let y = is volume volume' c.1 in
+    let z = is supply supply' b.1 in
+    sym (λ i. Price (w i) (x i) (y i) (z i))
 
 told : Bool → Outcome → Outcome → Option MapFault
 told b one other = if b then None else Some (OutcomesDiffer one other)

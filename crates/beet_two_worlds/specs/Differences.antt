@@ -2,6 +2,7 @@
 use Rattle.std.specs.Prelude.{ℕ, ◌+◌, ◌==◌, ◌&&◌, max, not, List, [], ◌++◌, length, slice_get, nat_eq, Bool, true, false, find, if◌then◌else◌, Option, Some, None, option_map, codes, decimal}
 use Rattle.std.specs.Cmp.Lexicographic.{pointwise}
 use Rattle.std.specs.List.{range_with_len}
+use Rattle.std.specs.Option.{option_eq}
 use Rattle.beet_field.specs.declared.point.Point.{Point}
 use Rattle.beet_bids.specs.Books.{Book}
 use Rattle.beet_bids.specs.Curves.{Curve}
@@ -11,21 +12,14 @@ use Rattle.beet_bids.specs.declared.outcomes.Outcome.{Outcome}
 use Rattle.beet_bids.specs.declared.outcomes.Outcome.TheVariants.{Price, No}
 use Rattle.beet_delivery.specs.Events.{same}
 use Rattle.beet_errand.specs.Texts.{line_of}
+use Rattle.beet_run.specs.OutcomeTexts.{opened_text}
 use Rattle.beet_view.specs.BookViews.{names}
 use Rattle.beet_worlds.specs.declared.agreeing.MapFault.{MapFault}
 use Rattle.beet_worlds.specs.declared.agreeing.MapFault.TheVariants.{ShapeDiffers, OwnBidsDiffer, OutcomesDiffer, OutOfMemory}
 
--- whether two marks are the same
-abbrev pub same_mark : Option Point → Option Point → Bool
-same_mark None None = true
-same_mark (Some one) (Some other) = same one other
-same_mark _ _ = false
-
 -- whether there are two bidders with one mark, or none
 abbrev pub same_shape : Option Bidder → Option Bidder → Bool
-same_shape None None = true
-same_shape (Some one) (Some other) = same_mark one.known other.known
-same_shape _ _ = false
+same_shape = option_eq (λ one other. option_eq same one.known other.known)
 
 -- whether two curves have the same quantities
 abbrev pub same_curve : Curve → Curve → Bool
@@ -39,8 +33,8 @@ other_own s _ _ = false
 -- whether two outcomes are the same
 abbrev pub same_outcome : Outcome → Outcome → Bool
 same_outcome No No = true
-same_outcome (Price place price volume) (Price place' price' volume') =
-    (place == place') && (price == price') && (volume == volume')
+same_outcome (Price place price volume supply) (Price place' price' volume' supply') =
+    (place == place') && (price == price') && option_eq nat_eq volume volume' && option_eq nat_eq supply supply'
 same_outcome _ _ = false
 
 -- the first of so many places that passes a test
@@ -76,9 +70,10 @@ abbrev pub difference_between : Point → Book → Book → Option MapFault
 difference_between s first second =
     or_then (shape_between first second) (or_then (own_between s first second) (outcomes_between first second))
 
--- an outcome in a line
+-- an outcome in a line: its price, and behind slashes what it holds of the volume and the supply
 abbrev pub outcome_word : Outcome → List ℕ
-outcome_word (Price place price volume) = decimal price ++ codes "/" ++ decimal volume
+outcome_word (Price place price volume supply) =
+    decimal price ++ opened_text (codes "/") [] volume ++ opened_text (codes "/") [] supply
 outcome_word No = codes "none"
 
 -- the line of a refusal; where memory ran out nothing is said

@@ -1,7 +1,8 @@
 //! The lines that refuse two books.
 
-ghost use Rattle.std.specs.Prelude.{◌≡◌, ◌++◌, IfOk, codes, decimal, string_bytes};
+ghost use Rattle.std.specs.Prelude.{◌≡◌, ◌++◌, [], IfOk, codes, decimal, string_bytes};
 ghost use Rattle.beet_errand.specs.Texts.{line_of};
+ghost use Rattle.beet_run.specs.OutcomeTexts.{opened_text};
 ghost use Rattle.beet_two_worlds.specs.Differences.{outcome_word as word_of, refused_text};
 ghost use Rattle.beet_two_worlds.specs.Ending.{IsLineOf, TellsRefusal};
 
@@ -10,11 +11,32 @@ use beet_errand::{Status, Stop};
 use beet_worlds::MapFault;
 use std::alloc::{AllocError, Global};
 
-/// A price and a volume as a refusal tells them.
-fn price_word(alloc: Global, price: u64, volume: u64) -> Result<String, AllocError>
-    ensures { IfOk result (λ word. string_bytes word ≡ decimal price ++ codes "/" ++ decimal volume) }
+/// A number after a slash, where there is one.
+fn slashed(alloc: Global, number: Option<u64>) -> Result<String, AllocError>
+    ensures { IfOk result (λ word. string_bytes word ≡ opened_text (codes "/") [] number) }
 {
-    let word = format!(in alloc; "{price}/{volume}")?;
+    match number {
+        Some(number) => {
+            let word = format!(in alloc; "/{number}")?;
+            Ok(word)
+        }
+        None => Ok(String::new(alloc)),
+    }
+}
+
+/// A price as a refusal tells it, with the volume and the supply where they are opened.
+fn price_word(
+    alloc: Global,
+    price: u64,
+    volume: Option<u64>,
+    supply: Option<u64>,
+) -> Result<String, AllocError>
+    ensures { IfOk result (λ word. string_bytes word
+        ≡ decimal price ++ opened_text (codes "/") [] volume ++ opened_text (codes "/") [] supply) }
+{
+    let volume = slashed(alloc, volume)?;
+    let supply = slashed(alloc, supply)?;
+    let word = format!(in alloc; "{price}{volume}{supply}")?;
     Ok(word)
 }
 
@@ -23,7 +45,12 @@ fn outcome_word(alloc: Global, outcome: Outcome) -> Result<String, AllocError>
     ensures { IfOk result (λ word. string_bytes word ≡ word_of outcome) }
 {
     match outcome {
-        Outcome::Price { price, volume, .. } => price_word(alloc, price, volume),
+        Outcome::Price {
+            price,
+            volume,
+            supply,
+            ..
+        } => price_word(alloc, price, volume, supply),
         Outcome::No => String::from_str(alloc, "none"),
     }
 }
