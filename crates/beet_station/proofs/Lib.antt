@@ -1,3 +1,0 @@
-pub mod Hearing
-pub mod Turns
-pub mod Ends
