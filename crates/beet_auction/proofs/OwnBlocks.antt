@@ -13,7 +13,7 @@ use Rattle.beet_gates.specs.declared.Linear.{Linear}
 use Rattle.beet_gates.proofs.EachFacts.{length-each, each-zero, each-cons, each-suc, turns}
 use Rattle.beet_gates.proofs.LevelRuns.{next_item-has}
 use Rattle.beet_mask.specs.Mask.{bit_lets, bit_wire_of, chain_batches as mask_chain, mask_batches, product_batches, tree_batches as mask_tree, xor_let}
-use Rattle.beet_compare.specs.Compare.{bit_lets as compare_lets, compare_wires_of, chain_batches, last_batches, last_let, level_lets, level_products, masked_batch, next_less, next_same, borrow_batches, product_batch, same_let, lowest_batch, bit_batch, answer_batch, tree_batches}
+use Rattle.beet_compare.specs.Compare.{borrow_lets, compare_wires_of, chain_batches, last_batches, last_let, level_lets, level_products, masked_batch, next_less, next_same, borrow_batches, low_bit_batch, same_let, lowest_batch, bit_batch, answer_batch, tree_batches}
 use Rattle.beet_compare.proofs.CompareTable.{last_two}
 use Rattle.beet_gates.specs.declared.Gates.{Gates}
 use Rattle.beet_gates.specs.declared.Gates.TheVariants.{Chain, Tree}
@@ -185,7 +185,7 @@ module _ (start : ℕ) where
       BlockOwn start n (last_batches lets borrow low start c) × (wires_after_all n (last_batches lets borrow low start c) ≡ n + length lets + 3)
   last-own lets borrow low c n below own there =
       let end = same_let (1 - bit_at c 0) (start + before_bits) in
-      let product = product_batch lets borrow low start c in
+      let product = low_bit_batch lets borrow low start c in
       let answer = answer_batch borrow low in
       let len = length-append lets (end ∷ []) in (
         own-cons n product (answer ∷ []) (
@@ -269,12 +269,12 @@ module _ (start : ℕ) where
       let n = start + (mask_wires + 61) in
       let less = λ (k : ℕ). one_term 0 (1 - bit_at c k, start + 366 + k) in
       let equal = λ (k : ℕ). same_let (bit_at c k) (start + 366 + k) in
-      let lets : LetsOwn start n (compare_lets start c) =
+      let lets : LetsOwn start n (borrow_lets start c) =
       lets-each n (by_turns less equal) (2 * 61)
       (turns (λ k rule. TermsOwn start rule.terms) less equal 61
       (λ i l. (inr (omega arith, omega (arith, l)), (inl refl, (inl refl, tt))))
       (λ i l. same-own (bit_at c i) (start + 366 + i) (omega arith, omega (arith, l)))) in
-      let m = levels-own 6 61 (compare_lets start c) (λ k. first + 61 + 2 * k) (λ k. first + 62 + 2 * k) (first + 183) c n lets
+      let m = levels-own 6 61 (borrow_lets start c) (λ k. first + 61 + 2 * k) (λ k. first + 62 + 2 * k) (first + 183) c n lets
       (λ k l. (omega arith, omega arith)) (λ k l. (omega arith, omega arith)) (omega arith) (omega arith) (omega arith) in
       (m.0, omega (arith, m.1, length-each (by_turns less equal) (2 * 61)))
 

@@ -8,7 +8,7 @@ use Rattle.beet_gates.specs.Linears.{three_terms}
 use Rattle.beet_gates.proofs.Bits.{bit_cases, mul_of-bits}
 use Rattle.beet_gates.proofs.Segments.{Holds, index-append, index-new, with_lets-append}
 use Rattle.beet_gates.proofs.Sums.{value-three_terms}
-use Rattle.beet_compare.specs.Compare.{same_let, product_batch, answer_batch, last_batches}
+use Rattle.beet_compare.specs.Compare.{same_let, low_bit_batch, answer_batch, last_batches}
 use Rattle.beet_compare.proofs.Borrow.{same, same-lt, same-value, other-value, answer-value}
 
 -- whether a wire has the bit
@@ -44,7 +44,7 @@ last-run deals lets place low mask r c g wires v made len bits below at_g hg =
     let g_there : slice_index with_b place ≡ g = index-append wires (b ∷ []) place (omega (arith, below, len)) ∙ at_g in
     let product : product_of with_b (low, place) ≡ b * g = rw (b_there, g_there) (mul_of-bits b g hb hg) in
     let full = with_b ++ b * g ∷ [] in
-    let multiplied : batch_on deals (product_batch lets place low mask c) v ≡ record v { wires = full } = rw (all, product) refl in
+    let multiplied : batch_on deals (low_bit_batch lets place low mask c) v ≡ record v { wires = full } = rw (all, product) refl in
     let len_b : length with_b ≡ low + 1 = omega (arith, len, length-append wires (b ∷ [])) in
     let len_full : length full ≡ low + 2 = omega (arith, len_b, length-append with_b (b * g ∷ [])) in
     let o = (1 + b + g) % 2 in

@@ -15,7 +15,7 @@ use Rattle.beet_gates.proofs.EachFacts.{length-each, turns}
 use Rattle.beet_gates.proofs.LevelRuns.{next_item-has}
 use Rattle.beet_gates.proofs.Standings.{Moved, pairs_below-each, lets_below-each, lets_below-append, block-cons, block-last, block-append, quiet-each, after_all-append}
 use Rattle.beet_field.specs.Field.{p}
-use Rattle.beet_compare.specs.Compare.{masked_batch, bit_lets, borrow_batches, chain_batches, compare_draws_of, compare_wires_of, last_batches, last_let, level_lets, level_products, next_less, next_same, product_batch, same_let, lowest_batch, bit_batch, answer_batch, tree_batches}
+use Rattle.beet_compare.specs.Compare.{masked_batch, borrow_lets, borrow_batches, chain_batches, compare_draws_of, compare_wires_of, last_batches, last_let, level_lets, level_products, next_less, next_same, low_bit_batch, same_let, lowest_batch, bit_batch, answer_batch, tree_batches}
 use Rattle.beet_compare.proofs.CompareTable.{last_two}
 
 pub masked-stands : (first mask supply demand : ℕ) (s : Standing) → s.wires ≡ first → mask + 487 ≤ first → supply < first → demand < first →
@@ -46,7 +46,7 @@ last-stands : (lets : List Linear) (borrow low mask c : ℕ) (s : Standing) → 
 last-stands lets borrow low mask c s e below few there bit =
     let end = same_let (1 - bit_at c 0) (mask + 366) in
     let len : length (lets ++ end ∷ []) ≡ length lets + 1 = omega (arith, length-append lets (end ∷ [])) in
-    let one = product_batch lets borrow low mask c in
+    let one = low_bit_batch lets borrow low mask c in
     let two = answer_batch borrow low in
     let now = after s one in
     let ends = lets_below-append s.wires lets (end ∷ []) below (same_let-below (s.wires + length lets) (1 - bit_at c 0) (mask + 366) (omega (arith, e, bit)), tt) in (
@@ -149,11 +149,11 @@ borrow-stands Tree first mask c s e hm =
     let less = λ (k : ℕ). one_term 0 (1 - bit_at c k, mask + 366 + k) in
     let equal = λ (k : ℕ). same_let (bit_at c k) (mask + 366 + k) in
     let len = length-each (by_turns less equal) (2 * 61) in
-    let lets : LetsBelow s.wires (bit_lets mask c) =
+    let lets : LetsBelow s.wires (borrow_lets mask c) =
     lets_below-each s.wires (by_turns less equal) (2 * 61)
     (turns (λ k rule. TermsBelow (s.wires + k) rule.terms) less equal 61
     (λ i l. (omega (arith, e, hm, l), (omega (arith, e, l), (omega (arith, e, l), tt))))
     (λ i l. same_let-below (s.wires + (2 * i + 1)) (bit_at c i) (mask + 366 + i) (omega (arith, e, hm, l)))) in
-    let m = tree-stands 6 61 (bit_lets mask c) (λ k. first + 61 + 2 * k) (λ k. first + 62 + 2 * k) (first + 183) mask c s (omega (arith, e, len)) lets
+    let m = tree-stands 6 61 (borrow_lets mask c) (λ k. first + 61 + 2 * k) (λ k. first + 62 + 2 * k) (first + 183) mask c s (omega (arith, e, len)) lets
     (omega (arith, len)) (omega arith) (omega arith) (omega arith) (λ k l. omega (arith, l)) (λ k l. omega (arith, l)) (omega (arith, hm)) in
     (m.0, record { more_wires = omega (arith, m.1.more_wires, len); more_masks = m.1.more_masks; more_coefficients = m.1.more_coefficients })

@@ -16,7 +16,7 @@ use Rattle.beet_gates.proofs.LevelFacts.{Covers, next-covers, covers-one}
 use Rattle.beet_gates.proofs.LevelRuns.{Listed, listed-append, listed-next, listed-as, next_item-of, next_item-result}
 use Rattle.beet_gates.proofs.Segments.{Holds, holds-append, holds-new, products-each, with_lets-each}
 use Rattle.beet_gates.proofs.Sums.{value-three_terms}
-use Rattle.beet_compare.specs.Compare.{bit_lets, borrow_batches, level_lets, level_products, next_less, next_same, same_let, tree_batches}
+use Rattle.beet_compare.specs.Compare.{borrow_lets, borrow_batches, level_lets, level_products, next_less, next_same, same_let, tree_batches}
 use Rattle.beet_compare.proofs.AnswerRun.{same_let-value, last-run}
 use Rattle.beet_compare.proofs.Borrow.{borrow, same, less-bit_at, same-bit_at, first-value}
 use Rattle.beet_compare.proofs.BorrowRun.{AfterBorrow}
@@ -161,7 +161,7 @@ module _ (deals : ℕ → List ℕ) (mask c r : ℕ) where
 
   -- the lets of all bits
   bits-made : (wires : List ℕ) → Holds wires (mask + 366) 61 (bit_at r) →
-      with_lets wires (bit_lets mask c) ≡ wires ++ each (by_turns (λ k. (less_and_same c r k (k + 1)).0) (λ k. (less_and_same c r k (k + 1)).1)) (2 * 61)
+      with_lets wires (borrow_lets mask c) ≡ wires ++ each (by_turns (λ k. (less_and_same c r k (k + 1)).0) (λ k. (less_and_same c r k (k + 1)).1)) (2 * 61)
   bits-made wires bits =
       let less = λ (k : ℕ). (less_and_same c r k (k + 1)).0 in
       let equal = λ (k : ℕ). (less_and_same c r k (k + 1)).1 in
@@ -206,7 +206,7 @@ module _ (deals : ℕ → List ℕ) (mask c r : ℕ) where
               rw (start, stop) refl;
         };
       } in
-      let m = levels-run 6 1 61 (bit_lets mask c) (λ k. first + 61 + 2 * k) (λ k. first + 62 + 2 * k) value (first + 183) wires v (bits-made v.wires bits) len_wires
+      let m = levels-run 6 1 61 (borrow_lets mask c) (λ k. first + 61 + 2 * k) (λ k. first + 62 + 2 * k) value (first + 183) wires v (bits-made v.wires bits) len_wires
       (omega arith) (omega arith) (holds-append v.wires leaves (mask + 366) 61 _ bits) stored in
       record {
         more = leaves ++ m.more;

@@ -65,14 +65,14 @@ bit_batch first mask c j =
 
 -- the last two batches: after the lets, b := r_0 where c_0 = 0, else 1 - r_0, is the wire `low`, and its product with the whole borrow, which is
 -- the wire `borrow`, is f; then o := 1 - b - g + 2 f is opened
-abbrev pub product_batch : List Linear → ℕ → ℕ → ℕ → ℕ → Batch
-product_batch lets borrow low mask c = mul_batch (lets ++ same_let (1 - bit_at c 0) (mask + WIRES_BEFORE_BITS) ∷ []) ((low, borrow) ∷ [])
+abbrev pub low_bit_batch : List Linear → ℕ → ℕ → ℕ → ℕ → Batch
+low_bit_batch lets borrow low mask c = mul_batch (lets ++ same_let (1 - bit_at c 0) (mask + WIRES_BEFORE_BITS) ∷ []) ((low, borrow) ∷ [])
 
 abbrev pub answer_batch : ℕ → ℕ → Batch
 answer_batch borrow low = reveal_batch (three_terms 1 (p - 1, low) (p - 1, borrow) (2, low + 1) ∷ []) ((low + 2) ∷ [])
 
 abbrev pub last_batches : List Linear → ℕ → ℕ → ℕ → ℕ → List Batch
-last_batches lets borrow low mask c = product_batch lets borrow low mask c ∷ answer_batch borrow low ∷ []
+last_batches lets borrow low mask c = low_bit_batch lets borrow low mask c ∷ answer_batch borrow low ∷ []
 
 -- of a chain: step 61 has g_60 := (1 - c_60) r_60 + the product before
 abbrev pub last_let : ℕ → ℕ → ℕ → Linear
@@ -83,8 +83,8 @@ chain_batches first mask c =
     lowest_batch first mask c ∷ (each (bit_batch first mask c) 59 ++ last_batches (last_let first mask c ∷ []) (first + 241) (first + 242) mask c)
 
 -- of a tree: step 1 has for each bit g_k := (1 - c_k) r_k and q_k := same_k
-abbrev pub bit_lets : ℕ → ℕ → List Linear
-bit_lets mask c =
+abbrev pub borrow_lets : ℕ → ℕ → List Linear
+borrow_lets mask c =
     each (by_turns (λ k. one_term 0 (1 - bit_at c k, mask + WIRES_BEFORE_BITS + k)) (λ k. same_let (bit_at c k) (mask + WIRES_BEFORE_BITS + k))) (2 * 61)
 
 -- the products of so many pairs of wires g and q: of each pair that of the high q and the low g, and that of the high and the low q
@@ -127,7 +127,7 @@ tree_batches (suc levels) mask c lets n g q free =
 -- the batches after c was opened, in order; the lists of a tree have 61, 31, 16, 8, 4, 2 and 1 items
 abbrev pub borrow_batches : Gates → ℕ → ℕ → ℕ → List Batch
 borrow_batches Chain first mask c = chain_batches first mask c
-borrow_batches Tree first mask c = tree_batches 6 mask c (bit_lets mask c) 61 (λ k. first + 61 + 2 * k) (λ k. first + 62 + 2 * k) (first + 183)
+borrow_batches Tree first mask c = tree_batches 6 mask c (borrow_lets mask c) 61 (λ k. first + 61 + 2 * k) (λ k. first + 62 + 2 * k) (first + 183)
 
 -- the batches of a block, in order
 abbrev pub compare_batches : Gates → ℕ → ℕ → ℕ → ℕ → ℕ → List Batch

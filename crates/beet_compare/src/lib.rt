@@ -13,7 +13,7 @@ ghost use Rattle.beet_gates.specs.Each.{each};
 ghost use Rattle.beet_gates.specs.Levels.{wire_of};
 ghost use Rattle.beet_gates.specs.declared.TheConstants.{MOST_LETS};
 ghost use Rattle.beet_gates.specs.Linears.{three_terms, two_terms};
-ghost use Rattle.beet_compare.specs.Compare.{compare_rounds_of, compare_wires_of, masked_batch, same_let, lowest_batch, bit_batch, product_batch, answer_batch, last_let, chain_batches, bit_lets, level_products, level_lets, bits_less, bits_same, level_less, level_same, borrow_batches, compare_batches, doubled, is_doubled_even, BeforeCompare, AfterCompare};
+ghost use Rattle.beet_compare.specs.Compare.{compare_rounds_of, compare_wires_of, masked_batch, same_let, lowest_batch, bit_batch, low_bit_batch, answer_batch, last_let, chain_batches, borrow_lets, level_products, level_lets, bits_less, bits_same, level_less, level_same, borrow_batches, compare_batches, doubled, is_doubled_even, BeforeCompare, AfterCompare};
 
 use arrayvec::ArrayVec;
 use beet_field::{Fe, MINUS_ONE, MINUS_TWO};
@@ -186,7 +186,7 @@ fn set_next_bit(batch: &mut Batch, first: u32, mask: u32, c: Fe, j: u32)
 fn set_last_product(batch: &mut Batch, borrow: u32, low: u32, mask: u32, c: Fe)
     requires room { length batch.old.lets.items < MOST_LETS }
     requires mask { mask + MASK_WIRES < 2 ^ 32 }
-    ensures { batch.new ≡ product_batch batch.old.lets.items borrow low mask c }
+    ensures { batch.new ≡ low_bit_batch batch.old.lets.items borrow low mask c }
 {
     let low_bit = same(1 - bit(c, 0), mask + WIRES_BEFORE_BITS);
     batch.add_let(low_bit.constant, low_bit.terms);
@@ -212,7 +212,7 @@ fn set_answer(batch: &mut Batch, borrow: u32, low: u32)
 fn set_last_bit(batch: &mut Batch, first: u32, mask: u32, c: Fe)
     requires first { first + TREE_WIRES < 2 ^ 32 }
     requires mask { mask + MASK_WIRES < 2 ^ 32 }
-    ensures { batch.new ≡ product_batch (last_let first mask c ∷ []) (first + 241) (first + 242) mask c }
+    ensures { batch.new ≡ low_bit_batch (last_let first mask c ∷ []) (first + 241) (first + 242) mask c }
 {
     let last = borrow_past(bit(c, 60), mask + WIRES_BEFORE_BITS + 60, (1, first + 240));
     batch.lets.clear();
@@ -293,7 +293,7 @@ fn level_same(first: u32, products: u32, results: u32) -> LevelItems
 fn add_bits(mask: u32, c: Fe, lets: &mut ArrayVec<Linear, 128>)
     requires none { lets.old.items ≡ [] }
     requires mask { mask + MASK_WIRES < 2 ^ 32 }
-    ensures { lets.new.items ≡ bit_lets mask c }
+    ensures { lets.new.items ≡ borrow_lets mask c }
 {
     for k in 0..61 {
         lets.push(borrow_past(bit(c, k), mask + WIRES_BEFORE_BITS + k, (0, 0)));
@@ -360,7 +360,7 @@ fn set_level<const N: usize, const K: usize>(
 fn set_bits(batch: &mut Batch, first: u32, mask: u32, c: Fe)
     requires first { first + TREE_WIRES < 2 ^ 32 }
     requires mask { mask + MASK_WIRES < 2 ^ 32 }
-    ensures { batch.new ≡ mul_batch (bit_lets mask c) (level_products 30 (wire_of (bits_less first)) (wire_of (bits_same first))) }
+    ensures { batch.new ≡ mul_batch (borrow_lets mask c) (level_products 30 (wire_of (bits_less first)) (wire_of (bits_same first))) }
 {
     batch.lets.clear();
     add_bits(mask, c, &mut batch.lets);
@@ -371,7 +371,7 @@ fn set_bits(batch: &mut Batch, first: u32, mask: u32, c: Fe)
 fn set_last_level(batch: &mut Batch, first: u32, mask: u32, c: Fe)
     requires first { first + TREE_WIRES < 2 ^ 32 }
     requires mask { mask + MASK_WIRES < 2 ^ 32 }
-    ensures { batch.new ≡ product_batch (level_lets 1 (wire_of (level_less first (first + 354) 2)) (first + 360)) (first + 362) (first + 363) mask c }
+    ensures { batch.new ≡ low_bit_batch (level_lets 1 (wire_of (level_less first (first + 354) 2)) (first + 360)) (first + 362) (first + 363) mask c }
 {
     batch.lets.clear();
     add_level_lets::<1>(

@@ -1,13 +1,13 @@
 -- Each item of a list stands in exactly one pair, or is carried.
 use Rattle.std.proofs.Common.{◌≡◌, ℕ, ◌/◌, ◌%◌, ◌<◌, ◌⊎◌, inl, inr, arith}
 use Rattle.std.proofs.lemmas.Bool.{cases_lt}
-use Rattle.beet_gates.specs.Levels.{pair_at, StandsIn, IsPaired, IsCarried}
+use Rattle.beet_gates.specs.Levels.{places_of_pair, IsInPair, IsPaired, IsCarried}
 
 -- an item of a pair is one of two
-in-pair : (k i : ℕ) → StandsIn k (pair_at i) → k / 2 ≡ i
+in-pair : (k i : ℕ) → IsInPair k (places_of_pair i) → k / 2 ≡ i
 in-pair k i h = elim h [ inl e ↦ omega (arith, e) | inr e ↦ omega (arith, e) ]
 
-of-pair : (k : ℕ) → StandsIn k (pair_at (k / 2))
+of-pair : (k : ℕ) → IsInPair k (places_of_pair (k / 2))
 of-pair k = elim (cases_lt (k % 2) 1) [ inl e ↦ inl (omega (arith, e)) | inr e ↦ inr (omega (arith, e)) ]
 
 pub paired-or-carried : (n k : ℕ) → k < n → IsPaired n k ⊎ IsCarried n k

@@ -2,13 +2,13 @@
 
 ghost use Rattle.std.specs.Prelude.{◌≡◌, ◌<◌, ◌≤◌, ◌+◌, ◌*◌, ◌^◌, ◌⊎◌, ℕ};
 ghost use Rattle.beet_gates.specs.Each.{each};
-ghost use Rattle.beet_gates.specs.Levels.{pair_at, wire_of, IsPaired, IsCarried};
+ghost use Rattle.beet_gates.specs.Levels.{places_of_pair, wire_of, IsPaired, IsCarried};
 
 /// The places of the items in `K` pairs: pair `i` has the items `2i` and `2i + 1`.
 #[tactic(auto, using(crate::proofs::EachFacts::each_steps))]
 pub fn level_pairs<const K: usize>() -> [(u32, u32); K]
     requires { K ≤ 64 }
-    ensures { result ≡ each pair_at K }
+    ensures { result ≡ each places_of_pair K }
 {
     let mut pairs = [(0, 0); K];
     for i in 0..K {

@@ -10,7 +10,7 @@ ghost use Rattle.beet_gates.specs.Plans.{batch_at};
 ghost use Rattle.beet_gates.specs.Clear.{Values, batches_on};
 ghost use Rattle.beet_gates.specs.Deals.{dealt_bits};
 ghost use Rattle.beet_gates.specs.Each.{each};
-ghost use Rattle.beet_gates.specs.Levels.{pair_at, wire_of};
+ghost use Rattle.beet_gates.specs.Levels.{places_of_pair, wire_of};
 ghost use Rattle.beet_mask.specs.Mask.{bit_wire_of, level_wire, mask_rounds_of, mask_wires_of, bit_lets, chain_batches, product_batches, mask_batches, mask_of, xor_let, AfterMask};
 
 use arrayvec::ArrayVec;
@@ -136,7 +136,7 @@ fn refill_chain(step: u32, first: u32, batch: &mut Batch)
 fn products_in_pairs<const K: usize>(items: LevelItems) -> ArrayVec<(u32, u32), 64>
     requires few { K ≤ 64 }
     requires wires { items.start + items.step * items.results ≤ 2 ^ 32 }
-    ensures { result.items ≡ each (λ i. (wire_of items (pair_at i).0, wire_of items (pair_at i).1)) K }
+    ensures { result.items ≡ each (λ i. (wire_of items (places_of_pair i).0, wire_of items (places_of_pair i).1)) K }
 {
     let places = level_pairs::<K>();
     let mut pairs = ArrayVec::new();
@@ -152,7 +152,7 @@ fn set_level<const K: usize>(batch: &mut Batch, first: u32, start: u32, results:
     requires first { first + MASK_WIRES < 2 ^ 32 }
     requires start { start + results ≤ first + MASK_WIRES }
     ensures { batch.new ≡ mul_batch batch.old.lets.items
-        (each (λ i. (level_wire first start results (pair_at i).0, level_wire first start results (pair_at i).1)) K) }
+        (each (λ i. (level_wire first start results (places_of_pair i).0, level_wire first start results (places_of_pair i).1)) K) }
 {
     batch.act = Act::Mul(products_in_pairs::<K>(LevelItems {
         start,

@@ -4,5 +4,5 @@
 mod outcome;
 mod running;
 
-pub use outcome::{finish_words, outcome_reply};
+pub use outcome::{finish_words, opened_words, outcome_reply};
 pub use running::{finish_at, run_auction, start_servers};

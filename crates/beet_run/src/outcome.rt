@@ -20,21 +20,18 @@ fn status_after(finish: &Finish) -> Status
     }
 }
 
-/// The words of a number that may be opened.
-fn opened_words(
+/// The words of a number that may be opened: its name and digits behind a text, or nothing.
+pub fn opened_words(
     alloc: Global,
     before: &str,
     name: &str,
-    number: Option<Fe>,
+    number: Option<u64>,
 ) -> Result<String, AllocError>
     ensures { IfOk result (λ words. string_bytes words ≡ opened_text before.now name.now number) }
 {
     let words = match number {
         None => String::new(alloc),
-        Some(number) => {
-            let number = number.value();
-            format!(in alloc; "{before}{name}{number}")?
-        }
+        Some(number) => format!(in alloc; "{before}{name}{number}")?,
     };
     Ok(words)
 }
@@ -55,8 +52,8 @@ pub fn finish_words(
             supply,
         } => {
             let price = grid.base() + *place as u64 * grid.tick();
-            let volume = opened_words(alloc, between, "volume ", *volume)?;
-            let supply = opened_words(alloc, between, "supply ", *supply)?;
+            let volume = opened_words(alloc, between, "volume ", volume.map(Fe::value))?;
+            let supply = opened_words(alloc, between, "supply ", supply.map(Fe::value))?;
             format!(in alloc; "price {price}{volume}{supply}")?
         }
         Finish::NoPrice => String::from_str(alloc, "no price")?,

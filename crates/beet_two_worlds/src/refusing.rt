@@ -8,21 +8,9 @@ ghost use Rattle.beet_two_worlds.specs.Ending.{IsLineOf, TellsRefusal};
 
 use beet_bids::Outcome;
 use beet_errand::{Status, Stop};
+use beet_run::opened_words;
 use beet_worlds::MapFault;
 use std::alloc::{AllocError, Global};
-
-/// A number after a slash, where there is one.
-fn slashed(alloc: Global, number: Option<u64>) -> Result<String, AllocError>
-    ensures { IfOk result (λ word. string_bytes word ≡ opened_text (codes "/") [] number) }
-{
-    match number {
-        Some(number) => {
-            let word = format!(in alloc; "/{number}")?;
-            Ok(word)
-        }
-        None => Ok(String::new(alloc)),
-    }
-}
 
 /// A price as a refusal tells it, with the volume and the supply where they are opened.
 fn price_word(
@@ -34,8 +22,8 @@ fn price_word(
     ensures { IfOk result (λ word. string_bytes word
         ≡ decimal price ++ opened_text (codes "/") [] volume ++ opened_text (codes "/") [] supply) }
 {
-    let volume = slashed(alloc, volume)?;
-    let supply = slashed(alloc, supply)?;
+    let volume = opened_words(alloc, "/", "", volume)?;
+    let supply = opened_words(alloc, "/", "", supply)?;
     let word = format!(in alloc; "{price}{volume}{supply}")?;
     Ok(word)
 }

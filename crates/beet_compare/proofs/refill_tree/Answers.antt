@@ -4,7 +4,7 @@ use Rattle.std.proofs.lemmas.Bool.Decides.{nat_tests}
 use Rattle.beet_gates.specs.Batches.{mul_batch}
 use Rattle.beet_gates.specs.declared.Linear.{Linear}
 use Rattle.beet_gates.specs.Levels.{wire_of}
-use Rattle.beet_compare.specs.Compare.{answer_batch, bit_lets, bits_less, bits_same, level_less, level_lets, level_same, product_batch}
+use Rattle.beet_compare.specs.Compare.{answer_batch, borrow_lets, bits_less, bits_same, level_less, level_lets, level_same, low_bit_batch}
 use Rattle.beet_compare.proofs.TreeTable as table
 use Rattle.beet_compare.proofs.refill_tree.Goals as goal
 
@@ -18,7 +18,7 @@ bit-same first k l = let t : nat_lt k 61 ≡ true = grind (arith, nat_tests) in 
 pub returns-in-0 : goal.returns-in-0
 returns-in-0 c =
     let first = c.args.first in
-    rw c.in-0.is (c.set_bits.ensures ∙ ap (mul_batch (bit_lets c.args.mask c.args.c))
+    rw c.in-0.is (c.set_bits.ensures ∙ ap (mul_batch (borrow_lets c.args.mask c.args.c))
     (table.products-told 30 (wire_of (bits_less first)) (wire_of (bits_same first)) (λ k. first + 61 + 2 * k) (λ k. first + 62 + 2 * k)
     (λ k l. bit-less first k (omega (arith, l))) (λ k l. bit-same first k (omega (arith, l)))))
 
@@ -102,9 +102,9 @@ returns-in-6 c =
     let lets = table.lets-told 1 (wire_of (level_less first (first + 354) 2)) (table.less_five first) (first + 360) free e
     (λ k l. table.less-told first 4 (first + 354) before d (table.less_four first) k l) in
     rw c.in-6.is (c.set_last_level.ensures
-    ∙ ap (λ (l : List Linear). product_batch l (first + 362) (first + 363) mask opened) lets
-    ∙ ap (λ (n : ℕ). product_batch (level_lets 1 (table.less_five first) free) n (first + 363) mask opened) borrow
-    ∙ ap (λ (n : ℕ). product_batch (level_lets 1 (table.less_five first) free) (free + 2 + 0) n mask opened) low)
+    ∙ ap (λ (l : List Linear). low_bit_batch l (first + 362) (first + 363) mask opened) lets
+    ∙ ap (λ (n : ℕ). low_bit_batch (level_lets 1 (table.less_five first) free) n (first + 363) mask opened) borrow
+    ∙ ap (λ (n : ℕ). low_bit_batch (level_lets 1 (table.less_five first) free) (free + 2 + 0) n mask opened) low)
 
 pub returns-in-7 : goal.returns-in-7
 returns-in-7 c =
