@@ -1,0 +1,142 @@
+//! One server with its ends, and the loop that runs it.
+
+ghost use Rattle.std.specs.Prelude.{◌≡◌, ◌≤◌, ◌+◌, ℕ, IfNone, IfSome, MatchOption, true, false};
+ghost use Rattle.beet_round.specs.Sides.{peer};
+ghost use Rattle.beet_round.specs.declared.sides.Side.{Side};
+ghost use Rattle.beet_sharing.specs.Runs.{HasRounds, Setup};
+ghost use Rattle.beet_delivery.specs.Events.{Delivered, with_triple};
+ghost use Rattle.beet_server.specs.Answers.{Keeps};
+ghost use Rattle.beet_server.specs.Cores.{has_ended, is_quiet};
+ghost use Rattle.beet_server.specs.Fits.{Fits};
+ghost use Rattle.beet_link.specs.Ends.{IsNext, one_on};
+ghost use Rattle.beet_link.specs.Streams.{stream};
+ghost use Rattle.beet_station.specs.Stations.{HasHeard, IsEnded, IsTied};
+
+use beet_field::{Point, Trio};
+use beet_gates::Script;
+use beet_link::{Gate, LinkRx, LinkTx, Note};
+use beet_round::{RoundMessage, Verdict};
+use beet_server::ServerCore;
+use std::hint::spin_loop;
+use std::snapshot::Snapshot;
+use std::sync::Wait;
+use std::sync::atomic::{AtomicBool, Ordering};
+use std::thread;
+
+/// How often a server that finds no message tries again before it gives up its turn.
+const SPINS: u32 = 40;
+
+/// A server with its ends: to and from its lower and its higher peer.
+#[derive(Drop)]
+pub struct Station<S: Script> {
+    pub core: ServerCore<S>,
+    pub to_low: LinkTx,
+    pub to_high: LinkTx,
+    pub from_low: LinkRx,
+    pub from_high: LinkRx,
+}
+
+/// The next message of a link, once it is there, or `None` where the flag was raised. A server that
+/// has tried [`SPINS`] times gives up its turn after each further try.
+fn wait_for<R: Wait>(rt: &R, stop: &AtomicBool, from: &mut LinkRx) -> Option<RoundMessage>
+    ensures { MatchOption result (from.new ≡ from.old)
+        (λ m. IsNext from.old m × (from.new ≡ one_on from.old)) }
+{
+    let mut spins = 0;
+    for _ in rt.forever() {
+        if let Some(message) = from.take(rt) {
+            return Some(message);
+        }
+        if stop.load(Ordering::SeqCst) {
+            return None;
+        }
+        if spins < SPINS {
+            spins += 1;
+            spin_loop();
+        } else {
+            thread::yield_now();
+        }
+    }
+    unreachable!()
+}
+
+/// Takes the next message of a link, once it is there, and gives it to the server. `None`: the flag
+/// was raised, and nothing changed.
+fn hear<S: Script, R: Wait>(
+    rt: &R,
+    stop: &AtomicBool,
+    core: &mut ServerCore<S>,
+    from: &mut LinkRx,
+) -> Option<Verdict>
+    requires { is_quiet S.batch_of core.old ≡ true }
+    ensures stopped { IfNone result ((core.new ≡ core.old) × (from.new ≡ from.old)) }
+    ensures taken { IfSome result (λ v. from.new ≡ one_on from.old) }
+    ensures keeps { IfSome result (λ v. Keeps core.old core.new) }
+    ensures heard { IfSome result (HasHeard S.batch_of core.old core.new from.old) }
+    ensures fits { IfSome result (λ v. (o : Setup) (rounds : ℕ) (x : Delivered) (side : Side)
+        → HasRounds o rounds → Fits S.batch_of o x core.old
+        → from.old.stream ≡ stream o rounds (peer core.old.me side) core.old.me
+        → from.old.moved ≤ core.old.round + 1 → Fits S.batch_of o
+        (with_triple x (record {
+          from = peer core.old.me side;
+          to = core.old.me;
+          round = from.old.moved;
+        })) core.new) }
+{
+    let message = wait_for(rt, stop, from)?;
+    Some(core.deliver(message))
+}
+
+/// One round: the server meets the gate, puts its messages, and takes those of its peers. `None`: the
+/// flag was raised.
+fn round<S: Script, R: Wait, G: Gate>(
+    rt: &R,
+    gate: &G,
+    seat: &mut G::Seat,
+    stop: &AtomicBool,
+    me: Point,
+    station: &mut Station<S>,
+    run: &Snapshot<Trio<ServerCore<S>>>,
+) -> Option<()>
+    requires tied { IsTied S.batch_of S.inputs_of S.rounds_of run.now.value me station.old }
+    requires going { has_ended S.batch_of station.old.core ≡ false }
+    ensures { IfSome result
+        (λ _. IsTied S.batch_of S.inputs_of S.rounds_of run.now.value me station.new) }
+{
+    let note = Note {
+        server: me,
+        round: station.core.round(),
+    };
+    gate.meet(seat, note);
+    let Some([low, high]) = station.core.out() else {
+        unreachable!()
+    };
+    station.to_low.put(rt, low);
+    station.to_high.put(rt, high);
+    hear(rt, stop, &mut station.core, &mut station.from_low)?;
+    hear(rt, stop, &mut station.core, &mut station.from_high)?;
+    Some(())
+}
+
+/// Runs the server to its end. `None`: the flag was raised before.
+pub fn serve<S: Script, R: Wait, G: Gate>(
+    rt: &R,
+    gate: &G,
+    stop: &AtomicBool,
+    me: Point,
+    station: Station<S>,
+    run: &Snapshot<Trio<ServerCore<S>>>,
+) -> Option<ServerCore<S>>
+    requires { IsTied S.batch_of S.inputs_of S.rounds_of run.now.value me station }
+    ensures { IfSome result (IsEnded S.batch_of S.inputs_of S.rounds_of run.now.value me) }
+{
+    let mut station = station;
+    let mut seat = gate.seat(me);
+    for _ in rt.forever() {
+        if station.core.ended() {
+            return Some(station.core);
+        }
+        round(rt, gate, &mut seat, stop, me, &mut station, run)?;
+    }
+    unreachable!()
+}
