@@ -1,0 +1,141 @@
+//! Three servers run to the end, each in a thread of its own.
+
+ghost use Rattle.std.specs.Prelude.{◌≡◌, IfSome};
+ghost use Rattle.beet_field.specs.declared.point.Point.TheVariants.{One, Two, Three};
+ghost use Rattle.beet_server.specs.Cores.{AreFresh};
+ghost use Rattle.beet_station.specs.Stations.{BeginAlike, IsEnded, IsTied};
+ghost use Rattle.beet_world.specs.Lockstep.{HaveEnded};
+
+use crate::serving::{Serving, give_up, run, start};
+use beet_field::{Point, Trio};
+use beet_gates::Script;
+use beet_link::Gate;
+use beet_server::ServerCore;
+use beet_station::{Station, stations};
+use beet_world::lockstep;
+use std::alloc::Global;
+use std::snapshot::Snapshot;
+use std::sync::Wait;
+use std::sync::atomic::{AtomicBool, Ordering};
+use std::thread;
+use std::thread::Threads;
+
+/// Runs the first server in this thread and the two others in workers. `None`: a worker could not be
+/// started, or a server was stopped. Where a worker could not be started the flag is raised, the first
+/// server is not run, and the other worker is joined.
+fn in_threads<S: Script + Send, R: Threads + Wait + Sync, G: Gate>(
+    rt: &R,
+    gate: &G,
+    servings: Trio<Serving<S>>,
+) -> Option<Trio<ServerCore<S>>>
+    ensures one { IfSome result (λ cores.
+        IsEnded S.batch_of S.inputs_of S.rounds_of servings.one.run.value servings.one.me cores.one) }
+    ensures two { IfSome result (λ cores.
+        IsEnded S.batch_of S.inputs_of S.rounds_of servings.two.run.value servings.two.me cores.two) }
+    ensures three { IfSome result (λ cores.
+        IsEnded S.batch_of S.inputs_of S.rounds_of servings.three.run.value servings.three.me cores.three) }
+{
+    let stop = AtomicBool::new(false);
+    let stop = &stop;
+    let Trio { one, two, three } = servings;
+    thread::scope(
+        thread::scope_env(),
+        rt,
+        move |scope| -> Option<Trio<ServerCore<S>>>
+            ensures one { IfSome result (λ cores.
+                IsEnded S.batch_of S.inputs_of S.rounds_of one.run.value one.me cores.one) }
+            ensures two { IfSome result (λ cores.
+                IsEnded S.batch_of S.inputs_of S.rounds_of two.run.value two.me cores.two) }
+            ensures three { IfSome result (λ cores.
+                IsEnded S.batch_of S.inputs_of S.rounds_of three.run.value three.me cores.three) }
+        {
+            let two = start(scope, rt, gate, stop, two);
+            let three = start(scope, rt, gate, stop, three);
+            match (two, three) {
+                (Some(two), Some(three)) => {
+                    let one = run(rt, gate, stop, one);
+                    let two = two.join(rt);
+                    let three = three.join(rt);
+                    Some(Trio {
+                        one: one?,
+                        two: two?,
+                        three: three?,
+                    })
+                }
+                (two, three) => {
+                    stop.store(true, Ordering::SeqCst);
+                    give_up(rt, two);
+                    give_up(rt, three);
+                    None
+                }
+            }
+        },
+    )
+}
+
+/// The three servers as they are, once for each that is to run.
+type Runs<S> = Trio<Snapshot<Trio<ServerCore<S>>>>;
+
+fn runs<S: Script>(cores: &Trio<ServerCore<S>>) -> Runs<S>
+    ensures one { result.one.value ≡ cores.now }
+    ensures two { result.two.value ≡ cores.now }
+    ensures three { result.three.value ≡ cores.now }
+{
+    Trio {
+        one: Snapshot::of(cores),
+        two: Snapshot::of(cores),
+        three: Snapshot::of(cores),
+    }
+}
+
+/// The three servers with their ends, as they are to run.
+fn servings<S: Script>(stations: Trio<Station<S>>, runs: Runs<S>) -> Trio<Serving<S>>
+    requires one { IsTied S.batch_of S.inputs_of S.rounds_of runs.one.value One stations.one }
+    requires two { IsTied S.batch_of S.inputs_of S.rounds_of runs.two.value Two stations.two }
+    requires three { IsTied S.batch_of S.inputs_of S.rounds_of runs.three.value Three stations.three }
+    ensures one { (result.one.me ≡ One) × (result.one.run.value ≡ runs.one.value) }
+    ensures two { (result.two.me ≡ Two) × (result.two.run.value ≡ runs.two.value) }
+    ensures three { (result.three.me ≡ Three) × (result.three.run.value ≡ runs.three.value) }
+{
+    Trio {
+        one: Serving {
+            me: Point::One,
+            station: stations.one,
+            run: runs.one,
+        },
+        two: Serving {
+            me: Point::Two,
+            station: stations.two,
+            run: runs.two,
+        },
+        three: Serving {
+            me: Point::Three,
+            station: stations.three,
+            run: runs.three,
+        },
+    }
+}
+
+/// Runs three fresh servers to the end, the second and the third in workers. Where a link finds no
+/// memory or a worker cannot be started, it runs the spares in lockstep instead, without the gate.
+pub fn run_three<S: Script + Send, R: Threads + Wait + Sync, G: Gate>(
+    rt: &R,
+    alloc: Global,
+    cores: Trio<ServerCore<S>>,
+    spares: Trio<ServerCore<S>>,
+    gate: &G,
+) -> Trio<ServerCore<S>>
+    requires cores { AreFresh S.batch_of S.inputs_of cores }
+    requires spares { AreFresh S.batch_of S.inputs_of spares }
+    requires alike { BeginAlike S.batch_of S.inputs_of cores spares }
+    ensures { HaveEnded S.batch_of S.inputs_of S.rounds_of cores result }
+{
+    let runs = runs(&cores);
+    let Ok(stations) = stations(alloc, cores) else {
+        return lockstep(spares);
+    };
+    match in_threads(rt, gate, servings(stations, runs)) {
+        Some(ended) => ended,
+        None => lockstep(spares),
+    }
+}

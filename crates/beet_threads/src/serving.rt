@@ -1,0 +1,83 @@
+//! One server that is to run to its end, and the worker that runs it.
+
+ghost use Rattle.std.specs.Prelude.{◌≡◌, IfSome};
+ghost use Rattle.beet_station.specs.Stations.{IsEnded, IsTied};
+
+use beet_field::{Point, Trio};
+use beet_gates::Script;
+use beet_link::Gate;
+use beet_server::ServerCore;
+use beet_station::{Station, serve};
+use std::snapshot::Snapshot;
+use std::sync::Wait;
+use std::sync::atomic::AtomicBool;
+use std::thread::{Promise, PromisedHandle, Scope, Threads};
+
+/// A server that is to run, with its ends, and the three servers as the run began.
+#[derive(Drop)]
+pub struct Serving<S: Script> {
+    pub me: Point,
+    pub station: Station<S>,
+    pub run: Snapshot<Trio<ServerCore<S>>>,
+    ghost tied: { IsTied S.batch_of S.inputs_of S.rounds_of run.value me station },
+}
+
+/// What the worker of a server answers: where it answers a server, that has ended.
+#[derive(Drop)]
+pub struct Ends<S: Script> {
+    serving: Snapshot<Serving<S>>,
+}
+
+impl<S: Script> Promise<Option<ServerCore<S>>> for Ends<S> {
+    ghost use Rattle.std.specs.Prelude.{IfSome};
+    ghost use Rattle.beet_station.specs.Stations.{IsEnded};
+
+    ghost kept_by = { λ p r. IfSome r
+        (IsEnded S.batch_of S.inputs_of S.rounds_of p.serving.value.run.value p.serving.value.me) };
+}
+
+/// Runs the server to its end. `None`: the flag was raised before.
+pub fn run<S: Script, R: Wait, G: Gate>(
+    rt: &R,
+    gate: &G,
+    stop: &AtomicBool,
+    serving: Serving<S>,
+) -> Option<ServerCore<S>>
+    ensures { IfSome result (IsEnded S.batch_of S.inputs_of S.rounds_of serving.run.value serving.me) }
+{
+    let Serving { me, station, run } = serving;
+    serve(rt, gate, stop, me, station, &run)
+}
+
+/// A worker that runs a server.
+pub type Worker<S> = PromisedHandle<Option<ServerCore<S>>, Ends<S>>;
+
+/// Starts a worker that runs the server. `None`: no thread can be made, and the server is dropped.
+pub fn start<'s, E, S: Script + Send + 's, R: Wait + Sync, G: Gate>(
+    scope: &Scope<'s, E>,
+    rt: &'s R,
+    gate: &'s G,
+    stop: &'s AtomicBool,
+    serving: Serving<S>,
+) -> Option<Worker<S>>
+    ensures { IfSome result (λ worker. worker.promise.serving.value ≡ serving) }
+{
+    let ends = Ends {
+        serving: Snapshot::of(&serving),
+    };
+    scope
+        .spawn_with(
+            ends,
+            move || -> Option<ServerCore<S>>
+                ensures { IfSome result (IsEnded S.batch_of S.inputs_of S.rounds_of serving.run.value serving.me) }
+            { run(rt, gate, stop, serving) },
+        )
+        .ok()
+}
+
+/// Ends a worker of which nothing is wanted.
+pub fn give_up<S: Script, R: Threads>(rt: &R, worker: Option<Worker<S>>) {
+    if let Some(worker) = worker {
+        worker.join(rt);
+    }
+}
