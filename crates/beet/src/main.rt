@@ -2,6 +2,7 @@
 #![tactic(auto)]
 
 use beet_app::Status;
+use beet_link::FreeGate;
 use beet_store::{HostDesk, HostShelf};
 use std::process::ExitCode;
 use std::{env, io};
@@ -21,5 +22,5 @@ fn main(rt: HostRuntime) -> ExitCode {
     };
     let mut shelf = HostShelf::new(&rt);
     let mut desk = HostDesk::new(&rt);
-    ExitCode::from(beet_app::run(alloc, &words, &mut shelf, &mut desk))
+    ExitCode::from(beet_app::run(&rt, alloc, &words, &mut shelf, &mut desk, &FreeGate))
 }

@@ -8,7 +8,7 @@ use Rattle.beet_errand.specs.Errands.{Answer, Errand, Ends, Wants, text_answer}
 use Rattle.beet_errand.specs.Fetches.{Went, Finishes}
 use Rattle.beet_errand.specs.Statuses.{code_of}
 use Rattle.beet_errand.specs.declared.answer.Status.{Status}
-use Rattle.beet_errand.specs.declared.answer.Status.TheVariants.{Done as JobDone, OutOfMemory as NoMemory, Usage, ReadFault, WriteFault, BadFile, MasksSpent, WorldsRefused, TooFewWords}
+use Rattle.beet_errand.specs.declared.answer.Status.TheVariants.{Done as JobDone, OutOfMemory as NoMemory, Usage, ReadFault, WriteFault, BadFile, MasksSpent, WorldsRefused, AuditRefused, TooFewWords}
 use Rattle.beet_errand.specs.declared.answer.Stop.{Stop}
 use Rattle.beet_errand.specs.declared.answer.Stop.TheVariants.{Refused, OutOfMemory}
 use Rattle.beet_answer.specs.Runs.{Runs, RunsOut, Said, GivesAll, EndsBy, AnswersBy, EndGoesOut, IsStatus, status_after}
@@ -73,12 +73,13 @@ later_end old now (Err (Refused status line)) end out = out.gives.cause.later
 later_end old now (Err OutOfMemory) end out = let same = ap (λ (seen : DeskSeen). seen.faults) out.1 in omega (arith, same)
 
 pub is_status : (status : Status) → IsStatus (code_of status)
-is_status JobDone = inl (omega arith)
-is_status NoMemory = inl (omega arith)
-is_status Usage = inl (omega arith)
-is_status ReadFault = inl (omega arith)
-is_status WriteFault = inl (omega arith)
-is_status BadFile = inl (omega arith)
-is_status MasksSpent = inl (omega arith)
-is_status WorldsRefused = inl (omega arith)
-is_status TooFewWords = inr refl
+is_status JobDone = omega arith
+is_status NoMemory = omega arith
+is_status Usage = omega arith
+is_status ReadFault = omega arith
+is_status WriteFault = omega arith
+is_status BadFile = omega arith
+is_status MasksSpent = omega arith
+is_status WorldsRefused = omega arith
+is_status AuditRefused = omega arith
+is_status TooFewWords = omega arith

@@ -71,4 +71,4 @@ EndGoesOut old now (Err NoMemory) end = (end ≡ OutOfMemory) × (now ≡ old)
 
 -- the exit statuses
 abbrev pub IsStatus : ℕ → Type 0
-IsStatus status = (status ≤ 7) ⊎ (status ≡ 9)
+IsStatus status = status ≤ 9

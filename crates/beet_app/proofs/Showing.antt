@@ -1,6 +1,6 @@
--- What is left by a run that has compared two worlds.
+-- What is left by a run that has compared two worlds or audited transcripts.
 use Rattle.std.proofs.Common.{◌≡◌, ◌≢◌, ◌⊎◌, ◌++◌, inl, inr, ℕ, List, [], ◌∷◌, Option, Some, None, Result, Ok, Err, Vec, Global, ap, sym, ◌∙◌, arith, get_or, refl}
-use Rattle.std.specs.Prelude.{codes, IsSomeAnd}
+use Rattle.std.specs.Prelude.{codes, IsSomeAnd, MatchOption}
 use Rattle.std.proofs.lemmas.List.{append_cancel_left}
 use Rattle.beet_field.specs.declared.point.Point.{Point}
 use Rattle.beet_store.specs.Causes.{Rose}
@@ -11,17 +11,24 @@ use Rattle.beet_words.specs.Bundles.{bundle_bytes}
 use Rattle.beet_errand.specs.Errands.{Answer}
 use Rattle.beet_errand.specs.Statuses.{code_of}
 use Rattle.beet_errand.specs.declared.answer.Status.{Status}
-use Rattle.beet_errand.specs.declared.answer.Status.TheVariants.{Done as JobDone, OutOfMemory as NoMemory, Usage, ReadFault, WriteFault, BadFile, MasksSpent, WorldsRefused, TooFewWords}
+use Rattle.beet_errand.specs.declared.answer.Status.TheVariants.{Done as JobDone, OutOfMemory as NoMemory, Usage, ReadFault, WriteFault, BadFile, MasksSpent, WorldsRefused, AuditRefused, TooFewWords}
 use Rattle.beet_errand.specs.declared.answer.Stop.{Stop}
 use Rattle.beet_errand.specs.declared.answer.Stop.TheVariants.{Refused, OutOfMemory}
+use Rattle.beet_errand.specs.Fetches.{Causes, IsDone}
 use Rattle.beet_answer.specs.Runs.{AnswersBy, EndGoesOut, GivesAll, status_after}
 use Rattle.beet_answer.proofs.Ending.{end_cases}
 use Rattle.beet_two_worlds.specs.Answering.{worlds_text}
-use Rattle.beet_two_worlds.specs.Ending.{CausesOfWorlds, ShowsWorlds}
+use Rattle.beet_two_worlds.specs.Ending.{ShowsWorlds}
 use Rattle.beet_two_worlds.specs.Reading.{first_book, words_read}
-use Rattle.beet_app.specs.Jobs.{Job, Answering, Comparing}
+use Rattle.beet_audit.specs.OneRuns.{OneRun}
+use Rattle.beet_audit.specs.declared.fault.AuditFault.{AuditFault}
+use Rattle.beet_auditor.specs.Ending.{ShowsAudit, audit_answer, run_answer}
+use Rattle.beet_auditor.specs.Reading.{AreRead}
+use Rattle.beet_auditor.specs.declared.reading.ReadViews.{ReadViews}
+use Rattle.beet_app.specs.Jobs.{Job, Answering, Comparing, Auditing}
 use Rattle.beet_app.specs.Doing.{DoesJob}
-use Rattle.beet_app.specs.Showing.{ShowsBoth, Shows}
+use Rattle.beet_app.specs.Showing.{ShowsBoth, ShowsOneRun, Shows}
+use Rattle.beet_app.proofs.Running.{cause_of_audit, cause_of_worlds, done_code}
 
 -- a file is put and taken, and what follows stands on what it left
 put_then : (given : Given) (now : Option Given) (file : File) (files : List File) (text : List ℕ) (P : Type 0) →
@@ -90,7 +97,7 @@ all_taken due end (Err Failed) e h = absurd (not-end 4 (λ z. absurd (omega (ari
 all_taken due end (Err NoMemoryToPut) e h = absurd (not-end 1 (λ z. absurd (omega (arith, z))) (λ z. absurd (omega (arith, z))) (rw e at h))
 
 -- nor does a job that is refused
-refused_else : (before now : ℕ) (status : Status) (text : Vec ℕ Global) → CausesOfWorlds before now (Refused status text) → IsEnd (code_of status) → ⊥
+refused_else : (before now : ℕ) (status : Status) (text : Vec ℕ Global) → Causes before now (Refused status text) → IsEnd (code_of status) → ⊥
 refused_else before now JobDone text c h = absurd c
 refused_else before now NoMemory text c h = absurd c
 refused_else before now Usage text c h = absurd c
@@ -98,8 +105,28 @@ refused_else before now ReadFault text c h = not-end 3 (λ z. absurd (omega (ari
 refused_else before now WriteFault text c h = absurd c
 refused_else before now BadFile text c h = not-end 5 (λ z. absurd (omega (arith, z))) (λ z. absurd (omega (arith, z))) h
 refused_else before now MasksSpent text c h = absurd c
-refused_else before now WorldsRefused text c h = not-end 7 (λ z. absurd (omega (arith, z))) (λ z. absurd (omega (arith, z))) h
+refused_else before now WorldsRefused text c h = absurd c
+refused_else before now AuditRefused text c h = absurd c
 refused_else before now TooFewWords text c h = not-end 9 (λ z. absurd (omega (arith, z))) (λ z. absurd (omega (arith, z))) h
+
+refused_or : (own : Status) → (IsEnd (code_of own) → ⊥) → (before now : ℕ) (status : Status) (text : Vec ℕ Global) →
+    (status ≡ own) ⊎ Causes before now (Refused status text) → IsEnd (code_of status) → ⊥
+refused_or own never before now status text (inl e) h = never (rw e at h)
+refused_or own never before now status text (inr c) h = refused_else before now status text c h
+
+-- whatever comes of its answer
+refusal_else : (own : Status) → (IsEnd (code_of own) → ⊥) → (before now : ℕ) (status : Status) (text : Vec ℕ Global) →
+    (status ≡ own) ⊎ Causes before now (Refused status text) → (desk desk_now : DeskSeen) (end : Status) →
+    EndGoesOut desk desk_now (Err (Refused status text)) end → IsEnd (code_of end) → ⊥
+refusal_else own never before now status text c desk desk_now end goes h = go (end_cases desk desk_now (Err (Refused status text)) end goes) where
+  go : (end ≡ status) ⊎ ((end ≡ WriteFault) × Rose desk.faults desk_now.faults) ⊎ (end ≡ NoMemory) → ⊥
+  go (inl e) = refused_or own never before now status text c (rw e at h)
+  go (inr (inl (e, rose))) = not-end 4 (λ z. absurd (omega (arith, z))) (λ z. absurd (omega (arith, z))) (rw e at h)
+  go (inr (inr e)) = not-end 1 (λ z. absurd (omega (arith, z))) (λ z. absurd (omega (arith, z))) (rw e at h)
+
+-- nor one that ran out of memory
+no_memory_else : (desk desk_now : DeskSeen) (end : Status) → EndGoesOut desk desk_now (Err OutOfMemory) end → IsEnd (code_of end) → ⊥
+no_memory_else desk desk_now end goes h = not-end 1 (λ z. absurd (omega (arith, z))) (λ z. absurd (omega (arith, z))) (rw goes.0 at h)
 
 module _ (auction servers first second : List ℕ) (s : Point) (out : List ℕ) (old now : Seen) where
   -- the files of an answer that shows both worlds stand
@@ -139,16 +166,41 @@ module _ (auction servers first second : List ℕ) (s : Point) (out : List ℕ) 
       DoesJob (Some (Comparing auction servers first second s out)) old now result → EndGoesOut desk desk_now result end → IsEnd (code_of end) →
       Shows (Some (Comparing auction servers first second s out)) old.told now.told desk.given desk_now.given
   compared desk desk_now (Ok answer) end d goes h = answer_shows answer desk desk_now end d.shows goes h desk.given refl
-  compared desk desk_now (Err (Refused status text)) end d goes h = go (end_cases desk desk_now (Err (Refused status text)) end goes) where
-    go : (end ≡ status) ⊎ ((end ≡ WriteFault) × Rose desk.faults desk_now.faults) ⊎ (end ≡ NoMemory) →
-        Shows (Some (Comparing auction servers first second s out)) old.told now.told desk.given desk_now.given
-    go (inl e) = absurd (refused_else old.faults now.faults status text d.ends (rw e at h))
-    go (inr (inl (e, rose))) = absurd (not-end 4 (λ z. absurd (omega (arith, z))) (λ z. absurd (omega (arith, z))) (rw e at h))
-    go (inr (inr e)) = absurd (not-end 1 (λ z. absurd (omega (arith, z))) (λ z. absurd (omega (arith, z))) (rw e at h))
-  compared desk desk_now (Err OutOfMemory) end d goes h =
-      absurd (not-end 1 (λ z. absurd (omega (arith, z))) (λ z. absurd (omega (arith, z))) (rw goes.0 at h))
+  compared desk desk_now (Err (Refused status text)) end d goes h =
+      absurd (refusal_else WorldsRefused (not-end 7 (λ z. absurd (omega (arith, z))) (λ z. absurd (omega (arith, z)))) old.faults now.faults status text
+      (cause_of_worlds old.faults now.faults status text d.ends) desk desk_now end goes h)
+  compared desk desk_now (Err OutOfMemory) end d goes h = absurd (no_memory_else desk desk_now end goes h)
 
--- a run that has compared two worlds and is done shows them
+module _ (auction one two three : List ℕ) (old now : Seen) where
+  -- an answer that tells that nothing is wrong is said, and puts no file
+  one_run_said : (read : ReadViews) → AreRead old.told now.told auction one two three read → (found : Option AuditFault) →
+      MatchOption found (OneRun read.grid read.views) (λ fault. OneRun read.grid read.views → ⊥) → IsDone (audit_answer read found).status →
+      (given : Given) (given_now : Option Given) → GivesAll (Some given) given_now (audit_answer read found).files (audit_answer read found).text (Ok tt) →
+      IsSomeAnd given_now (ShowsOneRun old.told now.told auction one two three given)
+  one_run_said read are None o d given None call = absurd call
+  one_run_said read are None o d given (Some n) call =
+      record { read = read; are_read = are; one_run = o; files = call.0.files; said = call.0.said }
+  one_run_said read are (Some fault) o d given given_now call =
+      absurd (not-end 8 (λ z. absurd (omega (arith, z))) (λ z. absurd (omega (arith, z))) (done_code AuditRefused d))
+
+  finding_shows : (answer : Answer) (desk desk_now : DeskSeen) (end : Status) → ShowsAudit old.told now.told auction one two three answer →
+      IsDone answer.status → AnswersBy answer desk desk_now end → IsEnd (code_of end) → (given : Option Given) → desk.given ≡ given →
+      Shows (Some (Auditing auction one two three)) old.told now.told given desk_now.given
+  finding_shows answer desk desk_now end w d a h None e = tt
+  finding_shows answer desk desk_now end w d a h (Some given) e =
+      one_run_said w.read w.are_read w.tells.found w.tells.one_run (rw w.tells.is at d) given desk_now.given
+      (rw w.tells.is at (rw (all_taken answer.status end a.done a.status h, e) at a.gives.calls))
+
+  audited : (desk desk_now : DeskSeen) (result : Result Answer Stop) (end : Status) →
+      DoesJob (Some (Auditing auction one two three)) old now result → EndGoesOut desk desk_now result end → IsEnd (code_of end) →
+      Shows (Some (Auditing auction one two three)) old.told now.told desk.given desk_now.given
+  audited desk desk_now (Ok answer) end d goes h = finding_shows answer desk desk_now end d.shows d.ends goes h desk.given refl
+  audited desk desk_now (Err (Refused status text)) end d goes h =
+      absurd (refusal_else AuditRefused (not-end 8 (λ z. absurd (omega (arith, z))) (λ z. absurd (omega (arith, z)))) old.faults now.faults status text
+      (cause_of_audit old.faults now.faults status text d.ends) desk desk_now end goes h)
+  audited desk desk_now (Err OutOfMemory) end d goes h = absurd (no_memory_else desk desk_now end goes h)
+
+-- a run that has compared two worlds and is done shows them, and one that has audited transcripts shows that they are of one run
 pub run_shows : (job : Option Job) (old now : Seen) (desk desk_now : DeskSeen) (result : Result Answer Stop) (end : Status) →
     DoesJob job old now result → EndGoesOut desk desk_now result end → IsEnd (code_of end) →
     Shows job old.told now.told desk.given desk_now.given
@@ -156,3 +208,5 @@ run_shows None old now desk desk_now result end d out h = tt
 run_shows (Some (Answering errand)) old now desk desk_now result end d out h = tt
 run_shows (Some (Comparing auction servers first second s out)) old now desk desk_now result end d goes h =
     compared auction servers first second s out old now desk desk_now result end d goes h
+run_shows (Some (Auditing auction one two three)) old now desk desk_now result end d goes h =
+    audited auction one two three old now desk desk_now result end d goes h

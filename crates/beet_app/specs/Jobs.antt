@@ -15,10 +15,12 @@ use Rattle.beet_envelopes.specs.Open.{open_errand}
 use Rattle.beet_trial.specs.Sizes.{sizes_of}
 use Rattle.beet_trial.specs.Trial.{trial_errand}
 
--- a job: it has an errand, which ends with its answer; or it compares two worlds, with the words of the second as they are mapped
+-- a job: it has an errand, which ends with its answer; or it compares two worlds, with the words of the second as they are mapped; or it
+-- tells what is found in an auction and three transcripts
 pub data Job : Type 0 where
   Answering : Errand → Job
   Comparing : List ℕ → List ℕ → List ℕ → List ℕ → Point → List ℕ → Job
+  Auditing : List ℕ → List ℕ → List ℕ → List ℕ → Job
 
 -- whether a word is this text
 abbrev pub is_word : List ℕ → List ℕ → Bool
@@ -57,6 +59,7 @@ job_of_four command first second third fourth =
     else if is_name_of third then
     if is_word command (codes "rehearse") then Some (Answering (rehearse_errand first second third fourth))
     else if is_word command (codes "record") then Some (Answering (record_errand first second third fourth))
+    else if is_word command (codes "audit") then Some (Auditing first second third fourth)
     else None
     else None
     else None

@@ -8,11 +8,13 @@ ghost use Rattle.beet_app.specs.Texts.{usage_text};
 ghost use Rattle.beet_app.specs.Doing.{DoesJob, DoesNamed};
 ghost use Rattle.beet_app.specs.Jobs.{job_of, job_of_four, job_of_six, job_of_three, job_of_two};
 
+use beet_auditor::audit_files;
 use beet_clear::clear;
 use beet_envelopes::{open_envelopes, read_source_word, seal_bid};
 use beet_errand::{Reply, Status, Stop};
 use beet_field::Point;
 use beet_forms::is_name;
+use beet_link::Gate;
 use beet_record::record;
 use beet_rehearse::rehearse;
 use beet_store::Shelf;
@@ -20,6 +22,8 @@ use beet_tally::tally;
 use beet_trial::{numbers_of_words, trial};
 use beet_two_worlds::worlds;
 use std::alloc::Global;
+use std::sync::Wait;
+use std::thread::Threads;
 
 /// Whether a word is the name of a file.
 fn is_file(word: &str) -> bool
@@ -29,12 +33,14 @@ fn is_file(word: &str) -> bool
 }
 
 /// Does the job of a command with two words, if they name one.
-fn do_two<S: Shelf>(
+fn do_two<S: Shelf, R: Threads + Wait + Sync, G: Gate>(
+    rt: &R,
     alloc: Global,
     shelf: &mut S,
     command: &str,
     first: &str,
     second: &str,
+    gate: &G,
 ) -> Option<Result<Reply, Stop>>
     ensures { DoesNamed (job_of_two command.now first.now second.now) (S.seen shelf.old) (S.seen shelf.new) result }
 {
@@ -42,36 +48,39 @@ fn do_two<S: Shelf>(
         Some(tally(alloc, shelf, first, second))
     } else if command == "trial" {
         let (bidders, prices) = numbers_of_words(first, second)?;
-        Some(trial(alloc, bidders, prices))
+        Some(trial(rt, alloc, bidders, prices, gate))
     } else {
         None
     }
 }
 
 /// Does the job of a command with three files, if they name one.
-fn do_three<S: Shelf>(
+fn do_three<S: Shelf, R: Threads + Wait + Sync, G: Gate>(
+    rt: &R,
     alloc: Global,
     shelf: &mut S,
     command: &str,
     first: &str,
     second: &str,
     third: &str,
+    gate: &G,
 ) -> Option<Result<Reply, Stop>>
     ensures { DoesNamed (job_of_three command.now first.now second.now third.now) (S.seen shelf.old) (S.seen shelf.new) result }
 {
     if !(is_file(first) && is_file(second) && is_file(third)) {
         None
     } else if command == "clear" {
-        Some(clear(alloc, shelf, first, second, third))
+        Some(clear(rt, alloc, shelf, first, second, third, gate))
     } else if command == "open" {
-        Some(open_envelopes(alloc, shelf, first, second, third))
+        Some(open_envelopes(rt, alloc, shelf, first, second, third, gate))
     } else {
         None
     }
 }
 
 /// Does the job of a command with four words, if they name one.
-fn do_four<S: Shelf>(
+fn do_four<S: Shelf, R: Threads + Wait + Sync, G: Gate>(
+    rt: &R,
     alloc: Global,
     shelf: &mut S,
     command: &str,
@@ -79,6 +88,7 @@ fn do_four<S: Shelf>(
     second: &str,
     third: &str,
     fourth: &str,
+    gate: &G,
 ) -> Option<Result<Reply, Stop>>
     ensures { DoesNamed (job_of_four command.now first.now second.now third.now fourth.now)
         (S.seen shelf.old) (S.seen shelf.new) result }
@@ -93,7 +103,9 @@ fn do_four<S: Shelf>(
     } else if command == "rehearse" {
         Some(rehearse(alloc, shelf, first, second, third, fourth))
     } else if command == "record" {
-        Some(record(alloc, shelf, first, second, third, fourth))
+        Some(record(rt, alloc, shelf, first, second, third, fourth, gate))
+    } else if command == "audit" {
+        Some(audit_files(alloc, shelf, first, second, third, fourth))
     } else {
         None
     }
@@ -139,20 +151,37 @@ fn do_six<S: Shelf>(
 }
 
 /// Does the job that the words name, if they name one.
-fn do_named<S: Shelf>(alloc: Global, shelf: &mut S, words: &[String]) -> Option<Result<Reply, Stop>>
+fn do_named<S: Shelf, R: Threads + Wait + Sync, G: Gate>(
+    rt: &R,
+    alloc: Global,
+    shelf: &mut S,
+    words: &[String],
+    gate: &G,
+) -> Option<Result<Reply, Stop>>
     ensures { DoesNamed (job_of (map string_bytes words.now)) (S.seen shelf.old) (S.seen shelf.new) result }
 {
     match words {
-        [command, a, b] => do_two(alloc, shelf, command.as_str(), a.as_str(), b.as_str()),
+        [command, a, b] => do_two(
+            rt,
+            alloc,
+            shelf,
+            command.as_str(),
+            a.as_str(),
+            b.as_str(),
+            gate,
+        ),
         [command, a, b, c] => do_three(
+            rt,
             alloc,
             shelf,
             command.as_str(),
             a.as_str(),
             b.as_str(),
             c.as_str(),
+            gate,
         ),
         [command, a, b, c, d] => do_four(
+            rt,
             alloc,
             shelf,
             command.as_str(),
@@ -160,6 +189,7 @@ fn do_named<S: Shelf>(alloc: Global, shelf: &mut S, words: &[String]) -> Option<
             b.as_str(),
             c.as_str(),
             d.as_str(),
+            gate,
         ),
         [command, a, b, c, d, e, f] => do_six(
             alloc,
@@ -187,14 +217,16 @@ fn usage(alloc: Global) -> Stop
 }
 
 /// Does the job that the words name, but for its files and its text, which it answers.
-pub(crate) fn do_job<S: Shelf>(
+pub(crate) fn do_job<S: Shelf, R: Threads + Wait + Sync, G: Gate>(
+    rt: &R,
     alloc: Global,
     words: &[String],
     shelf: &mut S,
+    gate: &G,
 ) -> Result<Reply, Stop>
     ensures { DoesJob (job_of (map string_bytes words.now)) (S.seen shelf.old) (S.seen shelf.new) result }
 {
-    match do_named(alloc, shelf, words) {
+    match do_named(rt, alloc, shelf, words, gate) {
         Some(result) => result,
         None => Err(usage(alloc)),
     }

@@ -4,7 +4,7 @@
 ghost use Rattle.std.specs.Prelude.{◌≡◌, ◌≤◌, ◌⊎◌, map, string_bytes, None};
 ghost use Rattle.beet_store.specs.Causes.{Rose};
 ghost use Rattle.beet_answer.specs.Runs.{IsStatus, Runs, Said};
-ghost use Rattle.beet_app.specs.Doing.{ComparesWorlds, OfJob};
+ghost use Rattle.beet_app.specs.Doing.{AuditsTranscripts, ComparesWorlds, OfJob};
 ghost use Rattle.beet_app.specs.Jobs.{job_of};
 ghost use Rattle.beet_app.specs.Showing.{Shows};
 ghost use Rattle.beet_app.specs.Texts.{usage_text};
@@ -13,8 +13,11 @@ mod jobs;
 
 use beet_answer::give_answer;
 pub use beet_errand::Status;
+use beet_link::Gate;
 use beet_store::{Desk, Shelf};
 use std::alloc::Global;
+use std::sync::Wait;
+use std::thread::Threads;
 
 /// Does the job that the words after the program's name ask for. Words that stand for files are names of 1 to 200 bytes.
 ///
@@ -22,6 +25,7 @@ use std::alloc::Global;
 /// - `clear AUCTION SERVERS BOOK` runs the auction of a book among three servers.
 /// - `rehearse AUCTION SERVERS BOOK SCHEDULE` delivers the messages of a schedule, and tells how each server stands.
 /// - `record AUCTION SERVERS BOOK OUT` writes what each server has seen of a run to `OUT.1`, `OUT.2` and `OUT.3`.
+/// - `audit AUCTION T1 T2 T3` tells how the run ended of which three transcripts are what the three servers have seen.
 /// - `worlds AUCTION SERVERS BOOK1 BOOK2 SERVER OUT` writes what a server sees in the runs of two books, with the words of
 ///   the second run with which it sees the same, to `OUT.first`, `OUT.second` and `OUT.words`.
 /// - `seal AUCTION BID SOURCE OUT` writes a bid in three envelopes, `OUT.1`, `OUT.2` and `OUT.3`; the source of its words is
@@ -32,10 +36,22 @@ use std::alloc::Global;
 /// Answers the exit status: 0 where the job is done; 1 for want of memory, and then nothing is said; 2 where the words
 /// name no job; 3 where a file cannot be fetched; 4 where a file or the text is not taken; 5 for a file that is too long,
 /// breaks its format or breaks a limit of the job; 6 where a run, or in `rehearse` a server, has ended with the third
-/// rejected mask, which is said with the job's text; 7 where two books do not agree for a server; 9 for a bidder or a
-/// server whose tape holds too few words. At 2, 3, 5, 7 and 9 the line that tells the cause is said, and no file is put.
-/// The text is said after all files were put.
-pub fn run<S: Shelf, K: Desk>(alloc: Global, words: &[String], shelf: &mut S, desk: &mut K) -> u8
+/// rejected mask, which is said with the job's text; 7 where two books do not agree for a server; 8 where three
+/// transcripts are not those of one run; 9 for a bidder or a server whose tape holds too few words. At 2, 3, 5, 7, 8 and 9
+/// the line that tells the cause is said, and no file is put. The text is said after all files were put.
+///
+/// In `clear`, `record`, `open` and `trial` three servers run at the same time, the first on the caller's thread and two in
+/// workers; each meets the gate once in each round, before it puts its messages of the round. So `run` may wait, and what is
+/// promised holds if it returns. Where a worker cannot be started or a link finds no memory, spare servers run in their place
+/// on the caller's thread, without the gate.
+pub fn run<S: Shelf, K: Desk, R: Threads + Wait + Sync, G: Gate>(
+    rt: &R,
+    alloc: Global,
+    words: &[String],
+    shelf: &mut S,
+    desk: &mut K,
+    gate: &G,
+) -> u8
     ensures known { IsStatus result }
 
     // The usage line is said exactly where the words name no job.
@@ -53,14 +69,17 @@ pub fn run<S: Shelf, K: Desk>(alloc: Global, words: &[String], shelf: &mut S, de
     // Two books are refused only by the job that compares them.
     ensures worlds { result ≡ 7 → ComparesWorlds (job_of (map string_bytes words.now)) }
 
+    // Three transcripts are refused only by the job that audits them.
+    ensures audit { result ≡ 8 → AuditsTranscripts (job_of (map string_bytes words.now)) }
+
     // The files fetched, the files put, the text said and the status are those of the job.
     ensures runs { OfJob (job_of (map string_bytes words.now)) (S.seen shelf.old).told (S.seen shelf.new).told
         (λ told errand. Runs errand told (S.seen shelf.new).told (K.seen desk.old).given (K.seen desk.new).given result) }
 
-    // Two worlds that were compared are shown to look the same to the server.
+    // Two worlds that were compared are shown to look the same to the server, and three transcripts to be of one run.
     ensures shows { (result ≡ 0) ⊎ (result ≡ 6) → Shows (job_of (map string_bytes words.now))
         (S.seen shelf.old).told (S.seen shelf.new).told (K.seen desk.old).given (K.seen desk.new).given }
 {
-    let job = jobs::do_job(alloc, words, shelf);
+    let job = jobs::do_job(rt, alloc, words, shelf, gate);
     give_answer(alloc, desk, job).code()
 }

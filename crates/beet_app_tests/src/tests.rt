@@ -3,10 +3,13 @@ ghost use Rattle.std.specs.Prelude.{◌≤◌};
 use beet_answer::give_answer;
 use beet_app::run;
 use beet_errand::{NewFile, Reply, Status};
+use beet_link::FreeGate;
 use beet_store::{Held, MemoryDesk, MemoryShelf};
 use std::alloc::{AllocError, Global};
 use std::process::Abort;
+use std::sync::Wait;
 use std::test::Fail;
+use std::thread::Threads;
 
 /// An auction of four prices with three bidders, another book of them that has the same outcome, one that has not, and an
 /// auction of one price with a bidder.
@@ -60,9 +63,9 @@ const FILES: [(&str, &str); 14] = [
 /// Commands over these files.
 const TALLY: &str = "tally g1.auc b1.book";
 
-const CLEAR: &str = "clear g.auc s.srv b.book";
+pub(crate) const CLEAR: &str = "clear g.auc s.srv b.book";
 
-const RECORD: &str = "record g.auc s.srv b.book o";
+pub(crate) const RECORD: &str = "record g.auc s.srv b.book o";
 
 const WORLDS: &str = "worlds g.auc s.srv b.book c.book 2 w";
 
@@ -89,7 +92,7 @@ fn held(alloc: Global, name: &str, text: &str) -> Result<Held, AllocError> {
 }
 
 /// The files, and one that is made.
-fn files(alloc: Global, made: &str) -> Result<Vec<Held>, AllocError> {
+pub(crate) fn files(alloc: Global, made: &str) -> Result<Vec<Held>, AllocError> {
     let mut files = Vec::new(alloc);
     for (name, text) in FILES {
         files.push(held(alloc, name, text)?)?;
@@ -103,7 +106,7 @@ fn only(alloc: Global, call: u64) -> Result<Vec<u64>, AllocError> {
     Ok(vec![in alloc; call]?)
 }
 
-fn words_of(alloc: Global, line: &str) -> Result<Vec<String>, AllocError> {
+pub(crate) fn words_of(alloc: Global, line: &str) -> Result<Vec<String>, AllocError> {
     let mut words = Vec::new(alloc);
     for word in line.split_whitespace() {
         words.push(String::from_str(alloc, word)?)?;
@@ -112,7 +115,8 @@ fn words_of(alloc: Global, line: &str) -> Result<Vec<String>, AllocError> {
 }
 
 /// Does the job of a line over the files, where this fetch and this call of the desk fail.
-fn done(
+pub(crate) fn done(
+    rt: &(impl Threads + Wait + Sync),
     alloc: Global,
     line: &str,
     made: &str,
@@ -122,25 +126,25 @@ fn done(
     let words = words_of(alloc, line)?;
     let mut shelf = MemoryShelf::new(files(alloc, made)?, only(alloc, fetch)?);
     let mut desk = MemoryDesk::new(only(alloc, call)?);
-    let status = run(alloc, &words, &mut shelf, &mut desk);
+    let status = run(rt, alloc, &words, &mut shelf, &mut desk, &FreeGate);
     Ok((status, desk))
 }
 
 /// Compares what a desk was given to say.
-fn expect_said(rt: &impl Abort, desk: &MemoryDesk, text: &str) {
+pub(crate) fn expect_said(rt: &impl Abort, desk: &MemoryDesk, text: &str) {
     assert!(rt; desk.said() == text.as_bytes(), "not {text}");
 }
 
 /// Compares the status and the text of a job, of which this fetch fails.
 fn expect_fetching(
-    rt: &impl Abort,
+    rt: &(impl Abort + Threads + Wait + Sync),
     alloc: Global,
     line: &str,
     fetch: u64,
     status: u8,
     text: &str,
 ) -> Result<(), Fail> {
-    let (found, desk) = done(alloc, line, "", fetch, 0)?;
+    let (found, desk) = done(rt, alloc, line, "", fetch, 0)?;
     assert_eq!(rt; found, status);
     expect_said(rt, &desk, text);
     Ok(())
@@ -148,22 +152,26 @@ fn expect_fetching(
 
 /// Compares the status and the text of a job with the file that is made.
 fn expect_made(
-    rt: &impl Abort,
+    rt: &(impl Abort + Threads + Wait + Sync),
     alloc: Global,
     line: &str,
     made: &str,
     status: u8,
     text: &str,
 ) -> Result<(), Fail> {
-    let (found, desk) = done(alloc, line, made, 0, 0)?;
+    let (found, desk) = done(rt, alloc, line, made, 0, 0)?;
     assert_eq!(rt; found, status);
     expect_said(rt, &desk, text);
     Ok(())
 }
 
 /// The first call of the desk fails, and nothing is said.
-fn expect_silent(rt: &impl Abort, alloc: Global, line: &str) -> Result<(), Fail> {
-    let (found, desk) = done(alloc, line, "", 0, 1)?;
+fn expect_silent(
+    rt: &(impl Abort + Threads + Wait + Sync),
+    alloc: Global,
+    line: &str,
+) -> Result<(), Fail> {
+    let (found, desk) = done(rt, alloc, line, "", 0, 1)?;
     assert_eq!(rt; found, 4);
     expect_said(rt, &desk, "");
     Ok(())
@@ -179,7 +187,7 @@ fn given_of(desk: &MemoryDesk, names: &[&str]) -> usize {
 
 /// Does a job where this call of the desk fails: its status, and how many of these files stand.
 fn expect_files(
-    rt: &impl Abort,
+    rt: &(impl Abort + Threads + Wait + Sync),
     alloc: Global,
     line: &str,
     names: &[&str],
@@ -187,7 +195,7 @@ fn expect_files(
     status: u8,
     count: usize,
 ) -> Result<MemoryDesk, Fail> {
-    let (found, desk) = done(alloc, line, "", 0, call)?;
+    let (found, desk) = done(rt, alloc, line, "", 0, call)?;
     assert_eq!(rt; found, status);
     assert_eq!(rt; given_of(&desk, names), count);
     Ok(desk)
@@ -195,7 +203,7 @@ fn expect_files(
 
 /// The second put fails: the first file stands, and nothing is said.
 fn expect_first_alone(
-    rt: &impl Abort,
+    rt: &(impl Abort + Threads + Wait + Sync),
     alloc: Global,
     line: &str,
     names: &[&str],
@@ -269,7 +277,12 @@ fn worlds_do_not_agree(rt: HostRuntime) -> Result<(), Fail> {
 }
 
 /// A file of so many bytes.
-fn expect_too_long(rt: &impl Abort, alloc: Global, line: &str, length: usize) -> Result<(), Fail>
+fn expect_too_long(
+    rt: &(impl Abort + Threads + Wait + Sync),
+    alloc: Global,
+    line: &str,
+    length: usize,
+) -> Result<(), Fail>
     requires { length ≤ 20000000 }
 {
     let made = "x".repeat(alloc, length)?;

@@ -1,5 +1,5 @@
 -- The points of bidders that are dealt and added one after another are the summed points.
-use Rattle.std.proofs.Common.{◌≡◌, ℕ, ◌+◌, ◌*◌, ◌%◌, ◌<◌, ◌≤◌, List, [], ◌∷◌, ◌++◌, length, get_or, arith, sym, ◌∙◌, ap}
+use Rattle.std.proofs.Common.{◌≡◌, ℕ, ◌*◌, ◌%◌, ◌<◌, ◌≤◌, List, [], ◌∷◌, ◌++◌, length, get_or, arith, sym, ◌∙◌, ap}
 use Rattle.std.specs.Prelude.{replicate, sum_by}
 use Rattle.std.proofs.lemmas.List.{get_or-replicate, length-replicate}
 use Rattle.std.proofs.lemmas.List.Sums.{sum_by_push}
@@ -14,6 +14,7 @@ use Rattle.beet_gates.proofs.EachFacts.{length-each, item-each}
 use Rattle.beet_book.specs.Dealing.{points_at, quantities, dealt_points}
 use Rattle.beet_book.specs.Totals.{field_sums, added, none_of}
 use Rattle.beet_book.proofs.Pairs.{length-pairwise, item-pairwise}
+use Rattle.beet_book.proofs.PointsAdded.{one-more}
 use Rattle.beet_book.proofs.Sums.{sums-by_item}
 use Rattle.beet_book.specs.Farmers.{Farmer, point_for, summed_point, summed_points}
 
@@ -28,9 +29,6 @@ no-points prices i =
 -- the sums of no bidder
 pub summed-none : (prices : ℕ) → summed_points prices [] ≡ (none_of prices).points
 summed-none prices = λ j. record { one = no-points prices One j; two = no-points prices Two j; three = no-points prices Three j }
-
-pub one-more : (total point : ℕ) → (total + point) % p ≡ add_of (total % p) point
-one-more total point = omega arith
 
 more-points : (prices : ℕ) (farmers : List Farmer) (farmer : Farmer) (i : Point) →
     length (quantities farmer.bidder.curve) ≡ 2 * prices → 2 * prices ≤ length (accepted farmer.words) →

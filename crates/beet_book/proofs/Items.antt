@@ -1,5 +1,5 @@
 -- The item at a place of a list that has changed.
-use Rattle.std.proofs.Common.{◌≡◌, ℕ, zero, suc, ◌<◌, List, [], ◌∷◌, ◌++◌, length, Some, refl, arith}
+use Rattle.std.proofs.Common.{◌≡◌, ℕ, zero, suc, ◌<◌, ◌≤◌, ◌-◌, List, [], ◌∷◌, ◌++◌, length, Some, refl, arith, ap, ◌∙◌}
 use Rattle.std.proofs.Math.ListN.{set}
 use Rattle.std.specs.List.{slice_get}
 
@@ -19,6 +19,14 @@ pub get-append_left : {X : Type 0} (xs ys : List X) (i : ℕ) → i < length xs 
 get-append_left [] ys i h = absurd (omega arith)
 get-append_left (x ∷ xs) ys zero h = refl
 get-append_left (x ∷ xs) ys (suc i) h = get-append_left xs ys i (omega arith)
+
+pub get-append_right : {X : Type 0} (xs ys : List X) (n i : ℕ) → length xs ≡ n → n ≤ i → slice_get (xs ++ ys) i ≡ slice_get ys (i - n)
+get-append_right [] ys zero i e h = ap (λ k. slice_get ys k) (omega arith)
+get-append_right [] ys (suc n) i e h = absurd (omega (arith, e))
+get-append_right (x ∷ xs) ys zero i e h = absurd (omega (arith, e))
+get-append_right (x ∷ xs) ys (suc n) zero e h = absurd (omega arith)
+get-append_right (x ∷ xs) ys (suc n) (suc i) e h =
+    get-append_right xs ys n i (omega (arith, e)) (omega arith) ∙ ap (λ k. slice_get ys k) (omega arith)
 
 pub get-append_last : {X : Type 0} (xs : List X) (x : X) → slice_get (xs ++ x ∷ []) (length xs) ≡ Some x
 get-append_last [] x = refl

@@ -8,3 +8,7 @@ pub mod NamedRows
 pub mod Summed
 pub mod Direct
 pub mod FarmerLists
+pub mod PointsAdded
+pub mod Merged
+mod Blocks
+mod Parts

@@ -20,7 +20,7 @@ use Rattle.beet_book.proofs.Sums.{item-supply, item-demand}
 pub length-summed : (prices : ℕ) (curves : List Curve) → length (summed_quantities prices curves) ≡ 2 * prices
 length-summed prices curves = length-map-range_with_len (λ n. sum_by (λ curve. quantity curve n) curves) 0 (2 * prices)
 
-item-summed : (prices : ℕ) (curves : List Curve) (n : ℕ) → n < 2 * prices →
+pub item-summed : (prices : ℕ) (curves : List Curve) (n : ℕ) → n < 2 * prices →
     get_or (summed_quantities prices curves) n 0 ≡ sum_by (λ curve. quantity curve n) curves
 item-summed prices curves n h = get_or-map-range_with_len (λ n. sum_by (λ curve. quantity curve n) curves) 0 (2 * prices) n n 0 h (omega arith)
 

@@ -1,5 +1,5 @@
 -- Dealing: each quantity of a bidder becomes the value of a line, whose slope is the next number of the bidder's tape.
-use Rattle.std.specs.Prelude.{◌≡◌, ℕ, List, ◌++◌, length, map, zip, Some}
+use Rattle.std.specs.Prelude.{◌≡◌, ◌≤◌, ℕ, ◌*◌, List, ◌++◌, length, map, zip, Some, All}
 use Rattle.std.specs.List.{slice_get}
 use Rattle.beet_field.specs.Field.{add_of, mul_of}
 use Rattle.beet_field.specs.declared.point.Point.{Point}
@@ -7,7 +7,8 @@ use Rattle.beet_field.specs.declared.point.Point.TheVariants.{One, Two, Three}
 use Rattle.beet_field.specs.declared.trio.Trio.{Trio}
 use Rattle.beet_shamir.specs.Line.{point_of}
 use Rattle.beet_words.specs.Tapes.{Tape, drawn_from, left_of}
-use Rattle.beet_bids.specs.Curves.{Curve}
+use Rattle.beet_bids.specs.Curves.{Curve, IsOfGrid}
+use Rattle.beet_bids.specs.Grids.{Grid}
 
 -- a function of two lists, item by item
 unfoldable pub pairwise : (ℕ → ℕ → ℕ) → List ℕ → List ℕ → List ℕ
@@ -55,6 +56,17 @@ pub record HasLengths (points : Trio (List ℕ)) (count : ℕ) : Type 0 where
   pub one : length points.one ≡ count
   pub two : length points.two ≡ count
   pub three : length points.three ≡ count
+
+-- each curve is of the grid, and has a tape of its own with a number for each of its quantities
+pub record CanDealEach (grid : Grid) (curves : List Curve) (tapes : List Tape) : Type 0 where
+  pub paired : length tapes ≡ length curves
+  pub of_grid : All (IsOfGrid grid) curves
+  pub words : All (λ tape. 2 * grid.prices ≤ length (left_of tape)) tapes
+
+-- each curve of the grid was dealt by its own tape, and at each server there is a point for each of its quantities
+pub record DealsOver (grid : Grid) (curves : List Curve) (old new : List Tape) (dealt : List (Trio (List ℕ))) : Type 0 where
+  pub each : DealsEach curves old new dealt
+  pub lengths : All (λ points. HasLengths points (2 * grid.prices)) dealt
 
 -- the points are those of lines with these values
 pub record AreShares (values : List ℕ) (points : Trio (List ℕ)) : Type 0 where

@@ -1,5 +1,5 @@
 -- The points of several bidders, added up; they need not lie on lines.
-use Rattle.std.specs.Prelude.{◌≡◌, ℕ, ◌*◌, ◌%◌, List, slice_index, sum_by}
+use Rattle.std.specs.Prelude.{◌≡◌, ℕ, ◌*◌, ◌%◌, List, ◌++◌, slice_index, sum_by}
 use Rattle.beet_field.specs.Field.{p}
 use Rattle.beet_field.specs.Trio.{member, trio_of}
 use Rattle.beet_field.specs.declared.point.Point.{Point}
@@ -23,3 +23,8 @@ inputs_at prices bidders = trio_of (λ s. supply_first prices (each (sum_at bidd
 -- the totals are the points of these bidders, added up
 abbrev pub AddsUp : Grid → Totals → List (Trio (List ℕ)) → Type 0
 AddsUp grid totals bidders = totals ≡ record { prices = grid.prices; points = sums_at grid.prices bidders }
+
+-- totals that are the points of some bidders, added up, are afterwards those of these bidders and a block of further ones
+abbrev pub AddsBlock : Totals → List (Trio (List ℕ)) → Totals → Type 0
+AddsBlock before block after =
+    (grid : Grid) (bidders : List (Trio (List ℕ))) → AddsUp grid before bidders → AddsUp grid after (bidders ++ block)

@@ -1,6 +1,6 @@
 -- Totals: the points of several bidders added up, and put in the order of an auction's input wires.
-use Rattle.std.specs.Prelude.{◌≡◌, ℕ, ◌+◌, ◌*◌, ◌%◌, ◌<◌, List, ◌++◌, length, map, take, drop, slice_index, sum_by, replicate}
-use Rattle.std.specs.List.{range_with_len}
+use Rattle.std.specs.Prelude.{◌≡◌, ℕ, ◌+◌, ◌*◌, ◌%◌, ◌<◌, List, ◌++◌, length, map, take, drop, slice_index, sum_by, replicate, Some}
+use Rattle.std.specs.List.{fold, range_with_len, slice_get}
 use Rattle.beet_field.specs.declared.trio.Trio.{Trio}
 use Rattle.beet_field.specs.Field.{p, add_of}
 use Rattle.beet_shamir.specs.Line.{recombined}
@@ -58,6 +58,21 @@ plain_sums xs ys = pairwise (λ x y. x + y) xs ys
 -- points of lines are added to points of lines with the sums of their values
 abbrev pub AddsValues : Trio (List ℕ) → Trio (List ℕ) → Trio (List ℕ) → Type 0
 AddsValues a b sum = (v w : List ℕ) → AreShares v a → AreShares w b → AreShares (plain_sums v w) sum
+
+-- the points of several bidders, added one after another
+abbrev pub all_added : Trio (List ℕ) → List (Trio (List ℕ)) → Trio (List ℕ)
+all_added points bidders = fold added points bidders
+
+-- the points of each bidder are those of lines with its values
+pub record HaveValues (values : List (List ℕ)) (bidders : List (Trio (List ℕ))) : Type 0 where
+  pub count : length values ≡ length bidders
+  pub each : (i : ℕ) (own : List ℕ) (points : Trio (List ℕ)) →
+      slice_get values i ≡ Some own → slice_get bidders i ≡ Some points → AreShares own points
+
+-- points of lines of several bidders are added to points of lines with the sums of all their values
+abbrev pub AddsAllValues : Trio (List ℕ) → List (Trio (List ℕ)) → Trio (List ℕ) → Type 0
+AddsAllValues before bidders after =
+    (v : List ℕ) (values : List (List ℕ)) → AreShares v before → HaveValues values bidders → AreShares (fold plain_sums v values) after
 
 -- points of lines become points of lines with the quantities of the curve added to their values
 abbrev pub AddsQuantities : Curve → Trio (List ℕ) → Trio (List ℕ) → Type 0

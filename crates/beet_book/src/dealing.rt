@@ -1,20 +1,23 @@
 //! Dealing the quantities of bidders.
 
-ghost use Rattle.std.specs.Prelude.{◌≡◌, ◌≤◌, ◌<◌, ◌*◌, slice_index, length, All, IfOk, OnErr};
+ghost use Rattle.std.specs.Prelude.{◌≡◌, ◌≤◌, ◌<◌, ◌*◌, ◌++◌, slice_index, length, All, IfOk, OnErr};
+ghost use Rattle.std.specs.Thread.{IsSync};
 ghost use Rattle.beet_field.specs.Trio.{member};
 ghost use Rattle.beet_words.specs.Tapes.{drawn_from, left_of};
 ghost use Rattle.beet_bids.specs.Curves.{IsOfGrid};
 ghost use Rattle.beet_shamir.specs.Line.{points_of};
 ghost use Rattle.beet_book.specs.Columns.{HasRoom, pushed};
-ghost use Rattle.beet_book.specs.Dealing.{AreShares, DealsBidder, DealsEach, HasLengths, quantities};
+ghost use Rattle.beet_book.specs.Dealing.{AreShares, CanDealEach, DealsBidder, DealsEach, DealsOver, HasLengths, quantities};
 
 use crate::columns::Columns;
+use crate::threads::{FEWEST_FOR_TWO, workers};
 use beet_bids::{Curve, Grid};
 use beet_field::{Fe, Point, Trio};
 use beet_shamir::deal;
 use beet_words::{FeList, Tape};
 use std::alloc::{AllocError, Global};
-use std::marker::Model;
+use std::marker::{Model, Sync};
+use std::thread::{Threads, join_mut};
 
 /// The points of one bidder at the three servers: buy at each place of the grid, and then sell at each place.
 #[derive(Drop)]
@@ -95,9 +98,85 @@ pub fn deal_bidder(
     Ok(Dealt::of(grid, columns.into_points()))
 }
 
-/// Deals each curve by its own tape, as `deal_bidder` does. Where memory runs out, nothing is known of how far the tapes
-/// are passed.
-pub fn deal_many(
+/// Deals the curves one after another.
+fn deal_in_order(
+    alloc: Global,
+    grid: &Grid,
+    curves: &[Curve],
+    tapes: &mut [Tape],
+) -> Result<Vec<Dealt>, AllocError>
+    requires { CanDealEach grid.now curves.now tapes.old }
+    ensures { IfOk result (λ dealt. DealsOver grid.now curves.now tapes.old tapes.new dealt.items) }
+{
+    let mut dealt = Vec::with_capacity(alloc, curves.len())?;
+    for (i, tape) in tapes.iter_mut().enumerate() {
+        dealt.push(deal_bidder(alloc, grid, &curves[i], tape)?)?;
+    }
+    Ok(dealt)
+}
+
+/// Deals the curves by so many threads, or one after another where they are few.
+#[cycle(halves)]
+fn deal_by<R: Threads + Sync>(
+    rt: &R,
+    alloc: Global,
+    grid: &Grid,
+    threads: usize,
+    curves: &[Curve],
+    tapes: &mut [Tape],
+) -> Result<Vec<Dealt>, AllocError>
+    requires { CanDealEach grid.now curves.now tapes.old }
+    ensures { IfOk result (λ dealt. DealsOver grid.now curves.now tapes.old tapes.new dealt.items) }
+{
+    if threads < 2 || curves.len() < FEWEST_FOR_TWO as usize {
+        return deal_in_order(alloc, grid, curves, tapes);
+    }
+    let middle = curves.len() / 2;
+    let (few, rest) = curves.split_at(middle);
+    let (front, back) = tapes.split_at_mut(middle);
+    deal_both(rt, alloc, grid, threads, few, rest, front, back)
+}
+
+/// Deals two parts at the same time, each by half of the threads, and joins their points.
+#[cycle(halves)]
+fn deal_both<R: Threads + Sync>(
+    rt: &R,
+    alloc: Global,
+    grid: &Grid,
+    threads: usize,
+    few: &[Curve],
+    rest: &[Curve],
+    front: &mut [Tape],
+    back: &mut [Tape],
+) -> Result<Vec<Dealt>, AllocError>
+    requires threads { 2 ≤ threads }
+    requires front { CanDealEach grid.now few.now front.old }
+    requires back { CanDealEach grid.now rest.now back.old }
+    ensures { IfOk result (λ dealt. DealsOver grid.now (few.now ++ rest.now)
+        (front.old ++ back.old) (front.new ++ back.new) dealt.items) }
+{
+    let half = threads.div_ceil(2);
+    let mut first = || -> Result<Vec<Dealt>, AllocError>
+        requires { IsSync R.row × CanDealEach grid.now few.now front.now }
+        ensures { IfOk result
+            (λ dealt. DealsOver grid.entry.now few.entry.now front.entry.now front.exit.now dealt.items) }
+    { deal_by(rt, alloc, grid, half, few, front) };
+    let mut second = || -> Result<Vec<Dealt>, AllocError>
+        requires { IsSync R.row × CanDealEach grid.now rest.now back.now }
+        ensures { IfOk result
+            (λ dealt. DealsOver grid.entry.now rest.entry.now back.entry.now back.exit.now dealt.items) }
+    { deal_by(rt, alloc, grid, half, rest, back) };
+    let (few_dealt, rest_dealt) = join_mut(rt, &mut first, &mut second);
+    let mut dealt = few_dealt?;
+    let mut others = rest_dealt?;
+    dealt.append(&mut others)?;
+    Ok(dealt)
+}
+
+/// Deals each curve by its own tape, as `deal_bidder` does, by a thread for each processor. Where memory runs out, nothing
+/// is known of how far the tapes are passed.
+pub fn deal_many<R: Threads + Sync>(
+    rt: &R,
     alloc: Global,
     grid: &Grid,
     curves: &[Curve],
@@ -111,9 +190,5 @@ pub fn deal_many(
     ensures lengths { IfOk result
         (λ dealt. All (λ points. HasLengths points (2 * grid.now.prices)) dealt.items) }
 {
-    let mut dealt = Vec::with_capacity(alloc, curves.len())?;
-    for (i, tape) in tapes.iter_mut().enumerate() {
-        dealt.push(deal_bidder(alloc, grid, &curves[i], tape)?)?;
-    }
-    Ok(dealt)
+    deal_by(rt, alloc, grid, workers(rt), curves, tapes)
 }

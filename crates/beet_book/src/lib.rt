@@ -10,6 +10,7 @@ mod naming;
 mod server_file;
 mod sources;
 mod summing;
+mod threads;
 
 pub use book_file::{BOOK_LIMIT, MOST_PRODUCT, OVER_PRODUCT, read_book};
 pub use dealing::{Dealt, deal_bidder, deal_many};
@@ -17,4 +18,5 @@ pub use entries::{BAD_SOURCE, BidderSource, Entry};
 pub use named_file::{NamedRow, ONE_TOO_MANY, SAME_NAME, TOO_MANY, read_named};
 pub use server_file::{SERVERS_LIMIT, read_servers};
 pub use sources::{ServerSource, Servers};
-pub use summing::Totals;
+pub use summing::{MOST_IN_BLOCK, Totals};
+pub use threads::{FEWEST_FOR_TWO, workers};

@@ -5,7 +5,8 @@ ghost use Rattle.beet_field.specs.Field.{add_of, mul_of};
 ghost use Rattle.beet_words.specs.Tapes.{drawn_from, left_of};
 ghost use Rattle.beet_bids.specs.declared.curve.TheConstants.{LARGEST_QUANTITY};
 ghost use Rattle.beet_book.specs.Dealing.{dealt_points, points_by, quantities, HasLengths};
-ghost use Rattle.beet_book.specs.Totals.{added, field_sums, none_of, wires_of, AddsQuantities, AddsValues, CarriesValues};
+ghost use Rattle.beet_book.specs.PointSums.{AddsBlock};
+ghost use Rattle.beet_book.specs.Totals.{added, all_added, field_sums, none_of, wires_of, AddsAllValues, AddsQuantities, AddsValues, CarriesValues};
 
 use crate::dealing::Dealt;
 use beet_bids::{Curve, Grid};
@@ -13,6 +14,9 @@ use beet_field::{Fe, Point, Trio};
 use beet_words::{FeList, Tape};
 use std::alloc::{AllocError, Global};
 use std::marker::Model;
+
+/// The most bidders of a block whose points are added at once.
+pub const MOST_IN_BLOCK: usize = 64;
 
 /// The points of several bidders, added up server by server.
 #[derive(Drop)]
@@ -110,6 +114,30 @@ impl Totals {
         add_each(&mut self.points.one, dealt.points(Point::One));
         add_each(&mut self.points.two, dealt.points(Point::Two));
         add_each(&mut self.points.three, dealt.points(Point::Three));
+    }
+
+    /// Adds the points of a block of bidders of the same grid, as `add` does with each in order.
+    pub fn add_block(&mut self, block: &[Dealt])
+        requires few { length block.now ≤ MOST_IN_BLOCK }
+        requires lengths { All (λ points. HasLengths points (2 * self.old.prices)) block.now }
+        ensures sums { self.new ≡ record self.old { points = all_added self.old.points block.now } }
+        ensures values { AddsAllValues self.old.points block.now self.new.points }
+        ensures block { AddsBlock self.old block.now self.new }
+    {
+        for dealt in block {
+            self.add(dealt);
+        }
+    }
+
+    /// Adds the totals of other bidders of the same grid.
+    pub fn merge(&mut self, other: &Totals)
+        requires { other.now.prices ≡ self.old.prices }
+        ensures sums { self.new ≡ record self.old { points = added self.old.points other.now.points } }
+        ensures values { AddsValues self.old.points other.now.points self.new.points }
+    {
+        add_each(&mut self.points.one, &other.points.one);
+        add_each(&mut self.points.two, &other.points.two);
+        add_each(&mut self.points.three, &other.points.three);
     }
 
     /// Deals the quantities of a bidder straight into the sums: what `deal_bidder` and then `add` do, with no list of the

@@ -2,18 +2,21 @@ ghost use Rattle.std.specs.Prelude.{◌*◌, All, IfOk};
 ghost use Rattle.beet_bids.specs.Curves.{IsOfGrid};
 ghost use Rattle.beet_book.specs.Dealing.{HasLengths};
 
+use crate::parts::deal_all;
 use crate::samples::{POINTS, Refusal, are, expect_refusal, grid_of, numbered_rows, tape_of_eight};
 use beet_bids::{Curve, Grid, read_bid};
 use beet_book::{
-    BidderSource, Dealt, Entry, Servers, Totals, deal_bidder, deal_many, read_book, read_servers,
+    BidderSource, Dealt, Entry, Servers, Totals, deal_bidder, read_book, read_servers,
 };
 use beet_field::{Point, Trio};
 use beet_forms::ReadFault;
 use beet_shamir::recombine;
 use beet_words::{FeList, Tape};
 use std::alloc::{AllocError, Global};
+use std::marker::Sync;
 use std::process::Abort;
 use std::test::Fail;
+use std::thread::Threads;
 
 /// Servers files, and how they are refused.
 const SERVERS: [(&str, Refusal); 11] = [
@@ -218,21 +221,14 @@ fn sums_of(
 }
 
 /// Deals two curves by tapes, which are used up, and answers the sums of both.
-fn deal_two(
-    rt: &impl Abort,
+fn deal_two<R: Abort + Threads + Sync>(
+    rt: &R,
     alloc: Global,
     grid: &Grid,
     curves: &[Curve],
     tapes: &mut [Tape],
 ) -> Result<Trio<FeList>, AllocError> {
-    assert!(rt; curves.iter().all(|curve| curve.is_of(grid)));
-    assert!(rt;
-        tapes
-            .iter()
-            .all(|tape| tape.accepted_left() >= 2 * grid.prices())
-    );
-    assert!(rt; tapes.len() == curves.len());
-    let dealt = deal_many(alloc, grid, curves, tapes)?;
+    let dealt = deal_all(rt, alloc, grid, curves, tapes)?;
     assert!(rt; tapes.iter().all(|tape| tape.masks_left() == 0));
     sums_of(rt, alloc, grid, &dealt)
 }
@@ -250,7 +246,12 @@ const SUMS: [(usize, u64); 8] = [
 ];
 
 /// Deals two curves, and compares their sums.
-fn expect_sums(rt: &impl Abort, alloc: Global, grid: &Grid, curves: &[Curve]) -> Result<(), Fail> {
+fn expect_sums<R: Abort + Threads + Sync>(
+    rt: &R,
+    alloc: Global,
+    grid: &Grid,
+    curves: &[Curve],
+) -> Result<(), Fail> {
     let mut tapes = two_tapes(alloc)?;
     let wires = deal_two(rt, alloc, grid, curves, &mut tapes)?;
     expect_values(rt, &wires, &SUMS);

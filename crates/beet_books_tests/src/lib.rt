@@ -8,4 +8,6 @@ mod book;
 #[cfg(test)]
 mod farmer;
 #[cfg(test)]
+mod parts;
+#[cfg(test)]
 mod samples;

@@ -6,18 +6,24 @@ ghost use Rattle.beet_errand.specs.Fetches.{IsDone, Reads};
 ghost use Rattle.beet_clear.specs.Clear.{clear_job};
 
 use beet_errand::{Reply, Stop};
+use beet_link::Gate;
 use beet_load::load;
 use beet_run::{outcome_reply, run_auction};
 use beet_store::Shelf;
 use std::alloc::Global;
+use std::sync::Wait;
+use std::thread::Threads;
 
-/// The outcome of a book, and the rounds in which three servers find it: `clear AUCTION SERVERS BOOK`, with names of files.
-pub fn clear<S: Shelf>(
+/// The outcome of a book, and the rounds in which three servers find it, each in a thread of its own and under the gate:
+/// `clear AUCTION SERVERS BOOK`, with names of files.
+pub fn clear<S: Shelf, R: Threads + Wait + Sync, G: Gate>(
+    rt: &R,
     alloc: Global,
     shelf: &mut S,
     auction: &str,
     servers: &str,
     book: &str,
+    gate: &G,
 ) -> Result<Reply, Stop>
     ensures done { IfOk result (λ reply. IsDone reply.status) }
     ensures reads { Reads (λ reply. reply) (S.seen shelf.old) (S.seen shelf.new)
@@ -25,6 +31,6 @@ pub fn clear<S: Shelf>(
 {
     let loaded = load(alloc, shelf, auction, servers, book)?;
     let grid = loaded.grid;
-    let (finish, rounds) = run_auction(alloc, &grid, loaded.inputs, loaded.servers)?;
+    let (finish, rounds) = run_auction(rt, alloc, &grid, loaded.inputs, loaded.servers, gate)?;
     Ok(outcome_reply(alloc, &grid, finish, rounds)?)
 }

@@ -13,7 +13,7 @@ use Rattle.beet_errand.specs.declared.answer.Stop.{Stop}
 use Rattle.beet_errand.proofs.Frame.{reached_none, reached_more, reached_last, stopped}
 use Rattle.beet_envelopes.specs.Gather.{envelopes_errand, bidders_errand, Gathered}
 use Rattle.beet_book.specs.PointSums.{AddsUp, sums_at}
-use Rattle.beet_auction.proofs.AddedPoints.{sums-none, sums-more}
+use Rattle.beet_book.proofs.PointsAdded.{sums-none, sums-more}
 
 -- no bidder is read yet
 pub gathered_none : (grid : Grid) (entries : List ListEntry) (seen : Seen) → Gathered grid entries entries seen seen (none_of grid.prices)

@@ -13,10 +13,13 @@ use beet_bids::Grid;
 use beet_book::Servers;
 use beet_errand::{Reply, Stop, fetch_file, judge};
 use beet_farmer::{LIST_LIMIT, ListEntry, read_list};
+use beet_link::Gate;
 use beet_load::{read_grid, read_sources, read_words};
 use beet_run::{outcome_reply, run_auction};
 use beet_store::Shelf;
 use std::alloc::Global;
+use std::sync::Wait;
+use std::thread::Threads;
 
 /// The bidders of a list file.
 fn read_entries<S: Shelf>(alloc: Global, shelf: &mut S, name: &str) -> Result<Vec<ListEntry>, Stop>
@@ -28,12 +31,14 @@ fn read_entries<S: Shelf>(alloc: Global, shelf: &mut S, name: &str) -> Result<Ve
 }
 
 /// The outcome of the bids in the envelopes of these entries, and the rounds in which three servers find it.
-fn open_entries<S: Shelf>(
+fn open_entries<S: Shelf, R: Threads + Wait + Sync, G: Gate>(
+    rt: &R,
     alloc: Global,
     shelf: &mut S,
     grid: &Grid,
     sources: &Servers,
     entries: &[ListEntry],
+    gate: &G,
 ) -> Result<Reply, Stop>
     requires { IsGrid grid.now }
     ensures done { IfOk result (λ reply. IsDone reply.status) }
@@ -42,20 +47,22 @@ fn open_entries<S: Shelf>(
 {
     let words = read_words(alloc, shelf, grid, sources, None)?;
     let totals = add_bidders(alloc, shelf, grid, entries)?;
-    let (finish, rounds) = run_auction(alloc, grid, totals.inputs(), words.servers)?;
+    let (finish, rounds) = run_auction(rt, alloc, grid, totals.inputs(), words.servers, gate)?;
     Ok(outcome_reply(alloc, grid, finish, rounds)?)
 }
 
-/// The outcome of the bids in the envelopes of a list, and the rounds in which three servers find it. The points in the
-/// envelopes need not lie on lines. Where they were sealed, `sealed_books_open_their_outcome` says that each file is within
-/// its limit and is read, that the bidders of the list have the points that were sealed, and that the outcome is that of
-/// their book.
-pub fn open_envelopes<S: Shelf>(
+/// The outcome of the bids in the envelopes of a list, and the rounds in which three servers find it, each in a thread
+/// of its own and under the gate. The points in the envelopes need not lie on lines. Where they were sealed,
+/// `sealed_books_open_their_outcome` says that each file is within its limit and is read, that the bidders of the list have the
+/// points that were sealed, and that the outcome is that of their book.
+pub fn open_envelopes<S: Shelf, R: Threads + Wait + Sync, G: Gate>(
+    rt: &R,
     alloc: Global,
     shelf: &mut S,
     auction: &str,
     servers: &str,
     list: &str,
+    gate: &G,
 ) -> Result<Reply, Stop>
     ensures done { IfOk result (λ reply. IsDone reply.status) }
     ensures reads { Reads (λ reply. reply) (S.seen shelf.old) (S.seen shelf.new)
@@ -64,5 +71,5 @@ pub fn open_envelopes<S: Shelf>(
     let grid = read_grid(alloc, shelf, auction)?;
     let sources = read_sources(alloc, shelf, servers)?;
     let entries = read_entries(alloc, shelf, list)?;
-    open_entries(alloc, shelf, &grid, &sources, entries.as_slice())
+    open_entries(rt, alloc, shelf, &grid, &sources, entries.as_slice(), gate)
 }

@@ -1,9 +1,12 @@
 use beet_envelopes::{SourceWord, open_envelopes, read_source_word, seal_bid};
 use beet_errand::{NewFile, Reply, Status, Stop};
+use beet_link::FreeGate;
 use beet_store::{Held, MemoryShelf};
 use std::alloc::{AllocError, Global};
 use std::process::Abort;
+use std::sync::Wait;
 use std::test::Fail;
+use std::thread::Threads;
 
 /// An auction of four prices, its servers and three bids.
 const FILES: [(&str, &str); 6] = [
@@ -143,6 +146,7 @@ fn all_sealed(alloc: Global) -> Result<Vec<NewFile>, Fail> {
 
 /// Opens envelopes.
 fn open_sealed(
+    rt: &(impl Threads + Wait + Sync),
     alloc: Global,
     first: &[(&str, &str)],
     sealed: Vec<NewFile>,
@@ -151,19 +155,19 @@ fn open_sealed(
     let mut shelf = shelf(alloc, first, sealed, failing)?;
     end_of(
         alloc,
-        open_envelopes(alloc, &mut shelf, "g.auc", "s.srv", "l.lst"),
+        open_envelopes(rt, alloc, &mut shelf, "g.auc", "s.srv", "l.lst", &FreeGate),
     )
 }
 
 /// Opens the three bids over these files, and compares the status and the text.
 fn expect_open(
-    rt: &impl Abort,
+    rt: &(impl Abort + Threads + Wait + Sync),
     alloc: Global,
     first: &[(&str, &str)],
     status: Status,
     text: &str,
 ) -> Result<(), Fail> {
-    let end = open_sealed(alloc, first, all_sealed(alloc)?, Vec::new(alloc))?;
+    let end = open_sealed(rt, alloc, first, all_sealed(alloc)?, Vec::new(alloc))?;
     expect_end(rt, &end, status, text);
     Ok(())
 }
@@ -185,7 +189,7 @@ fn overwrite(files: &mut [NewFile], name: &str, at: usize, bytes: &[u8]) {
 
 /// Opens the three bids, where bytes of an envelope are others, and compares the status and the text.
 fn expect_changed(
-    rt: &impl Abort,
+    rt: &(impl Abort + Threads + Wait + Sync),
     alloc: Global,
     name: &str,
     at: usize,
@@ -195,7 +199,7 @@ fn expect_changed(
 ) -> Result<(), Fail> {
     let mut files = all_sealed(alloc)?;
     overwrite(&mut files, name, at, bytes);
-    let end = open_sealed(alloc, &[], files, Vec::new(alloc))?;
+    let end = open_sealed(rt, alloc, &[], files, Vec::new(alloc))?;
     expect_end(rt, &end, status, text);
     Ok(())
 }
@@ -463,13 +467,13 @@ fn lengthen(files: &mut [NewFile], name: &str) -> Result<(), AllocError> {
 
 /// Opens these envelopes, and compares the status and the text.
 fn expect_opened(
-    rt: &impl Abort,
+    rt: &(impl Abort + Threads + Wait + Sync),
     alloc: Global,
     files: Vec<NewFile>,
     status: Status,
     text: &str,
 ) -> Result<(), Fail> {
-    let end = open_sealed(alloc, &[], files, Vec::new(alloc))?;
+    let end = open_sealed(rt, alloc, &[], files, Vec::new(alloc))?;
     expect_end(rt, &end, status, text);
     Ok(())
 }
@@ -537,8 +541,13 @@ fn bundle_of_two_bidders(rt: HostRuntime) -> Result<(), Fail> {
 }
 
 /// Opens the three bids where a fetch fails, which is that of the file.
-fn expect_open_fault(rt: &impl Abort, alloc: Global, call: u64, name: &str) -> Result<(), Fail> {
-    let end = open_sealed(alloc, &[], all_sealed(alloc)?, only(alloc, call)?)?;
+fn expect_open_fault(
+    rt: &(impl Abort + Threads + Wait + Sync),
+    alloc: Global,
+    call: u64,
+    name: &str,
+) -> Result<(), Fail> {
+    let end = open_sealed(rt, alloc, &[], all_sealed(alloc)?, only(alloc, call)?)?;
     expect_fault(rt, alloc, &end, name)
 }
 

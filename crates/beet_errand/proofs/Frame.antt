@@ -10,7 +10,7 @@ use Rattle.beet_forms.specs.declared.faults.ReadFault.{ReadFault}
 use Rattle.beet_forms.specs.declared.faults.ReadFault.TheVariants.{Bad, OutOfMemory as MemoryOut}
 use Rattle.beet_errand.specs.Errands.{Answer, Errand, Ends, Step, ◌>>=◌, ◌>>◌, gives, answers, judged}
 use Rattle.beet_errand.specs.Fetches.{ReadsFor, Reads, Reached, Tests, Does, Causes, Judges, Refuses}
-use Rattle.beet_errand.specs.declared.answer.Status.TheVariants.{Done, OutOfMemory as NoMemory, Usage, ReadFault as Unread, WriteFault, BadFile, MasksSpent, WorldsRefused, TooFewWords}
+use Rattle.beet_errand.specs.declared.answer.Status.TheVariants.{Done, OutOfMemory as NoMemory, Usage, ReadFault as Unread, WriteFault, BadFile, MasksSpent, WorldsRefused, AuditRefused, TooFewWords}
 use Rattle.beet_errand.specs.declared.answer.Stop.{Stop}
 use Rattle.beet_errand.specs.declared.answer.Stop.TheVariants.{Refused, OutOfMemory}
 use Rattle.beet_errand.proofs.Steps.{went_none, went_on, stops_before, stops_after}
@@ -25,6 +25,7 @@ causes_on before middle now (Refused WriteFault text) le h = absurd h
 causes_on before middle now (Refused BadFile text) le h = tt
 causes_on before middle now (Refused MasksSpent text) le h = absurd h
 causes_on before middle now (Refused WorldsRefused text) le h = absurd h
+causes_on before middle now (Refused AuditRefused text) le h = absurd h
 causes_on before middle now (Refused TooFewWords text) le h = tt
 causes_on before middle now OutOfMemory le h = tt
 

@@ -4,7 +4,7 @@ use Rattle.beet_store.specs.Causes.{Rose}
 use Rattle.beet_store.specs.Files.{File, Fetch, Told, Seen}
 use Rattle.beet_errand.specs.Errands.{Answer, Errand, Step, Ends, Wants, FetchAnswer, Bytes, Longer, Nothing, after_fetch, after_answer, answers}
 use Rattle.beet_errand.specs.declared.answer.Status.{Status}
-use Rattle.beet_errand.specs.declared.answer.Status.TheVariants.{Done, OutOfMemory as NoMemory, Usage, ReadFault as Unread, WriteFault, BadFile, MasksSpent, WorldsRefused, TooFewWords}
+use Rattle.beet_errand.specs.declared.answer.Status.TheVariants.{Done, OutOfMemory as NoMemory, Usage, ReadFault as Unread, WriteFault, BadFile, MasksSpent, WorldsRefused, AuditRefused, TooFewWords}
 use Rattle.beet_forms.specs.FaultLines.{fault_line_of}
 use Rattle.beet_forms.specs.declared.faults.ReadFault.{ReadFault}
 use Rattle.beet_forms.specs.declared.faults.ReadFault.TheVariants.{Bad, OutOfMemory as MemoryOut}
@@ -79,6 +79,7 @@ Causes before now (Refused WriteFault text) = ⊥
 Causes before now (Refused BadFile text) = Unit {0}
 Causes before now (Refused MasksSpent text) = ⊥
 Causes before now (Refused WorldsRefused text) = ⊥
+Causes before now (Refused AuditRefused text) = ⊥
 Causes before now (Refused TooFewWords text) = Unit {0}
 Causes before now OutOfMemory = Unit {0}
 
@@ -116,6 +117,11 @@ abbrev pub Finishes : Option Told → Option Told → Errand → Result Answer S
 Finishes old now errand (Ok answer) = Went old now errand (Ends answer)
 Finishes old now errand (Err (Refused status text)) = Went old now errand (answers status text.items)
 Finishes old now errand (Err OutOfMemory) = (rest : Errand) × Went old now errand rest
+
+-- a fact holds of an answer that shows this much; or of the errand that reads so far, however it would go on, so that the job ends in it
+abbrev pub WithShown : {A : Type 0} → Option Told → Option Told → Step A → (Answer → Type 0) → (Option Told → Errand → Type 0) → Type 0
+WithShown {A = A} old now step shows P =
+    ((answer : Answer) × shows answer × P now (Ends answer)) ⊎ ((next : A → Errand) → P old (step next))
 
 -- a whole job does what its errand says and no more: it has gone to its end, or it stops with a cause
 pub record Does (old now : Seen) (errand : Errand) (result : Result Answer Stop) : Type 0 where

@@ -26,6 +26,8 @@ pub enum Status {
     MasksSpent,
     /// Two books do not agree for a server.
     WorldsRefused,
+    /// Three transcripts are not those of one run.
+    AuditRefused,
     /// A tape holds too few words.
     TooFewWords,
 }
@@ -44,6 +46,7 @@ impl Status {
             Status::BadFile => 5,
             Status::MasksSpent => 6,
             Status::WorldsRefused => 7,
+            Status::AuditRefused => 8,
             Status::TooFewWords => 9,
         }
     }

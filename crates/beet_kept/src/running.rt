@@ -1,6 +1,6 @@
 //! Three servers run the auction of a book, and what each of them has seen is shown.
 
-ghost use Rattle.std.specs.Prelude.{◌≡◌, ◌≤◌, IfErr, IfOk, All, length, true};
+ghost use Rattle.std.specs.Prelude.{◌≡◌, ◌≤◌, IfErr, IfOk, All, length, map, true};
 ghost use Rattle.beet_field.specs.Trio.{member};
 ghost use Rattle.beet_field.specs.declared.point.Point.{Point as Server};
 ghost use Rattle.beet_words.specs.Bundles.{Words as Lists};
@@ -11,28 +11,32 @@ ghost use Rattle.beet_server.specs.Cores.{has_ended};
 ghost use Rattle.beet_delivery.specs.Events.{Delivered};
 ghost use Rattle.beet_server.specs.Fits.{Fits};
 ghost use Rattle.beet_sharing.specs.Runs.{Setup};
+ghost use Rattle.beet_book.specs.Farmers.{book_inputs, farmers_of};
+ghost use Rattle.beet_load.specs.Servers.{cut_servers};
 ghost use Rattle.beet_load.specs.Wholes.{CanRun};
 ghost use Rattle.beet_view.specs.RunViews.{view_of_run};
 ghost use Rattle.beet_view.specs.Transcripts.{view_bytes};
 ghost use Rattle.beet_view.specs.Views.{IsSeenAt};
 ghost use Rattle.beet_kept.specs.BookRuns.{HasRun};
-ghost use Rattle.beet_view.specs.BookViews.{view_for};
+ghost use Rattle.beet_view.specs.BookViews.{seen_at, view_for};
 ghost use Rattle.beet_words.specs.declared.bundle.TheConstants.{MOST_BIDDERS};
 
 use crate::dealing::{SeenByAll, deal_book};
 use beet_bids::{Book, Grid};
 use beet_errand::Stop;
 use beet_field::{Point, Trio};
-use beet_load::cut_three;
+use beet_link::Gate;
+use beet_load::{ServerWords, cut_three};
 use beet_plan::Finish;
-use beet_run::{finish_at, start_servers};
+use beet_run::{finish_at, run_in_threads, run_on_one_thread};
 use beet_search::AuctionScript;
 use beet_server::ServerCore;
 use beet_view::{Seen, View, view_of, write_view};
-use beet_words::Words;
-use beet_world::lockstep;
+use beet_words::{FeList, Words};
 use std::alloc::{AllocError, Global};
 use std::marker::Model;
+use std::sync::Wait;
+use std::thread::Threads;
 
 /// Three servers that have run an auction to its end, and the bidders as each of them sees them.
 #[derive(Drop)]
@@ -134,23 +138,80 @@ fn grid_of(book: &Book) -> Grid
     grid
 }
 
-/// Runs the auction of a book among three servers, which begin with these words, to its end. Want of memory is the only
-/// error, and comes before the first round.
+/// What three servers begin with for a book: the grid, the bidders as each server sees them, the points of the inputs, and the
+/// words of the servers.
+#[derive(Drop)]
+struct Ready {
+    grid: Grid,
+    seen: SeenByAll,
+    inputs: Trio<FeList>,
+    tapes: Trio<ServerWords>,
+}
+
+/// Deals the bidders of a book, and cuts the words of the servers as those of tapes are cut.
+fn make_ready(alloc: Global, book: &Book, words: &Words) -> Result<Ready, AllocError>
+    requires { CanRun book.now words.now }
+    ensures book { IfOk result (λ ready. IsBook book.now) }
+    ensures grid { IfOk result (λ ready. ready.grid ≡ book.now.grid) }
+    ensures seen { IfOk result (λ ready. (s : Server) → member ready.seen s
+        ≡ map (seen_at book.now.grid s) (farmers_of book.now.bidders words.now.bidders)) }
+    ensures inputs { IfOk result (λ ready. ready.inputs
+        ≡ book_inputs book.now.grid.prices (farmers_of book.now.bidders words.now.bidders)) }
+    ensures tapes { IfOk result (λ ready. ready.tapes ≡ cut_servers ready.grid words.now) }
+{
+    let grid = grid_of(book);
+    let dealt = deal_book(alloc, book, words.bidders.as_slice())?;
+    let tapes = cut_three(alloc, &grid, words)?;
+    Ok(Ready {
+        grid,
+        seen: dealt.seen,
+        inputs: dealt.inputs,
+        tapes,
+    })
+}
+
+/// Runs the auction of a book among three servers, which begin with these words, to its end on the caller's thread. Want of
+/// memory is the only error, and comes before the first round.
 pub fn run_whole(alloc: Global, book: &Book, words: &Words) -> Result<Ran, Stop>
     requires { CanRun book.now words.now }
     ensures memory { IfErr result (λ stop. stop ≡ Stop.OutOfMemory) }
     ensures run { IfOk result (HasRun book.now words.now) }
 {
-    let grid = grid_of(book);
-    let dealt = deal_book(alloc, book, words.bidders.as_slice())?;
-    let tapes = cut_three(alloc, &grid, words)?;
-    let start = start_servers(alloc, &grid, dealt.inputs, tapes)?;
-    let cores = lockstep(start);
+    let begun = make_ready(alloc, book, words)?;
+    let grid = begun.grid;
+    let cores = run_on_one_thread(alloc, &grid, begun.inputs, begun.tapes)?;
     let finish = finish_at(&cores.one);
     let rounds = cores.one.round();
     Ok(Ran {
         grid,
-        seen: dealt.seen,
+        seen: begun.seen,
+        cores,
+        finish,
+        rounds,
+    })
+}
+
+/// Runs the auction of a book among three servers, which begin with these words, to its end, each in a thread of its own and
+/// under the gate. Want of memory is the only error, and comes before the first round.
+pub fn run_whole_in_threads<R: Threads + Wait + Sync, G: Gate>(
+    rt: &R,
+    alloc: Global,
+    book: &Book,
+    words: &Words,
+    gate: &G,
+) -> Result<Ran, Stop>
+    requires { CanRun book.now words.now }
+    ensures memory { IfErr result (λ stop. stop ≡ Stop.OutOfMemory) }
+    ensures run { IfOk result (HasRun book.now words.now) }
+{
+    let begun = make_ready(alloc, book, words)?;
+    let grid = begun.grid;
+    let cores = run_in_threads(rt, alloc, &grid, begun.inputs, begun.tapes, gate)?;
+    let finish = finish_at(&cores.one);
+    let rounds = cores.one.round();
+    Ok(Ran {
+        grid,
+        seen: begun.seen,
         cores,
         finish,
         rounds,

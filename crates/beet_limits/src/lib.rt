@@ -22,6 +22,7 @@ ghost use Rattle.beet_book.specs.declared.book_file.TheConstants.{BOOK_LIMIT, MO
 ghost use Rattle.beet_book.specs.declared.entries.TheConstants.{BAD_SOURCE};
 ghost use Rattle.beet_book.specs.declared.named_file.TheConstants.{ONE_TOO_MANY, SAME_NAME, TOO_MANY};
 ghost use Rattle.beet_book.specs.declared.server_file.TheConstants.{SERVERS_LIMIT};
+ghost use Rattle.beet_book.specs.declared.summing.TheConstants.{MOST_IN_BLOCK};
 ghost use Rattle.beet_world.specs.declared.schedule.TheConstants.{BAD_ROW as BAD_DELIVERY, LATEST_ROUND, MOST_DELIVERIES, ONE_TOO_MANY as ONE_DELIVERY_TOO_MANY, SCHEDULE_LIMIT, TOO_MANY as TOO_MANY_DELIVERIES};
 ghost use Rattle.beet_view.specs.declared.reading.TheConstants.{MOST_ROUNDS};
 ghost use Rattle.beet_farmer.specs.declared.envelope.TheConstants.{BAD_NUMBER as BAD_POINT, ENVELOPE_LIMIT, TRAILING as TRAILING_POINTS, TRUNCATED as TRUNCATED_ENVELOPE, WRONG_GRID, WRONG_SERVER};
@@ -56,6 +57,7 @@ pub fn auctions_have_these_limits()
     ensures spare_masks { SPARE_MASKS ≡ 2 }
     ensures name { LONGEST_NAME ≡ 200 }
     ensures one_bidder_too_many { ONE_TOO_MANY ≡ 2002 }
+    ensures block { MOST_IN_BLOCK ≡ 64 }
 {}
 
 /// The limits of schedules and transcripts.

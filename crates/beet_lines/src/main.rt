@@ -1,12 +1,16 @@
 //! The jobs of the program over real files: each line of the file `lines` is one command, and what it says and its status
 //! are printed below it. A line `same ONE OTHER` compares two files, and its status is 0 where they hold the same bytes. A line
-//! `size FILE` says how many bytes a file holds.
+//! `size FILE` says how many bytes a file holds. A line `splice FILE AT COUNT DIGITS OUT` puts a file in which so many bytes from a
+//! place on give way to those of hexadecimal digits, or to none where these are `-`.
 #![tactic(auto)]
 
+use beet_link::FreeGate;
 use beet_store::{Desk, HostDesk, HostShelf, Shelf};
 use std::alloc::{AllocError, Global};
 use std::process::ExitCode;
 use std::str;
+use std::sync::Wait;
+use std::thread::Threads;
 
 /// The limit of the file of commands in bytes.
 const LINES_LIMIT: u64 = 65_536;
@@ -47,24 +51,82 @@ fn say_size<S: Shelf, K: Desk>(alloc: Global, shelf: &mut S, desk: &mut K, name:
     0
 }
 
-/// Does the job of these words, or compares or measures the files that they name. Answers the status.
-fn run_words<S: Shelf, K: Desk>(
+/// The bytes of hexadecimal digits, or none for `-`.
+fn bytes_of(alloc: Global, digits: &str) -> Option<Vec<u8>> {
+    if digits == "-" {
+        Some(Vec::new(alloc))
+    } else {
+        hex::decode(alloc, digits).ok()
+    }
+}
+
+/// The bytes, of which `count` from `at` on give way to others. `None` where there are not as many, or memory runs out.
+fn spliced(alloc: Global, bytes: &[u8], at: &str, count: &str, digits: &str) -> Option<Vec<u8>> {
+    let at = at.parse::<usize>().ok()?;
+    let end = at.checked_add(count.parse::<usize>().ok()?)?;
+    let others = bytes_of(alloc, digits)?;
+    let mut out = Vec::new(alloc);
+    out.extend_from_slice(bytes.get(..at)?).ok()?;
+    out.extend_from_slice(others.as_slice()).ok()?;
+    out.extend_from_slice(bytes.get(end..)?).ok()?;
+    Some(out)
+}
+
+/// Puts a file with other bytes in the place of some. Answers 0, or 1 where that is not done.
+fn splice<S: Shelf, K: Desk>(
+    alloc: Global,
+    shelf: &mut S,
+    desk: &mut K,
+    name: &str,
+    at: &str,
+    count: &str,
+    digits: &str,
+    out: &str,
+) -> u8 {
+    let Ok(bytes) = shelf.fetch(alloc, name, FILE_LIMIT) else {
+        return 1;
+    };
+    let Some(bytes) = spliced(alloc, bytes.as_slice(), at, count, digits) else {
+        return 1;
+    };
+    match desk.put(alloc, out, bytes.as_slice()) {
+        Ok(()) => 0,
+        Err(_) => 1,
+    }
+}
+
+/// Does the job of these words, or compares, measures or changes the files that they name. Answers the status.
+fn run_words<S: Shelf, K: Desk, R: Threads + Wait + Sync>(
+    rt: &R,
     alloc: Global,
     shelf: &mut S,
     desk: &mut K,
     words: &[String],
 ) -> u8 {
-    if words.len() == 3 && words[0].as_str() == "same" {
-        compare(alloc, shelf, words[1].as_str(), words[2].as_str())
-    } else if words.len() == 2 && words[0].as_str() == "size" {
-        say_size(alloc, shelf, desk, words[1].as_str())
-    } else {
-        beet_app::run(alloc, words, shelf, desk)
+    match words {
+        [command, one, other] if command.as_str() == "same" => {
+            compare(alloc, shelf, one.as_str(), other.as_str())
+        }
+        [command, name] if command.as_str() == "size" => {
+            say_size(alloc, shelf, desk, name.as_str())
+        }
+        [command, name, at, count, digits, out] if command.as_str() == "splice" => splice(
+            alloc,
+            shelf,
+            desk,
+            name.as_str(),
+            at.as_str(),
+            count.as_str(),
+            digits.as_str(),
+            out.as_str(),
+        ),
+        _ => beet_app::run(rt, alloc, words, shelf, desk, &FreeGate),
     }
 }
 
 /// Says a line, does its job, and says the status.
-fn run_line<S: Shelf, K: Desk>(
+fn run_line<S: Shelf, K: Desk, R: Threads + Wait + Sync>(
+    rt: &R,
     alloc: Global,
     shelf: &mut S,
     desk: &mut K,
@@ -73,21 +135,22 @@ fn run_line<S: Shelf, K: Desk>(
     let words = words_of(alloc, line)?;
     let command = format!(in alloc; "$ {line}\n")?;
     let _said = desk.say(command.as_bytes());
-    let status = run_words(alloc, shelf, desk, words.as_slice());
+    let status = run_words(rt, alloc, shelf, desk, words.as_slice());
     let end = format!(in alloc; "= {status}\n")?;
     let _said = desk.say(end.as_bytes());
     Ok(())
 }
 
 /// Does the jobs of the lines, in order.
-fn run_lines<S: Shelf, K: Desk>(
+fn run_lines<S: Shelf, K: Desk, R: Threads + Wait + Sync>(
+    rt: &R,
     alloc: Global,
     shelf: &mut S,
     desk: &mut K,
     lines: &str,
 ) -> Result<(), AllocError> {
     for line in lines.lines() {
-        run_line(alloc, shelf, desk, line)?;
+        run_line(rt, alloc, shelf, desk, line)?;
     }
     Ok(())
 }
@@ -102,7 +165,7 @@ fn main(rt: HostRuntime) -> ExitCode {
     let Ok(lines) = str::from_utf8(bytes.as_slice()) else {
         return ExitCode::from(1);
     };
-    match run_lines(alloc, &mut shelf, &mut desk, lines) {
+    match run_lines(&rt, alloc, &mut shelf, &mut desk, lines) {
         Ok(()) => ExitCode::from(0),
         Err(_) => ExitCode::from(1),
     }

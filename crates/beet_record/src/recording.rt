@@ -8,11 +8,14 @@ ghost use Rattle.beet_record.specs.Records.{file_for, record_job, recorded_answe
 
 use beet_errand::{NewFile, Reply, Stop};
 use beet_field::{Point, Trio};
-use beet_kept::run_whole;
+use beet_kept::run_whole_in_threads;
+use beet_link::Gate;
 use beet_load::{Whole, load_whole};
 use beet_run::outcome_reply;
 use beet_store::Shelf;
 use std::alloc::{AllocError, Global};
+use std::sync::Wait;
+use std::thread::Threads;
 
 /// The name of the file for a server.
 fn file_name(alloc: Global, out: &str, at: Point) -> Result<String, AllocError>
@@ -56,11 +59,17 @@ fn transcript_files(
 }
 
 /// The reply for an auction that is read. What was read is dropped after the run.
-fn reply_for(alloc: Global, whole: Whole, out: &str) -> Result<Reply, Stop>
+fn reply_for<R: Threads + Wait + Sync, G: Gate>(
+    rt: &R,
+    alloc: Global,
+    whole: Whole,
+    out: &str,
+    gate: &G,
+) -> Result<Reply, Stop>
     ensures memory { IfErr result (λ stop. stop ≡ Stop.OutOfMemory) }
     ensures reply { IfOk result (λ reply. reply ≡ recorded_answer out.now (loaded_of whole)) }
 {
-    let ran = run_whole(alloc, &whole.book, &whole.words)?;
+    let ran = run_whole_in_threads(rt, alloc, &whole.book, &whole.words, gate)?;
     drop(whole);
     let reply = outcome_reply(alloc, ran.grid(), ran.finish(), ran.rounds())?;
     let transcripts = ran.into_transcripts(alloc)?;
@@ -72,20 +81,22 @@ fn reply_for(alloc: Global, whole: Whole, out: &str) -> Result<Reply, Stop>
     })
 }
 
-/// Runs the auction of a book among three servers. What each server has seen is put into the file of the name `out`, a dot
+/// Runs the auction of a book among three servers, each in a thread of its own and under the gate. What each server has seen is put into the file of the name `out`, a dot
 /// and the server's number; the text is that of the job `clear`.
-pub fn record<S: Shelf>(
+pub fn record<S: Shelf, R: Threads + Wait + Sync, G: Gate>(
+    rt: &R,
     alloc: Global,
     shelf: &mut S,
     auction: &str,
     servers: &str,
     book: &str,
     out: &str,
+    gate: &G,
 ) -> Result<Reply, Stop>
     ensures done { IfOk result (λ reply. IsDone reply.status) }
     ensures reads { Reads (λ reply. reply) (S.seen shelf.old) (S.seen shelf.new)
         (record_job auction.now servers.now book.now out.now) result }
 {
     let whole = load_whole(alloc, shelf, auction, servers, book)?;
-    reply_for(alloc, whole, out)
+    reply_for(rt, alloc, whole, out, gate)
 }

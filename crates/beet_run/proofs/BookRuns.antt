@@ -5,7 +5,6 @@ use Rattle.beet_field.specs.declared.point.Point.{Point}
 use Rattle.beet_field.specs.declared.trio.Trio.{Trio}
 use Rattle.beet_gates.specs.Plans.{plan_finish}
 use Rattle.beet_bids.specs.Books.{Book, IsBook}
-use Rattle.beet_bids.specs.Grids.{Grid}
 use Rattle.beet_book.specs.Dealing.{AreShares}
 use Rattle.beet_plan.specs.Auction.{Auction, auction_plan, auction_over}
 use Rattle.beet_bids.specs.Sums.{sums_of}

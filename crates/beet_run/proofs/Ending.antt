@@ -1,12 +1,9 @@
 -- The end of a run names a finish.
-use Rattle.std.proofs.Common.{◌≡◌, ◌≢◌, ◌<◌, arith, ℕ, zero, suc, List, [], length, Some, None, Option, IsSome, sym, ◌∙◌, ap, refl, subst, Bool, true, false, ◌↔◌, true≢false}
-use Rattle.std.proofs.lemmas.List.{length-map}
-use Rattle.beet_field.specs.declared.point.Point.{Point}
+use Rattle.std.proofs.Common.{◌≡◌, ◌≢◌, ◌<◌, arith, ℕ, zero, suc, List, Some, Option, IsSome, sym, ◌∙◌, ap, refl, subst, true, false, true≢false}
 use Rattle.beet_field.specs.declared.point.Point.TheVariants.{One}
 use Rattle.beet_field.specs.declared.trio.Trio.{Trio}
 use Rattle.beet_gates.specs.Clear.{is_end}
 use Rattle.beet_gates.specs.Plans.{plan_finish}
-use Rattle.beet_gates.specs.Scripts.{revealed}
 use Rattle.beet_gates.specs.declared.Act.{Act}
 use Rattle.beet_gates.specs.declared.Act.TheVariants.{Deal, Mul, Reveal, End}
 use Rattle.beet_gates.specs.declared.Batch.{Batch}
@@ -14,12 +11,11 @@ use Rattle.beet_bids.specs.Grids.{Grid}
 use Rattle.beet_plan.specs.Auction.{Auction, auction_batch, auction_plan, most_rounds, auction_over}
 use Rattle.beet_plan.specs.Ends.{ComesTo, TellsEnd}
 use Rattle.beet_plan.specs.declared.Finish.{Finish}
-use Rattle.beet_server.specs.Cores.{Core, setup_of, has_ended}
+use Rattle.beet_server.specs.Cores.{Core, setup_of}
 use Rattle.beet_delivery.specs.Events.{Delivered, all_delivered}
 use Rattle.beet_server.specs.Fits.{Fits}
-use Rattle.beet_sharing.specs.Runs.{Setup, Shared, HasRounds, coming, opened_at, opened_by, rounds_among, shared_at, with_batch_lets}
+use Rattle.beet_sharing.specs.Runs.{Setup, coming, opened_by, rounds_among, shared_at, with_batch_lets}
 use Rattle.beet_world.specs.Lockstep.{HaveEnded}
-use Rattle.beet_auction.specs.Endings.{AuctionEnds}
 use Rattle.beet_load.specs.Servers.{ServerWords}
 use Rattle.beet_run.specs.Runs.{EndsAuction, HasEndedRun, Starts, setup_with}
 use Rattle.beet_sharing.proofs.Walk.{length-opened_by}

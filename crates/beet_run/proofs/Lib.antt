@@ -1,5 +1,6 @@
 pub mod ShareLines
 pub mod Starting
+pub mod Spares
 pub mod Ending
 pub mod BookRuns
 pub mod StatusFacts

@@ -14,7 +14,7 @@ use Rattle.beet_bids.specs.Books.{Book, IsBook}
 use Rattle.beet_bids.specs.Sums.{sums_of}
 use Rattle.beet_bids.proofs.BookSums.{sums-elements}
 use Rattle.beet_book.specs.Dealing.{AreShares, points_at, shares_of}
-use Rattle.beet_book.proofs.Pairs.{length-pairwise, item-pairwise}
+use Rattle.beet_book.proofs.Pairs.{item-pairwise}
 use Rattle.beet_sharing.specs.Lines.{OnLines}
 use Rattle.beet_book.proofs.Sums.{length-points}
 

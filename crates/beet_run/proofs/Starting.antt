@@ -11,10 +11,10 @@ use Rattle.beet_gates.specs.declared.Linear.{Linear}
 use Rattle.beet_bids.specs.Grids.{Grid}
 use Rattle.beet_plan.specs.Auction.{Auction, auction_batch, most_masks, most_coefficients, auction_over}
 use Rattle.beet_server.specs.Cores.{Core, AreFresh, IsFresh, fresh, setup_of}
-use Rattle.beet_sharing.specs.Runs.{Setup, numbers_of}
+use Rattle.beet_sharing.specs.Runs.{numbers_of}
 use Rattle.beet_server.proofs.Starting.{first-wires}
 use Rattle.beet_auction.specs.Setups.{inputs_of}
-use Rattle.beet_load.specs.Servers.{ServerWords, masks_of, coefficients_of}
+use Rattle.beet_load.specs.Servers.{ServerWords}
 use Rattle.beet_run.specs.Runs.{Starts, setup_with}
 
 -- a server that begins with its points and words

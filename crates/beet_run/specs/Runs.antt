@@ -4,13 +4,14 @@ use Rattle.beet_field.specs.Trio.{member}
 use Rattle.beet_field.specs.declared.point.Point.{Point}
 use Rattle.beet_field.specs.declared.trio.Trio.{Trio}
 use Rattle.beet_bids.specs.Grids.{Grid}
-use Rattle.beet_plan.specs.Auction.{Auction, auction_batch, auction_over}
+use Rattle.beet_plan.specs.Auction.{Auction, auction_batch, auction_over, most_rounds}
 use Rattle.beet_plan.specs.Runs.{AreMasks}
 use Rattle.beet_plan.specs.declared.Finish.{Finish}
 use Rattle.beet_server.specs.Cores.{Core, AreFresh, has_ended, setup_of}
 use Rattle.beet_delivery.specs.Events.{Delivered}
 use Rattle.beet_server.specs.Fits.{Fits}
 use Rattle.beet_sharing.specs.Runs.{Setup}
+use Rattle.beet_world.specs.Lockstep.{HaveEnded}
 use Rattle.beet_auction.specs.Endings.{AuctionEnds}
 use Rattle.beet_auction.specs.Setups.{auction_setup, inputs_of}
 use Rattle.beet_load.specs.Servers.{ServerWords, masks_of, coefficients_of}
@@ -27,6 +28,12 @@ pub record Starts (grid : Grid) (inputs : Trio (List ℕ)) (words : Trio ServerW
   pub masks : (s : Point) → (member cores s).masks.words ≡ (member words s).masks
   pub coefficients : (s : Point) → (member cores s).coefficients.words ≡ (member words s).coefficients
   pub are_masks : AreMasks (masks_of words)
+
+-- three servers have run the auction over a grid, with these points and words, from its start to its end
+pub record HaveRunToEnd (grid : Grid) (inputs : Trio (List ℕ)) (words : Trio ServerWords) (cores : Trio (Core Auction)) : Type 0 where
+  pub start : Trio (Core Auction)
+  pub starts : Starts grid inputs words start
+  pub ended : HaveEnded auction_batch inputs_of most_rounds start cores
 
 -- a server of some run that has ended
 pub record HasEndedRun (core : Core Auction) : Type 0 where

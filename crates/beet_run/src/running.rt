@@ -10,16 +10,19 @@ ghost use Rattle.beet_server.specs.Cores.{IsFresh, fresh};
 ghost use Rattle.beet_load.specs.Servers.{HaveEnough};
 ghost use Rattle.beet_run.specs.Runs.{EndsAuction, HasEndedRun, Starts};
 
+use crate::ways::run_in_threads;
 use beet_bids::Grid;
 use beet_errand::Stop;
 use beet_field::{Point, Trio};
+use beet_link::Gate;
 use beet_load::ServerWords;
 use beet_plan::Finish;
 use beet_search::AuctionScript;
 use beet_server::{ServerCore, StartFault};
 use beet_words::FeList;
-use beet_world::lockstep;
 use std::alloc::Global;
+use std::sync::Wait;
+use std::thread::Threads;
 
 /// A server that begins with these points and words.
 fn start(
@@ -80,20 +83,21 @@ pub fn finish_at(core: &ServerCore<AuctionScript>) -> Finish
     }
 }
 
-/// Runs the auction that three servers begin with these points and words to its end: how it ends, and after how many
-/// rounds. Want of memory is the only error, and comes before the first round.
-pub fn run_auction(
+/// Runs the auction that three servers begin with these points and words to its end, each in a thread of its own and under the
+/// gate: how it ends, and after how many rounds. Want of memory is the only error, and comes before the first round.
+pub fn run_auction<R: Threads + Wait + Sync, G: Gate>(
+    rt: &R,
     alloc: Global,
     grid: &Grid,
     inputs: Trio<FeList>,
     words: Trio<ServerWords>,
+    gate: &G,
 ) -> Result<(Finish, u32), Stop>
     requires enough { HaveEnough grid.now words }
     requires inputs { (i : Server) → length (member inputs i) ≡ 2 * grid.now.prices }
     ensures memory { IfErr result (λ stop. stop ≡ Stop.OutOfMemory) }
     ensures ends { IfOk result (λ run. EndsAuction grid.now inputs words run.0 run.1) }
 {
-    let cores = start_servers(alloc, grid, inputs, words)?;
-    let ended = lockstep(cores);
+    let ended = run_in_threads(rt, alloc, grid, inputs, words, gate)?;
     Ok((finish_at(&ended.one), ended.one.round()))
 }

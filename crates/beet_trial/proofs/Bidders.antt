@@ -1,7 +1,9 @@
 -- The bidders one after another.
-use Rattle.std.proofs.Common.{◌≡◌, ◌<◌, ◌≤◌, ℕ, ◌+◌, ◌*◌, [], ◌∷◌, ◌++◌, length, drop, Ok, Err, arith, refl, ap, sym, ◌∙◌, length-append, subst, List}
-use Rattle.std.proofs.lemmas.List.{drop_more, drop_all, map-append}
-use Rattle.std.proofs.lemmas.List.FromFn.{get_or-map-range_with_len, length-map-range_with_len, map-range_with_len_more}
+use Rattle.std.proofs.Common.{◌≡◌, ◌≤◌, ◌<◌, ◌-◌, ℕ, zero, suc, ◌+◌, ◌*◌, [], ◌∷◌, ◌++◌, length, Result, Ok, Err, arith, refl, ap, sym, ◌∙◌, length-append, append-nil, append_assoc, subst, List}
+use Rattle.std.specs.Prelude.{IsErrAnd}
+use Rattle.std.proofs.lemmas.Result.{err_from_is_err_and}
+use Rattle.std.proofs.lemmas.List.{map-append}
+use Rattle.std.proofs.lemmas.List.FromFn.{length-map-range_with_len, map-range_with_len_more}
 use Rattle.beet_words.specs.Words.{accepted}
 use Rattle.beet_words.specs.Tapes.{Tape, left_of}
 use Rattle.beet_bids.specs.Curves.{Curve, IsOfGrid}
@@ -9,16 +11,18 @@ use Rattle.beet_bids.specs.Grids.{Grid}
 use Rattle.beet_book.specs.Farmers.{Farmer, summed_points}
 use Rattle.beet_auction.proofs.Adding.{summed-none as no-points, summed-more as points-more}
 use Rattle.beet_book.specs.Dealing.{dealt_points, quantities}
-use Rattle.beet_book.specs.Totals.{Totals, AddsQuantities, added, none_of, plain_sums, summed_quantities}
+use Rattle.beet_book.specs.Totals.{Totals, AddsQuantities, AddsValues, added, none_of, plain_sums, summed_quantities}
+use Rattle.beet_book.proofs.Merged.{points-joined, quantities-joined}
 use Rattle.beet_book.proofs.Summed.{shares-none, summed-more}
 use Rattle.beet_errand.specs.Errands.{Errand}
 use Rattle.beet_errand.specs.Fetches.{Tests}
 use Rattle.beet_errand.specs.declared.answer.Stop.{Stop}
-use Rattle.beet_errand.specs.declared.answer.Stop.TheVariants.{Refused, OutOfMemory}
+use Rattle.beet_errand.specs.declared.answer.Stop.TheVariants.{OutOfMemory}
+use Rattle.beet_errand.proofs.Frame.{both, first_fails}
 use Rattle.beet_load.specs.Collecting.{curves_of}
 use Rattle.beet_load.specs.Farmers.{enough_words, words_wanted}
-use Rattle.beet_trial.specs.Adding.{AddsFarmer, CarrySums, enough_of_each}
-use Rattle.beet_trial.specs.Rules.{trial_farmer, trial_farmers}
+use Rattle.beet_trial.specs.Adding.{AddsFarmers, AddsPart, CarrySums, enough_of_each}
+use Rattle.beet_trial.specs.Rules.{trial_farmer, trial_part}
 
 -- totals of no bidder
 pub carry-none : (grid : Grid) (totals : Totals) → totals ≡ none_of grid.prices → CarrySums grid [] totals
@@ -28,69 +32,158 @@ carry-none grid totals e = rw e (record { prices = refl; points = sym (no-points
 pub adds-farmer : (grid : Grid) (farmer : Farmer) (curve : Curve) (tape : Tape) (before after : Totals) → curve ≡ farmer.bidder.curve →
     tape ≡ record { words = farmer.words; passed = 0 } → IsOfGrid grid farmer.bidder.curve → 2 * grid.prices ≤ length (left_of tape) →
     after ≡ record before { points = added before.points (dealt_points curve (left_of tape)) } → AddsQuantities curve before.points after.points →
-    AddsFarmer grid farmer before after
-adds-farmer grid farmer curve tape before after e f of_grid enough sums adds = λ farmers c.
+    AddsFarmers grid (farmer ∷ []) before after
+adds-farmer grid farmer curve tape before after e f of_grid enough sums adds =
     let own = farmer.bidder.curve in
     let count : length (quantities own) ≡ length own.buy + length own.sell = length-append own.buy own.sell in
     let long : length (quantities own) ≡ 2 * grid.prices = omega (arith, count, of_grid.buy_length, of_grid.sell_length) in
     let numbers : left_of tape ≡ accepted farmer.words = ap left_of f in
     let dealt : dealt_points curve (left_of tape) ≡ dealt_points own (accepted farmer.words) = rw (e, numbers) refl in
-    let curves : curves_of (farmers ++ farmer ∷ []) ≡ curves_of farmers ++ own ∷ [] = map-append (λ f. f.bidder.curve) farmers (farmer ∷ []) in
-    let values : summed_quantities grid.prices (curves_of (farmers ++ farmer ∷ [])) ≡ plain_sums (summed_quantities grid.prices (curves_of farmers)) (quantities curve) =
-    ap (summed_quantities grid.prices) curves ∙ summed-more grid.prices (curves_of farmers) own long
-    ∙ ap (λ q. plain_sums (summed_quantities grid.prices (curves_of farmers)) q) (sym (ap quantities e)) in
     record {
-      prices = ap (λ t. t.prices) sums ∙ c.prices;
-      points = ap (λ t. t.points) sums
-          ∙ ap (λ points. added points (dealt_points curve (left_of tape))) c.points
-          ∙ ap (λ points. added (summed_points grid.prices farmers) points) dealt
-          ∙ sym (points-more grid.prices farmers farmer long (rw numbers at enough));
-      shares = rw values (adds (summed_quantities grid.prices (curves_of farmers)) c.shares);
+      prices = ap (λ t. t.prices) sums;
+      carry = λ farmers c.
+          let before_all = summed_quantities grid.prices (curves_of farmers) in
+          let curves : curves_of (farmers ++ farmer ∷ []) ≡ curves_of farmers ++ own ∷ [] = map-append (λ f. f.bidder.curve) farmers (farmer ∷ []) in
+          let values : summed_quantities grid.prices (curves_of (farmers ++ farmer ∷ [])) ≡ plain_sums before_all (quantities curve) =
+          ap (summed_quantities grid.prices) curves ∙ summed-more grid.prices (curves_of farmers) own long
+          ∙ ap (λ q. plain_sums before_all q) (sym (ap quantities e)) in
+          record {
+            prices = ap (λ t. t.prices) sums ∙ c.prices;
+            points = ap (λ t. t.points) sums
+                ∙ ap (λ points. added points (dealt_points curve (left_of tape))) c.points
+                ∙ ap (λ points. added (summed_points grid.prices farmers) points) dealt
+                ∙ sym (points-more grid.prices farmers farmer long (rw numbers at enough));
+            shares = rw values (adds before_all c.shares);
+          };
     }
 
-farmers-more : (grid : Grid) (i : ℕ) → trial_farmers grid (i + 1) ≡ trial_farmers grid i ++ trial_farmer grid i ∷ []
-farmers-more grid i = map-range_with_len_more (trial_farmer grid) 0 i i (omega arith)
+part-more : (grid : Grid) (from n : ℕ) → trial_part grid from (n + 1) ≡ trial_part grid from n ++ trial_farmer grid (from + n) ∷ []
+part-more grid from n = map-range_with_len_more (trial_farmer grid) from n (from + n) refl
 
--- the totals after one bidder more
-pub carry-more : (grid : Grid) (i : ℕ) (before after : Totals) → CarrySums grid (trial_farmers grid i) before →
-    AddsFarmer grid (trial_farmer grid i) before after → CarrySums grid (trial_farmers grid (i + 1)) after
-carry-more grid i before after c adds = rw (farmers-more grid i) (adds (trial_farmers grid i) c)
+-- bidders in two parts
+part-joined : (grid : Grid) (from few rest : ℕ) → trial_part grid from (few + rest) ≡ trial_part grid from few ++ trial_part grid (from + few) rest
+part-joined grid from few zero =
+    let none : few + zero ≡ few = omega arith in
+    ap (λ k. trial_part grid from k) none ∙ sym (append-nil (trial_part grid from few))
+part-joined grid from few (suc n) =
+    let front = trial_part grid from few in
+    let back = trial_part grid (from + few) n in
+    let more : few + suc n ≡ few + n + 1 = omega arith in
+    let last : from + (few + n) ≡ from + few + n = omega arith in
+    let next : n + 1 ≡ suc n = omega arith in
+    ap (λ k. trial_part grid from k) more
+    ∙ part-more grid from (few + n)
+    ∙ ap (λ (fs : List Farmer). fs ++ trial_farmer grid (from + (few + n)) ∷ []) (part-joined grid from few n)
+    ∙ append_assoc front back (trial_farmer grid (from + (few + n)) ∷ [])
+    ∙ ap (λ i. front ++ (back ++ trial_farmer grid i ∷ [])) last
+    ∙ ap (λ (fs : List Farmer). front ++ fs) (sym (part-more grid (from + few) n))
+    ∙ ap (λ k. front ++ trial_part grid (from + few) k) next
 
--- the bidders up to one have enough words, and the others are left
-abbrev pub Comes : Grid → ℕ → ℕ → Type 0
-Comes grid bidders i =
-    (next : Errand) →
-    enough_of_each grid 1 (trial_farmers grid bidders) next ≡ enough_of_each grid (i + 1) (drop i (trial_farmers grid bidders)) next
+two-parts : (grid : Grid) (from few rest i count : ℕ) → from + few ≡ i → few + rest ≡ count →
+    trial_part grid from count ≡ trial_part grid from few ++ trial_part grid i rest
+two-parts grid from few rest i count e f = rw (← e, ← f) (part-joined grid from few rest)
 
-next-farmer : (grid : Grid) (bidders i : ℕ) → i < bidders →
-    drop i (trial_farmers grid bidders) ≡ trial_farmer grid i ∷ drop (i + 1) (trial_farmers grid bidders)
-next-farmer grid bidders i h =
-    let all = trial_farmers grid bidders in
-    let farmer = trial_farmer grid i in
-    drop_more all i farmer (omega (arith, h, length-map-range_with_len (trial_farmer grid) 0 bidders))
-    ∙ ap (λ f. f ∷ drop (i + 1) all) (get_or-map-range_with_len (trial_farmer grid) 0 bidders i i farmer h (omega arith))
+-- the words of two lists of bidders are enough where those of the first are, and then those of the second
+enough-joined : (grid : Grid) (n : ℕ) (few rest : List Farmer) (next : Errand) →
+    enough_of_each grid n (few ++ rest) next ≡ enough_of_each grid n few (enough_of_each grid (n + length few) rest next)
+enough-joined grid n [] rest next =
+    let same : n ≡ n + 0 = omega arith in ap (λ k. enough_of_each grid k rest next) same
+enough-joined grid n (farmer ∷ few) rest next =
+    let same : n + 1 + length few ≡ n + length (farmer ∷ few) = omega arith in
+    ap (enough_words n (words_wanted grid) farmer.words)
+    (enough-joined grid (n + 1) few rest next ∙ ap (λ k. enough_of_each grid (n + 1) few (enough_of_each grid k rest next)) same)
 
-comes-next : (grid : Grid) (bidders i : ℕ) → i < bidders → Comes grid bidders i → (next : Errand) →
-    enough_of_each grid 1 (trial_farmers grid bidders) next
-    ≡ enough_words (i + 1) (words_wanted grid) (trial_farmer grid i).words
-    (enough_of_each grid (i + 1 + 1) (drop (i + 1) (trial_farmers grid bidders)) next)
-comes-next grid bidders i h c next = c next ∙ ap (λ farmers. enough_of_each grid (i + 1) farmers next) (next-farmer grid bidders i h)
+enough-parts : (grid : Grid) (from few rest i count : ℕ) → from + few ≡ i → few + rest ≡ count → (next : Errand) →
+    enough_of_each grid (from + 1) (trial_part grid from count) next
+    ≡ enough_of_each grid (from + 1) (trial_part grid from few) (enough_of_each grid (i + 1) (trial_part grid i rest) next)
+enough-parts grid from few rest i count e f next =
+    let number : from + 1 + length (trial_part grid from few) ≡ i + 1 = omega (arith, e, length-map-range_with_len (trial_farmer grid) from few) in
+    ap (λ farmers. enough_of_each grid (from + 1) farmers next) (two-parts grid from few rest i count e f)
+    ∙ enough-joined grid (from + 1) (trial_part grid from few) (trial_part grid i rest) next
+    ∙ ap (λ k. enough_of_each grid (from + 1) (trial_part grid from few) (enough_of_each grid k (trial_part grid i rest) next)) number
 
--- the next one has enough
-pub comes-on : (grid : Grid) (bidders i : ℕ) → i < bidders → Comes grid bidders i →
-    Tests (enough_words (i + 1) (words_wanted grid) (trial_farmer grid i).words) (Ok tt) → Comes grid bidders (i + 1)
-comes-on grid bidders i h c t = λ next. comes-next grid bidders i h c next ∙ t.passes _
+pub same-test : {test same : Errand → Errand} {result : Result (Unit {0}) Stop} → ((next : Errand) → test next ≡ same next) → Tests same result → Tests test result
+same-test {result = result} e t = subst (λ (f : Errand → Errand). Tests f result) (λ j next. sym (e next) j) t
 
--- the next one has not
-pub comes-to-stop : (grid : Grid) (bidders i : ℕ) (stop : Stop) → i < bidders → Comes grid bidders i →
-    Tests (enough_words (i + 1) (words_wanted grid) (trial_farmer grid i).words) (Err stop) →
-    Tests (enough_of_each grid 1 (trial_farmers grid bidders)) (Err stop)
-comes-to-stop grid bidders i (Refused status line) h c t = record { passes = λ next. comes-next grid bidders i h c next ∙ t.passes _; cause = t.cause }
-comes-to-stop grid bidders i OutOfMemory h c t = record { passes = tt; cause = λ before now. tt }
+-- the first part has enough words, and the second is tested
+pub tests-second : (grid : Grid) (from few rest i count : ℕ) (result : Result (Unit {0}) Stop) → from + few ≡ i → few + rest ≡ count →
+    Tests (enough_of_each grid (from + 1) (trial_part grid from few)) (Ok tt) → Tests (enough_of_each grid (i + 1) (trial_part grid i rest)) result →
+    Tests (enough_of_each grid (from + 1) (trial_part grid from count)) result
+tests-second grid from few rest i count result e f t u = same-test (enough-parts grid from few rest i count e f) (both result t u)
 
--- all have
-pub comes-to-end : (grid : Grid) (bidders : ℕ) → Comes grid bidders bidders → Tests (enough_of_each grid 1 (trial_farmers grid bidders)) (Ok tt)
-comes-to-end grid bidders c =
-    let all = trial_farmers grid bidders in
-    let none = drop_all bidders all (omega (arith, length-map-range_with_len (trial_farmer grid) 0 bidders)) in
-    record { passes = λ next. c next ∙ ap (λ farmers. enough_of_each grid (bidders + 1) farmers next) none; cause = λ before now. tt }
+-- the first part has not
+pub tests-first : (grid : Grid) (from few rest i count : ℕ) (stop : Stop) → from + few ≡ i → few + rest ≡ count →
+    Tests (enough_of_each grid (from + 1) (trial_part grid from few)) (Err stop) →
+    Tests (enough_of_each grid (from + 1) (trial_part grid from count)) (Err stop)
+tests-first grid from few rest i count stop e f t =
+    same-test (enough-parts grid from few rest i count e f) (first_fails {second = enough_of_each grid (i + 1) (trial_part grid i rest)} stop t)
+
+-- no bidder is tested, and none is added
+pub tests-none : (grid : Grid) (from : ℕ) → Tests (enough_of_each grid (from + 1) (trial_part grid from 0)) (Ok tt)
+tests-none grid from = record { passes = λ next. refl; cause = λ before now. tt }
+
+pub adds-none : (grid : Grid) (from : ℕ) (totals : Totals) → AddsFarmers grid (trial_part grid from 0) totals totals
+adds-none grid from totals = record {
+  prices = refl;
+  carry = λ farmers c. subst (λ (fs : List Farmer). CarrySums grid fs totals) (sym (append-nil farmers)) c;
+}
+
+-- one part after another is added to the same totals
+pub adds-second : (grid : Grid) (from few rest i count : ℕ) (before middle after : Totals) → from + few ≡ i → few + rest ≡ count →
+    AddsFarmers grid (trial_part grid from few) before middle → AddsFarmers grid (trial_part grid i rest) middle after →
+    AddsFarmers grid (trial_part grid from count) before after
+adds-second grid from few rest i count before middle after e f a b = record {
+  prices = b.prices ∙ a.prices;
+  carry = λ farmers c.
+      let parts = ap (λ fs. farmers ++ fs) (two-parts grid from few rest i count e f) in
+      let joined = append_assoc farmers (trial_part grid from few) (trial_part grid i rest) in
+      subst (λ (fs : List Farmer). CarrySums grid fs after) (joined ∙ sym parts) (b.carry (farmers ++ trial_part grid from few) (a.carry farmers c));
+}
+
+-- totals of two lists of bidders, added up
+carry-both : (grid : Grid) (few rest : List Farmer) (one other after : Totals) → CarrySums grid few one → CarrySums grid rest other →
+    after ≡ record one { points = added one.points other.points } → AddsValues one.points other.points after.points →
+    CarrySums grid (few ++ rest) after
+carry-both grid few rest one other after a b sums adds =
+    let curves : curves_of (few ++ rest) ≡ curves_of few ++ curves_of rest = map-append (λ f. f.bidder.curve) few rest in
+    let values = ap (summed_quantities grid.prices) curves ∙ quantities-joined grid.prices (curves_of few) (curves_of rest) in
+    record {
+      prices = ap (λ t. t.prices) sums ∙ a.prices;
+      points = ap (λ t. t.points) sums
+          ∙ ap (λ points. added points other.points) a.points
+          ∙ ap (λ points. added (summed_points grid.prices few) points) b.points
+          ∙ sym (points-joined grid.prices few rest);
+      shares = rw values (adds (summed_quantities grid.prices (curves_of few)) (summed_quantities grid.prices (curves_of rest)) a.shares b.shares);
+    }
+
+-- the second part is added to totals of its own, and these to those of the first
+pub adds-merged : (grid : Grid) (from few rest i count : ℕ) (before middle none other after : Totals) → from + few ≡ i → few + rest ≡ count →
+    none ≡ none_of grid.prices → AddsFarmers grid (trial_part grid from few) before middle → AddsFarmers grid (trial_part grid i rest) none other →
+    after ≡ record middle { points = added middle.points other.points } → AddsValues middle.points other.points after.points →
+    AddsFarmers grid (trial_part grid from count) before after
+adds-merged grid from few rest i count before middle none other after e f is_none a b sums adds = record {
+  prices = ap (λ t. t.prices) sums ∙ a.prices;
+  carry = λ farmers c.
+      let front = trial_part grid from few in
+      let back = trial_part grid i rest in
+      let parts = ap (λ fs. farmers ++ fs) (two-parts grid from few rest i count e f) in
+      let both = carry-both grid (farmers ++ front) back middle other after (a.carry farmers c) (b.carry [] (carry-none grid none is_none)) sums adds in
+      subst (λ (fs : List Farmer). CarrySums grid fs after) (append_assoc farmers front back ∙ sym parts) both;
+}
+
+-- a step that stops, and what the exit of a `?` returns
+pub stops : {grid : Grid} {from count : ℕ} {before after : Totals} {stop : Stop} {result : Result (Unit {0}) Stop} → IsErrAnd result (λ e. e ≡ stop) →
+    Tests (enough_of_each grid (from + 1) (trial_part grid from count)) (Err stop) → AddsPart grid from count before after result
+stops {result = result} e t = let p = err_from_is_err_and result e in rw (p.1, p.2) (record { tests = t; adds = tt })
+
+pub no-memory : {test : Errand → Errand} → Tests test (Err OutOfMemory)
+no-memory = record { passes = tt; cause = λ before now. tt }
+
+-- the bidders before one have enough words, and it has not
+pub stops-at : (grid : Grid) (from count i : ℕ) (before after : Totals) (stop : Stop) → from ≤ i → i < from + count →
+    Tests (enough_of_each grid (from + 1) (trial_part grid from (i - from))) (Ok tt) → AddsPart grid i 1 before after (Err stop) →
+    Tests (enough_of_each grid (from + 1) (trial_part grid from count)) (Err stop)
+stops-at grid from count i before after stop low high enough part =
+    let rest = from + count - i in
+    tests-second grid from (i - from) rest i count (Err stop) (omega arith) (omega arith) enough
+    (tests-first grid i 1 (rest - 1) (i + 1) rest stop (omega arith) (omega arith) part.tests)

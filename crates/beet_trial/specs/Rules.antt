@@ -65,9 +65,13 @@ trial_farmer grid i = record {
   words = seed_words (bidder_seed i) 0 (words_kept grid.prices);
 }
 
+-- so many bidders, from bidder `from` on
+abbrev pub trial_part : Grid → ℕ → ℕ → List Farmer
+trial_part grid from count = map (trial_farmer grid) (range_with_len from count)
+
 -- so many bidders
 abbrev pub trial_farmers : Grid → ℕ → List Farmer
-trial_farmers grid bidders = map (trial_farmer grid) (range_with_len 0 bidders)
+trial_farmers grid bidders = trial_part grid 0 bidders
 
 -- their book
 abbrev pub trial_book : Grid → ℕ → Book

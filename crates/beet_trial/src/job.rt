@@ -11,10 +11,13 @@ use crate::rules::{grid_of, servers_of};
 use beet_bids::Grid;
 use beet_book::Totals;
 use beet_errand::{Reply, Stop};
+use beet_link::Gate;
 use beet_load::check_three;
 use beet_plan::Finish;
 use beet_run::{outcome_reply, run_auction};
 use std::alloc::{AllocError, Global};
+use std::sync::Wait;
+use std::thread::Threads;
 
 /// The line with the sizes, and then the lines of the outcome.
 fn sized_lines(
@@ -46,8 +49,14 @@ fn sized_reply(
 }
 
 /// Makes a book of so many bidders over so many prices by rule, deals it bidder by bidder, and clears it among three
-/// servers. The same numbers give the same text. It fetches nothing.
-pub fn trial(alloc: Global, bidders: u32, prices: u32) -> Result<Reply, Stop>
+/// servers, each in a thread of its own and under the gate. The same numbers give the same text. It fetches nothing.
+pub fn trial<R: Threads + Wait + Sync, G: Gate>(
+    rt: &R,
+    alloc: Global,
+    bidders: u32,
+    prices: u32,
+    gate: &G,
+) -> Result<Reply, Stop>
     requires { AreSizes bidders prices }
     ensures done { IfOk result (λ reply. IsDone reply.status) }
     ensures reads { (seen : Seen) → Reads (λ reply. reply) seen seen (trial_job bidders prices) result }
@@ -56,7 +65,7 @@ pub fn trial(alloc: Global, bidders: u32, prices: u32) -> Result<Reply, Stop>
     let servers = servers_of(alloc, &grid)?;
     check_three(alloc, &grid, &servers)?;
     let mut totals = Totals::new(alloc, &grid)?;
-    add_bidders(alloc, &grid, bidders, &mut totals)?;
-    let (finish, rounds) = run_auction(alloc, &grid, totals.inputs(), servers)?;
+    add_bidders(rt, alloc, &grid, bidders, &mut totals)?;
+    let (finish, rounds) = run_auction(rt, alloc, &grid, totals.inputs(), servers, gate)?;
     Ok(sized_reply(alloc, &grid, bidders, finish, rounds)?)
 }

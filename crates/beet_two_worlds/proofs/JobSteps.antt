@@ -7,7 +7,7 @@ use Rattle.beet_words.specs.Bundles.{Words}
 use Rattle.beet_bids.specs.Books.{Book}
 use Rattle.beet_errand.specs.Errands.{Answer, Errand, Ends, ◌>>◌, answers, gives}
 use Rattle.beet_errand.specs.Fetches.{Causes, Finishes, Reads, Stops, Went}
-use Rattle.beet_errand.specs.declared.answer.Status.TheVariants.{Done, OutOfMemory as NoMemory, Usage, ReadFault, WriteFault, BadFile, MasksSpent, WorldsRefused, TooFewWords}
+use Rattle.beet_errand.specs.declared.answer.Status.TheVariants.{Done, OutOfMemory as NoMemory, Usage, ReadFault, WriteFault, BadFile, MasksSpent, WorldsRefused, AuditRefused, TooFewWords}
 use Rattle.beet_errand.specs.declared.answer.Stop.{Stop}
 use Rattle.beet_errand.specs.declared.answer.Stop.TheVariants.{Refused, OutOfMemory}
 use Rattle.beet_errand.proofs.Steps.{went_none, stops_after, stops_before}
@@ -34,6 +34,7 @@ caused before now (Refused WriteFault text) c = c
 caused before now (Refused BadFile text) c = c
 caused before now (Refused MasksSpent text) c = c
 caused before now (Refused WorldsRefused text) c = tt
+caused before now (Refused AuditRefused text) c = c
 caused before now (Refused TooFewWords text) c = c
 caused before now OutOfMemory c = c
 

@@ -7,7 +7,7 @@ use Rattle.beet_bids.specs.Books.{Book}
 use Rattle.beet_worlds.specs.declared.agreeing.MapFault.{MapFault}
 use Rattle.beet_worlds.specs.declared.agreeing.MapFault.TheVariants.{OutOfMemory as MemoryOut}
 use Rattle.beet_errand.specs.Errands.{Answer, Errand, Ends, Step, ◌>>=◌, ◌>>◌, answers, gives}
-use Rattle.beet_errand.specs.Fetches.{Causes, Stops}
+use Rattle.beet_errand.specs.Fetches.{Causes, Stops, WithShown}
 use Rattle.beet_errand.specs.declared.answer.Status.TheVariants.{WorldsRefused}
 use Rattle.beet_errand.specs.declared.answer.Stop.{Stop}
 use Rattle.beet_errand.specs.declared.answer.Stop.TheVariants.{Refused, OutOfMemory}
@@ -49,13 +49,11 @@ pub record Compares (old now : Seen) (auction servers book1 book2 : List ℕ) (s
   pub cause : IfErr result (λ stop. CausesOfWorlds old.faults now.faults stop)
   pub later : old.faults ≤ now.faults
 
--- a fact holds of the answer that shows both worlds; or of the errand that reads and compares the books, however it would go on, so that
--- the job ends in it
+-- a fact holds of the answer that shows both worlds; or of the errand that reads and compares the books
 abbrev pub WithMapped : Option Told → Option Told → List ℕ → List ℕ → List ℕ → List ℕ → Point → List ℕ →
     (Option Told → Errand → Type 0) → Type 0
 WithMapped old now auction servers book1 book2 s out P =
-    ((answer : Answer) × ShowsWorlds old now auction servers book1 book2 s out answer × P now (Ends answer))
-    ⊎ ((next : Both → Errand) → P old (compared_errand auction servers book1 book2 s next))
+    WithShown old now (compared_errand auction servers book1 book2 s) (ShowsWorlds old now auction servers book1 book2 s out) P
 
 -- books are refused by this line for the fault; want of memory has none
 abbrev pub IsLineOf : MapFault → List ℕ → Type 0

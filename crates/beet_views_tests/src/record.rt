@@ -1,12 +1,15 @@
 use crate::transcript::fault_of;
 use beet_errand::{Reply, Stop};
 use beet_field::{P, Point};
+use beet_link::FreeGate;
 use beet_record::record;
 use beet_store::{Held, MemoryShelf};
 use beet_view::{View, read_view};
 use std::alloc::{AllocError, Global};
 use std::process::Abort;
+use std::sync::Wait;
 use std::test::Fail;
+use std::thread::Threads;
 
 /// An auction of four prices and three bidders.
 const FILES: [(&str, &str); 6] = [
@@ -50,9 +53,11 @@ fn shelf(alloc: Global, first: &[(&str, &str)]) -> Result<MemoryShelf, AllocErro
 }
 
 /// The reply of the job on the auction.
-fn recorded(alloc: Global) -> Result<Reply, Fail> {
+fn recorded(rt: &(impl Threads + Wait + Sync), alloc: Global) -> Result<Reply, Fail> {
     let mut shelf = shelf(alloc, &[])?;
-    match record(alloc, &mut shelf, "g.auc", "s.srv", "b.book", "o") {
+    match record(
+        rt, alloc, &mut shelf, "g.auc", "s.srv", "b.book", "o", &FreeGate,
+    ) {
         Ok(reply) => Ok(reply),
         Err(_) => Err(Fail::new("the job was refused")),
     }
@@ -67,8 +72,8 @@ fn second_of(alloc: Global, reply: &Reply) -> Result<Vec<u8>, Fail> {
 }
 
 /// The transcript of server 2.
-fn second(alloc: Global) -> Result<Vec<u8>, Fail> {
-    let reply = recorded(alloc)?;
+fn second(rt: &(impl Threads + Wait + Sync), alloc: Global) -> Result<Vec<u8>, Fail> {
+    let reply = recorded(rt, alloc)?;
     second_of(alloc, &reply)
 }
 
@@ -84,7 +89,7 @@ fn expect_view(rt: &impl Abort, view: &View) {
 
 #[test]
 fn transcript_is_read_again(rt: HostRuntime) -> Result<(), Fail> {
-    let bytes = second(rt.alloc())?;
+    let bytes = second(&rt, rt.alloc())?;
     assert!(rt; bytes.len() <= 100_000);
     let view = read_view(rt.alloc(), bytes.as_slice())?;
     expect_view(&rt, &view);
@@ -111,7 +116,7 @@ fn expect_last(rt: &impl Abort, alloc: Global, bytes: &mut Vec<u8>) -> Result<()
 
 #[test]
 fn last_number(rt: HostRuntime) -> Result<(), Fail> {
-    let mut bytes = second(rt.alloc())?;
+    let mut bytes = second(&rt, rt.alloc())?;
     expect_last(&rt, rt.alloc(), &mut bytes)?;
     Ok(())
 }
@@ -132,7 +137,7 @@ fn expect_fronts(rt: &impl Abort, alloc: Global, bytes: &[u8]) {
 
 #[test]
 fn front_of_a_transcript(rt: HostRuntime) -> Result<(), Fail> {
-    let bytes = second(rt.alloc())?;
+    let bytes = second(&rt, rt.alloc())?;
     expect_fronts(&rt, rt.alloc(), bytes.as_slice());
     Ok(())
 }
@@ -150,7 +155,11 @@ fn book_of_many(alloc: Global) -> Result<String, AllocError> {
 }
 
 /// The line that a book of 2,000 bidders without bids is refused by, at an auction of so many prices.
-fn line_of_many(alloc: Global, prices: u32) -> Result<Vec<u8>, Fail> {
+fn line_of_many(
+    rt: &(impl Threads + Wait + Sync),
+    alloc: Global,
+    prices: u32,
+) -> Result<Vec<u8>, Fail> {
     let book = book_of_many(alloc)?;
     let auction = format!(in alloc;
         "beet-auction,1\nbase,100\ntick,5\nprices,{prices}\ngates,chain\n"
@@ -159,7 +168,9 @@ fn line_of_many(alloc: Global, prices: u32) -> Result<Vec<u8>, Fail> {
         alloc,
         &[("big.auc", auction.as_str()), ("big.book", book.as_str())],
     )?;
-    match record(alloc, &mut shelf, "big.auc", "s.srv", "big.book", "o") {
+    match record(
+        rt, alloc, &mut shelf, "big.auc", "s.srv", "big.book", "o", &FreeGate,
+    ) {
         Err(Stop::Refused(_, line)) => Ok(line),
         _ => Err(Fail::new("the job was not refused")),
     }
@@ -168,9 +179,9 @@ fn line_of_many(alloc: Global, prices: u32) -> Result<Vec<u8>, Fail> {
 #[test]
 fn product_of_a_book(rt: HostRuntime) -> Result<(), Fail> {
     let alloc = rt.alloc();
-    let refused = line_of_many(alloc, 251)?;
+    let refused = line_of_many(&rt, alloc, 251)?;
     assert!(rt; refused.as_slice() == b"bad file: big.book row 0 reason 6\n".as_slice());
-    let taken = line_of_many(alloc, 250)?;
+    let taken = line_of_many(&rt, alloc, 250)?;
     assert!(rt; taken.as_slice() == b"read fault: none.bid\n".as_slice());
     Ok(())
 }

@@ -1,8 +1,11 @@
 use beet_errand::{Reply, Stop};
+use beet_link::FreeGate;
 use beet_trial::{numbers_of_words, trial};
 use std::alloc::Global;
 use std::process::Abort;
+use std::sync::Wait;
 use std::test::Fail;
+use std::thread::Threads;
 
 /// The error of a job that is refused, as a text.
 fn reason(stop: Stop) -> &'static str {
@@ -20,9 +23,14 @@ fn expect_reply(rt: &impl Abort, reply: &Reply, text: &str) {
 }
 
 /// Runs the trial of two words, and compares its status and its text.
-fn expect(rt: &impl Abort, alloc: Global, words: (&str, &str), text: &str) -> Result<(), Fail> {
+fn expect(
+    rt: &(impl Abort + Threads + Wait + Sync),
+    alloc: Global,
+    words: (&str, &str),
+    text: &str,
+) -> Result<(), Fail> {
     let (bidders, prices) = numbers_of_words(words.0, words.1).ok_or("two numbers")?;
-    let reply = trial(alloc, bidders, prices).map_err(reason)?;
+    let reply = trial(rt, alloc, bidders, prices, &FreeGate).map_err(reason)?;
     expect_reply(rt, &reply, text);
     Ok(())
 }

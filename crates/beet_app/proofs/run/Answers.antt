@@ -35,6 +35,9 @@ returns-clause-desk_faults g c = later_end _ _ _ _ c.give_answer.ensures
 pub returns-clause-worlds : goal.returns-clause-worlds
 returns-clause-worlds g c = λ seven. (run_codes _ _ _ _ _ _ _ c.do_job-job.ensures.ends c.give_answer.ensures).3 (sym c.code.ensures ∙ seven)
 
+pub returns-clause-audit : goal.returns-clause-audit
+returns-clause-audit g c = λ eight. (run_codes _ _ _ _ _ _ _ c.do_job-job.ensures.ends c.give_answer.ensures).4 (sym c.code.ensures ∙ eight)
+
 pub returns-clause-runs : goal.returns-clause-runs
 returns-clause-runs g c = rw c.code.ensures (run_does _ _ _ _ _ _ _ c.do_job-job.ensures c.give_answer.ensures)
 

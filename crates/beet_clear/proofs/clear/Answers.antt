@@ -12,7 +12,7 @@ pub returns-in_err-loaded-clause-reads : goal.returns-in_err-loaded-clause-reads
 returns-in_err-loaded-clause-reads g c = exits c.from_residual.ensures.1 (stopped c.in_err-loaded.ensures)
 
 pub run_auction-requires-clause-inputs : goal.run_auction-requires-clause-inputs
-run_auction-requires-clause-inputs g c =
+run_auction-requires-clause-inputs g c = λ lifetimes outlive.
     subst (λ (k : Kept). (i : Point) → length (member k.inputs i) ≡ 2 * k.grid.prices) (sym c.loaded.view_is)
     (kept-many c.in_ok-loaded.loaded c.in_ok-loaded.ensures.gives.0 c.in_ok-loaded.ensures.gives.1)
 

@@ -15,7 +15,7 @@ unfolding entries_job
 returns-in_err-totals-clause-reads g c = exits c.from_residual-in_err-totals.ensures.1 (bind c.in_ok-words.ensures.reads (stopped c.in_err-totals.ensures))
 
 pub run_auction-requires-clause-inputs : goal.run_auction-requires-clause-inputs
-run_auction-requires-clause-inputs g c =
+run_auction-requires-clause-inputs g c = λ lifetimes outlive.
     many c.args.grid.now c.in_ok-totals.totals c.in_ok-totals.ensures.gives.0 c.inputs.result c.in_ok-totals.ensures.gives.1 c.inputs.ensures.points
 
 pub returns-in_err-finish-clause-reads : goal.returns-in_err-finish-clause-reads

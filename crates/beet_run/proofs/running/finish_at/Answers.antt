@@ -1,4 +1,4 @@
-use Rattle.std.proofs.Common.{rules, subst, sym, true≢false, IsSome}
+use Rattle.std.proofs.Common.{subst, sym, true≢false, IsSome}
 use Rattle.beet_plan.specs.Auction.{auction_batch}
 use Rattle.beet_plan.specs.Ends.{TellsEnd}
 use Rattle.beet_run.proofs.Ending.{named}

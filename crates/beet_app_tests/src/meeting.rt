@@ -1,0 +1,180 @@
+use crate::tests::{CLEAR, RECORD, done, expect_said, files, words_of};
+use beet_app::run;
+use beet_field::{Point, Trio};
+use beet_link::{Gate, Note};
+use beet_store::{Held, MemoryDesk, MemoryShelf};
+use crossbeam_channel::{Receiver, Sender};
+use std::alloc::Global;
+use std::process::Abort;
+use std::sync::Wait;
+use std::sync::atomic::{AtomicU64, Ordering};
+use std::test::Fail;
+use std::thread;
+use std::thread::Threads;
+
+/// How often a server that is held looks for the others before it is let go.
+const TURNS: u64 = 10_000_000;
+
+/// A gate that holds each server in round 0 until all three are there.
+#[derive(Drop)]
+struct Meeting<R: Wait + Drop> {
+    rt: R,
+    /// Takes the note of each server that comes in round 0.
+    first: Sender<Note>,
+    /// How many servers came in round 0.
+    here: AtomicU64,
+    /// How many of them were let go before all three were there.
+    let_go: AtomicU64,
+    /// How many notes of each server told the round that was next at its seat.
+    met: Trio<AtomicU64>,
+}
+
+impl<R: Wait + Sync + Drop> Meeting<R> {
+    /// Holds a server until all three are there, or its turns are spent.
+    fn hold(&self) {
+        self.here.fetch_add(1, Ordering::SeqCst);
+        for _ in 0..TURNS {
+            if self.here.load(Ordering::SeqCst) >= 3 {
+                return;
+            }
+            thread::yield_now();
+        }
+        self.let_go.fetch_add(1, Ordering::SeqCst);
+    }
+}
+
+impl<R: Wait + Sync + Drop> Gate for Meeting<R> {
+    /// The number of notes that were met.
+    type Seat = u32;
+
+    fn seat(&self, _server: Point) -> u32 {
+        0
+    }
+
+    fn meet(&self, seat: &mut u32, note: Note) {
+        if note.round == *seat {
+            self.met.get(note.server).fetch_add(1, Ordering::SeqCst);
+        }
+        *seat = seat.saturating_add(1);
+        if note.round == 0 {
+            let _sent = self.first.send(&self.rt, note);
+            self.hold();
+        }
+    }
+}
+
+/// Compares the next three notes with the first note of each server, in some order.
+fn expect_first_notes(rt: &(impl Abort + Wait), notes: &Receiver<Note>) {
+    let mut named = [0; 3];
+    for _ in 0..3 {
+        match notes.recv(rt) {
+            Ok(Note { server, round: 0 }) => match server {
+                Point::One => named[0] = 1,
+                Point::Two => named[1] = 1,
+                Point::Three => named[2] = 1,
+            },
+            _ => (),
+        }
+    }
+    assert!(rt; named == [1, 1, 1]);
+}
+
+/// Compares what a gate has counted, with so many rounds of a run.
+fn expect_met<R: Wait + Sync + Drop>(rt: &impl Abort, gate: &Meeting<R>, rounds: u64) {
+    assert_eq!(rt; gate.here.load(Ordering::SeqCst), 3);
+    assert_eq!(rt; gate.let_go.load(Ordering::SeqCst), 0);
+    assert_eq!(rt; gate.met.one.load(Ordering::SeqCst), rounds);
+    assert_eq!(rt; gate.met.two.load(Ordering::SeqCst), rounds);
+    assert_eq!(rt; gate.met.three.load(Ordering::SeqCst), rounds);
+}
+
+/// Does the job of a line over these files under a new gate: the text, and that all three servers met in each of so many rounds.
+fn expect_meeting<R: Abort + Threads + Wait + Sync + Copy + Drop>(
+    rt: R,
+    alloc: Global,
+    line: &str,
+    files: Vec<Held>,
+    rounds: u64,
+    text: &str,
+) -> Result<(), Fail> {
+    let (first, notes) = crossbeam_channel::bounded(alloc, 3)?;
+    let gate = Meeting {
+        rt,
+        first,
+        here: AtomicU64::new(0),
+        let_go: AtomicU64::new(0),
+        met: Trio {
+            one: AtomicU64::new(0),
+            two: AtomicU64::new(0),
+            three: AtomicU64::new(0),
+        },
+    };
+    let words = words_of(alloc, line)?;
+    let mut shelf = MemoryShelf::new(files, Vec::new(alloc));
+    let mut desk = MemoryDesk::new(Vec::new(alloc));
+    let status = run(&rt, alloc, &words, &mut shelf, &mut desk, &gate);
+    assert_eq!(&rt; status, 0);
+    expect_said(&rt, &desk, text);
+    expect_met(&rt, &gate, rounds);
+    expect_first_notes(&rt, &notes);
+    Ok(())
+}
+
+/// Each bid, sealed, and the names of its envelopes.
+const SEALS: [(&str, [&str; 3]); 3] = [
+    (
+        "seal g.auc anna.bid seed:0a0a0a0a0a0a0a0a0a0a0a0a0a0a0a0a0a0a0a0a0a0a0a0a0a0a0a0a0a0a0a0a a",
+        ["a.1", "a.2", "a.3"],
+    ),
+    (
+        "seal g.auc bo.bid seed:0b0b0b0b0b0b0b0b0b0b0b0b0b0b0b0b0b0b0b0b0b0b0b0b0b0b0b0b0b0b0b0b b",
+        ["b.1", "b.2", "b.3"],
+    ),
+    (
+        "seal g.auc carl.bid seed:0c0c0c0c0c0c0c0c0c0c0c0c0c0c0c0c0c0c0c0c0c0c0c0c0c0c0c0c0c0c0c0c c",
+        ["c.1", "c.2", "c.3"],
+    ),
+];
+
+/// The list of these envelopes.
+const LIST: &str = "beet-list,1\nanna,a.1,a.2,a.3\nbo,b.1,b.2,b.3\ncarl,c.1,c.2,c.3\n";
+
+/// Adds the envelopes that a line seals to these files.
+fn add_sealed(
+    rt: &(impl Threads + Wait + Sync),
+    alloc: Global,
+    line: &str,
+    names: &[&str],
+    files: &mut Vec<Held>,
+) -> Result<(), Fail> {
+    let (_status, desk) = done(rt, alloc, line, "", 0, 0)?;
+    for name in names {
+        let bytes = desk.file(name).ok_or("an envelope was not put")?;
+        files.push(Held {
+            name: String::from_str(alloc, name)?,
+            bytes: Vec::from_slice(alloc, bytes)?,
+        })?;
+    }
+    Ok(())
+}
+
+/// The files, with the list and all envelopes.
+fn sealed(rt: &(impl Threads + Wait + Sync), alloc: Global) -> Result<Vec<Held>, Fail> {
+    let mut files = files(alloc, LIST)?;
+    for (line, names) in SEALS {
+        add_sealed(rt, alloc, line, &names, &mut files)?;
+    }
+    Ok(files)
+}
+
+#[test]
+fn servers_meet_in_every_round(rt: HostRuntime) -> Result<(), Fail> {
+    let alloc = rt.alloc();
+    let outcome = "price 110\nvolume 35\nrounds 255\n";
+    expect_meeting(rt, alloc, CLEAR, files(alloc, "")?, 255, outcome)?;
+    expect_meeting(rt, alloc, RECORD, files(alloc, "")?, 255, outcome)?;
+    let envelopes = sealed(&rt, alloc)?;
+    expect_meeting(rt, alloc, "open g.auc s.srv made", envelopes, 255, outcome)?;
+    let trial = "bidders 0 prices 1\nprice 1000\nvolume 0\nrounds 128\n";
+    expect_meeting(rt, alloc, "trial 0 1", files(alloc, "")?, 128, trial)
+}

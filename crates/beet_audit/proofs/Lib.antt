@@ -1,0 +1,9 @@
+pub mod VerdictFacts
+pub mod PointFacts
+pub mod BidFacts
+pub mod RoundFacts
+pub mod OneRunFacts
+pub mod FinishFacts
+pub mod RunAgainFacts
+pub mod AuditFacts
+pub mod BookRunFacts

@@ -1,0 +1,71 @@
+-- Three servers run again on the points and the tapes of three views.
+use Rattle.std.proofs.Common.{◌≡◌, ◌*◌, ℕ, List, [], ◌∷◌, ◌++◌, ◌+◌, length, refl, sym, ◌∙◌, ap, subst}
+use Rattle.beet_field.specs.Trio.{member, of_each}
+use Rattle.beet_field.specs.declared.point.Point.{Point}
+use Rattle.beet_field.specs.declared.point.Point.TheVariants.{One, Two, Three}
+use Rattle.beet_field.specs.declared.trio.Trio.{Trio}
+use Rattle.beet_gates.specs.Each.{each}
+use Rattle.beet_gates.proofs.EachFacts.{each-more, each-zero}
+use Rattle.beet_bids.specs.Grids.{Grid}
+use Rattle.beet_plan.specs.Auction.{Auction, auction_batch, most_rounds}
+use Rattle.beet_book.specs.Dealing.{HasLengths}
+use Rattle.beet_book.specs.PointSums.{AddsUp, inputs_at, sums_at}
+use Rattle.beet_book.specs.Totals.{Totals, added, none_of, wires_of}
+use Rattle.beet_server.specs.Cores.{Core}
+use Rattle.beet_sharing.specs.Runs.{Setup, rounds_among}
+use Rattle.beet_world.specs.Lockstep.{HaveEnded, IsAtRound}
+use Rattle.beet_auction.specs.Setups.{inputs_of}
+use Rattle.beet_auction.proofs.AddedPoints.{inputs-many}
+use Rattle.beet_book.proofs.PointsAdded.{sums-more, sums-none}
+use Rattle.beet_load.specs.Servers.{HasEnough, HaveEnough, ServerWords}
+use Rattle.beet_run.specs.Runs.{EndsAuction, Starts, setup_with}
+use Rattle.beet_run.proofs.Ending.{ends-auction, has-ended-run}
+use Rattle.beet_view.specs.Views.{Viewed}
+use Rattle.beet_audit.specs.Audits.{RunsAgain, all_points, points_of_bidder, rounds_of, run_of, words_in}
+
+-- the points of one bidder more are added
+pub adds-none : (grid : Grid) (views : Trio Viewed) (totals : Totals) → totals ≡ none_of grid.prices → AddsUp grid totals (each (points_of_bidder views) 0)
+adds-none grid views totals e = e ∙ sums-none grid.prices ∙ ap (λ (l : List (Trio (List ℕ))). record { prices = grid.prices; points = sums_at grid.prices l }) (sym (each-zero (points_of_bidder views)))
+
+pub adds-more : (grid : Grid) (views : Trio Viewed) (before after : Totals) (points : Trio (List ℕ)) (i : ℕ) → AddsUp grid before (each (points_of_bidder views) i) →
+    points ≡ points_of_bidder views i → HasLengths points (2 * grid.prices) → after ≡ record before { points = added before.points points } →
+    AddsUp grid after (each (points_of_bidder views) (i + 1))
+adds-more grid views before after points i h e long a =
+    let items = each (points_of_bidder views) i in
+    a ∙ ap (λ (t : Totals). record t { points = added t.points points }) h
+    ∙ ap (λ (sums : Trio (List ℕ)). record { prices = grid.prices; points = sums }) (sums-more grid.prices items points long)
+    ∙ ap (λ (p : Trio (List ℕ)). record { prices = grid.prices; points = sums_at grid.prices (items ++ p ∷ []) }) e
+    ∙ ap (λ (l : List (Trio (List ℕ))). record { prices = grid.prices; points = sums_at grid.prices l }) (sym (each-more (points_of_bidder views) i))
+
+module _ (grid : Grid) (views : Trio Viewed) (inputs : Trio (List ℕ)) (totals : Totals) (i : inputs ≡ wires_of totals) (sums : AddsUp grid totals (all_points views))
+    (words : Trio ServerWords) (w : words ≡ of_each words_in views) where
+  inputs-are : inputs ≡ inputs_at grid.prices (all_points views)
+  inputs-are = i ∙ ap wires_of sums
+
+  pub many : (s : Point) → length (member inputs s) ≡ 2 * grid.prices
+  many s = ap (λ t. length (member t s)) inputs-are ∙ inputs-many grid.prices (all_points views) s
+
+  pub enough : ((s : Point) → HasEnough grid (words_in (member views s))) → HaveEnough grid words
+  enough h = subst (HaveEnough grid) (sym w) (record { one = h One; two = h Two; three = h Three })
+
+  same-setup : setup_with grid inputs words ≡ run_of grid views
+  same-setup = ap (λ (x : Trio (List ℕ)). setup_with grid x words) inputs-are ∙ ap (setup_with grid (inputs_at grid.prices (all_points views))) w
+
+  module _ (start cores : Trio (Core Auction)) (starts : Starts grid inputs words start) (ended : HaveEnded auction_batch inputs_of most_rounds start cores) where
+    stands : (s : Point) → IsAtRound auction_batch (run_of grid views) (rounds_of grid views) s (member cores s)
+    stands s =
+        let o = run_of grid views in
+        subst (λ n. IsAtRound auction_batch o n s (member cores s)) (ap (λ a. rounds_among o (most_rounds a)) (starts.script One))
+        (subst (λ (x : Setup). IsAtRound auction_batch x (rounds_among x (most_rounds start.one.script)) s (member cores s)) (starts.setup ∙ same-setup) (ended.ended s))
+
+    -- and so they have run to the end
+    pub ran : RunsAgain grid views cores
+    ran = record {
+      stands = stands;
+      ended = has-ended-run grid inputs words start starts cores ended;
+      ends = λ finish named.
+          let run = ends-auction grid inputs words start starts cores ended finish cores.one.round named refl in
+          subst (λ (t : Trio (List ℕ)). EndsAuction grid t (of_each words_in views) finish (rounds_of grid views)) inputs-are
+          (subst (λ (t : Trio ServerWords). EndsAuction grid inputs t finish (rounds_of grid views)) w
+          (subst (λ n. EndsAuction grid inputs words finish n) (stands One).round run));
+    }

@@ -1,0 +1,59 @@
+-- Two parts that are dealt, joined.
+use Rattle.std.proofs.Common.{◌≡◌, ◌≤◌, ℕ, ◌*◌, ◌-◌, List, ◌++◌, length, take, drop, arith, inl, inr, refl, sym, ◌∙◌, length-append, length-drop}
+use Rattle.std.proofs.lemmas.Bool.{cases_lt}
+use Rattle.std.proofs.lemmas.List.{length-take-le}
+use Rattle.std.proofs.lemmas.List.Elements.{All-append, All-take, All-drop}
+use Rattle.beet_field.specs.declared.trio.Trio.{Trio}
+use Rattle.beet_words.specs.Tapes.{Tape, left_of}
+use Rattle.beet_bids.specs.Curves.{Curve, IsOfGrid}
+use Rattle.beet_bids.specs.Grids.{Grid}
+use Rattle.beet_book.specs.Dealing.{CanDealEach, DealsEach, DealsOver, HasLengths}
+use Rattle.beet_book.proofs.Items.{get-append_left, get-append_right}
+
+-- what is asked of all is asked of the first so many, and of the others
+pub can-deal-front : (grid : Grid) (curves : List Curve) (tapes : List Tape) (n : ℕ) → n ≤ length curves → CanDealEach grid curves tapes →
+    CanDealEach grid (take n curves) (take n tapes)
+can-deal-front grid curves tapes n h can = record {
+  paired = length-take-le n tapes (omega (arith, can.paired)) ∙ sym (length-take-le n curves h);
+  of_grid = All-take (IsOfGrid grid) n curves can.of_grid;
+  words = All-take (λ tape. 2 * grid.prices ≤ length (left_of tape)) n tapes can.words;
+}
+
+pub can-deal-back : (grid : Grid) (curves : List Curve) (tapes : List Tape) (n : ℕ) → CanDealEach grid curves tapes →
+    CanDealEach grid (drop n curves) (drop n tapes)
+can-deal-back grid curves tapes n can = record {
+  paired = omega (arith, can.paired, length-drop n curves, length-drop n tapes);
+  of_grid = All-drop (IsOfGrid grid) n curves can.of_grid;
+  words = All-drop (λ tape. 2 * grid.prices ≤ length (left_of tape)) n tapes can.words;
+}
+
+module _ {few rest : List Curve} {front front_left back back_left : List Tape} {first second : List (Trio (List ℕ))} where
+  each-joined : length front ≡ length few → DealsEach few front front_left first → DealsEach rest back back_left second →
+      DealsEach (few ++ rest) (front ++ back) (front_left ++ back_left) (first ++ second)
+  each-joined paired a b = record {
+    tapes = omega (arith, length-append front_left back_left, length-append front back, a.tapes, b.tapes);
+    count = omega (arith, length-append first second, length-append few rest, a.count, b.count);
+    each = λ i curve before after points c t u d. elim (cases_lt i (length few)) [
+      | inl low ↦
+          a.each i curve before after points
+          (sym (get-append_left few rest i low) ∙ c)
+          (sym (get-append_left front back i (omega (arith, paired))) ∙ t)
+          (sym (get-append_left front_left back_left i (omega (arith, paired, a.tapes))) ∙ u)
+          (sym (get-append_left first second i (omega (arith, a.count))) ∙ d)
+      | inr high ↦
+          let n = length few in
+          b.each (i - n) curve before after points
+          (sym (get-append_right few rest n i refl high) ∙ c)
+          (sym (get-append_right front back n i paired high) ∙ t)
+          (sym (get-append_right front_left back_left n i (a.tapes ∙ paired) high) ∙ u)
+          (sym (get-append_right first second n i a.count high) ∙ d)
+    ];
+  }
+
+  pub over-joined : (grid : Grid) → length front ≡ length few → DealsOver grid few front front_left first →
+      DealsOver grid rest back back_left second →
+      DealsOver grid (few ++ rest) (front ++ back) (front_left ++ back_left) (first ++ second)
+  over-joined grid paired a b = record {
+    each = each-joined paired a.each b.each;
+    lengths = All-append (λ points. HasLengths points (2 * grid.prices)) first second a.lengths b.lengths;
+  }

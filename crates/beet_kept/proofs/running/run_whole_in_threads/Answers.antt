@@ -1,0 +1,35 @@
+use Rattle.std.proofs.Common.{refl}
+use Rattle.beet_kept.proofs.HasRuns.{can-show, inputs-enough, ran-whole, tapes-enough}
+use Rattle.beet_run.proofs.Ending.{has-ended-run}
+use Rattle.beet_kept.proofs.running.run_whole_in_threads.Goals as goal
+
+pub run_in_threads-requires-clause-enough : goal.run_in_threads-requires-clause-enough
+run_in_threads-requires-clause-enough g c = λ lifetimes outlive.
+    let h = c.in_ok-begun.ensures in
+    tapes-enough c.args.book.now c.args.words.now h.book c.requires _ h.grid _ refl _ h.inputs _ h.tapes
+
+pub run_in_threads-requires-clause-inputs : goal.run_in_threads-requires-clause-inputs
+run_in_threads-requires-clause-inputs g c = λ lifetimes outlive.
+    let h = c.in_ok-begun.ensures in
+    inputs-enough c.args.book.now c.args.words.now h.book c.requires _ h.grid _ refl _ h.inputs _ h.tapes
+
+pub finish_at-finish-requires : goal.finish_at-finish-requires
+finish_at-finish-requires g c =
+    let ran = c.in_ok-cores.ensures.ended in
+    has-ended-run _ _ _ _ ran.starts c.in_ok-cores.cores ran.ended
+
+pub invariant_of-result : goal.invariant_of-result
+invariant_of-result g c =
+    let h = c.in_ok-begun.ensures in
+    let ran = c.in_ok-cores.ensures.ended in
+    can-show c.args.book.now c.args.words.now h.book c.requires _
+    (ran-whole c.args.book.now c.args.words.now h.book c.requires _ h.grid _ refl _ h.inputs _ h.tapes
+    _ _ _ _ _ ran.starts ran.ended c.finish_at-finish.ensures c.round-rounds.ensures h.seen)
+    ran.ended.at_end
+
+pub returns-clause-run : goal.returns-clause-run
+returns-clause-run g c =
+    let h = c.in_ok-begun.ensures in
+    let ran = c.in_ok-cores.ensures.ended in
+    ran-whole c.args.book.now c.args.words.now h.book c.requires _ h.grid _ refl _ h.inputs _ h.tapes
+    _ _ _ _ _ ran.starts ran.ended c.finish_at-finish.ensures c.round-rounds.ensures h.seen

@@ -1,0 +1,96 @@
+//! The two ways in which three servers run an auction from its start to its end: on the caller's thread, or each in a thread of
+//! its own.
+
+ghost use Rattle.std.specs.Prelude.{◌≡◌, ◌*◌, IfErr, IfOk, length};
+ghost use Rattle.beet_field.specs.Trio.{member};
+ghost use Rattle.beet_field.specs.declared.point.Point.{Point as Server};
+ghost use Rattle.beet_load.specs.Servers.{HaveEnough};
+ghost use Rattle.beet_run.specs.Runs.{HaveRunToEnd};
+
+use crate::running::start_servers;
+use beet_bids::Grid;
+use beet_errand::Stop;
+use beet_field::Trio;
+use beet_link::Gate;
+use beet_load::ServerWords;
+use beet_search::AuctionScript;
+use beet_server::ServerCore;
+use beet_threads::run_three;
+use beet_words::FeList;
+use beet_world::lockstep;
+use std::alloc::{AllocError, Global};
+use std::sync::Wait;
+use std::thread::Threads;
+
+/// Starts the three servers of an auction with these points of the inputs and these words, and runs them to the end on the
+/// caller's thread, round by round. Want of memory is the only error, and comes before the first round.
+pub fn run_on_one_thread(
+    alloc: Global,
+    grid: &Grid,
+    inputs: Trio<FeList>,
+    words: Trio<ServerWords>,
+) -> Result<Trio<ServerCore<AuctionScript>>, Stop>
+    requires enough { HaveEnough grid.now words }
+    requires inputs { (i : Server) → length (member inputs i) ≡ 2 * grid.now.prices }
+    ensures memory { IfErr result (λ stop. stop ≡ Stop.OutOfMemory) }
+    ensures ended { IfOk result (HaveRunToEnd grid.now inputs words) }
+{
+    let cores = start_servers(alloc, grid, inputs, words)?;
+    Ok(lockstep(cores))
+}
+
+/// The same points, in memory of their own.
+fn copy_points(alloc: Global, points: &Trio<FeList>) -> Result<Trio<FeList>, AllocError>
+    ensures { IfOk result (λ copies. copies ≡ points.now) }
+{
+    Ok(Trio {
+        one: points.one.copy(alloc)?,
+        two: points.two.copy(alloc)?,
+        three: points.three.copy(alloc)?,
+    })
+}
+
+/// The same words of a server, in memory of their own.
+fn copy_tapes(alloc: Global, tapes: &ServerWords) -> Result<ServerWords, AllocError>
+    ensures { IfOk result (λ copy. copy ≡ tapes.now) }
+{
+    Ok(ServerWords {
+        masks: tapes.masks.copy(alloc)?,
+        coefficients: tapes.coefficients.copy(alloc)?,
+    })
+}
+
+/// The same words of the three servers, in memory of their own.
+fn copy_words(alloc: Global, words: &Trio<ServerWords>) -> Result<Trio<ServerWords>, AllocError>
+    ensures { IfOk result (λ copies. copies ≡ words.now) }
+{
+    Ok(Trio {
+        one: copy_tapes(alloc, &words.one)?,
+        two: copy_tapes(alloc, &words.two)?,
+        three: copy_tapes(alloc, &words.three)?,
+    })
+}
+
+/// Starts the three servers of an auction with these points of the inputs and these words, and runs them to the end, each in a
+/// thread of its own. Each meets the gate once in each round, before it puts its messages. Spare servers with the same points
+/// and words are started before the run; they run in lockstep, without the gate, where no thread or no memory can be had for
+/// it. Want of memory is the only error, and comes before the first round.
+pub fn run_in_threads<R: Threads + Wait + Sync, G: Gate>(
+    rt: &R,
+    alloc: Global,
+    grid: &Grid,
+    inputs: Trio<FeList>,
+    words: Trio<ServerWords>,
+    gate: &G,
+) -> Result<Trio<ServerCore<AuctionScript>>, Stop>
+    requires enough { HaveEnough grid.now words }
+    requires inputs { (i : Server) → length (member inputs i) ≡ 2 * grid.now.prices }
+    ensures memory { IfErr result (λ stop. stop ≡ Stop.OutOfMemory) }
+    ensures ended { IfOk result (HaveRunToEnd grid.now inputs words) }
+{
+    let spare_inputs = copy_points(alloc, &inputs)?;
+    let spare_words = copy_words(alloc, &words)?;
+    let cores = start_servers(alloc, grid, inputs, words)?;
+    let spares = start_servers(alloc, grid, spare_inputs, spare_words)?;
+    Ok(run_three(rt, alloc, cores, spares, gate))
+}

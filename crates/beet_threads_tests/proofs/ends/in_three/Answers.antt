@@ -1,0 +1,6 @@
+use Rattle.std.proofs.Common.{refl}
+use Rattle.beet_run.proofs.Spares.{begin-alike}
+use Rattle.beet_threads_tests.proofs.ends.in_three.Goals as goal
+
+pub run_three-requires-clause-alike : goal.run_three-requires-clause-alike
+run_three-requires-clause-alike g c κs within = begin-alike _ _ _ _ _ _ _ refl refl c.in_ok-cores.ensures c.in_ok-spares.ensures

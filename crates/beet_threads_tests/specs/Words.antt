@@ -1,0 +1,9 @@
+-- The words of the servers of a test.
+use Rattle.std.specs.Prelude.{ℕ, List}
+use Rattle.beet_field.specs.declared.trio.Trio.{Trio}
+use Rattle.beet_bids.specs.Grids.{Grid}
+use Rattle.beet_load.specs.Servers.{ServerWords, seeded}
+
+-- those of three seeds
+abbrev pub words_from : Grid → Trio (List ℕ) → Trio ServerWords
+words_from grid seeds = record { one = seeded grid seeds.one; two = seeded grid seeds.two; three = seeded grid seeds.three }
