@@ -29,18 +29,16 @@ struct Meeting<R: Wait + Drop> {
     met: Trio<AtomicU64>,
 }
 
-impl<R: Wait + Sync + Drop> Meeting<R> {
-    /// Holds a server until all three are there, or its turns are spent.
-    fn hold(&self) {
-        self.here.fetch_add(1, Ordering::SeqCst);
-        for _ in 0..TURNS {
-            if self.here.load(Ordering::SeqCst) >= 3 {
-                return;
-            }
-            thread::yield_now();
+/// Holds a server until all three are there, or its turns are spent.
+fn hold(here: &AtomicU64, let_go: &AtomicU64) {
+    here.fetch_add(1, Ordering::SeqCst);
+    for _ in 0..TURNS {
+        if here.load(Ordering::SeqCst) >= 3 {
+            return;
         }
-        self.let_go.fetch_add(1, Ordering::SeqCst);
+        thread::yield_now();
     }
+    let_go.fetch_add(1, Ordering::SeqCst);
 }
 
 impl<R: Wait + Sync + Drop> Gate for Meeting<R> {
@@ -58,7 +56,7 @@ impl<R: Wait + Sync + Drop> Gate for Meeting<R> {
         *seat = seat.saturating_add(1);
         if note.round == 0 {
             let _sent = self.first.send(&self.rt, note);
-            self.hold();
+            hold(&self.here, &self.let_go);
         }
     }
 }
