@@ -1,16 +1,16 @@
 -- A bidder with which nothing is wrong bids a curve.
-use Rattle.std.proofs.Common.{◌≡◌, ◌<◌, ◌≤◌, ◌+◌, ◌*◌, ℕ, zero, suc, List, length, slice_index, Option, Some, None, All, inl, inr, arith, refl, sym, ◌∙◌, ap, subst, length-append}
+use Rattle.std.proofs.Common.{◌≡◌, ◌<◌, ◌≤◌, ◌+◌, ◌*◌, ℕ, zero, suc, List, length, slice_index, Option, Some, None, inl, inr, arith, refl, sym, ◌∙◌, ap, subst, length-append}
 use Rattle.std.specs.Prelude.{IfSome}
 use Rattle.std.proofs.lemmas.Bool.{cases_lt}
 use Rattle.std.proofs.lemmas.List.{get_or_append_left, get_or-append-add}
-use Rattle.std.proofs.lemmas.List.Elements.{All-append, All-get_or, All-from_get_or}
+use Rattle.std.proofs.lemmas.List.Elements.{All-append, All-get_or}
 use Rattle.beet_field.specs.Field.{p, sub_of}
 use Rattle.beet_field.specs.Trio.{member}
 use Rattle.beet_field.specs.declared.trio.Trio.{Trio}
 use Rattle.beet_shamir.specs.Line.{AreElements, IsLine, points_of, recombined}
 use Rattle.beet_words.specs.Words.{accepted}
 use Rattle.beet_gates.specs.Each.{each}
-use Rattle.beet_gates.proofs.EachFacts.{length-each, item-each, get_or-each}
+use Rattle.beet_gates.proofs.EachFacts.{all-each, length-each, item-each, get_or-each}
 use Rattle.beet_bids.specs.Curves.{Curve, IsCurve, IsOfGrid}
 use Rattle.beet_bids.specs.Grids.{Grid}
 use Rattle.beet_bids.specs.declared.curve.TheConstants.{LARGEST_QUANTITY}
@@ -39,11 +39,6 @@ rises f n step i (suc j) lt within =
       | inl less ↦ omega (arith, rises f n step i j less (omega arith), here)
       | inr last ↦ let e : j ≡ i = omega arith in subst (λ x. f x ≤ f (suc j)) e here
     ]
-
-all-each : (P : ℕ → Type 0) (f : ℕ → ℕ) (n : ℕ) → ((k : ℕ) → k < n → P (f k)) → All P (each f n)
-all-each P f n h =
-    All-from_get_or P (each f n) 0
-    (λ k lt. let within : k < n = omega (arith, length-each f n, lt) in subst P (sym (item-each f n k within)) (h k within))
 
 pub some-from : {A : Type 0} (P Q : A → Type 0) (o : Option A) → ((x : A) → P x → Q x) → IfSome o P → IfSome o Q
 some-from P Q None f h = tt

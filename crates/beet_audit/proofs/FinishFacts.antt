@@ -13,7 +13,7 @@ use Rattle.beet_shamir.specs.Line.{point_of, points_of}
 use Rattle.beet_words.specs.Words.{accepted}
 use Rattle.beet_words.specs.declared.bundle.TheConstants.{MOST_BIDDERS}
 use Rattle.beet_gates.specs.Each.{each}
-use Rattle.beet_gates.proofs.EachFacts.{each-same, each-suc, each-zero, get_or-each, item-each, length-each, map-each}
+use Rattle.beet_gates.proofs.EachFacts.{all-each, each-same, each-suc, each-zero, item-each, length-each, map-each}
 use Rattle.beet_bids.specs.Books.{Book, IsBook}
 use Rattle.beet_bids.specs.Curves.{IsCurve, IsOfGrid}
 use Rattle.beet_bids.specs.Grids.{Grid}
@@ -54,9 +54,6 @@ all-accepted (x ∷ xs) h =
     let rest = all-accepted xs (All-tail IsElement x xs h) in
     grind (arith, common_steps)
 
-all-of : {A : Type 0} (P : A → Type 0) (f : ℕ → A) (n : ℕ) → ((k : ℕ) → k < n → P (f k)) → All P (each f n)
-all-of P f n h = λ i d lt. let within : i < n = omega (arith, length-each f n, lt) in subst P (sym (get_or-each f n i d within)) (h i within)
-
 point-on : (points : Trio (List ℕ)) (k v a : ℕ) (s : Point) → points_on points k ≡ points_of v a → slice_index (member points s) k ≡ point_of v a s
 point-on points k v a One e = ap (λ (t : Trio ℕ). t.one) e
 point-on points k v a Two e = ap (λ (t : Trio ℕ). t.two) e
@@ -80,7 +77,7 @@ module _ (grid : Grid) (views : Trio Viewed) (few : length views.one.bidders ≤
   drawn : (i : ℕ) → accepted (slopes i) ≡ slopes i
   drawn i =
       let points = points_of_bidder views i in
-      all-accepted (slopes i) (all-of IsElement (own_slope points) (2 * grid.prices) (λ k lt. below-slope points k)) where
+      all-accepted (slopes i) (all-each IsElement (own_slope points) (2 * grid.prices) (λ k lt. below-slope points k)) where
         below-slope : (points : Trio (List ℕ)) (k : ℕ) → IsElement (own_slope points k)
         below-slope points k = omega arith
 
@@ -109,8 +106,8 @@ module _ (grid : Grid) (views : Trio Viewed) (few : length views.one.bidders ≤
   pub is-recombined : IsBook (recombined_book grid views)
   is-recombined = record {
     few = omega (arith, length-each (recombined_bidder grid views) n, few);
-    curves = all-of (λ (b : Bidder). IsCurve b.curve) (recombined_bidder grid views) n curves;
-    of_grid = all-of (λ (b : Bidder). IsOfGrid grid b.curve) (recombined_bidder grid views) n (λ i lt. of-grid grid.prices (points_of_bidder views i) grid refl);
+    curves = all-each (λ (b : Bidder). IsCurve b.curve) (recombined_bidder grid views) n curves;
+    of_grid = all-each (λ (b : Bidder). IsOfGrid grid b.curve) (recombined_bidder grid views) n (λ i lt. of-grid grid.prices (points_of_bidder views i) grid refl);
   }
 
   -- so the run ends with the outcome of the book of these curves

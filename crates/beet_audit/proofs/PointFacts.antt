@@ -1,5 +1,5 @@
 -- Points of three views on lines.
-use Rattle.std.proofs.Common.{◌≡◌, ◌<◌, ◌≤◌, ◌+◌, ◌*◌, ◌-◌, ◌%◌, ℕ, List, [], length, get_or, slice_index, map, None, Option, inl, inr, arith, refl, sym, ◌∙◌, ap, subst, length-append}
+use Rattle.std.proofs.Common.{◌≡◌, ◌<◌, ◌≤◌, ◌+◌, ◌*◌, ◌-◌, ◌%◌, ℕ, List, [], length, get_or, slice_index, map, None, Option, inl, inr, arith, sym, ◌∙◌, ap, subst, length-append}
 use Rattle.std.proofs.lemmas.Bool.{cases_lt}
 use Rattle.std.proofs.lemmas.List.{get_or-map, length-map, get_or_read, get_or_past, ext_get_or, get_or_append_left, get_or-append_right}
 use Rattle.std.proofs.lemmas.Grind.{same_number_lists}
@@ -14,7 +14,7 @@ use Rattle.beet_gates.proofs.EachFacts.{length-each, item-each}
 use Rattle.beet_bids.specs.Curves.{Curve}
 use Rattle.beet_bids.specs.Grids.{Grid}
 use Rattle.beet_bids.specs.declared.curve.TheConstants.{LARGEST_QUANTITY}
-use Rattle.beet_book.specs.Dealing.{HasLengths, points_at, quantities, shares_of}
+use Rattle.beet_book.specs.Dealing.{HasLengths, quantities, shares_of}
 use Rattle.beet_book.specs.Totals.{points_on}
 use Rattle.beet_book.proofs.Pairs.{length-pairwise, item-pairwise}
 use Rattle.beet_view.specs.declared.view.Seen.{Seen}
@@ -36,25 +36,6 @@ on-line v s = omega arith
 
 pub value-on : (v s : ℕ) → v < p → recombined (points_of v s) ≡ v
 value-on v s h = omega arith
-
--- there are points at a place within their number
-pub have-place : (points : Trio (List ℕ)) (count n : ℕ) → HasLengths points count → n < count → HavePlace points n
-have-place points count n h lt = record { one = omega (arith, h.one, lt); two = omega (arith, h.two, lt); three = omega (arith, h.three, lt) }
-
--- a bidder with a point is in the view
-pub in-view : (view : Viewed) (i n : ℕ) → n < length (bidder_at view i).points → i < length view.bidders
-in-view view i n h = elim (cases_lt i (length view.bidders)) [
-  | inl within ↦ within
-  | inr past ↦
-      let none = ap (λ (seen : Seen). length seen.points) (get_or_past view.bidders i (record { known = None; points = []; own = None }) past) in
-      absurd (omega (arith, none, h))
-]
-
--- the bidder that is read there
-pub bidder-read : (view : Viewed) (bidders : List Seen) (i : ℕ) (seen : Seen) → bidders ≡ view.bidders → i < length bidders → seen ≡ get_or bidders i seen →
-    seen ≡ bidder_at view i
-bidder-read view bidders i seen e lt is =
-    get_or_read bidders i seen lt is (record { known = None; points = []; own = None }) ∙ ap (λ (l : List Seen). get_or l i (record { known = None; points = []; own = None })) e
 
 -- bidders whose marks are the same one by one have the same marks
 pub marks-same : (first bidders : List Seen) → length bidders ≡ length first → ((k : ℕ) (d : Seen) → k < length first → (get_or bidders k d).known ≡ (get_or first k d).known) →
@@ -104,11 +85,6 @@ item-quantities prices points n lt =
     ]
 
 -- points on the lines of values and slopes
-pub member-shares : (vs ss : List ℕ) (s : Point) → member (shares_of vs ss) s ≡ points_at vs ss s
-member-shares vs ss One = refl
-member-shares vs ss Two = refl
-member-shares vs ss Three = refl
-
 pub item-shares : (vs ss : List ℕ) (n : ℕ) → n < length vs → n < length ss → points_on (shares_of vs ss) n ≡ points_of (slice_index vs n) (slice_index ss n)
 item-shares vs ss n h i = λ j. record {
   one = item-pairwise (λ v s. point_of v s One) vs ss n h i j;

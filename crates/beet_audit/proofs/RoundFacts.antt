@@ -15,7 +15,7 @@ use Rattle.beet_round.specs.declared.sides.Side.TheVariants.{Low, High}
 use Rattle.beet_server.specs.Cores.{Core}
 use Rattle.beet_server.specs.Steps.{received_from}
 use Rattle.beet_sharing.specs.Runs.{Setup, message}
-use Rattle.beet_world.specs.Lockstep.{IsAtRound}
+use Rattle.beet_server.specs.Lockstep.{IsAtRound}
 use Rattle.beet_view.specs.RunViews.{round_received, round_seen, rounds_seen}
 use Rattle.beet_view.specs.Views.{Viewed, from_peer}
 use Rattle.beet_view.proofs.RunFacts.{rounds-fit}

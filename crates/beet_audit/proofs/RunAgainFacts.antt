@@ -13,7 +13,7 @@ use Rattle.beet_book.specs.PointSums.{AddsUp, inputs_at, sums_at}
 use Rattle.beet_book.specs.Totals.{Totals, added, none_of, wires_of}
 use Rattle.beet_server.specs.Cores.{Core}
 use Rattle.beet_sharing.specs.Runs.{Setup, rounds_among}
-use Rattle.beet_world.specs.Lockstep.{HaveEnded, IsAtRound}
+use Rattle.beet_server.specs.Lockstep.{HaveEnded, IsAtRound}
 use Rattle.beet_auction.specs.Setups.{inputs_of}
 use Rattle.beet_auction.proofs.AddedPoints.{inputs-many}
 use Rattle.beet_book.proofs.PointsAdded.{sums-more, sums-none}

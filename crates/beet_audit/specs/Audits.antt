@@ -16,7 +16,7 @@ use Rattle.beet_gates.specs.Plans.{plan_finish}
 use Rattle.beet_plan.specs.Auction.{Auction, auction_batch, auction_over, auction_plan, most_rounds}
 use Rattle.beet_plan.specs.declared.Finish.{Finish}
 use Rattle.beet_server.specs.Cores.{Core}
-use Rattle.beet_world.specs.Lockstep.{IsAtRound}
+use Rattle.beet_server.specs.Lockstep.{IsAtRound}
 use Rattle.beet_book.specs.Dealing.{dealt_points}
 use Rattle.beet_book.specs.PointSums.{inputs_at}
 use Rattle.beet_book.specs.Totals.{points_on}

@@ -8,7 +8,7 @@ ghost use Rattle.beet_round.specs.Sides.{peer};
 ghost use Rattle.beet_round.specs.declared.sides.Side.TheVariants.{Low, High};
 ghost use Rattle.beet_server.specs.Steps.{received_from};
 ghost use Rattle.beet_sharing.specs.Runs.{Setup, message};
-ghost use Rattle.beet_world.specs.Lockstep.{IsAtRound};
+ghost use Rattle.beet_server.specs.Lockstep.{IsAtRound};
 ghost use Rattle.beet_audit.specs.Audits.{Message, MessageFrom, RoundMessages, Rounds, held_from};
 ghost use Rattle.beet_audit.specs.Verdicts.{EachBelow, EachServer, InTurn, Judges, Wants};
 ghost use Rattle.beet_audit.specs.declared.fault.AuditFault.TheVariants.{MessageDiffers as NumberDiffers, RoundsDiffer as OtherRounds};

@@ -89,13 +89,6 @@ module _ {old now : Seen} {auction one two three : List ℕ} where
     later = r.later;
   }
 
--- views of one run are answered by how it ended
-pub one-run-told : (read : ReadViews) (finish : Finish) (rounds : ℕ) (answer : Answer) → Finds read.grid read.views None → OneRun read.grid read.views →
-    finish ≡ book_finish (recombined_book read.grid read.views) (of_each (λ view. view.masks) read.views) →
-    rounds ≡ book_rounds (recombined_book read.grid read.views) (of_each (λ view. view.masks) read.views) →
-    answer ≡ outcome_answer read.grid finish rounds → AnswersViews read (Ok answer)
-one-run-told read finish rounds answer f o is many e = record { found = None; finds = f; one_run = o; is = rw (← is, ← many) e }
-
 -- others are refused by the line of what is found
 pub refused-told : (read : ReadViews) (fault : AuditFault) (stop : Stop) → (fault ≢ Memory → Finds read.grid read.views (Some fault)) →
     (fault ≢ Memory → OneRun read.grid read.views → ⊥) → Refuses AuditRefused (fault_text fault) stop → (stop ≢ OutOfMemory → fault ≢ Memory) →

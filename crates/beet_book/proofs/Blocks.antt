@@ -8,11 +8,6 @@ use Rattle.beet_book.specs.Totals.{Totals, added, all_added, plain_sums, AddsAll
 use Rattle.beet_book.proofs.PointsAdded.{sums-more}
 use Rattle.beet_book.proofs.Sums.{added-values}
 
--- one bidder more
-pub all-more : (points : Trio (List ℕ)) (bidders : List (Trio (List ℕ))) (next : Trio (List ℕ)) →
-    all_added points (bidders ++ next ∷ []) ≡ added (all_added points bidders) next
-all-more points bidders next = fold-append added points bidders (next ∷ [])
-
 -- the values of all are added
 pub all-values : (before : Trio (List ℕ)) (bidders : List (Trio (List ℕ))) (after : Trio (List ℕ)) → after ≡ all_added before bidders →
     AddsAllValues before bidders after

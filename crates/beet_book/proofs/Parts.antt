@@ -10,23 +10,6 @@ use Rattle.beet_bids.specs.Grids.{Grid}
 use Rattle.beet_book.specs.Dealing.{CanDealEach, DealsEach, DealsOver, HasLengths}
 use Rattle.beet_book.proofs.Items.{get-append_left, get-append_right}
 
--- what is asked of all is asked of the first so many, and of the others
-pub can-deal-front : (grid : Grid) (curves : List Curve) (tapes : List Tape) (n : ℕ) → n ≤ length curves → CanDealEach grid curves tapes →
-    CanDealEach grid (take n curves) (take n tapes)
-can-deal-front grid curves tapes n h can = record {
-  paired = length-take-le n tapes (omega (arith, can.paired)) ∙ sym (length-take-le n curves h);
-  of_grid = All-take (IsOfGrid grid) n curves can.of_grid;
-  words = All-take (λ tape. 2 * grid.prices ≤ length (left_of tape)) n tapes can.words;
-}
-
-pub can-deal-back : (grid : Grid) (curves : List Curve) (tapes : List Tape) (n : ℕ) → CanDealEach grid curves tapes →
-    CanDealEach grid (drop n curves) (drop n tapes)
-can-deal-back grid curves tapes n can = record {
-  paired = omega (arith, can.paired, length-drop n curves, length-drop n tapes);
-  of_grid = All-drop (IsOfGrid grid) n curves can.of_grid;
-  words = All-drop (λ tape. 2 * grid.prices ≤ length (left_of tape)) n tapes can.words;
-}
-
 module _ {few rest : List Curve} {front front_left back back_left : List Tape} {first second : List (Trio (List ℕ))} where
   each-joined : length front ≡ length few → DealsEach few front front_left first → DealsEach rest back back_left second →
       DealsEach (few ++ rest) (front ++ back) (front_left ++ back_left) (first ++ second)

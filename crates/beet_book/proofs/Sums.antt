@@ -5,11 +5,12 @@ use Rattle.std.proofs.lemmas.List.{get_or_append_left, get_or-append_right, get_
 use Rattle.std.proofs.lemmas.Grind.{same_number_lists}
 use Rattle.beet_field.specs.Field.{p, add_of, mul_of}
 use Rattle.beet_field.specs.Point.{number_of}
+use Rattle.beet_field.specs.Trio.{member}
 use Rattle.beet_field.specs.declared.point.Point.{Point}
 use Rattle.beet_field.specs.declared.point.Point.TheVariants.{One, Two, Three}
 use Rattle.beet_field.specs.declared.trio.Trio.{Trio}
 use Rattle.beet_shamir.specs.Line.{point_of, recombined}
-use Rattle.beet_book.specs.Dealing.{points_at}
+use Rattle.beet_book.specs.Dealing.{points_at, shares_of}
 use Rattle.beet_book.specs.Totals.{field_sums, plain_sums, supply_first, wires_of, AddsValues, CarriesValues, Totals}
 use Rattle.beet_book.proofs.Pairs.{length-pairwise, item-pairwise}
 
@@ -82,6 +83,12 @@ recombined-line v s one two three e f = omega arith
 item-points : (v s : List ℕ) (at : Point) (k : ℕ) → k < length v → length s ≡ length v →
     get_or (points_at v s at) k 0 ≡ point_of (get_or v k 0) (get_or s k 0) at
 item-points v s at k lt paired = item-pairwise (λ value slope. point_of value slope at) v s k lt (omega arith)
+
+-- the points at a server of lines with these values and slopes
+pub member-shares : (v s : List ℕ) (at : Point) → member (shares_of v s) at ≡ points_at v s at
+member-shares v s One = refl
+member-shares v s Two = refl
+member-shares v s Three = refl
 
 pub length-points : (v s : List ℕ) (at : Point) → length s ≡ length v → length (points_at v s at) ≡ length v
 length-points v s at paired = omega (arith, length-pairwise (λ value slope. point_of value slope at) v s)

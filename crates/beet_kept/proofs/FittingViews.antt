@@ -2,15 +2,14 @@
 use Rattle.std.proofs.Common.{◌≡◌, ◌<◌, ◌≤◌, ℕ, ◌*◌, List, [], ◌∷◌, map, length, All, IfSome, Bool, true, false, Some, None, Ok, get_or, slice_index, arith, refl, sym, ap, ◌∙◌, subst}
 use Rattle.std.specs.Prelude.{if◌then◌else◌}
 use Rattle.std.proofs.lemmas.List.{length-map}
-use Rattle.std.proofs.lemmas.List.Elements.{All-nil, All-cons, All-head, All-tail, All-map, All-from_get_or}
-use Rattle.std.proofs.lemmas.Option.{get_or_from_slice_get}
+use Rattle.std.proofs.lemmas.List.Elements.{All-nil, All-cons, All-head, All-tail, All-map}
 use Rattle.beet_field.specs.Field.{IsElement}
 use Rattle.beet_field.specs.Trio.{member}
 use Rattle.beet_field.specs.declared.point.Point.{Point}
 use Rattle.beet_field.specs.declared.point.Point.TheVariants.{One, Two, Three}
 use Rattle.beet_words.specs.Bundles.{Words, AreWords}
 use Rattle.beet_words.specs.Words.{IsWord}
-use Rattle.beet_gates.proofs.EachFacts.{length-each, get-each}
+use Rattle.beet_gates.proofs.EachFacts.{all-each, length-each}
 use Rattle.beet_gates.specs.Each.{each}
 use Rattle.beet_gates.specs.Scripts.{Standing, LawFrom, bounds_of, start_of}
 use Rattle.beet_gates.specs.declared.Act.{Act}
@@ -51,14 +50,6 @@ use Rattle.beet_kept.proofs.HasRuns.{is-book, inputs-long, seen-all}
 use Rattle.beet_book.specs.declared.book_file.TheConstants.{MOST_PRODUCT}
 use Rattle.beet_forms.specs.declared.faults.TheConstants.{LONGEST_FILE}
 
--- what holds at each place holds of all items
-each-all : {A : Type 0} (P : A → Type 0) (f : ℕ → A) (n : ℕ) → ((k : ℕ) → k < n → P (f k)) → All P (each f n)
-each-all P f n at =
-    All-from_get_or P (each f n) (f 0)
-    (λ k lt.
-    let within : k < n = omega (arith, length-each f n, lt) in
-    subst P (sym (get_or_from_slice_get (each f n) k (f k) (f 0) (get-each f n k within))) (at k within))
-
 -- what holds of each bidder and of each list holds of the bidders with their words
 abbrev Both : (Bidder → Type 0) → (List ℕ → Type 0) → Farmer → Type 0
 Both P Q farmer = P farmer.bidder × Q farmer.words
@@ -78,14 +69,14 @@ own-kept P false own holds = tt
 -- the numbers of a bidder with a curve and with words
 farmer-numbers : (grid : Grid) (s : Point) (farmer : Farmer) → IsCurve farmer.bidder.curve → All IsWord farmer.words → HasNumbers (seen_at grid s farmer)
 farmer-numbers grid s farmer curve words = record {
-  points = each-all IsElement (point_for farmer s) (2 * grid.prices) (λ n within. omega arith);
+  points = all-each IsElement (point_for farmer s) (2 * grid.prices) (λ n within. omega arith);
   own = own-kept (λ own. IsCurve own.0 × All IsWord own.1) (names farmer.bidder.known s) (farmer.bidder.curve, farmer.words) (curve, words);
 }
 
 -- the numbers that are sent for an act are numbers of the field, where the points are
 sent-elements : (o : Setup) (s : Shared) (a : Act) (from to : Point) → ((w : ℕ) → IsElement (slice_index (member s.wires from) w)) → All IsElement (sent_for o s a from to)
-sent-elements o s Deal from to small = each-all IsElement (hidden_at o s Deal from to) 61 (λ k lt. omega arith)
-sent-elements o s (Mul pairs) from to small = each-all IsElement (hidden_at o s (Mul pairs) from to) (length pairs.items) (λ k lt. omega arith)
+sent-elements o s Deal from to small = all-each IsElement (hidden_at o s Deal from to) 61 (λ k lt. omega arith)
+sent-elements o s (Mul pairs) from to small = all-each IsElement (hidden_at o s (Mul pairs) from to) (length pairs.items) (λ k lt. omega arith)
 sent-elements o s (Reveal shown) from to small = All-map IsElement (slice_index (member s.wires from)) shown.items (λ k d lt. small _)
 sent-elements o s End from to small = All-nil IsElement
 
@@ -153,7 +144,7 @@ module _ (book : Book) (words : Words) (g : IsGrid book.grid) (b : IsBook book) 
         masks = few-masks s;
         coefficients = few-coefficients s;
         rounds = omega (arith, many, few-rounds);
-        messages = each-all (λ round. IsMessage round.0 × IsMessage round.1) (round_seen o s) (rounds_for book words)
+        messages = all-each (λ round. IsMessage round.0 × IsMessage round.1) (round_seen o s) (rounds_for book words)
             (λ t lt. (message-fits (peer s Low) s t lt, message-fits (peer s High) s t lt));
       }
 
@@ -205,7 +196,7 @@ module _ (book : Book) (words : Words) (g : IsGrid book.grid) (b : IsBook book) 
       bidders = numbers-seen s;
       masks = mask-words s;
       coefficients = coefficient-words s;
-      rounds = each-all HasElements (round_seen (setup_for book words) s) (rounds_for book words)
+      rounds = all-each HasElements (round_seen (setup_for book words) s) (rounds_for book words)
           (λ t lt. record { lower = message-elements (peer s Low) s t; higher = message-elements (peer s High) s t });
     }
 

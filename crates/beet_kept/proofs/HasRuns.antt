@@ -24,7 +24,7 @@ use Rattle.beet_server.specs.Cores.{Core, has_ended, setup_of}
 use Rattle.beet_delivery.specs.Events.{Delivered, same}
 use Rattle.beet_server.specs.Fits.{Fits}
 use Rattle.beet_sharing.specs.Runs.{Setup, rounds_among}
-use Rattle.beet_world.specs.Lockstep.{HaveEnded, IsAtRound}
+use Rattle.beet_server.specs.Lockstep.{HaveEnded, IsAtRound}
 use Rattle.beet_auction.specs.Endings.{AuctionEnds, book_finish, book_rounds}
 use Rattle.beet_book.specs.Farmers.{Farmer, book_inputs, book_with, farmers_of, point_for}
 use Rattle.beet_auction.specs.Setups.{inputs_of, setup_for, rounds_for}

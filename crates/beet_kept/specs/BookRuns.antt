@@ -9,7 +9,7 @@ use Rattle.beet_bids.specs.Grids.{Grid}
 use Rattle.beet_plan.specs.Auction.{Auction, auction_batch}
 use Rattle.beet_plan.specs.declared.Finish.{Finish}
 use Rattle.beet_server.specs.Cores.{Core, has_ended}
-use Rattle.beet_world.specs.Lockstep.{IsAtRound}
+use Rattle.beet_server.specs.Lockstep.{IsAtRound}
 use Rattle.beet_auction.specs.Endings.{book_finish, book_rounds}
 use Rattle.beet_auction.specs.Setups.{setup_for, rounds_for}
 use Rattle.beet_book.specs.Farmers.{farmers_of}

@@ -17,7 +17,7 @@ use Rattle.beet_book.specs.declared.entries.Entry.{Entry}
 use Rattle.beet_book.specs.Dealing.{quantities}
 use Rattle.beet_book.specs.Totals.{Totals, none_of, points_on, CarriesValues}
 use Rattle.beet_book.proofs.Summed.{shares-none, shares-more, supply-recombined, demand-recombined}
-use Rattle.beet_load.specs.Collecting.{curves_of, AddsFarmer, AddsUp, AreCollected, Collects}
+use Rattle.beet_load.specs.Collecting.{curves_of, AddsFarmer, AddsFarmers, AreCollected, Collects}
 use Rattle.beet_load.specs.Farmers.{list_at, farmer_errand, farmers_errand, bidders_of}
 use Rattle.beet_book.specs.Farmers.{Farmer}
 use Rattle.beet_errand.specs.Fetches.{ReadsFor}
@@ -48,8 +48,8 @@ curves_more : (farmers : List Farmer) (farmer : Farmer) → curves_of (farmers +
 curves_more farmers farmer = map-append (λ f. f.bidder.curve) farmers (farmer ∷ [])
 
 -- one more bidder is dealt and added
-adds_more : (grid : Grid) (before after : Totals) (farmers : List Farmer) (farmer : Farmer) → AddsUp grid before farmers → AddsFarmer grid before after farmer →
-    AddsUp grid after (farmers ++ farmer ∷ [])
+adds_more : (grid : Grid) (before after : Totals) (farmers : List Farmer) (farmer : Farmer) → AddsFarmers grid before farmers → AddsFarmer grid before after farmer →
+    AddsFarmers grid after (farmers ++ farmer ∷ [])
 adds_more grid before after farmers farmer c a =
     let c' = farmer.bidder.curve in
     let long : length (quantities c') ≡ length c'.buy + length c'.sell = length-append c'.buy c'.sell in
@@ -138,7 +138,7 @@ few_below f farmers h few =
       below_p n count h k = omega arith
 
 -- the sum of supply is opened at the first wire
-pub opens_supply : (grid : Grid) (totals : Totals) (farmers : List Farmer) (wires : Trio (List ℕ)) → grid.prices ≡ 1 → AddsUp grid totals farmers → length farmers ≤ MOST_BIDDERS → CarriesValues totals wires →
+pub opens_supply : (grid : Grid) (totals : Totals) (farmers : List Farmer) (wires : Trio (List ℕ)) → grid.prices ≡ 1 → AddsFarmers grid totals farmers → length farmers ≤ MOST_BIDDERS → CarriesValues totals wires →
     recombined (points_on wires 0) ≡ supply_at (bidders_of farmers) 0
 opens_supply grid totals farmers wires one c few carries =
     let prices = c.prices in
@@ -148,7 +148,7 @@ opens_supply grid totals farmers wires one c few carries =
     ∙ sum_of_bidders (λ curve. slice_index curve.sell 0) farmers
 
 -- and that of demand at the second
-pub opens_demand : (grid : Grid) (totals : Totals) (farmers : List Farmer) (wires : Trio (List ℕ)) → grid.prices ≡ 1 → AddsUp grid totals farmers → length farmers ≤ MOST_BIDDERS → CarriesValues totals wires →
+pub opens_demand : (grid : Grid) (totals : Totals) (farmers : List Farmer) (wires : Trio (List ℕ)) → grid.prices ≡ 1 → AddsFarmers grid totals farmers → length farmers ≤ MOST_BIDDERS → CarriesValues totals wires →
     recombined (points_on wires 1) ≡ demand_at (bidders_of farmers) 0
 opens_demand grid totals farmers wires one c few carries =
     let prices = c.prices in

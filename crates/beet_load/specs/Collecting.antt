@@ -16,7 +16,7 @@ abbrev pub curves_of : List Farmer → List Curve
 curves_of farmers = map (λ farmer. farmer.bidder.curve) farmers
 
 -- the points of the quantities of these bidders are added up
-pub record AddsUp (grid : Grid) (totals : Totals) (farmers : List Farmer) : Type 0 where
+pub record AddsFarmers (grid : Grid) (totals : Totals) (farmers : List Farmer) : Type 0 where
   pub shares : AreShares (summed_quantities grid.prices (curves_of farmers)) totals.points
   pub prices : totals.prices ≡ grid.prices
   pub curves : All IsCurve (curves_of farmers)
@@ -28,12 +28,12 @@ pub record Collects (grid : Grid) (lists : Option (List (List ℕ))) (entries re
   pub farmers : List Farmer
   pub read : Reached old now (farmers_errand grid lists [] entries) (farmers_errand grid lists farmers rest)
   pub many : length farmers ≡ count
-  pub adds : AddsUp grid totals farmers
+  pub adds : AddsFarmers grid totals farmers
 
 -- the points of all bidders are added up
 pub record AreCollected (grid : Grid) (entries : List Entry) (totals : Totals) (farmers : List Farmer) : Type 0 where
   pub many : length farmers ≡ length entries
-  pub adds : AddsUp grid totals farmers
+  pub adds : AddsFarmers grid totals farmers
 
 -- the points of the quantities of one bidder are added
 pub record AddsFarmer (grid : Grid) (before after : Totals) (farmer : Farmer) : Type 0 where

@@ -15,7 +15,7 @@ use Rattle.beet_server.specs.Cores.{Core, setup_of}
 use Rattle.beet_delivery.specs.Events.{Delivered, all_delivered}
 use Rattle.beet_server.specs.Fits.{Fits}
 use Rattle.beet_sharing.specs.Runs.{Setup, coming, opened_by, rounds_among, shared_at, with_batch_lets}
-use Rattle.beet_world.specs.Lockstep.{HaveEnded}
+use Rattle.beet_server.specs.Lockstep.{HaveEnded}
 use Rattle.beet_load.specs.Servers.{ServerWords}
 use Rattle.beet_run.specs.Runs.{EndsAuction, HasEndedRun, Starts, setup_with}
 use Rattle.beet_sharing.proofs.Walk.{length-opened_by}

@@ -1,5 +1,5 @@
 -- Shares of a book's sums are points of lines.
-use Rattle.std.proofs.Common.{◌≡◌, ℕ, ◌*◌, ◌%◌, ◌+◌, ◌≤◌, List, length, slice_index, arith, refl, sym, ◌∙◌, ap, inl, inr}
+use Rattle.std.proofs.Common.{◌≡◌, ℕ, ◌*◌, ◌%◌, ◌+◌, ◌≤◌, List, length, slice_index, arith, sym, ◌∙◌, ap, inl, inr}
 use Rattle.std.proofs.lemmas.Bool.{cases_lt}
 use Rattle.std.proofs.lemmas.List.Elements.{All-get_or}
 use Rattle.std.proofs.Math.ListN.{get_or-eq_default}
@@ -7,16 +7,15 @@ use Rattle.beet_field.specs.Field.{p, IsElement}
 use Rattle.beet_field.specs.Point.{number_of}
 use Rattle.beet_field.specs.Trio.{member}
 use Rattle.beet_field.specs.declared.point.Point.{Point}
-use Rattle.beet_field.specs.declared.point.Point.TheVariants.{One, Two, Three}
 use Rattle.beet_field.specs.declared.trio.Trio.{Trio}
 use Rattle.beet_shamir.specs.Line.{point_of}
 use Rattle.beet_bids.specs.Books.{Book, IsBook}
 use Rattle.beet_bids.specs.Sums.{sums_of}
 use Rattle.beet_bids.proofs.BookSums.{sums-elements}
-use Rattle.beet_book.specs.Dealing.{AreShares, points_at, shares_of}
+use Rattle.beet_book.specs.Dealing.{AreShares, points_at}
 use Rattle.beet_book.proofs.Pairs.{item-pairwise}
 use Rattle.beet_sharing.specs.Lines.{OnLines}
-use Rattle.beet_book.proofs.Sums.{length-points}
+use Rattle.beet_book.proofs.Sums.{length-points, member-shares}
 
 past : (xs : List ℕ) (w : ℕ) → length xs ≤ w → slice_index xs w ≡ 0
 past xs w h = get_or-eq_default xs 0 (omega (arith, h))
@@ -33,11 +32,6 @@ on-line vs ss i w e = elim (cases_lt w (length vs)) [
       ∙ ap (λ v. point_of v 0 i) (sym (past vs w (omega (arith, beyond))))
       ∙ ap (λ s. point_of (slice_index vs w) s i) (sym (past ss w (omega (arith, beyond, e))))
 ]
-
-member-shares : (vs ss : List ℕ) (i : Point) → member (shares_of vs ss) i ≡ points_at vs ss i
-member-shares vs ss One = refl
-member-shares vs ss Two = refl
-member-shares vs ss Three = refl
 
 element : (book : Book) (w : ℕ) → IsBook book → IsElement (slice_index (sums_of book) w)
 element book w b = elim (cases_lt w (length (sums_of book))) [

@@ -11,7 +11,7 @@ use Rattle.beet_server.specs.Cores.{Core, AreFresh, has_ended, setup_of}
 use Rattle.beet_delivery.specs.Events.{Delivered}
 use Rattle.beet_server.specs.Fits.{Fits}
 use Rattle.beet_sharing.specs.Runs.{Setup}
-use Rattle.beet_world.specs.Lockstep.{HaveEnded}
+use Rattle.beet_server.specs.Lockstep.{HaveEnded}
 use Rattle.beet_auction.specs.Endings.{AuctionEnds}
 use Rattle.beet_auction.specs.Setups.{auction_setup, inputs_of}
 use Rattle.beet_load.specs.Servers.{ServerWords, masks_of, coefficients_of}

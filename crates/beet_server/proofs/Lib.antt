@@ -8,3 +8,5 @@ pub mod RowFacts
 pub mod KeptFacts
 pub mod Endings
 pub mod Senders
+pub mod Rounds
+pub mod Beginning

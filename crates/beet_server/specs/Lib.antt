@@ -6,3 +6,4 @@ pub mod Answers
 pub mod Sound
 pub mod Rows
 pub mod Kept
+pub mod Lockstep

@@ -9,9 +9,9 @@ use Rattle.beet_round.specs.declared.sides.Side.TheVariants.{Low, High}
 use Rattle.beet_sharing.specs.Runs.{Setup, rounds_among}
 use Rattle.beet_server.specs.Answers.{Keeps}
 use Rattle.beet_server.specs.Cores.{AreFresh, Core, has_ended, setup_of}
-use Rattle.beet_world.specs.Lockstep.{AreAtRound, HaveEnded, IsAtRound}
-use Rattle.beet_world.proofs.Beginning.{fresh-stand}
-use Rattle.beet_world.proofs.Rounds.{by_point}
+use Rattle.beet_server.specs.Lockstep.{AreAtRound, HaveEnded, IsAtRound}
+use Rattle.beet_server.proofs.Beginning.{fresh-stand}
+use Rattle.beet_server.proofs.Rounds.{by_point}
 use Rattle.beet_link.specs.Ends.{LinkEnd, end_at}
 use Rattle.beet_link.specs.Streams.{rounds_from, stream_of}
 use Rattle.beet_station.specs.declared.station.Station.{Station}

@@ -17,8 +17,8 @@ use Rattle.beet_server.specs.Answers.{Keeps, Moves}
 use Rattle.beet_server.specs.Cores.{Core, has_ended, is_quiet, setup_of}
 use Rattle.beet_server.specs.Fits.{Fits, IsRound, message_of, messages_from}
 use Rattle.beet_server.proofs.Passing.{ended_at, is_round, round_most}
-use Rattle.beet_world.specs.Lockstep.{HasHanded, IsAtRound}
-use Rattle.beet_world.proofs.Rounds.{hands-out, high-taken, loud-then, low-taken, quiet-then, with_low}
+use Rattle.beet_server.specs.Lockstep.{HasHanded, IsAtRound}
+use Rattle.beet_server.proofs.Rounds.{hands-out, high-taken, loud-then, low-taken, quiet-then, with_low}
 use Rattle.beet_link.specs.Ends.{IsNext, LinkEnd, end_at, one_on}
 use Rattle.beet_link.specs.Streams.{rounds_from, stream, stream_of}
 use Rattle.beet_link.proofs.StreamFacts.{next-is, next-only}

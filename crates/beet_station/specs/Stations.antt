@@ -15,7 +15,7 @@ use Rattle.beet_delivery.specs.Events.{Delivered, with_triple}
 use Rattle.beet_server.specs.Answers.{Answers, Keeps}
 use Rattle.beet_server.specs.Cores.{Core, has_ended, setup_of}
 use Rattle.beet_server.specs.Fits.{Fits, IsRound, message_of}
-use Rattle.beet_world.specs.Lockstep.{IsAtRound}
+use Rattle.beet_server.specs.Lockstep.{IsAtRound}
 use Rattle.beet_link.specs.Ends.{IsNext, LinkEnd, end_at}
 use Rattle.beet_link.specs.Streams.{rounds_from, stream_of}
 use Rattle.beet_station.specs.declared.station.Station.{Station}

@@ -3,7 +3,7 @@
 ghost use Rattle.beet_field.specs.declared.trio.Trio.{Trio};
 ghost use Rattle.beet_server.specs.Cores.{AreFresh, Core};
 ghost use Rattle.beet_station.specs.Stations.{AreEnded, BeginAlike};
-ghost use Rattle.beet_world.specs.Lockstep.{HaveEnded};
+ghost use Rattle.beet_server.specs.Lockstep.{HaveEnded};
 
 use beet_gates::Script;
 

@@ -4,7 +4,7 @@ ghost use Rattle.std.specs.Prelude.{◌≡◌, IfSome};
 ghost use Rattle.beet_field.specs.declared.point.Point.TheVariants.{One, Two, Three};
 ghost use Rattle.beet_server.specs.Cores.{AreFresh};
 ghost use Rattle.beet_station.specs.Stations.{BeginAlike, IsEnded, IsTied};
-ghost use Rattle.beet_world.specs.Lockstep.{HaveEnded};
+ghost use Rattle.beet_server.specs.Lockstep.{HaveEnded};
 
 use crate::serving::{Serving, give_up, run, start};
 use beet_field::{Point, Trio};

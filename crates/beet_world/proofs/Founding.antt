@@ -15,9 +15,9 @@ use Rattle.beet_server.specs.Fits.{Fits, messages_from, taken}
 use Rattle.beet_sharing.specs.Runs.{HasRounds, Setup, rounds_among}
 use Rattle.beet_world.specs.Marks.{set_of, unmarked}
 use Rattle.beet_world.specs.Worlds.{IsWorld, World, sent_by}
-use Rattle.beet_world.proofs.Beginning.{fresh-all-fit}
+use Rattle.beet_server.proofs.Beginning.{fresh-all-fit}
 use Rattle.beet_world.proofs.MarkFacts.{set-unmarked}
-use Rattle.beet_world.proofs.Rounds.{by_point}
+use Rattle.beet_server.proofs.Rounds.{by_point}
 
 module _ {S : Type 0} (next : S → ℕ → List ℕ → Batch) (inputs most : S → ℕ) where
   -- what is known of a core that has handed out all that it had to

@@ -16,7 +16,7 @@ use Rattle.beet_server.specs.Answers.{Answers, Moves, verdict_on}
 use Rattle.beet_server.proofs.Passing.{ended_at, round_most}
 use Rattle.beet_world.specs.Worlds.{sent_by}
 use Rattle.beet_world.specs.Happens.{IsGiven, MayGive}
-use Rattle.beet_world.proofs.Rounds.{ready_or}
+use Rattle.beet_server.proofs.Rounds.{ready_or}
 
 module _ {S : Type 0} (next : S → ℕ → List ℕ → Batch) where
   -- a core that hands out its messages has not done so before, and has not ended

@@ -1,9 +1,7 @@
 pub mod ScheduleRows
 pub mod MarkFacts
-pub mod Rounds
 pub mod Happening
 pub mod GivenFacts
 pub mod TwoRounds
-pub mod Beginning
 pub mod Founding
 pub mod Delivered

@@ -10,7 +10,7 @@ ghost use Rattle.beet_server.specs.Cores.{AreFresh, is_quiet};
 ghost use Rattle.beet_delivery.specs.Events.{Delivered, all_delivered};
 ghost use Rattle.beet_server.specs.Fits.{Fits, IsRound, message_of};
 ghost use Rattle.beet_sharing.specs.Runs.{Setup};
-ghost use Rattle.beet_world.specs.Lockstep.{AreAtRound, AreSent, HasHanded, HaveEnded, IsAtRound, MayPass, MayTake};
+ghost use Rattle.beet_server.specs.Lockstep.{AreAtRound, AreSent, HasHanded, HaveEnded, IsAtRound, MayPass, MayTake};
 
 use beet_field::Trio;
 use beet_gates::Script;

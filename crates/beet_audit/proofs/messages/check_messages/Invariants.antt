@@ -3,7 +3,7 @@ use Rattle.beet_field.specs.Trio.{member}
 use Rattle.beet_field.specs.declared.point.Point.{Point}
 use Rattle.beet_plan.specs.Auction.{auction_batch}
 use Rattle.beet_sharing.specs.Runs.{Setup}
-use Rattle.beet_world.specs.Lockstep.{IsAtRound}
+use Rattle.beet_server.specs.Lockstep.{IsAtRound}
 use Rattle.beet_audit.specs.Audits.{RoundMessages}
 use Rattle.beet_audit.proofs.messages.check_messages.Given as goal
 

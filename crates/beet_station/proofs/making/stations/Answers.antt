@@ -2,7 +2,7 @@ use Rattle.std.proofs.Common.{◌≡◌, refl}
 use Rattle.beet_field.specs.Trio.{member}
 use Rattle.beet_field.specs.declared.point.Point.TheVariants.{One, Two, Three}
 use Rattle.beet_field.specs.declared.trio.Trio.{Trio}
-use Rattle.beet_world.proofs.Rounds.{by_point}
+use Rattle.beet_server.proofs.Rounds.{by_point}
 use Rattle.beet_station.specs.declared.station.Station.{Station}
 use Rattle.beet_station.specs.Stations.{IsTied}
 use Rattle.beet_station.proofs.Ends.{begins}

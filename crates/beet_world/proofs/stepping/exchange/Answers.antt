@@ -6,8 +6,8 @@ use Rattle.beet_server.specs.Cores.{Core}
 use Rattle.beet_delivery.specs.Events.{all_delivered}
 use Rattle.beet_server.specs.Fits.{IsRound}
 use Rattle.beet_sharing.specs.Runs.{Setup}
-use Rattle.beet_world.specs.Lockstep.{AreAtRound, IsAtRound, MayTake}
-use Rattle.beet_world.proofs.Rounds.{by_point, hands-out, loud-then, sent-high, sent-low}
+use Rattle.beet_server.specs.Lockstep.{AreAtRound, IsAtRound, MayTake}
+use Rattle.beet_server.proofs.Rounds.{by_point, hands-out, loud-then, sent-high, sent-low}
 use Rattle.beet_world.proofs.stepping.exchange.Given.{Over}
 use Rattle.beet_world.proofs.stepping.exchange.Goals.{After-send-three_one}
 use Rattle.beet_world.proofs.stepping.exchange.Goals as goal

@@ -1,7 +1,7 @@
 use Rattle.std.proofs.Common.{◌≡◌, arith, refl, sym, ◌∙◌, ap}
 use Rattle.beet_gates.specs.Scripts.{bounds_of}
 use Rattle.beet_server.specs.Cores.{setup_of}
-use Rattle.beet_world.proofs.Beginning.{at-the-end, at-the-most, fresh-stand, goes-on, have-ended, may-pass}
+use Rattle.beet_server.proofs.Beginning.{at-the-end, at-the-most, fresh-stand, goes-on, have-ended, may-pass}
 use Rattle.beet_world.proofs.stepping.lockstep.Goals as goal
 
 pub loop-round-init : goal.loop-round-init

@@ -3,7 +3,7 @@ use Rattle.beet_field.specs.Trio.{member}
 use Rattle.beet_field.specs.declared.point.Point.{Point}
 use Rattle.beet_server.specs.Answers.{Keeps}
 use Rattle.beet_server.specs.Cores.{setup_of}
-use Rattle.beet_world.specs.Lockstep.{AreAtRound}
+use Rattle.beet_server.specs.Lockstep.{AreAtRound}
 use Rattle.beet_world.proofs.stepping.lockstep.Given as goal
 
 abbrev pub invariant-loop-round : goal.invariant-loop-round

@@ -1,4 +1,4 @@
-use Rattle.beet_world.proofs.Rounds.{high-taken, low-taken, quiet-then, with_low}
+use Rattle.beet_server.proofs.Rounds.{high-taken, low-taken, quiet-then, with_low}
 use Rattle.beet_world.proofs.stepping.take_both.Goals as goal
 
 pub deliver-requires-2 : goal.deliver-requires-2

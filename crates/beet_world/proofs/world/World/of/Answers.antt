@@ -8,7 +8,7 @@ use Rattle.beet_server.specs.Cores.{Core, setup_of}
 use Rattle.beet_sharing.proofs.Rounds.{lawful-rounds}
 use Rattle.beet_world.specs.Marks.{unmarked}
 use Rattle.beet_world.proofs.Founding.{HasHandedOut, world-begins}
-use Rattle.beet_world.proofs.Rounds.{by_point}
+use Rattle.beet_server.proofs.Rounds.{by_point}
 use Rattle.beet_world.proofs.world.World.of.Goals as goal
 
 pub invariant_of-result : goal.invariant_of-result

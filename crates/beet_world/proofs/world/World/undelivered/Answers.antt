@@ -7,7 +7,7 @@ use Rattle.beet_delivery.proofs.Undelivered.{passed_all}
 use Rattle.beet_world.specs.Missing.{is_missing, six}
 use Rattle.beet_world.specs.Worlds.{World, delivered_in, rounds_in}
 use Rattle.beet_world.proofs.Delivered.{two-rounds}
-use Rattle.beet_world.proofs.Rounds.{by_point}
+use Rattle.beet_server.proofs.Rounds.{by_point}
 use Rattle.beet_world.proofs.TwoRounds.{least-of}
 use Rattle.beet_world.proofs.world.World.undelivered.Goals as goal
 

@@ -19,8 +19,8 @@ use Rattle.beet_sharing.specs.Runs.{HasRounds, Setup, coming, rounds_among}
 use Rattle.beet_server.proofs.Passing.{coming_is, elsewhere, ended_at, round_most}
 use Rattle.beet_sharing.proofs.Rounds.{lawful-rounds}
 use Rattle.beet_server.proofs.Starting.{begins}
-use Rattle.beet_world.specs.Lockstep.{AreAtRound, HaveEnded, IsAtRound, MayPass}
-use Rattle.beet_world.proofs.Rounds.{before-round, by_point}
+use Rattle.beet_server.specs.Lockstep.{AreAtRound, HaveEnded, IsAtRound, MayPass}
+use Rattle.beet_server.proofs.Rounds.{before-round, by_point}
 
 none_before : (r : ℕ) → nat_lt r 0 ≡ false
 none_before r = grind (arith, nat_tests)

@@ -17,7 +17,7 @@ use Rattle.beet_server.specs.Fits.{Fits, IsRound, message_of}
 use Rattle.beet_server.specs.Answers.{Answers, Moves}
 use Rattle.beet_delivery.proofs.EventFacts.{peer_other, same_self}
 use Rattle.beet_server.proofs.Passing.{coming_is, elsewhere}
-use Rattle.beet_world.specs.Lockstep.{AreSent, HasHanded, IsAtRound}
+use Rattle.beet_server.specs.Lockstep.{AreSent, HasHanded, IsAtRound}
 
 -- the message of a side to a server in a round
 abbrev pub from_side : Point → Side → ℕ → Triple
