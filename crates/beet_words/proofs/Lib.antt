@@ -1,3 +1,4 @@
+mod HexDigits
 pub mod TapeRows
 pub mod TapeAgain
 pub mod Times

@@ -79,7 +79,7 @@ pub fn read_tape(alloc: Global, bytes: &[u8], keep: u32) -> Result<WordList, Rea
     ensures { Answers (λ words. words) (tape_of bytes.now keep) result }
 {
     let count = bytes.len().div_ceil(LINE) as u32;
-    let mut words = WordList::new(alloc);
+    let mut words = WordList::with_capacity(alloc, count.min(keep) as usize)?;
     for k in 0..count {
         let word = match read_line(line(bytes, k)) {
             Ok(word) => word,
