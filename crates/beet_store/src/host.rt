@@ -1,6 +1,6 @@
 //! A shelf over the files of the system, which tells nothing of what they hold.
 
-ghost use Rattle.std.specs.Prelude.{◌≡◌, ◌≤◌, ◌<◌, ◌+◌, None};
+ghost use Rattle.std.specs.Prelude.{◌≡◌, ◌≤◌, ◌<◌, ◌+◌, None, length};
 ghost use Rattle.beet_store.specs.Files.{KeepsLimit, HasCause, TellsFetch};
 ghost use Rattle.beet_store.specs.Host.{ReadsWithin, StopsBeyond, count_after};
 
@@ -17,6 +17,8 @@ use std::rt::Files;
 pub struct HostShelf<R> {
     rt: R,
     faults: u64,
+    /// Room for what one turn of a fetch reads.
+    piece: [u8; PIECE],
 }
 
 impl<R> Model for HostShelf<R> {
@@ -32,7 +34,11 @@ impl<R> HostShelf<R> {
     pub fn new(rt: R) -> HostShelf<R>
         ensures { result ≡ 0 }
     {
-        HostShelf { rt, faults: 0 }
+        HostShelf {
+            rt,
+            faults: 0,
+            piece: [0; PIECE],
+        }
     }
 
     /// The count of faults, one for each error that was answered; at its last value it stays.
@@ -60,13 +66,18 @@ fn wanted(room: u64) -> usize
 }
 
 /// Reads to the end, of at most `limit` bytes: in all at most one byte beyond the limit, in each turn at least one.
-fn read_whole<F: Read>(file: &mut F, alloc: Global, limit: u64) -> Result<Vec<u8>, FetchFault>
+fn read_whole<F: Read>(
+    file: &mut F,
+    alloc: Global,
+    piece: &mut [u8],
+    limit: u64,
+) -> Result<Vec<u8>, FetchFault>
+    requires { length piece.old ≡ PIECE }
     ensures limited { KeepsLimit limit result }
     ensures beyond { StopsBeyond limit result }
     ensures read { ReadsWithin (F.remaining file.old) (F.remaining file.new) limit result }
 {
     let mut bytes = Vec::new(alloc);
-    let mut piece = [0u8; PIECE];
     for _turn in 0..u64::MAX {
         let want = wanted(limit - bytes.len() as u64);
         let Ok(count) = file.read(&mut piece[..want]) else {
@@ -86,14 +97,21 @@ fn read_whole<F: Read>(file: &mut F, alloc: Global, limit: u64) -> Result<Vec<u8
 }
 
 /// Opens the file and reads it.
-fn read_file<R: Files>(rt: &R, alloc: Global, name: &str, limit: u64) -> Result<Vec<u8>, FetchFault>
+fn read_file<R: Files>(
+    rt: &R,
+    alloc: Global,
+    piece: &mut [u8],
+    name: &str,
+    limit: u64,
+) -> Result<Vec<u8>, FetchFault>
+    requires { length piece.old ≡ PIECE }
     ensures limited { KeepsLimit limit result }
     ensures beyond { StopsBeyond limit result }
 {
     let Ok(mut file) = fs::File::open(rt, name) else {
         return Err(FetchFault::Failed);
     };
-    read_whole(&mut file, alloc, limit)
+    read_whole(&mut file, alloc, piece, limit)
 }
 
 impl<R: Files> Shelf for HostShelf<R> {
@@ -105,7 +123,7 @@ impl<R: Files> Shelf for HostShelf<R> {
         ensures beyond { StopsBeyond limit result }
         ensures counted { self.new ≡ count_after self.old result }
     {
-        let answer = read_file(&self.rt, alloc, name, limit);
+        let answer = read_file(&self.rt, alloc, &mut self.piece, name, limit);
         if answer.is_err() {
             self.faults = self.faults.saturating_add(1);
         }
