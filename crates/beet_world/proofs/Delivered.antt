@@ -10,6 +10,7 @@ use Rattle.beet_gates.specs.declared.Batch.{Batch}
 use Rattle.beet_round.specs.Sides.{peer, side_of}
 use Rattle.beet_round.specs.declared.message.RoundMessage.{RoundMessage}
 use Rattle.beet_round.specs.declared.mailbox.Verdict.{Verdict}
+use Rattle.beet_round.specs.declared.mailbox.Verdict.TheVariants.{Old, Repeat}
 use Rattle.beet_round.specs.declared.sides.Side.{Side}
 use Rattle.beet_round.specs.declared.sides.Side.TheVariants.{Low, High}
 use Rattle.beet_server.specs.Answers.{Keeps, verdict_on}
@@ -22,13 +23,13 @@ use Rattle.beet_server.proofs.Passing.{round_most}
 use Rattle.beet_sharing.proofs.Rounds.{lawful-rounds}
 use Rattle.beet_world.specs.Happens.{IsGiven, MayGive, MayTakeMessages, event_of, of_side}
 use Rattle.beet_world.specs.declared.world.Event.TheVariants.{Delivered as DeliveredBy, NotSent}
-use Rattle.std.specs.Prelude.{slice_index_or}
+use Rattle.std.specs.Prelude.{Option, if◌then◌else◌, nat_lt, slice_index_or}
 use Rattle.beet_round.proofs.SideFacts.{side_of-peer}
 use Rattle.beet_delivery.specs.Events.{passed, undelivered}
 use Rattle.beet_delivery.proofs.EventFacts.{WasSent, one_apart, was_sent}
 use Rattle.beet_world.specs.Missing.{is_missing, one_if, six, to_side}
 use Rattle.beet_world.proofs.TwoRounds.{missing-two}
-use Rattle.beet_world.specs.Marks.{mark_at, with_mark}
+use Rattle.beet_world.specs.Marks.{mark_at, marked_to, with_mark}
 use Rattle.beet_world.specs.Worlds.{HoldsWorld, IsCoreOf, IsWorld, World, delivered_in, setup_in, rounds_in}
 use Rattle.beet_world.proofs.Happening.{at_round, counted, given-stands, is-delivered, may-give, sent-at, sent-there, there-sent, which, within, world-after}
 
@@ -56,6 +57,11 @@ back_side s side = side_from (peer s side) s (apart s side) where
   apart Two High = refl
   apart Three Low = refl
   apart Three High = refl
+
+-- the verdict on a message that is in the set
+on-repeat : (x : Delivered) (s : Point) (round : ℕ) (side : Side) (t : ℕ) → x (peer s side) s t ≡ true →
+    verdict_on x s round side t ≡ (if nat_lt t round then Old else Repeat)
+on-repeat x s round side t there = rw there refl
 
 module _ {S : Type 0} (next : S → ℕ → List ℕ → Batch) (inputs most : S → ℕ) (bounds : Standing) (w : World S) (cores : Trio (Core S)) (sent : Trio (Vec (List RoundMessage) Global))
     (law : LawFrom (next w.start.one.script) bounds (most w.start.one.script) (start_of (inputs w.start.one.script)) [])
@@ -144,6 +150,25 @@ module _ {S : Type 0} (next : S → ℕ → List ℕ → Batch) (inputs most : S
   pub not-sent-event : (from to : Point) (side : Side) (t : ℕ) → to ≡ peer from side → length (member sent from).items ≤ t →
       NotSent ≡ event_of (rounds_in next inputs most w) (delivered_in w) (record { from = from; to = to; round = t })
   not-sent-event from to side t e le = rw (not-sent-to from to side t e le) refl
+
+  -- a message that was delivered before is delivered again, with the verdict that its receiver's round tells
+  pub told-again : (from to : Point) (side : Side) (t : ℕ) → to ≡ peer from side → slice_index_or w.marks (mark_at from side t) false ≡ true →
+      (v : Verdict) → v ≡ (if nat_lt t (member cores to).round then Old else Repeat) →
+      (delivered_in w from to t ≡ true)
+      × (DeliveredBy v ≡ event_of (rounds_in next inputs most w) (delivered_in w) (record { from = from; to = to; round = t }))
+  told-again from to side t e m v is =
+      let rounds = rounds_in next inputs most w in
+      let back = (back_side from side).0 in
+      let named : side_of from to ≡ Some side = (λ j. side_of from (e j)) ∙ side_of-peer from side in
+      let there : delivered_in w from to t ≡ true = ap (λ (s : Option Side). marked_to w.marks from s t) named ∙ m in
+      let sender : peer to back ≡ from = (λ j. peer (e j) back) ∙ (back_side from side).1 in
+      let again : delivered_in w (peer to back) to t ≡ true = (λ j. delivered_in w (sender j) to t) ∙ there in
+      let back_is : side_of to from ≡ Some back = (λ j. side_of (e j) (sym (back_side from side).1 j)) ∙ side_of-peer (peer from side) back in
+      let at : (member cores to).round ≡ passed rounds (delivered_in w) to = at_round next inputs most w cores (items_of sent) has i few to in
+      let told : v ≡ verdict_on (delivered_in w) to (passed rounds (delivered_in w) to) back t =
+      is ∙ (λ j. if nat_lt t (at j) then Old else Repeat) ∙ sym (on-repeat (delivered_in w) to (passed rounds (delivered_in w) to) back t again) in
+      let sent : is_sent rounds (delivered_in w) (record { from = from; to = to; round = t }) ≡ true = was (record { from = from; to = to; round = t }) there in
+      (there, rw (sent, back_is) (ap DeliveredBy told))
 
   -- each server may be given a message
   pub may-take : (s : Point) → MayTakeMessages next (most (member cores s).script) (member cores s) (member sent s)

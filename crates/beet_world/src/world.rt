@@ -1,19 +1,21 @@
 //! Three servers, the messages that they have sent, and which of these were delivered.
 
-ghost use Rattle.std.specs.Prelude.{◌≡◌, ◌≢◌, ◌↔◌, ◌<◌, ◌≤◌, ◌^◌, ◌*◌, ◌+◌, IfOk, IfSome, IsNone, Some, true, false, List, [], ◌∷◌, ℕ, length, slice_get, vec_capacity};
+ghost use Rattle.std.specs.Prelude.{◌≡◌, ◌≢◌, ◌↔◌, ◌<◌, ◌≤◌, ◌^◌, ◌*◌, ◌+◌, IfOk, IfSome, IsNone, Some, true, false, List, [], ◌∷◌, ℕ, if◌then◌else◌, length, nat_lt, slice_get, vec_capacity};
 ghost use Rattle.beet_field.specs.Trio.{member};
 ghost use Rattle.beet_field.specs.declared.point.Point.{Point as Server};
+ghost use Rattle.beet_round.specs.Sides.{peer};
+ghost use Rattle.beet_round.specs.declared.mailbox.Verdict.TheVariants.{Old, Repeat};
 ghost use Rattle.beet_round.specs.declared.message.RoundMessage.{RoundMessage as Message};
 ghost use Rattle.beet_round.specs.declared.sides.Side.{Side as SideOf};
 ghost use Rattle.beet_server.specs.Answers.{Keeps};
 ghost use Rattle.beet_server.specs.Cores.{AreFresh, is_quiet};
-ghost use Rattle.beet_delivery.specs.Events.{Delivered, after_from, deliver, passed, undelivered as undelivered_in};
+ghost use Rattle.beet_delivery.specs.Events.{Delivered, after_from, deliver, has, passed, undelivered as undelivered_in};
 ghost use Rattle.beet_sharing.specs.Runs.{Setup};
 ghost use Rattle.beet_world.specs.Happens.{IsGiven, MayGive, MayTakeMessages, event_of, of_side};
 ghost use Rattle.beet_world.specs.Marks.{mark_at, unmarked};
 ghost use Rattle.beet_world.specs.Missing.{is_missing, one_if, six, to_side};
 ghost use Rattle.beet_world.specs.Worlds.{IsCoreOf, delivered_in, named_in, rounds_in};
-ghost use Rattle.beet_world.specs.declared.world.Event.TheVariants.{NotSent};
+ghost use Rattle.beet_world.specs.declared.world.Event.TheVariants.{Delivered as DeliveredBy, NotSent};
 
 use crate::giving::{give, hand_out};
 use crate::schedule::Delivery;
@@ -112,6 +114,17 @@ fn give_to<S: Script>(
     }
 }
 
+/// What a server that has passed so many rounds says of a message that it got before.
+fn verdict_on_repeat(passed: u32, round: u32) -> Verdict
+    ensures { result ≡ (if nat_lt round passed then Old else Repeat) }
+{
+    if round < passed {
+        Verdict::Old
+    } else {
+        Verdict::Repeat
+    }
+}
+
 impl<S: Script> World<S> {
     /// A world of three fresh servers, of which each has sent its messages of round 0. It takes the
     /// memory for the messages of all rounds, and fails only where there is too little; no other
@@ -150,6 +163,23 @@ impl<S: Script> World<S> {
         self.cores.get(at)
     }
 
+    /// The verdict of the receiver on a message that was delivered before, which changes nothing, or `None` where it was not.
+    fn repeated(&self, from: Point, to: Point, side: Side, round: u32) -> Option<Verdict>
+        requires side { to ≡ peer from side }
+        ensures there { IfSome result (λ v.
+            has (delivered_in self.now) (record { from = from; to = to; round = round }) ≡ true) }
+        ensures event { IfSome result (λ v. DeliveredBy v
+            ≡ event_of (rounds_in S.batch_of S.inputs_of S.rounds_of self.now) (delivered_in self.now)
+            (record { from = from; to = to; round = round })) }
+    {
+        let delivered = *self.marks.get(mark_place(from, side, round as usize))?;
+        if delivered {
+            Some(verdict_on_repeat(self.cores.get(to).round(), round))
+        } else {
+            None
+        }
+    }
+
     /// Delivers the message of one server to another in a round, counted from 0. It may be delivered
     /// again. What the receiver then sends is sent. Where the message was not sent yet, or no such
     /// message ever is, the answer is `NotSent`, and nothing changes.
@@ -166,6 +196,9 @@ impl<S: Script> World<S> {
         let Some(side) = Side::of(from, to) else {
             return Event::NotSent;
         };
+        if let Some(again) = self.repeated(from, to, side, round) {
+            return Event::Delivered(again);
+        }
         let Some(message) = sent_message(&self.sent, from, side, round) else {
             return Event::NotSent;
         };

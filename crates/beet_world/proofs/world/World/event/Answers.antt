@@ -3,7 +3,7 @@ use Rattle.std.proofs.lemmas.Bool.{cases_lt}
 use Rattle.beet_field.specs.Trio.{member}
 use Rattle.beet_gates.specs.Scripts.{Standing, bounds_of}
 use Rattle.beet_delivery.specs.Events.{Triple, deliver}
-use Rattle.beet_delivery.proofs.EventFacts.{deliver_unsent}
+use Rattle.beet_delivery.proofs.EventFacts.{deliver_repeat, deliver_unsent}
 use Rattle.beet_world.specs.Happens.{event_of}
 use Rattle.beet_world.specs.Worlds.{World, delivered_in, rounds_in}
 use Rattle.beet_world.specs.declared.world.Event.TheVariants.{Delivered as DeliveredBy, NotSent}
@@ -30,6 +30,12 @@ sent-there g c = elim (cases_lt c.args.round (length (member c.self.inside.sent 
   | inl less ↦ less
   | inr past ↦ absurd (true≢false (c.in-Some-sent_message.ensures.none.1 past))
 ]
+
+pub returns-in-Some-repeated-clause-delivered : goal.returns-in-Some-repeated-clause-delivered
+returns-in-Some-repeated-clause-delivered g c =
+    let script = g.S.Script in
+    sym (deliver_repeat (rounds_in script.batch_of script.inputs_of script.rounds_of c.args.self.now) (delivered_in c.args.self.now)
+    (record { from = c.args.from; to = c.args.to; round = c.args.round }) c.in-Some-repeated.ensures.there)
 
 pub returns-in_default-sent_message-clause-event : goal.returns-in_default-sent_message-clause-event
 returns-in_default-sent_message-clause-event g c =
