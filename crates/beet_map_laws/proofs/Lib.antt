@@ -1,0 +1,4 @@
+pub mod Splices
+pub mod Putting
+pub mod Reaching
+pub mod Images
