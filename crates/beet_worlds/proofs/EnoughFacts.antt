@@ -35,7 +35,7 @@ has-accepted-same wanted xs ys e h =
     omega (arith, h, accepted-length (take n ys) (take n xs) front)
 
 -- the words of one bidder
-ones-same : (s : Point) (wanted : ℕ) (one other : Farmer) → FarmerMapped s wanted one other → ones_in other.words ≡ ones_in one.words
+pub ones-same : (s : Point) (wanted : ℕ) (one other : Farmer) → FarmerMapped s wanted one other → ones_in other.words ≡ ones_in one.words
 ones-same s wanted one other m = elim (known-or one.bidder.known s) [
   | inl known ↦ ap ones_in (m.own known)
   | inr unknown ↦ (m.moved unknown).places

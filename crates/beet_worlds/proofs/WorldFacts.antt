@@ -66,10 +66,10 @@ pub record Stands (me : Point) (first second : Book) (words : Words) (masks : Tr
   pub here : AreInputLines first words.bidders lines
   pub there : AreInputLines second bidders lines'
 
-are-masks : (words : Words) → AreWords words → AreMasks words.masks
+pub are-masks : (words : Words) → AreWords words → AreMasks words.masks
 are-masks words w = record { one = w.masks.0; two = w.masks.1; three = w.masks.2 }
 
-all-words : (words : Words) → AreWords words → AreAllWords words.coefficients
+pub all-words : (words : Words) → AreWords words → AreAllWords words.coefficients
 all-words words w One n = word-small words.coefficients.one w.coefficients.0 n
 all-words words w Two n = word-small words.coefficients.two w.coefficients.1 n
 all-words words w Three n = word-small words.coefficients.three w.coefficients.2 n

@@ -1,0 +1,205 @@
+-- The words of two worlds of an auction that go with each other.
+use Rattle.std.proofs.Common.{◌≡◌, ◌*◌, ℕ, List, length, slice_index, sym, refl, ap, subst, ◌∙◌}
+use Rattle.std.specs.Prelude.{All}
+use Rattle.std.proofs.lemmas.List.Elements.{All-from_get_or}
+use Rattle.beet_field.specs.declared.point.Point.{Point}
+use Rattle.beet_field.specs.declared.point.Point.TheVariants.{One, Two, Three}
+use Rattle.beet_field.specs.declared.trio.Trio.{Trio}
+use Rattle.beet_words.specs.Bundles.{AreWords, Words}
+use Rattle.beet_words.specs.Words.{IsWord}
+use Rattle.beet_bids.specs.Books.{Book, IsBook}
+use Rattle.beet_bids.specs.Grids.{Grid}
+use Rattle.beet_plan.specs.Auction.{auction_batch, auction_over, most_coefficients, most_masks, most_rounds, most_wires}
+use Rattle.beet_plan.specs.Runs.{AreMasks}
+use Rattle.beet_plan.proofs.AuctionLaw.{auction-law}
+use Rattle.beet_book.specs.Farmers.{Farmer, book_with, farmers_of}
+use Rattle.beet_book.proofs.FarmerLists.{book-whole}
+use Rattle.beet_view.specs.Transcripts.{view_bytes}
+use Rattle.beet_map.specs.Mapped.{AreWords as AreAllWords}
+use Rattle.beet_map.specs.Secrets.{Secrets}
+use Rattle.beet_map_laws.specs.Pairs.{AreTwoWorlds, CanDraw}
+use Rattle.beet_map_laws.specs.Pairs.{AreOnePair as AreOneDraw}
+use Rattle.beet_map_laws.proofs.Images.{image, source, two-back}
+use Rattle.beet_worlds.specs.Enough.{AreEnough}
+use Rattle.beet_worlds.specs.MappedBidders.{BiddersMapped}
+use Rattle.beet_worlds.specs.MappedMasks.{MasksMapped}
+use Rattle.beet_worlds.specs.Worlds.{CoefficientsMapped, WorldsMapped}
+use Rattle.beet_worlds.proofs.BidderFacts.{mapped-back}
+use Rattle.beet_worlds.proofs.Drawn.{all-drawn, farmers-words}
+use Rattle.beet_worlds.proofs.EachMapped.{as-many}
+use Rattle.beet_worlds.proofs.EnoughFacts.{mapped-enough}
+use Rattle.beet_worlds.proofs.MasksBack.{agree-back, masks-back}
+use Rattle.beet_worlds.proofs.Small.{mapped-masks}
+use Rattle.beet_worlds.proofs.WorldFacts.{Stands, all-words, are-masks, enough-numbers, look-same-in, secrets-first, secrets-second, worlds-mapped}
+use Rattle.beet_headline.specs.Halves.{AreOnePair, AreTwoBooks, CanRun}
+use Rattle.beet_headline.proofs.Bidders.{MovedBidders, bidders-there}
+use Rattle.beet_headline.proofs.Inputs.{lines-there, lines_of, values-small}
+use Rattle.beet_headline.proofs.Lengths.{as-long}
+use Rattle.beet_headline.proofs.Masks.{masks-there}
+
+words-of : (list : List ℕ) → ((n : ℕ) → IsWord (slice_index list n)) → All IsWord list
+words-of list few = All-from_get_or IsWord list 0 (λ i lt. few i)
+
+all-are : (masks coefficients : Trio (List ℕ)) (bidders : List (List ℕ)) → AreMasks masks → AreAllWords coefficients →
+    All (λ list. All IsWord list) bidders → AreWords (record { masks = masks; coefficients = coefficients; bidders = bidders })
+all-are masks coefficients bidders m c all = record {
+  masks = (m.one, m.two, m.three);
+  coefficients = (words-of coefficients.one (c One), words-of coefficients.two (c Two), words-of coefficients.three (c Three));
+  bidders = all;
+}
+
+mapped-by : (grid : Grid) (s : Point) (w w' : Secrets) (words words' : Trio (List ℕ)) →
+    AreOneDraw (auction_batch (auction_over grid)) (most_rounds (auction_over grid)) s w w' words words' → CoefficientsMapped grid s w w' words words'
+mapped-by grid s w w' words words' p = record { mapped = p.mapped; looks = p.looks; only = p.only; back = p.back }
+
+-- mask words and bidders' words of the second world, and the lines of both
+module _ (s : Point) (first second : Book) (two : AreTwoBooks s first second) (words : Words) (runs : CanRun first words) where
+  abbrev prices : ℕ
+  prices = first.grid.prices
+
+  masks : (words' : Trio (List ℕ)) × MasksMapped s first second words.masks words'
+  masks = masks-there first second words.masks s
+
+  lists : MovedBidders s prices first.bidders second.bidders words.bidders
+  lists =
+      bidders-there s prices first.bidders second.bidders words.bidders runs.enough.count two.agree.marks runs.are_words.bidders
+      (all-drawn (2 * prices) words.bidders runs.enough.bidders)
+
+  many : length lists.lists ≡ length second.bidders
+  many = lists.count ∙ runs.enough.count ∙ sym (as-many first.bidders second.bidders two.agree.marks)
+
+  abbrev here : Secrets
+  here = record { inputs = lines_of first words.bidders; masks = words.masks }
+
+  abbrev there : Secrets
+  there = record { inputs = lines_of second lists.lists; masks = masks.0 }
+
+  are-masks-there : AreMasks masks.0
+  are-masks-there = mapped-masks first second s words.masks masks.0 (are-masks words runs.are_words) masks.1
+
+  stands : Stands s first second words masks.0 lists.lists here.inputs there.inputs
+  stands = record {
+    agree = two.agree;
+    enough = runs.enough;
+    is_book = two.first_book;
+    is_book' = two.second_book;
+    are_words = runs.are_words;
+    lists = lists.count;
+    masks_mapped = masks.1;
+    bidders_mapped = lists.mapped;
+    here = lines-there first words.bidders two.first_book runs.enough.count;
+    there = lines-there second lists.lists two.second_book many;
+  }
+
+  worlds : AreTwoWorlds (auction_batch (auction_over first.grid)) (most_rounds (auction_over first.grid)) (2 * prices) (most_masks (auction_over first.grid)) s here there
+  worlds = record {
+    first = secrets-first s first second words lists.lists here there two.agree.grids first.grid refl refl stands;
+    second = secrets-second s first second words lists.lists here there two.agree.grids first.grid refl refl stands;
+    elements = values-small first words.bidders here.inputs two.first_book stands.here;
+    elements' = values-small second lists.lists there.inputs two.second_book stands.there;
+    same = look-same-in s first second words lists.lists here there two.agree.grids first.grid refl refl stands;
+  }
+
+can-draw : (book : Book) (words : Words) → CanRun book words → CanDraw (most_coefficients (auction_over book.grid)) words.coefficients
+can-draw book words runs = record { are_words = all-words words runs.are_words; numbers = enough-numbers book words runs.enough }
+
+one-pair : (s : Point) (first : Book) (words : Words) (second : Book) (words' : Words) → AreTwoBooks s first second → CanRun first words →
+    AreWords words' → WorldsMapped s first words second words' → AreOnePair s first words second words'
+one-pair s first words second words' two runs are w = record {
+  mapped = w.mapped;
+  only_second = w.only;
+  only_first = w.back;
+  first_runs = runs;
+  second_runs = record { are_words = are; enough = w.enough };
+  as_long = as-long s first words second words' runs.enough.count w.enough.count w.mapped;
+  transcripts = ap view_bytes w.looks;
+  always = w.moments;
+}
+
+-- the words of the second world
+pub second-there : (s : Point) (first second : Book) (words : Words) → AreTwoBooks s first second → CanRun first words →
+    (words' : Words) × AreOnePair s first words second words'
+second-there s first second words two runs =
+    let a = auction_over first.grid in
+    let w : Secrets = here s first second two words runs in
+    let w' : Secrets = there s first second two words runs in
+    let masks' = masks s first second two words runs in
+    let bidders' = lists s first second two words runs in
+    let found = image (auction_batch a) (most_rounds a) (2 * first.grid.prices) (most_wires a) (most_masks a) (most_coefficients a) (auction-law a) s w w'
+    (worlds s first second two words runs) words.coefficients (can-draw first words runs) in
+    let words' : Words = record { masks = masks'.0; coefficients = found.0; bidders = bidders'.lists } in
+    let are' : AreWords words' = all-are masks'.0 found.0 bidders'.lists (are-masks-there s first second two words runs) found.1.are_words bidders'.are_words in (
+      words',
+      one-pair s first words second words' two runs are'
+          (worlds-mapped s first second words bidders'.lists w w' two.agree.grids first.grid refl refl (stands s first second two words runs) found.0
+          (mapped-by first.grid s w w' words.coefficients found.0 found.2) are'),
+    )
+
+-- and those of the first, from those of the second
+module _ (s : Point) (first second : Book) (two : AreTwoBooks s first second) (words' : Words) (runs : CanRun second words') where
+  back : AreTwoBooks s second first
+  back = record { first_book = two.second_book; second_book = two.first_book; agree = agree-back s first second two.agree }
+
+  abbrev w : Secrets
+  w = there s second first back words' runs
+
+  abbrev w' : Secrets
+  w' = here s second first back words' runs
+
+  abbrev masks' : (t : Trio (List ℕ)) × MasksMapped s second first words'.masks t
+  masks' = masks s second first back words' runs
+
+  abbrev bidders' : MovedBidders s second.grid.prices second.bidders first.bidders words'.bidders
+  bidders' = lists s second first back words' runs
+
+  drawn : (c : Trio (List ℕ)) × CanDraw (most_coefficients (auction_over second.grid)) c
+      × AreOneDraw (auction_batch (auction_over second.grid)) (most_rounds (auction_over second.grid)) s w w' c words'.coefficients
+  drawn =
+      let a = auction_over second.grid in
+      source (auction_batch a) (most_rounds a) (2 * second.grid.prices) (most_wires a) (most_masks a) (most_coefficients a) (auction-law a) s w w'
+      (two-back (auction_batch a) (most_rounds a) (2 * second.grid.prices) (most_masks a) s w' w (worlds s second first back words' runs))
+      words'.coefficients (can-draw second words' runs)
+
+  abbrev words : Words
+  words = record { masks = masks'.0; coefficients = drawn.0; bidders = bidders'.lists }
+
+  are : AreWords words
+  are = all-are masks'.0 drawn.0 bidders'.lists (are-masks-there s second first back words' runs) drawn.1.are_words bidders'.are_words
+
+  enough : AreEnough first words
+  enough =
+      mapped-enough s second first words' words back.agree masks'.1 (λ j. sym (drawn.2.mapped.places j)) (many s second first back words' runs) bidders'.mapped
+      runs.enough
+
+  bidders-mapped : BiddersMapped s first.grid.prices (farmers_of first.bidders bidders'.lists) (farmers_of second.bidders words'.bidders)
+  bidders-mapped =
+      let farmers : List Farmer = farmers_of second.bidders words'.bidders in
+      let farmers' : List Farmer = farmers_of first.bidders bidders'.lists in
+      let book : IsBook (book_with second.grid farmers) = subst IsBook (sym (book-whole second words'.bidders runs.enough.count)) two.second_book in
+      let book' : IsBook (book_with second.grid farmers') =
+      subst (λ g. IsBook (book_with g farmers')) (sym two.agree.grids)
+      (subst IsBook (sym (book-whole first bidders'.lists (many s second first back words' runs))) two.first_book) in
+      subst (λ (g : Grid). BiddersMapped s g.prices farmers' farmers) two.agree.grids
+      (mapped-back s second.grid farmers farmers' book' book (farmers-words second.bidders words'.bidders runs.are_words.bidders) bidders'.mapped)
+
+  stands-back : Stands s first second words words'.masks words'.bidders w.inputs w'.inputs
+  stands-back = record {
+    agree = two.agree;
+    enough = enough;
+    is_book = two.first_book;
+    is_book' = two.second_book;
+    are_words = are;
+    lists = sym bidders'.count;
+    masks_mapped = masks-back s second first back.agree words'.masks masks'.0 (are-masks words' runs.are_words) masks'.1;
+    bidders_mapped = bidders-mapped;
+    here = (stands s second first back words' runs).there;
+    there = (stands s second first back words' runs).here;
+  }
+
+  pub first-there : (words : Words) × AreOnePair s first words second words'
+  first-there = (
+    words,
+    one-pair s first words second words' two (record { are_words = are; enough = enough }) runs.are_words
+        (worlds-mapped s first second words words'.bidders w w' two.agree.grids second.grid two.agree.grids refl stands-back words'.coefficients
+        (mapped-by second.grid s w w' drawn.0 words'.coefficients drawn.2) runs.are_words),
+  )

@@ -1,0 +1,58 @@
+//! What the auction is for, in four laws: a server opens the outcome of the plaintext auction, nobody waits once all messages are
+//! delivered, and a server cannot tell two books apart that clear alike, whatever the random words of the others, for which there
+//! are as many choices in both.
+//!
+//! There is no code here, and no memory is taken: the laws are contracts of functions that do nothing.
+#![tactic(auto)]
+
+ghost use Rattle.std.specs.Prelude.{◌≡◌, List};
+ghost use Rattle.beet_field.specs.declared.point.Point.{Point};
+ghost use Rattle.beet_words.specs.Bundles.{Words};
+ghost use Rattle.beet_bids.specs.Books.{Book, IsBook};
+ghost use Rattle.beet_plan.specs.Auction.{Auction, auction_over};
+ghost use Rattle.beet_delivery.specs.Events.{Triple};
+ghost use Rattle.beet_server.specs.Cores.{Core};
+ghost use Rattle.beet_world.specs.Worlds.{World};
+ghost use Rattle.beet_auction.specs.Endings.{book_finish, book_rounds};
+ghost use Rattle.beet_auction.specs.Setups.{setup_for};
+ghost use Rattle.beet_auction.specs.WorldEnds.{IsAuctionCore, StandsBy, auction_in};
+ghost use Rattle.beet_headline.specs.Halves.{AllDelivered, AllHaveEnded, AreChoices, AreOnePair, ArePairs, AreTwoBooks, CanRun, OpensTheOutcome};
+
+/// For every book of accepted bids, all words that are enough, and every order, repeat or delay of the messages, a server that has
+/// ended has opened the outcome of the plaintext auction. The only other end is spent, exactly where the mask words say so, and it
+/// comes after the number of rounds that the book and the mask words tell. The servers of a `World` stand so.
+pub fn an_opened_outcome_is_the_plaintext_auctions()
+    ensures opens { (book : Book) (words : Words) (es : List Triple) (s : Point) → IsBook book → CanRun book words →
+        OpensTheOutcome book words es s }
+    ensures cores { (book : Book) (words : Words) (w : World Auction) (s : Point) (c : Core Auction) → IsBook book →
+        CanRun book words → w.start.one.script ≡ auction_over book.grid → auction_in w ≡ setup_for book words →
+        IsAuctionCore w s c → StandsBy (book_rounds book words.masks) (book_finish book words.masks) w s c }
+{}
+
+/// Once no message is left that was sent and not delivered, all three servers have opened the outcome, or all three are spent.
+pub fn with_all_delivered_all_have_ended()
+    ensures { (book : Book) (words : Words) (es : List Triple) → IsBook book → CanRun book words →
+        AllDelivered book words es → AllHaveEnded book words es }
+{}
+
+/// For two books that agree for a server, which is to say that they clear alike and have the same bids of the server's own bidders,
+/// all words with which the auction of the first can be run go with exactly one choice of words of the second, and all words of
+/// the second go with exactly one choice of the first. Whatever the words, the server's transcripts are the same bytes in both
+/// worlds, and at every moment it has, receives and sends the same. Both choices are as long, list by list.
+pub fn books_that_clear_alike_look_the_same()
+    ensures second { (s : Point) (first second : Book) (words : Words) → AreTwoBooks s first second →
+        CanRun first words → (words' : Words) × AreOnePair s first words second words' }
+    ensures first { (s : Point) (first second : Book) (words' : Words) → AreTwoBooks s first second →
+        CanRun second words' → (words : Words) × AreOnePair s first words second words' }
+{}
+
+/// So there are as many choices of words for the one book as for the other, also of those that show the server a given transcript:
+/// any choices for the one book, none of them twice, go with as many for the other, none of them twice.
+pub fn there_are_as_many_words_for_both_books()
+    ensures second { (s : Point) (first second : Book) (choices : List Words) → AreTwoBooks s first second →
+        AreChoices first choices →
+        (others : List Words) × AreChoices second others × ArePairs s first choices second others }
+    ensures first { (s : Point) (first second : Book) (others : List Words) → AreTwoBooks s first second →
+        AreChoices second others →
+        (choices : List Words) × AreChoices first choices × ArePairs s first choices second others }
+{}
