@@ -1,15 +1,74 @@
 //! Three servers with the links between them.
 
-ghost use Rattle.std.specs.Prelude.{IfOk};
+ghost use Rattle.std.specs.Prelude.{◌≡◌, ◌≢◌, IfOk};
 ghost use Rattle.beet_server.specs.Cores.{AreFresh};
+ghost use Rattle.beet_link.specs.Ends.{end_at};
+ghost use Rattle.beet_link.specs.Streams.{stream_of};
 ghost use Rattle.beet_station.specs.Stations.{AreTied};
 
 use crate::station::Station;
 use beet_field::{Point, Trio};
 use beet_gates::Script;
-use beet_link::link;
+use beet_link::{LinkRx, LinkTx, link};
 use beet_server::ServerCore;
 use std::alloc::{AllocError, Global};
+
+/// What a server has of the links with one peer: the end to it, and the end from it.
+#[derive(Drop)]
+struct Ends {
+    to: LinkTx,
+    from: LinkRx,
+}
+
+/// Both links between two servers: the ends of the first, and those of the second.
+fn pair<S: Script>(
+    alloc: Global,
+    cores: &Trio<ServerCore<S>>,
+    first: Point,
+    second: Point,
+) -> Result<(Ends, Ends), AllocError>
+    requires fresh { AreFresh S.batch_of S.inputs_of cores.now }
+    requires apart { first ≢ second }
+    requires back { second ≢ first }
+    ensures there { IfOk result (λ ends. (ends.0.to
+        ≡ end_at (stream_of S.batch_of S.inputs_of S.rounds_of cores.now first second) 0) × (ends.1.from
+        ≡ end_at (stream_of S.batch_of S.inputs_of S.rounds_of cores.now first second) 0)) }
+    ensures back { IfOk result (λ ends. (ends.1.to
+        ≡ end_at (stream_of S.batch_of S.inputs_of S.rounds_of cores.now second first) 0) × (ends.0.from
+        ≡ end_at (stream_of S.batch_of S.inputs_of S.rounds_of cores.now second first) 0)) }
+{
+    let (there, from_first) = link(alloc, cores, first, second)?;
+    let (back, from_second) = link(alloc, cores, second, first)?;
+    Ok((
+        Ends {
+            to: there,
+            from: from_second,
+        },
+        Ends {
+            to: back,
+            from: from_first,
+        },
+    ))
+}
+
+/// A server with its ends.
+fn station<S: Script>(core: ServerCore<S>, low: Ends, high: Ends) -> Station<S>
+    ensures { result ≡ record {
+      core = core;
+      to_low = low.to;
+      to_high = high.to;
+      from_low = low.from;
+      from_high = high.from;
+    } }
+{
+    Station {
+        core,
+        to_low: low.to,
+        to_high: high.to,
+        from_low: low.from,
+        from_high: high.from,
+    }
+}
 
 /// Three fresh servers with their ends: all six links are made. No other call takes memory.
 pub fn stations<S: Script>(
@@ -19,34 +78,12 @@ pub fn stations<S: Script>(
     requires { AreFresh S.batch_of S.inputs_of cores }
     ensures { IfOk result (AreTied S.batch_of S.inputs_of S.rounds_of cores) }
 {
-    let (one_to_two, two_from_one) = link(alloc, &cores, Point::One, Point::Two)?;
-    let (one_to_three, three_from_one) = link(alloc, &cores, Point::One, Point::Three)?;
-    let (two_to_one, one_from_two) = link(alloc, &cores, Point::Two, Point::One)?;
-    let (two_to_three, three_from_two) = link(alloc, &cores, Point::Two, Point::Three)?;
-    let (three_to_one, one_from_three) = link(alloc, &cores, Point::Three, Point::One)?;
-    let (three_to_two, two_from_three) = link(alloc, &cores, Point::Three, Point::Two)?;
-    let Trio { one, two, three } = cores;
+    let (one_with_two, two_with_one) = pair(alloc, &cores, Point::One, Point::Two)?;
+    let (one_with_three, three_with_one) = pair(alloc, &cores, Point::One, Point::Three)?;
+    let (two_with_three, three_with_two) = pair(alloc, &cores, Point::Two, Point::Three)?;
     Ok(Trio {
-        one: Station {
-            core: one,
-            to_low: one_to_two,
-            to_high: one_to_three,
-            from_low: one_from_two,
-            from_high: one_from_three,
-        },
-        two: Station {
-            core: two,
-            to_low: two_to_one,
-            to_high: two_to_three,
-            from_low: two_from_one,
-            from_high: two_from_three,
-        },
-        three: Station {
-            core: three,
-            to_low: three_to_one,
-            to_high: three_to_two,
-            from_low: three_from_one,
-            from_high: three_from_two,
-        },
+        one: station(cores.one, one_with_two, one_with_three),
+        two: station(cores.two, two_with_one, two_with_three),
+        three: station(cores.three, three_with_one, three_with_two),
     })
 }

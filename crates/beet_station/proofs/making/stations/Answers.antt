@@ -1,9 +1,5 @@
-use Rattle.std.proofs.Common.{◌≡◌, refl}
-use Rattle.beet_field.specs.Trio.{member}
+use Rattle.std.proofs.Common.{◌≡◌, refl, subst, sym}
 use Rattle.beet_field.specs.declared.point.Point.TheVariants.{One, Two, Three}
-use Rattle.beet_field.specs.declared.trio.Trio.{Trio}
-use Rattle.beet_server.proofs.Rounds.{by_point}
-use Rattle.beet_station.specs.declared.station.Station.{Station}
 use Rattle.beet_station.specs.Stations.{IsTied}
 use Rattle.beet_station.proofs.Ends.{begins}
 use Rattle.beet_station.proofs.making.stations.Goals as goal
@@ -12,35 +8,20 @@ pub returns : goal.returns
 returns g c =
     let script = g.S.Script in
     let start = c.args.cores in
-    let one : Station g.row.S.Denot = record {
-      core = start.one;
-      to_low = c.in_ok-one_to_two.one_to_two;
-      to_high = c.in_ok-one_to_three.one_to_three;
-      from_low = c.in_ok-two_to_one.one_from_two;
-      from_high = c.in_ok-three_to_one.one_from_three;
-    } in
-    let two : Station g.row.S.Denot = record {
-      core = start.two;
-      to_low = c.in_ok-two_to_one.two_to_one;
-      to_high = c.in_ok-two_to_three.two_to_three;
-      from_low = c.in_ok-one_to_two.two_from_one;
-      from_high = c.in_ok-three_to_two.two_from_three;
-    } in
-    let three : Station g.row.S.Denot = record {
-      core = start.three;
-      to_low = c.in_ok-three_to_one.three_to_one;
-      to_high = c.in_ok-three_to_two.three_to_two;
-      from_low = c.in_ok-one_to_three.three_from_one;
-      from_high = c.in_ok-two_to_three.three_from_two;
-    } in
+    let one_two = c.in_ok-one_with_two.ensures in
+    let one_three = c.in_ok-one_with_three.ensures in
+    let two_three = c.in_ok-two_with_three.ensures in
     record {
       one =
-          begins script.batch_of script.inputs_of script.rounds_of start c.requires One one refl
-          c.in_ok-one_to_two.ensures.put c.in_ok-one_to_three.ensures.put c.in_ok-two_to_one.ensures.take c.in_ok-three_to_one.ensures.take;
+          subst (IsTied script.batch_of script.inputs_of script.rounds_of start One) (sym c.station.ensures)
+          (begins script.batch_of script.inputs_of script.rounds_of start c.requires One _ refl
+          one_two.there.0 one_three.there.0 one_two.back.1 one_three.back.1);
       two =
-          begins script.batch_of script.inputs_of script.rounds_of start c.requires Two two refl
-          c.in_ok-two_to_one.ensures.put c.in_ok-two_to_three.ensures.put c.in_ok-one_to_two.ensures.take c.in_ok-three_to_two.ensures.take;
+          subst (IsTied script.batch_of script.inputs_of script.rounds_of start Two) (sym c.station-2.ensures)
+          (begins script.batch_of script.inputs_of script.rounds_of start c.requires Two _ refl
+          one_two.back.0 two_three.there.0 one_two.there.1 two_three.back.1);
       three =
-          begins script.batch_of script.inputs_of script.rounds_of start c.requires Three three refl
-          c.in_ok-three_to_one.ensures.put c.in_ok-three_to_two.ensures.put c.in_ok-one_to_three.ensures.take c.in_ok-two_to_three.ensures.take;
+          subst (IsTied script.batch_of script.inputs_of script.rounds_of start Three) (sym c.station-3.ensures)
+          (begins script.batch_of script.inputs_of script.rounds_of start c.requires Three _ refl
+          one_three.back.0 two_three.back.0 one_three.there.1 two_three.there.1);
     }
