@@ -5,3 +5,4 @@ pub mod Bidders
 pub mod Inputs
 pub mod Pairing
 pub mod Choices
+pub mod Delivering

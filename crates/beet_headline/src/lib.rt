@@ -5,7 +5,7 @@
 //! There is no code here, and no memory is taken: the laws are contracts of functions that do nothing.
 #![tactic(auto)]
 
-ghost use Rattle.std.specs.Prelude.{◌≡◌, List};
+ghost use Rattle.std.specs.Prelude.{◌≡◌, ◌++◌, List};
 ghost use Rattle.beet_field.specs.declared.point.Point.{Point};
 ghost use Rattle.beet_words.specs.Bundles.{Words};
 ghost use Rattle.beet_bids.specs.Books.{Book, IsBook};
@@ -30,9 +30,12 @@ pub fn an_opened_outcome_is_the_plaintext_auctions()
 {}
 
 /// Once no message is left that was sent and not delivered, all three servers have opened the outcome, or all three are spent.
+/// Whatever was delivered, there are messages that bring it so far.
 pub fn with_all_delivered_all_have_ended()
-    ensures { (book : Book) (words : Words) (es : List Triple) → IsBook book → CanRun book words →
+    ensures ended { (book : Book) (words : Words) (es : List Triple) → IsBook book → CanRun book words →
         AllDelivered book words es → AllHaveEnded book words es }
+    ensures reached { (book : Book) (words : Words) (es : List Triple) →
+        (more : List Triple) × AllDelivered book words (es ++ more) }
 {}
 
 /// For two books that agree for a server, which is to say that they clear alike and have the same bids of the server's own bidders,
