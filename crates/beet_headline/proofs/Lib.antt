@@ -6,3 +6,4 @@ pub mod Inputs
 pub mod Pairing
 pub mod Choices
 pub mod Delivering
+pub mod TwoBooks

@@ -1,8 +1,9 @@
 -- How a server stands in the auction of a book, after any events.
-use Rattle.std.proofs.Common.{◌≡◌, ◌≢◌, ℕ, inl, inr, List, Option, Some, refl, sym, ap, subst, ◌∙◌, arith, eq-eqb, ne_eqb}
+use Rattle.std.proofs.Common.{◌≡◌, ◌≢◌, ℕ, inl, inr, List, [], Option, Some, refl, sym, ap, subst, ◌∙◌, arith, eq-eqb, ne_eqb}
 use Rattle.std.specs.Prelude.{if◌then◌else◌}
 use Rattle.std.proofs.lemmas.Bool.{cases_Bool, cases_eq, cases_lt}
 use Rattle.beet_field.specs.declared.point.Point.{Point}
+use Rattle.beet_field.specs.declared.point.Point.TheVariants.{One}
 use Rattle.beet_words.specs.Bundles.{Words}
 use Rattle.beet_gates.specs.Plans.{plan_finish}
 use Rattle.beet_bids.specs.Books.{Book, IsBook}
@@ -27,10 +28,14 @@ use Rattle.beet_auction.proofs.BookLines.{book-lines, slopes_of}
 use Rattle.beet_auction.proofs.Ends.{book-ends}
 use Rattle.beet_auction.proofs.WorldEnds.{stands-by}
 use Rattle.beet_worlds.proofs.WorldFacts.{are-masks}
-use Rattle.beet_headline.specs.Halves.{AllDelivered, AllHaveEnded, CanRun, OpensTheOutcome, are_spent, standing}
+use Rattle.beet_headline.proofs.Delivering.{to-the-end}
+use Rattle.beet_headline.specs.Halves.{AllDelivered, AllEndWith, AllHaveEnded, CanRun, OpensTheOutcome, are_spent, standing}
 
 same-end : (x : Ending Finish) (a b : Option Finish) → x ≡ Ends a → x ≡ Ends b → a ≡ b
 same-end x a b e f = cc (e, f)
+
+same-finish : (f g : Finish) → Some f ≡ Some g → f ≡ g
+same-finish f g e = cc e
 
 same-round : (x : Ending Finish) (t u : ℕ) → x ≡ Waits t → x ≡ Waits u → t ≡ u
 same-round x t u e f = cc (e, f)
@@ -99,6 +104,13 @@ module _ (book : Book) (words : Words) (b : IsBook book) (runs : CanRun book wor
         | inl many ↦ inr (many, λ s. ended es s (all s) ∙ (λ i. Ends (Some (if many i then MasksSpent else finish_of (outcome_of book)))))
         | inr few ↦ inl (few, λ s. ended es s (all s) ∙ (λ i. Ends (Some (if few i then MasksSpent else finish_of (outcome_of book)))))
       ]
+
+  pub only : (finish : Finish) → AllEndWith book words finish → finish ≡ book_finish book words.masks
+  only finish all =
+      let rounds : ℕ = rounds_for book words in
+      let end = to-the-end rounds [] in
+      let there : passed rounds (after rounds end.0) One ≡ rounds = passed_all rounds (after rounds end.0) end.1 One in
+      sym (same-finish (book_finish book words.masks) finish (all end.0 One (Some (book_finish book words.masks)) (ended end.0 One there)))
 
   pub cores : (w : World Auction) (s : Point) (c : Core Auction) → w.start.one.script ≡ auction_over book.grid → auction_in w ≡ setup_for book words →
       IsAuctionCore w s c → StandsBy (book_rounds book words.masks) (book_finish book words.masks) w s c

@@ -46,6 +46,11 @@ pub record OpensTheOutcome (book : Book) (words : Words) (es : List Triple) (s :
   pub waits : (t : ℕ) → standing book words es s ≡ Waits t → t < book_rounds book words.masks
   pub rounds : rounds_for book words ≡ book_rounds book words.masks
 
+-- whatever the events, a server that has ended has ended with this
+abbrev pub AllEndWith : Book → Words → Finish → Type 0
+AllEndWith book words finish =
+    (es : List Triple) (s : Point) (end : Option Finish) → standing book words es s ≡ Ends end → end ≡ Some finish
+
 -- no message is left that was sent and not delivered
 abbrev pub AllDelivered : Book → Words → List Triple → Type 0
 AllDelivered book words es = undelivered (rounds_for book words) (after (rounds_for book words) es) ≡ 0
