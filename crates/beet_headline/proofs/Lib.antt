@@ -7,3 +7,4 @@ pub mod Pairing
 pub mod Choices
 pub mod Delivering
 pub mod TwoBooks
+pub mod Telling

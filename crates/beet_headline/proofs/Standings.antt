@@ -34,7 +34,7 @@ use Rattle.beet_headline.specs.Halves.{AllDelivered, AllEndWith, AllHaveEnded, C
 same-end : (x : Ending Finish) (a b : Option Finish) → x ≡ Ends a → x ≡ Ends b → a ≡ b
 same-end x a b e f = cc (e, f)
 
-same-finish : (f g : Finish) → Some f ≡ Some g → f ≡ g
+pub same-finish : (f g : Finish) → Some f ≡ Some g → f ≡ g
 same-finish f g e = cc e
 
 same-round : (x : Ending Finish) (t u : ℕ) → x ≡ Waits t → x ≡ Waits u → t ≡ u
@@ -47,7 +47,7 @@ module _ (book : Book) (words : Words) (b : IsBook book) (runs : CanRun book wor
   whole : book_with book.grid (farmers_of book.bidders words.bidders) ≡ book
   whole = book-whole book words.bidders runs.enough.count
 
-  ends : AuctionEnds (auction_over book.grid) (setup_for book words) (book_rounds book words.masks) (book_finish book words.masks)
+  pub ends : AuctionEnds (auction_over book.grid) (setup_for book words) (book_rounds book words.masks) (book_finish book words.masks)
   ends =
       let farmers = farmers_of book.bidders words.bidders in
       let is_book : IsBook (book_with book.grid farmers) = subst IsBook (sym whole) b in

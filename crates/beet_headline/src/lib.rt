@@ -20,6 +20,7 @@ ghost use Rattle.beet_world.specs.Worlds.{World};
 ghost use Rattle.beet_auction.specs.Endings.{book_finish, book_rounds};
 ghost use Rattle.beet_auction.specs.Setups.{setup_for};
 ghost use Rattle.beet_auction.specs.WorldEnds.{IsAuctionCore, StandsBy, auction_in};
+ghost use Rattle.beet_worlds.specs.ViewsWith.{view_with};
 ghost use Rattle.beet_headline.specs.Examples.{book_selling};
 ghost use Rattle.beet_headline.specs.Halves.{AllDelivered, AllEndWith, AllHaveEnded, AreChoices, AreOnePair, ArePairs, AreTwoBooks, CanRun, OpensTheOutcome};
 
@@ -66,6 +67,14 @@ pub fn there_are_as_many_words_for_both_books()
     ensures first { (s : Point) (first second : Book) (others : List Words) → AreTwoBooks s first second →
         AreChoices second others →
         (choices : List Words) × AreChoices first choices × ArePairs s first choices second others }
+{}
+
+/// What a server sees tells how the auction ends: where the views of two auctions are equal, both have opened the same, or both are
+/// spent. So books that clear otherwise never look the same.
+pub fn equal_views_end_alike()
+    ensures { (s : Point) (first second : Book) (words words' : Words) → IsBook first → IsBook second →
+        CanRun first words → CanRun second words' → view_with second words' s ≡ view_with first words s →
+        book_finish second words'.masks ≡ book_finish first words.masks }
 {}
 
 /// One buys 5 at the prices 100 and 110, and is known to server 1; another sells at 110. Where it sells 5 and where it sells 7, the
