@@ -8,3 +8,4 @@ pub mod Choices
 pub mod Delivering
 pub mod TwoBooks
 pub mod Telling
+pub mod Zeros

@@ -17,8 +17,7 @@ use Rattle.beet_book.proofs.FarmerLists.{book-whole}
 use Rattle.beet_view.specs.Transcripts.{view_bytes}
 use Rattle.beet_map.specs.Mapped.{AreWords as AreAllWords}
 use Rattle.beet_map.specs.Secrets.{Secrets}
-use Rattle.beet_map_laws.specs.Pairs.{AreTwoWorlds, CanDraw}
-use Rattle.beet_map_laws.specs.Pairs.{AreOnePair as AreOneDraw}
+use Rattle.beet_map_laws.specs.Pairs.{AreTwoWorlds, CanDraw, GoTogether}
 use Rattle.beet_map_laws.proofs.Images.{image, source, two-back}
 use Rattle.beet_worlds.specs.Enough.{AreEnough}
 use Rattle.beet_worlds.specs.MappedBidders.{BiddersMapped}
@@ -49,7 +48,7 @@ all-are masks coefficients bidders m c all = record {
 }
 
 mapped-by : (grid : Grid) (s : Point) (w w' : Secrets) (words words' : Trio (List ℕ)) →
-    AreOneDraw (auction_batch (auction_over grid)) (most_rounds (auction_over grid)) s w w' words words' → CoefficientsMapped grid s w w' words words'
+    GoTogether (auction_batch (auction_over grid)) (most_rounds (auction_over grid)) s w w' words words' → CoefficientsMapped grid s w w' words words'
 mapped-by grid s w w' words words' p = record { mapped = p.mapped; looks = p.looks; only = p.only; back = p.back }
 
 -- mask words and bidders' words of the second world, and the lines of both
@@ -153,7 +152,7 @@ module _ (s : Point) (first second : Book) (two : AreTwoBooks s first second) (w
   bidders' = lists s second first back words' runs
 
   drawn : (c : Trio (List ℕ)) × CanDraw (most_coefficients (auction_over second.grid)) c
-      × AreOneDraw (auction_batch (auction_over second.grid)) (most_rounds (auction_over second.grid)) s w w' c words'.coefficients
+      × GoTogether (auction_batch (auction_over second.grid)) (most_rounds (auction_over second.grid)) s w w' c words'.coefficients
   drawn =
       let a = auction_over second.grid in
       source (auction_batch a) (most_rounds a) (2 * second.grid.prices) (most_wires a) (most_masks a) (most_coefficients a) (auction-law a) s w w'

@@ -27,12 +27,13 @@ ghost use Rattle.beet_headline.specs.Halves.{AllDelivered, AllEndWith, AllHaveEn
 /// For every book of accepted bids, all words that are enough, and every order, repeat or delay of the messages, a server that has
 /// ended has opened the outcome of the plaintext auction. The only other end is spent, exactly where the mask words say so, and it
 /// comes after the number of rounds that the book and the mask words tell. Nothing else could be said of all ends. The servers of a
-/// `World` stand so.
+/// `World` stand so. For every book there are words that are enough.
 pub fn an_opened_outcome_is_the_plaintext_auctions()
     ensures opens { (book : Book) (words : Words) (es : List Triple) (s : Point) → IsBook book → CanRun book words →
         OpensTheOutcome book words es s }
     ensures only { (book : Book) (words : Words) (finish : Finish) → IsBook book → CanRun book words →
         AllEndWith book words finish → finish ≡ book_finish book words.masks }
+    ensures words { (book : Book) → (words : Words) × CanRun book words }
     ensures cores { (book : Book) (words : Words) (w : World Auction) (s : Point) (c : Core Auction) → IsBook book →
         CanRun book words → w.start.one.script ≡ auction_over book.grid → auction_in w ≡ setup_for book words →
         IsAuctionCore w s c → StandsBy (book_rounds book words.masks) (book_finish book words.masks) w s c }

@@ -19,7 +19,7 @@ use Rattle.beet_map.proofs.Grounds.{are_alike, has_room}
 use Rattle.beet_map.proofs.Symmetry.{AreElements, map_back, may_back}
 use Rattle.beet_map.proofs.Whole.{AreAlike, WholeWords, whole_words}
 use Rattle.beet_map.proofs.WordLists.{accepted_small}
-use Rattle.beet_map_laws.specs.Pairs.{AreOnePair, AreTwoWorlds, CanDraw}
+use Rattle.beet_map_laws.specs.Pairs.{AreTwoWorlds, CanDraw, GoTogether}
 use Rattle.beet_map_laws.proofs.Putting.{PutBack, put-back}
 use Rattle.beet_map_laws.proofs.Reaching.{Reached, reach}
 
@@ -51,7 +51,7 @@ module _ (next : ℕ → List ℕ → Batch) (most inputs wires deals wanted : �
         among-rounds (begin_in next w numbers) rounds most
         ((same-rounds (begin_in next w numbers) (values_of w.inputs) (slopes_of w.inputs) alike.may.lines rounds).1 alike.ends) alike.few
 
-    pair-of : (words words' : Trio (List ℕ)) → WholeWords next most me rounds w w' alike words words' → AreOnePair next most me w w' words words'
+    pair-of : (words words' : Trio (List ℕ)) → WholeWords next most me rounds w w' alike words words' → GoTogether next most me w w' words words'
     pair-of words words' whole = record {
       mapped = whole.mapped;
       looks = whole.looks_alike;
@@ -71,7 +71,7 @@ module _ (next : ℕ → List ℕ → Batch) (most inputs wires deals wanted : �
           enough.numbers).numbers
 
       image-of : Reached next me rounds w w' alike.may numbers fits rounds →
-          (words' : Trio (List ℕ)) × CanDraw wanted words' × AreOnePair next most me w w' words words'
+          (words' : Trio (List ℕ)) × CanDraw wanted words' × GoTogether next most me w w' words words'
       image-of r =
           let put : (j : Point) → PutBack (member words j) (member r.reached j) =
           λ j. put-back (member words j) (member r.reached j) (r.mapped.lengths j ∙ ap length (member-each accepted words j)) (r.are_elements j) in
@@ -99,12 +99,12 @@ module _ (next : ℕ → List ℕ → Batch) (most inputs wires deals wanted : �
           each-word words' one two three Two n = two n
           each-word words' one two three Three n = three n
 
-      pub image : (words' : Trio (List ℕ)) × CanDraw wanted words' × AreOnePair next most me w w' words words'
+      pub image : (words' : Trio (List ℕ)) × CanDraw wanted words' × GoTogether next most me w w' words words'
       image = image-of (reach next me rounds w w' alike.may numbers fits (few-numbers words enough.are_words) rounds (omega arith))
 
     -- a pair of the worlds the other way round
-    pair-back : (words words' : Trio (List ℕ)) → AreWords words → AreWords words' → AreOnePair next most me w' w words' words →
-        AreOnePair next most me w w' words words'
+    pair-back : (words words' : Trio (List ℕ)) → AreWords words → AreWords words' → GoTogether next most me w' w words' words →
+        GoTogether next most me w w' words words'
     pair-back words words' are are' p =
         let n : Trio (List ℕ) = numbers_of words in
         let n' : Trio (List ℕ) = numbers_of words' in
@@ -120,7 +120,7 @@ module _ (next : ℕ → List ℕ → Batch) (most inputs wires deals wanted : �
         (record { one = sym (p.mapped.places One); two = sym (p.mapped.places Two); three = sym (p.mapped.places Three) }))
 
   pub source : (w w' : Secrets) → AreTwoWorlds next most inputs deals me w w' → (words' : Trio (List ℕ)) → CanDraw wanted words' →
-      (words : Trio (List ℕ)) × CanDraw wanted words × AreOnePair next most me w w' words words'
+      (words : Trio (List ℕ)) × CanDraw wanted words × GoTogether next most me w w' words words'
   source w w' two words' enough =
       let found = image w' w (two-back next most inputs deals me w w' two) words' enough in
       (found.0, found.1, pair-back w w' two found.0 words' found.1.are_words enough.are_words found.2)

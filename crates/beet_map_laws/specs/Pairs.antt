@@ -29,7 +29,7 @@ pub record CanDraw (wanted : ℕ) (words : Trio (List ℕ)) : Type 0 where
   pub numbers : HasWords wanted (numbers_of words)
 
 -- the words of two worlds are mapped, so that the runs look alike to the server; each are the only ones that go with the others
-pub record AreOnePair (next : ℕ → List ℕ → Batch) (most : ℕ) (me : Point) (w w' : Secrets) (words words' : Trio (List ℕ)) : Type 0 where
+pub record GoTogether (next : ℕ → List ℕ → Batch) (most : ℕ) (me : Point) (w w' : Secrets) (words words' : Trio (List ℕ)) : Type 0 where
   pub mapped : WordsMapped next most me w w' words words'
   pub looks : WordsLookAlike next most me w w' words words'
   pub only : IsOnlyImage next most me w w' words words'

@@ -9,7 +9,7 @@ ghost use Rattle.beet_field.specs.declared.trio.Trio.{Trio};
 ghost use Rattle.beet_gates.specs.Scripts.{LawFrom, bounds_of, start_of};
 ghost use Rattle.beet_gates.specs.declared.Batch.{Batch};
 ghost use Rattle.beet_map.specs.Secrets.{Secrets};
-ghost use Rattle.beet_map_laws.specs.Pairs.{AreOnePair, AreTwoWorlds, CanDraw};
+ghost use Rattle.beet_map_laws.specs.Pairs.{AreTwoWorlds, CanDraw, GoTogether};
 
 /// In two worlds of a lawful script that a server cannot tell apart, all coefficient words of the first that are enough go with
 /// exactly one choice of those of the second that shows the server the same, and it is enough too; and all of the second that are
@@ -19,10 +19,10 @@ pub fn words_are_mapped_one_to_one()
         (w w' : Secrets) (words : Trio (List ℕ)) →
         LawFrom next (bounds_of wires deals wanted) most (start_of inputs) [] →
         AreTwoWorlds next most inputs deals me w w' → CanDraw wanted words →
-        (words' : Trio (List ℕ)) × CanDraw wanted words' × AreOnePair next most me w w' words words' }
+        (words' : Trio (List ℕ)) × CanDraw wanted words' × GoTogether next most me w w' words words' }
     ensures source { (next : ℕ → List ℕ → Batch) (most inputs wires deals wanted : ℕ) (me : Point)
         (w w' : Secrets) (words' : Trio (List ℕ)) →
         LawFrom next (bounds_of wires deals wanted) most (start_of inputs) [] →
         AreTwoWorlds next most inputs deals me w w' → CanDraw wanted words' →
-        (words : Trio (List ℕ)) × CanDraw wanted words × AreOnePair next most me w w' words words' }
+        (words : Trio (List ℕ)) × CanDraw wanted words × GoTogether next most me w w' words words' }
 {}

@@ -1,4 +1,5 @@
 use Rattle.beet_headline.proofs.Standings.{cores, only, stands}
+use Rattle.beet_headline.proofs.Zeros.{zeros-run}
 use Rattle.beet_headline.proofs.an_opened_outcome_is_the_plaintext_auctions.Goals as goal
 
 pub returns-clause-opens : goal.returns-clause-opens
@@ -9,3 +10,6 @@ returns-clause-cores c = λ book words w s core b runs script setup is. cores bo
 
 pub returns-clause-only : goal.returns-clause-only
 returns-clause-only c = λ book words finish b runs all. only book words b runs finish all
+
+pub returns-clause-words : goal.returns-clause-words
+returns-clause-words c = zeros-run
