@@ -22,6 +22,7 @@ use Rattle.beet_map_laws.proofs.Images.{image, source, two-back}
 use Rattle.beet_worlds.specs.Enough.{AreEnough}
 use Rattle.beet_worlds.specs.MappedBidders.{BiddersMapped}
 use Rattle.beet_worlds.specs.MappedMasks.{MasksMapped}
+use Rattle.beet_worlds.specs.MappedWords.{Mapped}
 use Rattle.beet_worlds.specs.Worlds.{CoefficientsMapped, WorldsMapped}
 use Rattle.beet_worlds.proofs.BidderFacts.{mapped-back}
 use Rattle.beet_worlds.proofs.Drawn.{all-drawn, farmers-words}
@@ -133,6 +134,13 @@ second-there s first second words two runs =
           (worlds-mapped s first second words bidders'.lists w w' two.agree.grids first.grid refl refl (stands s first second two words runs) found.0
           (mapped-by first.grid s w w' words.coefficients found.0 found.2) are'),
     )
+
+-- all words that are mapped are these
+pub mapped-pair : (s : Point) (first second : Book) (words words' : Words) → AreTwoBooks s first second → CanRun first words →
+    Mapped s first words second words' → AreOnePair s first words second words'
+mapped-pair s first second words words' two runs m =
+    let found = second-there s first second words two runs in
+    subst (λ x. AreOnePair s first words second x) (sym (found.1.only_second words' m)) found.1
 
 -- and those of the first, from those of the second
 module _ (s : Point) (first second : Book) (two : AreTwoBooks s first second) (words' : Words) (runs : CanRun second words') where

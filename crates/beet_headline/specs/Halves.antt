@@ -26,7 +26,7 @@ pub record CanRun (book : Book) (words : Words) : Type 0 where
   pub are_words : AreWords words
   pub enough : AreEnough book words
 
--- whether the masks are spent: of the masks that the search may want, one too many is rejected
+-- whether the masks are spent: among as many as the search makes comparisons, and the spare ones, more are rejected than there are spare
 abbrev pub are_spent : Book → Words → Bool
 are_spent book words = is_spent (mask_at words.masks) (length (path book.grid.prices (clearing_place book)))
 

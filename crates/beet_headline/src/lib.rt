@@ -20,6 +20,7 @@ ghost use Rattle.beet_world.specs.Worlds.{World};
 ghost use Rattle.beet_auction.specs.Endings.{book_finish, book_rounds};
 ghost use Rattle.beet_auction.specs.Setups.{setup_for};
 ghost use Rattle.beet_auction.specs.WorldEnds.{IsAuctionCore, StandsBy, auction_in};
+ghost use Rattle.beet_worlds.specs.MappedWords.{Mapped};
 ghost use Rattle.beet_worlds.specs.ViewsWith.{view_with};
 ghost use Rattle.beet_headline.specs.Examples.{book_selling};
 ghost use Rattle.beet_headline.specs.Halves.{AllDelivered, AllEndWith, AllHaveEnded, AreChoices, AreOnePair, ArePairs, AreTwoBooks, CanRun, OpensTheOutcome};
@@ -51,12 +52,15 @@ pub fn with_all_delivered_all_have_ended()
 /// For two books that agree for a server, which is to say that they clear alike and have the same bids of the server's own bidders,
 /// all words with which the auction of the first can be run go with exactly one choice of words of the second, and all words of
 /// the second go with exactly one choice of the first. Whatever the words, the server's transcripts are the same bytes in both
-/// worlds, and at every moment it has, receives and sends the same. Both choices are as long, list by list.
+/// worlds, and at every moment it has, receives and sends the same. Both choices are as long, list by list. Words that are mapped,
+/// as `world_map` answers them, are such a pair.
 pub fn books_that_clear_alike_look_the_same()
     ensures second { (s : Point) (first second : Book) (words : Words) → AreTwoBooks s first second →
         CanRun first words → (words' : Words) × AreOnePair s first words second words' }
     ensures first { (s : Point) (first second : Book) (words' : Words) → AreTwoBooks s first second →
         CanRun second words' → (words : Words) × AreOnePair s first words second words' }
+    ensures mapped { (s : Point) (first second : Book) (words words' : Words) → AreTwoBooks s first second →
+        CanRun first words → Mapped s first words second words' → AreOnePair s first words second words' }
 {}
 
 /// So there are as many choices of words for the one book as for the other, also of those that show the server a given transcript:
@@ -71,7 +75,7 @@ pub fn there_are_as_many_words_for_both_books()
 {}
 
 /// What a server sees tells how the auction ends: where the views of two auctions are equal, both have opened the same, or both are
-/// spent. So books that clear otherwise never look the same.
+/// spent. So only books that clear alike can look the same, unless both are spent.
 pub fn equal_views_end_alike()
     ensures { (s : Point) (first second : Book) (words words' : Words) → IsBook first → IsBook second →
         CanRun first words → CanRun second words' → view_with second words' s ≡ view_with first words s →
