@@ -71,7 +71,7 @@ module _ (book : Book) (words : Words) (b : IsBook book) (runs : CanRun book wor
         (λ i. if eq-eqb at rounds all i then Ends named else Waits at)
         ∙ ap Ends (ap (λ n. plan_finish (auction_plan (auction_over book.grid)) (shared_at (setup_for book words) n).opened) ends.counted ∙ ends.finish_named)
 
-    waiting : at ≢ rounds → standing book words es s ≡ Waits at
+    pub waiting : at ≢ rounds → standing book words es s ≡ Waits at
     waiting some = λ i. if ne_eqb at rounds some i then Ends named else Waits at
 
     end-is : (end : Option Finish) → standing book words es s ≡ Ends end → end ≡ Some (book_finish book words.masks)

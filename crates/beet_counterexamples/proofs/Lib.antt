@@ -1,0 +1,5 @@
+pub mod Finishes
+pub mod OtherEnds
+pub mod OtherWords
+pub mod MustAgree
+pub mod SameWords

@@ -1,0 +1,21 @@
+-- The relation of mapped words, but for one condition.
+use Rattle.std.specs.Prelude.{◌≡◌, length}
+use Rattle.beet_field.specs.Trio.{member}
+use Rattle.beet_field.specs.declared.point.Point.{Point}
+use Rattle.beet_words.specs.Bundles.{Words, AreWords}
+use Rattle.beet_bids.specs.Books.{Book}
+use Rattle.beet_auction.specs.Setups.{rounds_for, setup_for}
+use Rattle.beet_book.specs.Farmers.{farmers_of}
+use Rattle.beet_map.specs.Mapped.{GateMapped}
+use Rattle.beet_worlds.specs.MappedBidders.{BiddersMapped}
+use Rattle.beet_worlds.specs.MappedMasks.{MasksMapped}
+
+-- words that are mapped, but that the coefficient words that are all ones may stand elsewhere
+pub record MappedWithoutPlaces (s : Point) (first : Book) (words : Words) (second : Book) (words' : Words) : Type 0 where
+  pub lists : length words'.bidders ≡ length words.bidders
+  pub are_words : AreWords words
+  pub are_words' : AreWords words'
+  pub masks : MasksMapped s first second words.masks words'.masks
+  pub bidders : BiddersMapped s first.grid.prices (farmers_of first.bidders words.bidders) (farmers_of second.bidders words'.bidders)
+  pub own : member words'.coefficients s ≡ member words.coefficients s
+  pub numbers : GateMapped s (rounds_for first words) (setup_for first words) (setup_for second words')

@@ -1,0 +1,92 @@
+//! What shows that the laws of `beet_headline` bite: a statement that names another count of rejected masks or another number of
+//! rounds is false, and so is one that leaves out a condition.
+//!
+//! There is no code here: the laws are contracts of functions that do nothing.
+#![tactic(auto)]
+
+ghost use Rattle.std.specs.Prelude.{◌≡◌, ◌≢◌, ◌≤◌, ◌<◌, ◌*◌, ◌↔◌, ℕ, List, [], ◌∷◌, Bool, true, false, Some, slice_get, slice_index};
+ghost use Rattle.beet_field.specs.Field.{p};
+ghost use Rattle.beet_field.specs.declared.point.Point.{Point};
+ghost use Rattle.beet_words.specs.Bundles.{Words};
+ghost use Rattle.beet_bids.specs.Books.{Book, IsBook};
+ghost use Rattle.beet_bids.specs.Curves.{quantity};
+ghost use Rattle.beet_bids.specs.Outcomes.{outcome_of};
+ghost use Rattle.beet_bids.specs.declared.book.Bidder.{Bidder};
+ghost use Rattle.beet_bids.specs.declared.outcomes.Outcome.{Outcome};
+ghost use Rattle.beet_plan.specs.Runs.{finish_of};
+ghost use Rattle.beet_plan.specs.Search.{is_spent};
+ghost use Rattle.beet_plan.specs.declared.Finish.TheVariants.{MasksSpent};
+ghost use Rattle.beet_delivery.specs.Events.{Triple};
+ghost use Rattle.beet_server.specs.Endings.{Ends, Waits};
+ghost use Rattle.beet_auction.specs.Endings.{book_rounds};
+ghost use Rattle.beet_auction.specs.Setups.{setup_for};
+ghost use Rattle.beet_sharing.specs.Runs.{HasRounds};
+ghost use Rattle.beet_worlds.specs.Agreement.{Agree};
+ghost use Rattle.beet_worlds.specs.MappedWords.{Mapped};
+ghost use Rattle.beet_worlds.specs.ViewsWith.{transcript_with, view_with};
+ghost use Rattle.beet_headline.specs.Halves.{AllDelivered, CanRun, are_spent, standing};
+ghost use Rattle.beet_counterexamples.specs.Places.{MappedWithoutPlaces};
+ghost use Rattle.beet_counterexamples.specs.Transcribed.{CanStand};
+
+/// The finish that a server names tells the outcome, with its price: books over one grid with one finish have one outcome.
+pub fn a_finish_tells_the_outcome()
+    ensures { (one other : Book) → other.grid ≡ one.grid →
+        finish_of (outcome_of other) ≡ finish_of (outcome_of one) → outcome_of other ≡ outcome_of one }
+{}
+
+/// A test that tells of an auction whether its masks are spent is that of the headline, and so is a number of rounds: a statement with
+/// another is false. And where the masks are spent no server has opened an outcome.
+pub fn no_other_count_or_rounds()
+    ensures count { (book : Book) (words : Words) (test : Bool) → IsBook book → CanRun book words →
+        ((es : List Triple) (s : Point) → AllDelivered book words es →
+        (standing book words es s ≡ Ends (Some MasksSpent)) ↔ (test ≡ true)) → test ≡ are_spent book words }
+    ensures none { (book : Book) (words : Words) (es : List Triple) (s : Point) (outcome : Outcome) → IsBook book →
+        CanRun book words → are_spent book words ≡ true → standing book words es s ≢ Ends (Some (finish_of outcome)) }
+    ensures rounds { (book : Book) (words : Words) (rounds : ℕ) → IsBook book → CanRun book words →
+        HasRounds (setup_for book words) rounds → rounds ≡ book_rounds book words.masks }
+{}
+
+/// A search with one comparison may want three masks: two rejected ones do not spend it, three do, and a fourth mask is not wanted.
+/// With two comparisons it is.
+pub fn three_rejected_masks_spend()
+    ensures two { is_spent (slice_index (p ∷ p ∷ 0 ∷ [])) 1 ≡ false }
+    ensures three { is_spent (slice_index (p ∷ p ∷ p ∷ [])) 1 ≡ true }
+    ensures fourth { is_spent (slice_index (p ∷ p ∷ 0 ∷ p ∷ [])) 1 ≡ false }
+    ensures two_comparisons { is_spent (slice_index (p ∷ p ∷ 0 ∷ p ∷ [])) 2 ≡ true }
+{}
+
+/// Where no server waits, all is delivered: that all have ended is false of events that leave a message undelivered, and of none.
+pub fn with_a_message_undelivered_some_server_waits()
+    ensures start { (book : Book) (words : Words) (s : Point) → IsBook book → CanRun book words →
+        1 ≤ book_rounds book words.masks → standing book words [] s ≡ Waits 0 }
+    ensures waits { (book : Book) (words : Words) (es : List Triple) → IsBook book → CanRun book words →
+        ((s : Point) (round : ℕ) → standing book words es s ≢ Waits round) → AllDelivered book words es }
+{}
+
+/// A server sees the same of two auctions, of which the first is not spent, only where their books agree for it. So whatever the
+/// words, no server sees the same of books with unequal outcomes, other marks, or other curves of its own bidders. Nor are its
+/// transcripts the same bytes, where the views are within the limits of a transcript.
+pub fn only_books_that_agree_look_the_same()
+    ensures views { (s : Point) (first second : Book) (words words' : Words) → IsBook first → IsBook second →
+        CanRun first words → CanRun second words' → are_spent first words ≡ false →
+        view_with second words' s ≡ view_with first words s → Agree s first second }
+    ensures transcripts { (s : Point) (first second : Book) (words words' : Words) → IsBook first → IsBook second →
+        CanRun first words → CanRun second words' → are_spent first words ≡ false →
+        CanStand (view_with first words s) → CanStand (view_with second words' s) →
+        transcript_with second words' s ≡ transcript_with first words s → Agree s first second }
+{}
+
+/// Without the condition on the places of the words that are all ones, mapped words are not the only ones.
+pub fn without_places_there_are_other_words()
+    ensures { (s : Point) (first second : Book) (words words' : Words) → Mapped s first words second words' →
+        (other : Words) × MappedWithoutPlaces s first words second other × (other ≢ words') }
+{}
+
+/// Words that are mapped to themselves are of equal bids: with another quantity of a bidder that the server does not know, to leave
+/// all words is no such map.
+pub fn the_same_words_are_mapped_only_for_the_same_bids()
+    ensures { (s : Point) (first second : Book) (words : Words) (k n : ℕ) (one other : Bidder) → IsBook first →
+        IsBook second → CanRun first words → Agree s first second → Mapped s first words second words →
+        slice_get first.bidders k ≡ Some one → slice_get second.bidders k ≡ Some other → n < 2 * first.grid.prices →
+        quantity other.curve n ≡ quantity one.curve n }
+{}
