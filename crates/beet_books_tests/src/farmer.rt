@@ -145,11 +145,16 @@ fn other_envelopes(rt: HostRuntime) -> Result<(), Fail> {
     expect_others(&rt, rt.alloc(), &mut file)
 }
 
-/// Cuts the buyer's envelope off.
+/// Cuts the buyer's envelope off before each of its bytes.
 fn expect_cuts(rt: &impl Abort, alloc: Global, file: &[u8]) -> Result<(), Fail> {
-    expect_refused(rt, alloc, Point::One, file, 7, 0, 1)?;
-    expect_refused(rt, alloc, Point::Two, file, 15, 8, 3)?;
-    expect_refused(rt, alloc, Point::One, file, SIZE - 1, 96, 3)
+    for count in 0..8 {
+        expect_refused(rt, alloc, Point::One, file, count, 0, 1)?;
+    }
+    for count in 8..SIZE {
+        let whole = count as u64 / 8 * 8;
+        expect_refused(rt, alloc, Point::One, file, count, whole, 3)?;
+    }
+    expect_refused(rt, alloc, Point::Two, file, 15, 8, 3)
 }
 
 #[test]

@@ -2,6 +2,8 @@
 #![tactic(auto)]
 
 #[cfg(test)]
+mod auction;
+#[cfg(test)]
 mod gates;
 #[cfg(test)]
 mod map;

@@ -4,7 +4,7 @@ use beet_round::{RoundBox, RoundMessage, Side, Verdict};
 use std::process::Abort;
 
 /// A message of so many numbers, which are this one and those that follow it.
-fn message(from: Point, to: Point, round: u32, first: u64, count: u64) -> RoundMessage {
+pub fn message(from: Point, to: Point, round: u32, first: u64, count: u64) -> RoundMessage {
     let mut numbers = ArrayVec::new();
     for n in 0..count {
         let _ = numbers.try_push(Fe::reduce(first as u128 + n as u128));

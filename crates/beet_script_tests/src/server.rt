@@ -104,7 +104,7 @@ fn give<S: Script>(core: &mut ServerCore<S>, m: RoundMessage) -> Option<Verdict>
 }
 
 /// Whether the server says this of the message.
-fn says<S: Script>(core: &mut ServerCore<S>, m: RoundMessage, verdict: Verdict) -> bool {
+pub fn says<S: Script>(core: &mut ServerCore<S>, m: RoundMessage, verdict: Verdict) -> bool {
     give(core, m) == Some(verdict)
 }
 
@@ -114,18 +114,36 @@ fn send<S: Script>(core: &mut ServerCore<S>) -> Option<(RoundMessage, RoundMessa
     Some((low, high))
 }
 
-/// Passes a round at each server; answers whether all verdicts are as they should be.
-fn pass_round<S: Script>(cores: &mut Trio<ServerCore<S>>) -> Option<bool> {
-    let (one_two, one_three) = send(&mut cores.one)?;
-    let (two_one, two_three) = send(&mut cores.two)?;
-    let (three_one, three_two) = send(&mut cores.three)?;
+/// The two messages that each server hands out.
+type Sent = Trio<(RoundMessage, RoundMessage)>;
+
+/// The messages that the servers hand out.
+pub fn send_all<S: Script>(cores: &mut Trio<ServerCore<S>>) -> Option<Sent> {
+    Some(Trio {
+        one: send(&mut cores.one)?,
+        two: send(&mut cores.two)?,
+        three: send(&mut cores.three)?,
+    })
+}
+
+/// Gives each server its two messages; answers whether all verdicts are as they should be.
+pub fn give_all<S: Script>(cores: &mut Trio<ServerCore<S>>, sent: Sent) -> bool {
+    let (one_two, one_three) = sent.one;
+    let (two_one, two_three) = sent.two;
+    let (three_one, three_two) = sent.three;
     let stored = says(&mut cores.one, two_one, Verdict::Stored)
         & says(&mut cores.two, three_two, Verdict::Stored)
         & says(&mut cores.three, one_three, Verdict::Stored);
     let ready = says(&mut cores.one, three_one, Verdict::Ready)
         & says(&mut cores.two, one_two, Verdict::Ready)
         & says(&mut cores.three, two_three, Verdict::Ready);
-    Some(stored && ready)
+    stored && ready
+}
+
+/// Passes a round at each server; answers whether all verdicts are as they should be.
+pub fn pass_round<S: Script>(cores: &mut Trio<ServerCore<S>>) -> Option<bool> {
+    let sent = send_all(cores)?;
+    Some(give_all(cores, sent))
 }
 
 /// Whether the server has received these numbers in the round from its lower and its higher peer.
