@@ -1,0 +1,69 @@
+-- The views of the auction of a book hold words, and keep the curves of the bidders whose marks name their servers.
+use Rattle.std.proofs.Common.{◌≡◌, ◌<◌, ℕ, Bool, true, false, List, [], map, length, get_or, Some, None, All, arith, sym, subst}
+use Rattle.std.specs.Prelude.{IfSome, if◌then◌else◌}
+use Rattle.std.proofs.lemmas.List.{get_or-map, length-map}
+use Rattle.beet_field.specs.Trio.{member, trio_of}
+use Rattle.beet_field.specs.declared.point.Point.{Point}
+use Rattle.beet_field.specs.declared.point.Point.TheVariants.{One, Two, Three}
+use Rattle.beet_words.specs.Bundles.{Words, AreWords}
+use Rattle.beet_words.specs.Words.{IsWord}
+use Rattle.beet_bids.specs.Books.{Book, IsBook}
+use Rattle.beet_bids.specs.Curves.{Curve, IsOfGrid}
+use Rattle.beet_book.specs.Farmers.{Farmer, farmers_of}
+use Rattle.beet_book.proofs.FarmerLists.{farmers-words}
+use Rattle.beet_sharing.proofs.Lined.{member-trio}
+use Rattle.beet_load.specs.Wholes.{CanRun}
+use Rattle.beet_view.specs.BookViews.{names, seen_at, view_for}
+use Rattle.beet_view.specs.declared.view.Seen.{Seen}
+use Rattle.beet_kept.proofs.HasRuns.{seen-all}
+use Rattle.beet_audit.specs.Audits.{bidder_at}
+use Rattle.beet_audit_laws.proofs.KeptWords.{IsKeptAt}
+use Rattle.beet_audit_laws.proofs.ThirdFacts.{IsSound, each-word, kept-from}
+
+own-from : (P : Curve × List ℕ → Type 0) (test : Bool) (own : Curve × List ℕ) → P own → IfSome (if test then Some own else None) P
+own-from P true own h = h
+own-from P false own h = tt
+
+module _ (book : Book) (words : Words) (b : IsBook book) (can : CanRun book words) (are : AreWords words) where
+  abbrev farmers : List Farmer
+  farmers = farmers_of book.bidders words.bidders
+
+  mask-words : (s : Point) → All IsWord (member words.masks s)
+  mask-words One = are.masks.0
+  mask-words Two = are.masks.1
+  mask-words Three = are.masks.2
+
+  coefficient-words : (s : Point) → All IsWord (member words.coefficients s)
+  coefficient-words One = are.coefficients.0
+  coefficient-words Two = are.coefficients.1
+  coefficient-words Three = are.coefficients.2
+
+  -- the words of each bidder
+  farmer-words : (n : ℕ) (d : Farmer) → n < length farmers → All IsWord (get_or farmers n d).words
+  farmer-words n d lt =
+      let list = λ (f : Farmer). f.words in
+      let all : All (All IsWord) (map list farmers) = subst (All (All IsWord)) (farmers-words book.bidders words.bidders can.lists) are.bidders in
+      subst (All IsWord) (get_or-map list farmers n d d.words lt) (all n d.words (omega (arith, length-map farmers list, lt)))
+
+  -- what is kept of each bidder
+  kept-at : (s : Point) (n : ℕ) → n < length (view_for book words s).bidders →
+      IsKeptAt s (bidder_at (view_for book words s) n).known (bidder_at (view_for book words s) n).own
+  kept-at s n lt =
+      let nobody : Seen = record { known = None; points = []; own = None } in
+      let none : Farmer = record { bidder = record { known = None; curve = record { buy = []; sell = [] } }; words = [] } in
+      let lt' : n < length farmers = omega (arith, length-map farmers (seen_at book.grid s), lt) in
+      let farmer = get_or farmers n none in
+      let is : bidder_at (view_for book words s) n ≡ seen_at book.grid s farmer = get_or-map (seen_at book.grid s) farmers n none nobody lt' in
+      kept-from s (bidder_at (view_for book words s) n).known (bidder_at (view_for book words s) n).own (λ own. IsOfGrid book.grid own.0)
+      (seen-all book words b can s n nobody lt).own
+      (subst (λ (seen : Seen). IfSome seen.own (λ own. All IsWord own.1)) (sym is)
+      (own-from (λ own. All IsWord own.1) (names farmer.bidder.known s) (farmer.bidder.curve, farmer.words) (farmer-words n none lt')))
+
+  pub sound-for : (s : Point) → IsSound (member (trio_of (view_for book words)) s)
+  sound-for s =
+      subst IsSound (sym (member-trio (view_for book words) s))
+      (record {
+        masks = each-word (member words.masks s) (mask-words s);
+        coefficients = each-word (member words.coefficients s) (coefficient-words s);
+        kept = kept-at s;
+      })

@@ -1,0 +1,9 @@
+pub mod CommonPoints
+pub mod SameRuns
+pub mod Heard
+pub mod SharedPoints
+pub mod KeptWords
+pub mod ThirdFacts
+pub mod FreeFacts
+pub mod ThirdLaw
+pub mod BookViewFacts
