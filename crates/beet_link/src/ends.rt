@@ -3,6 +3,7 @@
 ghost use Rattle.std.specs.Prelude.{◌≡◌, MatchOption};
 ghost use Rattle.beet_link.specs.Ends.{IsNext, one_on};
 
+use crate::buffers::{Free, Read, free_buffer, give_back};
 use crate::rule::{Puts, Queue, QueuePass, Takes};
 use beet_round::RoundMessage;
 use std::alloc::Global;
@@ -15,6 +16,7 @@ use std::sync::{Arc, Wait};
 pub struct LinkTx {
     pub(crate) queue: Arc<Queue, Global>,
     pub(crate) pass: QueuePass,
+    pub(crate) free: Free,
 }
 
 impl Model for LinkTx {
@@ -39,6 +41,7 @@ impl Model for LinkTx {
 pub struct LinkRx {
     pub(crate) queue: Arc<Queue, Global>,
     pub(crate) pass: QueuePass,
+    pub(crate) read: Read,
 }
 
 impl Model for LinkRx {
@@ -57,12 +60,15 @@ impl Model for LinkRx {
 }
 
 impl LinkTx {
-    /// Puts the next message of the run. It is never refused, and takes no memory.
+    /// Puts the next message of the run. It is never refused, and takes no memory. Where both messages
+    /// before it are still to be taken, it waits.
     pub fn put<R: Wait>(&mut self, rt: &R, message: RoundMessage)
         requires { IsNext self.old message }
         ensures { self.new ≡ one_on self.old }
     {
-        match self.queue.push_as::<Puts, R>(rt, &mut self.pass, message) {
+        let mut buffer = free_buffer(rt, &mut self.free);
+        buffer.fill(message);
+        match self.queue.push_as::<Puts, R>(rt, &mut self.pass, buffer) {
             Ok(()) => (),
             Err(_) => unreachable!(),
         }
@@ -76,6 +82,12 @@ impl LinkRx {
         ensures { MatchOption result (self.new ≡ self.old)
             (λ m. IsNext self.old m × (self.new ≡ one_on self.old)) }
     {
-        self.queue.pop_as::<Takes, R>(rt, &mut self.pass)
+        if self.queue.is_empty_as::<Takes>(&mut self.pass) {
+            return None;
+        }
+        let buffer = self.queue.pop_as::<Takes, R>(rt, &mut self.pass)?;
+        let message = buffer.message();
+        give_back(&mut self.read, buffer);
+        Some(message)
     }
 }

@@ -2,6 +2,7 @@
 //! server meets before it puts its messages.
 #![tactic(auto)]
 
+mod buffers;
 mod ends;
 mod gates;
 mod opening;

@@ -5,6 +5,7 @@ ghost use Rattle.beet_server.specs.Cores.{AreFresh};
 ghost use Rattle.beet_link.specs.Ends.{end_at};
 ghost use Rattle.beet_link.specs.Streams.{stream_of};
 
+use crate::buffers::buffers;
 use crate::ends::{LinkRx, LinkTx};
 use crate::rule::{Known, Queue};
 use beet_field::{Point, Trio};
@@ -65,8 +66,8 @@ pub fn link<S: Script>(
 fn open<K: Named, S: Script>(
     alloc: Global,
     _cores: &Trio<ServerCore<S>>,
-    _from: Point,
-    _to: Point,
+    from: Point,
+    to: Point,
     capacity: usize,
 ) -> Result<(LinkTx, LinkRx), AllocError>
     requires positive { 0 < capacity }
@@ -77,11 +78,17 @@ fn open<K: Named, S: Script>(
     let other = queue.another::<TwoEnds<K>>(&mut first);
     let queue = Arc::new(alloc, queue)?;
     let theirs = Arc::try_clone(&queue)?;
+    let (free, read) = buffers(alloc, from, to)?;
     Ok((
-        LinkTx { queue, pass: first },
+        LinkTx {
+            queue,
+            pass: first,
+            free,
+        },
         LinkRx {
             queue: theirs,
             pass: other,
+            read,
         },
     ))
 }
