@@ -1,0 +1,198 @@
+-- The ends of errands: each is an answer that is done, or a refusal with its line.
+use Rattle.std.proofs.Common.{◌≡◌, ◌⊎◌, inl, inr, ℕ, List, [], ◌∷◌, ◌++◌, Option, Some, None, Bool, true, false, length, nat_lt, if◌then◌else◌, refl}
+use Rattle.std.specs.Prelude.{codes, Ok, Err, ◌+◌, ◌*◌, map}
+use Rattle.beet_field.specs.declared.trio.Trio.{Trio}
+use Rattle.beet_store.specs.Files.{File, Fetch, Told, bytes_of}
+use Rattle.beet_forms.specs.Faults.{Reading}
+use Rattle.beet_words.specs.Words.{accepted}
+use Rattle.beet_words.specs.Bundles.{bundle_of}
+use Rattle.beet_bids.specs.Grids.{Grid}
+use Rattle.beet_bids.specs.AuctionFiles.{auction_of}
+use Rattle.beet_bids.specs.BidFiles.{bid_of}
+use Rattle.beet_bids.specs.declared.book.Bidder.{Bidder}
+use Rattle.beet_book.specs.BookFiles.{book_of}
+use Rattle.beet_book.specs.ServerFiles.{servers_of}
+use Rattle.beet_book.specs.Farmers.{Farmer}
+use Rattle.beet_book.specs.declared.entries.Entry.{Entry}
+use Rattle.beet_book.specs.declared.entries.BidderSource.{BidderSource}
+use Rattle.beet_book.specs.declared.entries.BidderSource.TheVariants.{Seed, Tape}
+use Rattle.beet_book.specs.declared.server_file.TheConstants.{SERVERS_LIMIT}
+use Rattle.beet_book.specs.declared.book_file.TheConstants.{BOOK_LIMIT, MOST_PRODUCT}
+use Rattle.beet_book.specs.declared.sources.ServerSource.{ServerSource}
+use Rattle.beet_book.specs.declared.sources.ServerSource.TheVariants.{Seed as ServerSeed, Tapes}
+use Rattle.beet_book.specs.declared.sources.Servers.{Servers}
+use Rattle.beet_book.specs.declared.sources.Servers.TheVariants.{Three, Bundle}
+use Rattle.beet_bids.specs.declared.auction_file.TheConstants.{AUCTION_LIMIT}
+use Rattle.beet_bids.specs.declared.bid_file.TheConstants.{BID_LIMIT}
+use Rattle.beet_words.specs.TapeFiles.{tape_of}
+use Rattle.beet_words.specs.Seeds.{seed_words}
+use Rattle.beet_words.specs.declared.tape_file.TheConstants.{TAPE_LIMIT}
+use Rattle.beet_words.specs.declared.bundle.TheConstants.{BUNDLE_LIMIT}
+use Rattle.beet_plan.specs.Kept.{coefficients_kept, words_kept}
+use Rattle.beet_errand.specs.Errands.{Answer, Errand, Ends, Wants, Step, FetchAnswer, Bytes, Longer, Nothing, after_answer, after_fetch, answers, bad_file, judged, reads, too_long, with_bytes}
+use Rattle.beet_errand.specs.Fetches.{IsDone, Leads, LeadsBy, Went}
+use Rattle.beet_load.specs.Farmers.{enough_words, farmer_errand, farmers_errand, list_at, words_errand, words_wanted}
+use Rattle.beet_load.specs.Limits.{within_product}
+use Rattle.beet_load.specs.Loading.{loaded_errand}
+use Rattle.beet_load.specs.Servers.{ServerWords, all_words_errand, coefficients_wanted, counted, cut_servers, enough_held, enough_of, enough_of_all, masks_wanted, server_errand, source_errand, three_errand}
+use Rattle.beet_load.specs.Wholes.{bids_errand, curves_errand, limited_errand}
+use Rattle.beet_load.specs.WordTexts.{server_short_text, too_few_text}
+use Rattle.beet_errand.specs.declared.answer.Status.TheVariants.{TooFewWords}
+use Rattle.beet_load.specs.Limits.{over_product}
+use Rattle.beet_app_laws.specs.Leavings.{AreNames}
+use Rattle.beet_app_laws.specs.Refusals.{IsLineOf}
+
+-- of a command that ends with this word
+module _ (out : List ℕ) where
+  -- an answer that is done, with files under these names, or a refusal with its line, which puts no file
+  abbrev pub IsAnswer : Answer → Type 0
+  IsAnswer answer =
+      (IsDone answer.status × AreNames out (map (λ file. file.0) answer.files)) ⊎ (IsLineOf answer.status answer.text × (answer.files ≡ []))
+
+  -- whatever its files hold, an errand ends with such an answer
+  abbrev pub EndsWell : Errand → Type 0
+  EndsWell (Ends answer) = IsAnswer answer
+  EndsWell (Wants name limit next) = (bytes : List ℕ) → EndsWell (next bytes)
+
+  -- a step does, before whatever does
+  abbrev pub StepsWell : {A : Type 0} → Step A → Type 0
+  StepsWell {A = A} step = (next : A → Errand) → ((a : A) → EndsWell (next a)) → EndsWell (step next)
+
+  pub either : (b : Bool) (one other : Errand) → EndsWell one → EndsWell other → EndsWell (if b then one else other)
+  either true one other h k = h
+  either false one other h k = k
+
+  judged-well : {A : Type 0} (name : List ℕ) (reading : Reading A) → StepsWell (judged name reading)
+  judged-well name (Ok value) next h = h value
+  judged-well name (Err fault) next h = inr (record { name = name; fault = fault; is = refl }, refl)
+
+  pub reads-well : {A : Type 0} (name : List ℕ) (limit : ℕ) (grammar : List ℕ → Reading A) → StepsWell (reads name limit grammar)
+  reads-well name limit grammar next h = λ bytes. judged-well name (grammar bytes) next h
+
+  held-well : (name : List ℕ) (limit : ℕ) (next : List ℕ → Errand) (held : Option (List ℕ)) → ((bytes : List ℕ) → EndsWell (next bytes)) →
+      EndsWell (with_bytes name limit next held)
+  held-well name limit next None h = inr ((name, refl), refl)
+  held-well name limit next (Some bytes) h =
+      either (nat_lt limit (length bytes)) (bad_file name too_long) (next bytes) (inr (record { name = name; fault = too_long; is = refl }, refl)) (h bytes)
+
+  fetch-well : (files : List File) (name : List ℕ) (limit : ℕ) (next : List ℕ → Errand) (failed : Bool) →
+      ((bytes : List ℕ) → EndsWell (next bytes)) → EndsWell (after_fetch files name limit next failed)
+  fetch-well files name limit next true h = inr ((name, refl), refl)
+  fetch-well files name limit next false h = held-well name limit next (bytes_of files name) h
+
+  answer-well : (name : List ℕ) (next : List ℕ → Errand) (answer : FetchAnswer) → ((bytes : List ℕ) → EndsWell (next bytes)) →
+      EndsWell (after_answer name next answer)
+  answer-well name next (Bytes bytes) h = h bytes
+  answer-well name next Longer h = inr (record { name = name; fault = too_long; is = refl }, refl)
+  answer-well name next Nothing h = inr ((name, refl), refl)
+
+  leads-well : (files : List File) (fetches : List Fetch) (errand : Errand) (answer : Answer) → EndsWell errand →
+      Leads files fetches errand (Ends answer) → IsAnswer answer
+  leads-well files [] (Ends end) answer w e = let same : end ≡ answer = cc in rw same at w
+  leads-well files [] (Wants name limit next) answer w e = absurd cc
+  leads-well files (fetch ∷ fetches) (Ends end) answer w l = absurd l
+  leads-well files (fetch ∷ fetches) (Wants name limit next) answer w l =
+      leads-well files fetches (after_fetch files name limit next fetch.failed) answer (fetch-well files name limit next fetch.failed w) l.2
+
+  leads-by-well : (fetches : List FetchAnswer) (errand : Errand) (answer : Answer) → EndsWell errand →
+      LeadsBy fetches errand (Ends answer) → IsAnswer answer
+  leads-by-well [] (Ends end) answer w e = let same : end ≡ answer = cc in rw same at w
+  leads-by-well [] (Wants name limit next) answer w e = absurd cc
+  leads-by-well (fetch ∷ fetches) (Ends end) answer w l = absurd l
+  leads-by-well (fetch ∷ fetches) (Wants name limit next) answer w l =
+      leads-by-well fetches (after_answer name next fetch) answer (answer-well name next fetch w) l.1
+
+  -- where an errand has gone to its end, that is an answer
+  pub went-well : (told now : Option Told) (errand : Errand) (answer : Answer) → EndsWell errand → Went told now errand (Ends answer) → IsAnswer answer
+  went-well None now errand answer w (none, fetches, l) = leads-by-well fetches errand answer w l
+  went-well (Some told) now errand answer w (fetches, is, l) = leads-well told.files fetches errand answer w l
+
+  pub enough-well : (number wanted : ℕ) (words : List ℕ) (next : Errand) → EndsWell next → EndsWell (enough_words number wanted words next)
+  enough-well number wanted words next h =
+      either (nat_lt (length (accepted words)) wanted) (answers TooFewWords (too_few_text number (length (accepted words)) wanted)) next
+      (inr (inl (record { bidder = number; held = length (accepted words); wanted = wanted; is = refl }), refl)) h
+
+  pub words-well : (given : Option (List ℕ)) (source : BidderSource) (kept : ℕ) → StepsWell (words_errand given source kept)
+  words-well (Some words) source kept next h = h _
+  words-well None (Seed seed) kept next h = h (seed_words seed 0 kept)
+  words-well None (Tape name) kept next h = reads-well name TAPE_LIMIT (λ bytes. tape_of bytes kept) next h
+
+  farmer-well : (grid : Grid) (given : Option (List ℕ)) (number : ℕ) (entry : Entry) → StepsWell (farmer_errand grid given number entry)
+  farmer-well grid given number entry next h =
+      reads-well entry.bid BID_LIMIT (bid_of grid) _ (λ curve.
+      words-well given entry.source (words_kept grid.prices) _ (λ words.
+      enough-well number (words_wanted grid) words _ (h _)))
+
+  farmers-well : (grid : Grid) (lists : Option (List (List ℕ))) (read : List Farmer) (entries : List Entry) → StepsWell (farmers_errand grid lists read entries)
+  farmers-well grid lists read [] next h = h read
+  farmers-well grid lists read (entry ∷ entries) next h =
+      farmer-well grid (list_at lists (length read)) (length read + 1) entry _ (λ farmer. farmers-well grid lists (read ++ farmer ∷ []) entries next h)
+
+  pub bidders-well : (grid : Grid) (lists : Option (List (List ℕ))) (entries : List Entry) → StepsWell (farmers_errand grid lists [] entries)
+  bidders-well grid lists entries = farmers-well grid lists [] entries
+
+  source-well : (grid : Grid) (source : ServerSource) → StepsWell (source_errand grid source)
+  source-well grid (ServerSeed seed) next h = h _
+  source-well grid (Tapes coefficients masks) next h =
+      reads-well coefficients TAPE_LIMIT (λ bytes. tape_of bytes (coefficients_kept grid)) _ (λ numbers.
+      reads-well masks TAPE_LIMIT (λ bytes. tape_of bytes (masks_wanted grid)) _ (λ words. h _))
+
+  held-enough : (server : ℕ) (kind : List ℕ) (held wanted : ℕ) (next : Errand) → EndsWell next → EndsWell (enough_held server kind held wanted next)
+  held-enough server kind held wanted next h =
+      either (nat_lt held wanted) (answers TooFewWords (server_short_text server kind held wanted)) next
+      (inr (inr (record { server = server; kind = kind; held = held; wanted = wanted; is = refl }), refl)) h
+
+  one-enough : (grid : Grid) (server : ℕ) (words : ServerWords) (next : Errand) → EndsWell next → EndsWell (enough_of grid server words next)
+  one-enough grid server words next h =
+      held-enough server (codes "coefficients") (length (accepted words.coefficients)) (coefficients_wanted grid)
+      (enough_held server (codes "masks") (length words.masks) (masks_wanted grid) next)
+      (held-enough server (codes "masks") (length words.masks) (masks_wanted grid) next h)
+
+  pub servers-enough : (grid : Grid) (servers : Trio ServerWords) (next : Errand) → EndsWell next → EndsWell (enough_of_all grid servers next)
+  servers-enough grid servers next h =
+      one-enough grid 1 servers.one (enough_of grid 2 servers.two (enough_of grid 3 servers.three next))
+      (one-enough grid 2 servers.two (enough_of grid 3 servers.three next) (one-enough grid 3 servers.three next h))
+
+  server-well : (grid : Grid) (server : ℕ) (source : ServerSource) → StepsWell (server_errand grid server source)
+  server-well grid server source next h = source-well grid source _ (λ words. one-enough grid server words (next words) (h words))
+
+  three-well : (grid : Grid) (sources : Trio ServerSource) → StepsWell (three_errand grid sources)
+  three-well grid sources next h =
+      server-well grid 1 sources.one _ (λ one. server-well grid 2 sources.two _ (λ two. server-well grid 3 sources.three _ (λ three. h _)))
+
+  pub all-words-well : (grid : Grid) (count : Option ℕ) (sources : Servers) → StepsWell (all_words_errand grid count sources)
+  all-words-well grid count (Three sources) next h = three-well grid sources _ (λ servers. h (record { servers = servers; bidders = None }))
+  all-words-well grid count (Bundle name) next h =
+      reads-well name BUNDLE_LIMIT (λ bytes. counted count (bundle_of bytes)) _ (λ words. servers-enough grid (cut_servers grid words) _ (h _))
+
+  pub product-well : (book : List ℕ) (grid : Grid) (count : ℕ) (next : Errand) → EndsWell next → EndsWell (within_product book grid count next)
+  product-well book grid count next h =
+      either (nat_lt MOST_PRODUCT (count * grid.prices)) (bad_file book over_product) next (inr (record { name = book; fault = over_product; is = refl }, refl)) h
+
+  pub loaded-well : (auction servers book : List ℕ) → StepsWell (loaded_errand auction servers book)
+  unfolding loaded_errand
+  loaded-well auction servers book next h =
+      reads-well auction AUCTION_LIMIT auction_of _ (λ grid.
+      reads-well servers SERVERS_LIMIT servers_of _ (λ sources.
+      reads-well book BOOK_LIMIT book_of _ (λ entries.
+      all-words-well grid (Some (length entries)) sources _ (λ words.
+      bidders-well grid words.bidders entries _ (λ farmers. h (record { grid = grid; servers = words.servers; farmers = farmers }))))))
+
+  pub limited-well : (auction servers book : List ℕ) → StepsWell (limited_errand auction servers book)
+  unfolding limited_errand
+  limited-well auction servers book next h =
+      reads-well auction AUCTION_LIMIT auction_of _ (λ grid.
+      reads-well servers SERVERS_LIMIT servers_of _ (λ sources.
+      reads-well book BOOK_LIMIT book_of _ (λ entries.
+      product-well book grid (length entries) _ (
+      all-words-well grid (Some (length entries)) sources _ (λ words.
+      bidders-well grid words.bidders entries _ (λ farmers. h (record { grid = grid; servers = words.servers; farmers = farmers })))))))
+
+  bids-well : (grid : Grid) (read : List Bidder) (entries : List Entry) → StepsWell (bids_errand grid read entries)
+  bids-well grid read [] next h = h read
+  bids-well grid read (entry ∷ entries) next h =
+      reads-well entry.bid BID_LIMIT (bid_of grid) _ (λ curve. bids-well grid (read ++ record { known = entry.known; curve = curve } ∷ []) entries next h)
+
+  pub curves-well : (book : List ℕ) (grid : Grid) → StepsWell (curves_errand book grid)
+  curves-well book grid next h =
+      reads-well book BOOK_LIMIT book_of _ (λ entries. product-well book grid (length entries) _ (bids-well grid [] entries next h))

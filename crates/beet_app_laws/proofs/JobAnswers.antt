@@ -1,0 +1,288 @@
+-- The ends of the errand of each job.
+use Rattle.std.proofs.Common.{◌≡◌, inl, inr, ℕ, List, [], ◌∷◌, ◌++◌, Option, Some, None, Bool, true, false, if◌then◌else◌, option_map, ap, refl, subst, sym}
+use Rattle.std.specs.Prelude.{◌&&◌, codes, ◌==◌, ◌+◌, map}
+use Rattle.beet_field.specs.declared.point.Point.{Point}
+use Rattle.beet_field.specs.declared.point.Point.TheVariants.{One, Two, Three as ThreeAt}
+use Rattle.beet_field.specs.Trio.{of_each}
+use Rattle.beet_field.specs.declared.trio.Trio.{Trio}
+use Rattle.beet_store.specs.Files.{Told}
+use Rattle.beet_auction.specs.AnyPoints.{points_finish}
+use Rattle.beet_auction.specs.Endings.{book_finish}
+use Rattle.beet_bids.specs.Grids.{Grid}
+use Rattle.beet_bids.specs.AuctionFiles.{auction_of}
+use Rattle.beet_bids.specs.BidFiles.{bid_of}
+use Rattle.beet_bids.specs.declared.auction_file.TheConstants.{AUCTION_LIMIT}
+use Rattle.beet_bids.specs.declared.bid_file.TheConstants.{BID_LIMIT}
+use Rattle.beet_book.specs.BookFiles.{book_of}
+use Rattle.beet_book.specs.ServerFiles.{servers_of}
+use Rattle.beet_book.specs.Farmers.{Farmer, book_with}
+use Rattle.beet_book.specs.PointSums.{inputs_at}
+use Rattle.beet_book.specs.declared.book_file.TheConstants.{BOOK_LIMIT}
+use Rattle.beet_book.specs.declared.entries.BidderSource.{BidderSource}
+use Rattle.beet_book.specs.declared.server_file.TheConstants.{SERVERS_LIMIT}
+use Rattle.beet_book.specs.declared.sources.Servers.{Servers}
+use Rattle.beet_farmer.specs.Envelopes.{envelope_of}
+use Rattle.beet_farmer.specs.Lists.{list_of}
+use Rattle.beet_farmer.specs.declared.envelope.TheConstants.{ENVELOPE_LIMIT}
+use Rattle.beet_farmer.specs.declared.list_file.ListEntry.{ListEntry}
+use Rattle.beet_farmer.specs.declared.list_file.TheConstants.{LIST_LIMIT}
+use Rattle.beet_forms.specs.declared.faults.TheConstants.{LONGEST_FILE as TRANSCRIPT_LIMIT}
+use Rattle.beet_plan.specs.Auction.{auction_over}
+use Rattle.beet_plan.specs.Kept.{words_kept}
+use Rattle.beet_plan.specs.declared.Finish.{Finish}
+use Rattle.beet_plan.specs.declared.Finish.TheVariants.{Price, NoPrice, MasksSpent}
+use Rattle.beet_view.specs.Transcripts.{view_in}
+use Rattle.beet_world.specs.Schedules.{schedule_of, server_of}
+use Rattle.beet_world.specs.declared.schedule.TheConstants.{SCHEDULE_LIMIT}
+use Rattle.beet_worlds.specs.declared.agreeing.MapFault.{MapFault}
+use Rattle.beet_errand.specs.Errands.{Answer, Errand, Ends, bad_file, reads}
+use Rattle.beet_errand.specs.Fetches.{IsDone}
+use Rattle.beet_errand.specs.declared.answer.Status.TheVariants.{Done, MasksSpent as Spent}
+use Rattle.beet_load.specs.Farmers.{farmers_errand, words_wanted}
+use Rattle.beet_load.specs.Servers.{masks_of}
+use Rattle.beet_run.specs.Outcomes.{status_of}
+use Rattle.beet_tally.specs.Tally.{not_one_price, tally_errand, tally_job, tallied}
+use Rattle.beet_clear.specs.Clear.{clear_errand}
+use Rattle.beet_rehearse.specs.Rehearse.{rehearse_errand}
+use Rattle.beet_record.specs.Records.{record_errand}
+use Rattle.beet_envelopes.specs.Gather.{bidders_errand, envelopes_errand}
+use Rattle.beet_envelopes.specs.Open.{entries_job, open_errand, open_job}
+use Rattle.beet_envelopes.specs.Seal.{seal_errand, seal_job}
+use Rattle.beet_envelopes.specs.SourceWords.{source_word}
+use Rattle.beet_trial.specs.Adding.{enough_of_each}
+use Rattle.beet_trial.specs.Rules.{trial_book, trial_farmers, trial_grid, trial_servers}
+use Rattle.beet_trial.specs.Sizes.{sizes_of}
+use Rattle.beet_trial.specs.Trial.{trial_errand}
+use Rattle.beet_two_worlds.specs.Differences.{difference_between}
+use Rattle.beet_two_worlds.specs.Ending.{compared_errand, unless_differing, ShowsWorlds}
+use Rattle.beet_two_worlds.specs.Reading.{both_errand, first_book, second_book, words_read}
+use Rattle.beet_audit.specs.Audits.{recombined_book}
+use Rattle.beet_audit.specs.declared.fault.AuditFault.{AuditFault}
+use Rattle.beet_auditor.specs.Ending.{ShowsAudit, audit_answer}
+use Rattle.beet_auditor.specs.Reading.{read_errand}
+use Rattle.beet_auditor.specs.declared.reading.ReadViews.{ReadViews}
+use Rattle.beet_app.specs.Jobs.{Job, Answering, Comparing, Auditing, are_names, is_word, job_of, job_of_two, job_of_three, job_of_four, job_of_six, seal_of}
+use Rattle.beet_forms.specs.Names.{is_name_of}
+use Rattle.beet_app_laws.specs.Leavings.{last_word}
+use Rattle.beet_app_laws.proofs.Answers.{EndsWell, IsAnswer, StepsWell, all-words-well, bidders-well, curves-well, either, enough-well, limited-well, loaded-well, reads-well, servers-enough, words-well}
+
+pub finish-done : (finish : Finish) → IsDone (status_of finish)
+finish-done (Price place volume supply) = inl refl
+finish-done NoPrice = inl refl
+finish-done MasksSpent = inr refl
+
+rehearsal-done : (one : Bool) → IsDone (if one then Spent else Done)
+rehearsal-done true = inr refl
+rehearsal-done false = inl refl
+
+-- of a command that ends with this word
+module _ (out : List ℕ) where
+  tally-well : (auction book : List ℕ) → EndsWell out (tally_errand auction book)
+  unfolding tally_job
+  tally-well auction book =
+      reads-well out auction AUCTION_LIMIT auction_of _ (λ grid.
+      either out (grid.prices == 1) (reads book BOOK_LIMIT book_of (λ entries. farmers_errand grid None [] entries (λ farmers. Ends (tallied farmers))))
+      (bad_file auction not_one_price) (
+      reads-well out book BOOK_LIMIT book_of _ (λ entries.
+      bidders-well out grid None entries _ (λ farmers. inl (inl refl, inl refl)))) (inr (record { name = auction; fault = not_one_price; is = refl }, refl)))
+
+  clear-well : (auction servers book : List ℕ) → EndsWell out (clear_errand auction servers book)
+  clear-well auction servers book = loaded-well out auction servers book _ (λ loaded.
+      inl (finish-done (book_finish (book_with loaded.grid loaded.farmers) (masks_of loaded.servers)), inl refl))
+
+  rehearse-well : (auction servers book schedule : List ℕ) → EndsWell out (rehearse_errand auction servers book schedule)
+  rehearse-well auction servers book schedule = loaded-well out auction servers book _ (λ loaded.
+      reads-well out schedule SCHEDULE_LIMIT schedule_of _ (λ deliveries. inl (rehearsal-done _, inl refl)))
+
+  record-well : (auction servers book : List ℕ) → EndsWell out (record_errand auction servers book out)
+  record-well auction servers book = limited-well out auction servers book _ (λ loaded.
+      inl (finish-done (book_finish (book_with loaded.grid loaded.farmers) (masks_of loaded.servers)), inr (inl refl)))
+
+  seal-well : (auction bid : List ℕ) (source : BidderSource) → EndsWell out (seal_errand auction bid source out)
+  unfolding seal_job
+  seal-well auction bid source =
+      reads-well out auction AUCTION_LIMIT auction_of _ (λ grid.
+      reads-well out bid BID_LIMIT (bid_of grid) _ (λ curve.
+      words-well out None source (words_kept grid.prices) _ (λ words.
+      enough-well out 1 (words_wanted grid) words _ (inl (inl refl, inr (inl refl))))))
+
+  envelopes-well : (grid : Grid) (names : Trio (List ℕ)) → StepsWell out (envelopes_errand grid names)
+  envelopes-well grid names next h =
+      reads-well out names.one ENVELOPE_LIMIT (envelope_of grid One) _ (λ one.
+      reads-well out names.two ENVELOPE_LIMIT (envelope_of grid Two) _ (λ two.
+      reads-well out names.three ENVELOPE_LIMIT (envelope_of grid ThreeAt) _ (λ three. h _)))
+
+  sealed-well : (grid : Grid) (read : List (Trio (List ℕ))) (entries : List ListEntry) → StepsWell out (bidders_errand grid read entries)
+  sealed-well grid read [] next h = h read
+  sealed-well grid read (entry ∷ entries) next h =
+      envelopes-well grid entry.envelopes _ (λ points. sealed-well grid (read ++ points ∷ []) entries next h)
+
+  entries-well : (grid : Grid) (sources : Servers) (entries : List ListEntry) → EndsWell out (entries_job grid sources entries Ends)
+  unfolding entries_job
+  entries-well grid sources entries =
+      all-words-well out grid None sources _ (λ words. sealed-well grid [] entries _ (λ bidders.
+      inl (finish-done (points_finish (auction_over grid) (inputs_at grid.prices bidders) (masks_of words.servers)), inl refl)))
+
+  open-well : (auction servers list : List ℕ) → EndsWell out (open_errand auction servers list)
+  unfolding open_job
+  open-well auction servers list =
+      reads-well out auction AUCTION_LIMIT auction_of _ (λ grid.
+      reads-well out servers SERVERS_LIMIT servers_of _ (λ sources.
+      reads-well out list LIST_LIMIT list_of _ (λ entries. entries-well grid sources entries)))
+
+  each-enough : (grid : Grid) (number : ℕ) (farmers : List Farmer) (next : Errand) → EndsWell out next → EndsWell out (enough_of_each grid number farmers next)
+  each-enough grid number [] next h = h
+  each-enough grid number (farmer ∷ farmers) next h =
+      enough-well out number (words_wanted grid) farmer.words _ (each-enough grid (number + 1) farmers next h)
+
+  trial-well : (bidders prices : ℕ) → EndsWell out (trial_errand bidders prices)
+  trial-well bidders prices =
+      let grid = trial_grid prices in
+      servers-enough out grid (trial_servers grid) _ (each-enough grid 1 (trial_farmers grid bidders) _ (inl (finish-done (book_finish (trial_book grid bidders) (masks_of (trial_servers grid))), inl refl)))
+
+  differing-well : (difference : Option MapFault) (next : Errand) → EndsWell out next → EndsWell out (unless_differing difference next)
+  differing-well None next h = h
+  differing-well (Some difference) next h = inr ((difference, refl), refl)
+
+  both-well : (auction servers first second : List ℕ) → StepsWell out (both_errand auction servers first second)
+  unfolding both_errand
+  both-well auction servers first second next h =
+      limited-well out auction servers first _ (λ one. curves-well out second one.grid _ (λ bidders. h _))
+
+  pub compared-well : (auction servers first second : List ℕ) (s : Point) → StepsWell out (compared_errand auction servers first second s)
+  compared-well auction servers first second s next h =
+      both-well auction servers first second _ (λ both. differing-well (difference_between s (first_book both) (second_book both)) (next both) (h both))
+
+  pub read-well : (auction one two three : List ℕ) → StepsWell out (read_errand auction one two three)
+  unfolding read_errand
+  read-well auction one two three next h =
+      reads-well out auction AUCTION_LIMIT auction_of _ (λ grid.
+      reads-well out one TRANSCRIPT_LIMIT view_in _ (λ first.
+      reads-well out two TRANSCRIPT_LIMIT view_in _ (λ second.
+      reads-well out three TRANSCRIPT_LIMIT view_in _ (λ third. h _))))
+
+  -- the errand of a job ends so; what compares two worlds or audits transcripts has none of its own, and names its files after this word
+  abbrev pub JobEndsWell : Option Job → Type 0
+  JobEndsWell None = Unit {0}
+  JobEndsWell (Some (Answering errand)) = EndsWell out errand
+  JobEndsWell (Some (Comparing auction servers first second s name)) = name ≡ out
+  JobEndsWell (Some (Auditing auction one two three)) = Unit {0}
+
+  choice : (b : Bool) (one other : Option Job) → JobEndsWell one → JobEndsWell other → JobEndsWell (if b then one else other)
+  choice true one other h k = h
+  choice false one other h k = k
+
+  sized : (sizes : Option (ℕ × ℕ)) → JobEndsWell (option_map (λ s. Answering (trial_errand s.0 s.1)) sizes)
+  sized None = tt
+  sized (Some sizes) = trial-well sizes.0 sizes.1
+
+  two-well : (command first second : List ℕ) → JobEndsWell (job_of_two command first second)
+  two-well command first second =
+      let trial = option_map (λ s. Answering (trial_errand s.0 s.1)) (sizes_of first second) in
+      choice (is_word command (codes "tally") && are_names (first ∷ second ∷ [])) (Some (Answering (tally_errand first second)))
+      (if is_word command (codes "trial") then trial else None) (tally-well first second)
+      (choice (is_word command (codes "trial")) trial None (sized (sizes_of first second)) tt)
+
+  open-or : (command first second third : List ℕ) →
+      JobEndsWell (if is_word command (codes "open") then Some (Answering (open_errand first second third)) else None)
+  open-or command first second third =
+      choice (is_word command (codes "open")) (Some (Answering (open_errand first second third))) None (open-well first second third) tt
+
+  clear-or : (command first second third : List ℕ) →
+      JobEndsWell (if is_word command (codes "clear") then Some (Answering (clear_errand first second third))
+      else if is_word command (codes "open") then Some (Answering (open_errand first second third)) else None)
+  clear-or command first second third =
+      choice (is_word command (codes "clear")) (Some (Answering (clear_errand first second third)))
+      (if is_word command (codes "open") then Some (Answering (open_errand first second third)) else None)
+      (clear-well first second third) (open-or command first second third)
+
+  three-words-well : (command first second third : List ℕ) → JobEndsWell (job_of_three command first second third)
+  three-words-well command first second third =
+      choice (are_names (first ∷ second ∷ third ∷ []))
+      (if is_word command (codes "clear") then Some (Answering (clear_errand first second third))
+      else if is_word command (codes "open") then Some (Answering (open_errand first second third)) else None)
+      None (clear-or command first second third) tt
+
+  sourced : (auction bid : List ℕ) (source : Option BidderSource) →
+      JobEndsWell (option_map (λ from. Answering (seal_errand auction bid from out)) source)
+  sourced auction bid None = tt
+  sourced auction bid (Some source) = seal-well auction bid source
+
+  abbrev audit_or : List ℕ → List ℕ → List ℕ → List ℕ → Option Job
+  audit_or command first second third = if is_word command (codes "audit") then Some (Auditing first second third out) else None
+
+  abbrev record_or : List ℕ → List ℕ → List ℕ → List ℕ → Option Job
+  record_or command first second third =
+      if is_word command (codes "record") then Some (Answering (record_errand first second third out)) else audit_or command first second third
+
+  abbrev rehearse_or : List ℕ → List ℕ → List ℕ → List ℕ → Option Job
+  rehearse_or command first second third =
+      if is_word command (codes "rehearse") then Some (Answering (rehearse_errand first second third out)) else record_or command first second third
+
+  abbrev file_or : List ℕ → List ℕ → List ℕ → List ℕ → Option Job
+  file_or command first second third = if is_name_of third then rehearse_or command first second third else None
+
+  audit-well : (command first second third : List ℕ) → JobEndsWell (audit_or command first second third)
+  audit-well command first second third = choice (is_word command (codes "audit")) (Some (Auditing first second third out)) None tt tt
+
+  record-or : (command first second third : List ℕ) → JobEndsWell (record_or command first second third)
+  record-or command first second third =
+      choice (is_word command (codes "record")) (Some (Answering (record_errand first second third out))) (audit_or command first second third)
+      (record-well first second third) (audit-well command first second third)
+
+  rehearse-or : (command first second third : List ℕ) → JobEndsWell (rehearse_or command first second third)
+  rehearse-or command first second third =
+      choice (is_word command (codes "rehearse")) (Some (Answering (rehearse_errand first second third out))) (record_or command first second third)
+      (rehearse-well first second third out) (record-or command first second third)
+
+  file-or : (command first second third : List ℕ) → JobEndsWell (file_or command first second third)
+  file-or command first second third =
+      choice (is_name_of third) (rehearse_or command first second third) None (rehearse-or command first second third) tt
+
+  seal-or : (command first second third : List ℕ) →
+      JobEndsWell (if is_word command (codes "seal") then seal_of first second third out else file_or command first second third)
+  seal-or command first second third =
+      choice (is_word command (codes "seal")) (seal_of first second third out) (file_or command first second third)
+      (sourced first second (source_word third)) (file-or command first second third)
+
+  four-well : (command first second third : List ℕ) → JobEndsWell (job_of_four command first second third out)
+  four-well command first second third =
+      choice (are_names (first ∷ second ∷ out ∷ []))
+      (if is_word command (codes "seal") then seal_of first second third out else file_or command first second third) None
+      (seal-or command first second third) tt
+
+  server-named : (auction servers first second : List ℕ) (server : Option Point) →
+      JobEndsWell (option_map (λ s. Comparing auction servers first second s out) server)
+  server-named auction servers first second None = tt
+  server-named auction servers first second (Some s) = refl
+
+  six-well : (command auction servers first second server : List ℕ) → JobEndsWell (job_of_six command auction servers first second server out)
+  six-well command auction servers first second server =
+      choice (is_word command (codes "worlds") && are_names (auction ∷ servers ∷ first ∷ second ∷ out ∷ []))
+      (option_map (λ s. Comparing auction servers first second s out) (server_of server)) None
+      (server-named auction servers first second (server_of server)) tt
+
+  -- the answer that shows two worlds is done
+  pub shown-well : {old now : Option Told} {auction servers first second : List ℕ} {s : Point} (answer : Answer) →
+      ShowsWorlds old now auction servers first second s out answer → IsAnswer out answer
+  shown-well answer w =
+      let end = book_finish (first_book w.both) (words_read w.both).masks in
+      let is : answer.status ≡ status_of end = ap (λ (a : Answer). a.status) w.same.is in
+      inl (subst IsDone (sym is) (finish-done end), inr (inr (ap (λ (a : Answer). map (λ file. file.0) a.files) w.same.is)))
+
+  found-well : (read : ReadViews) (found : Option AuditFault) → IsAnswer out (audit_answer read found)
+  found-well read None =
+      inl (finish-done (book_finish (recombined_book read.grid read.views) (of_each (λ view. view.masks) read.views)), inl refl)
+  found-well read (Some fault) = inr ((fault, refl), refl)
+
+  -- and so is that of an audit, or it is the refusal
+  pub audited-well : {old now : Option Told} {auction one two three : List ℕ} (answer : Answer) → ShowsAudit old now auction one two three answer → IsAnswer out answer
+  audited-well answer w = subst (IsAnswer out) (sym w.tells.is) (found-well w.read w.tells.found)
+
+-- the job that words name ends so
+pub job-well : (words : List (List ℕ)) → JobEndsWell (last_word words) (job_of words)
+job-well (command ∷ a ∷ b ∷ []) = two-well b command a b
+job-well (command ∷ a ∷ b ∷ c ∷ []) = three-words-well c command a b c
+job-well (command ∷ a ∷ b ∷ c ∷ d ∷ []) = four-well d command a b c
+job-well (command ∷ a ∷ b ∷ c ∷ d ∷ e ∷ f ∷ []) = six-well f command a b c d e
+job-well words = tt

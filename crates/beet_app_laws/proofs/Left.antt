@@ -1,0 +1,170 @@
+-- What a run leaves, by its exit status.
+use Rattle.std.proofs.Common.{◌≡◌, ◌⊎◌, inl, inr, ℕ, List, [], ◌∷◌, Option, Some, None, Ok, Err, ap, sym, subst, ◌∙◌, arith, refl}
+use Rattle.std.specs.Prelude.{map}
+use Rattle.beet_store.specs.Files.{File, Told}
+use Rattle.beet_store.specs.Desks.{Given, Done, GivesCall, Put}
+use Rattle.beet_store.specs.declared.desk.PutFault.{PutFault}
+use Rattle.beet_store.specs.declared.desk.PutFault.TheVariants.{Failed, OutOfMemory as NoMemoryToPut}
+use Rattle.beet_errand.specs.Errands.{Answer, Errand, Ends, Wants, answers}
+use Rattle.beet_errand.specs.Fetches.{Went}
+use Rattle.beet_errand.specs.Statuses.{code_of}
+use Rattle.beet_errand.specs.declared.answer.Status.{Status}
+use Rattle.beet_errand.specs.declared.answer.Status.TheVariants.{Done as JobDone, OutOfMemory as NoMemory, Usage, ReadFault, WriteFault, BadFile, MasksSpent, WorldsRefused, AuditRefused, TooFewWords}
+use Rattle.beet_answer.specs.Runs.{EndsBy, GivesAll, Runs, Said, status_after}
+use Rattle.beet_app.specs.Doing.{OfJob}
+use Rattle.beet_app.specs.Jobs.{Job, Answering, Comparing, Auditing, job_of}
+use Rattle.beet_app.specs.Texts.{usage_text}
+use Rattle.beet_two_worlds.specs.Ending.{ShowsWorlds, compared_errand}
+use Rattle.beet_auditor.specs.Reading.{read_errand}
+use Rattle.beet_app_laws.specs.Leavings.{AreNames, IsRefusal, LeavesBy, SaysNothing, last_word}
+use Rattle.beet_app_laws.specs.Refusals.{IsLineOf}
+use Rattle.beet_app_laws.proofs.Answers.{EndsWell, IsAnswer, went-well}
+use Rattle.beet_app_laws.proofs.JobAnswers.{JobEndsWell, audited-well, compared-well, job-well, read-well, shown-well}
+
+-- no other status is that of a refusal
+apart : (n : ℕ) → IsRefusal n → (n ≡ 0 → ⊥) × (n ≡ 1 → ⊥) × (n ≡ 4 → ⊥) × (n ≡ 6 → ⊥)
+apart n (inl e) = (λ f. omega (arith, e, f), λ f. omega (arith, e, f), λ f. omega (arith, e, f), λ f. omega (arith, e, f))
+apart n (inr (inl e)) = (λ f. omega (arith, e, f), λ f. omega (arith, e, f), λ f. omega (arith, e, f), λ f. omega (arith, e, f))
+apart n (inr (inr (inl e))) = (λ f. omega (arith, e, f), λ f. omega (arith, e, f), λ f. omega (arith, e, f), λ f. omega (arith, e, f))
+apart n (inr (inr (inr (inl e)))) = (λ f. omega (arith, e, f), λ f. omega (arith, e, f), λ f. omega (arith, e, f), λ f. omega (arith, e, f))
+apart n (inr (inr (inr (inr (inl e))))) = (λ f. omega (arith, e, f), λ f. omega (arith, e, f), λ f. omega (arith, e, f), λ f. omega (arith, e, f))
+apart n (inr (inr (inr (inr (inr e))))) = (λ f. omega (arith, e, f), λ f. omega (arith, e, f), λ f. omega (arith, e, f), λ f. omega (arith, e, f))
+
+-- a refusal's status is one of a refusal
+refusal-code : (refusal : Status) (line : List ℕ) → IsLineOf refusal line → IsRefusal (code_of refusal)
+refusal-code JobDone line h = absurd h
+refusal-code NoMemory line h = absurd h
+refusal-code Usage line h = inl refl
+refusal-code ReadFault line h = inr (inl refl)
+refusal-code WriteFault line h = absurd h
+refusal-code BadFile line h = inr (inr (inl refl))
+refusal-code MasksSpent line h = absurd h
+refusal-code WorldsRefused line h = inr (inr (inr (inl refl)))
+refusal-code AuditRefused line h = inr (inr (inr (inr (inl refl))))
+refusal-code TooFewWords line h = inr (inr (inr (inr (inr refl))))
+
+module _ (out : List ℕ) (status : ℕ) (given now : Option Given) where
+  at-memory : status ≡ 1 → SaysNothing given now → LeavesBy out status given now
+  at-memory e h = record {
+    memory = λ f. h;
+    refused = λ r. absurd ((apart status r).1 e);
+    write = λ f. absurd (omega (arith, e, f));
+    whole = λ w. absurd (elim w [ inl f ↦ omega (arith, e, f) | inr f ↦ omega (arith, e, f) ]);
+  }
+
+  at-fault : (files : List File) (text : List ℕ) → AreNames out (map (λ file. file.0) files) → status ≡ 4 → GivesAll given now files text (Err Failed) → LeavesBy out status given now
+  at-fault files text names e calls = record {
+    memory = λ f. absurd (omega (arith, e, f));
+    refused = λ r. absurd ((apart status r).2 e);
+    write = λ f. record { files = files; names = names; text = text; calls = calls };
+    whole = λ w. absurd (elim w [ inl f ↦ omega (arith, e, f) | inr f ↦ omega (arith, e, f) ]);
+  }
+
+  at-end : (files : List File) (text : List ℕ) → AreNames out (map (λ file. file.0) files) → (status ≡ 0) ⊎ (status ≡ 6) → GivesAll given now files text (Ok tt) → LeavesBy out status given now
+  at-end files text names (inl e) calls = record {
+    memory = λ f. absurd (omega (arith, e, f));
+    refused = λ r. absurd ((apart status r).0 e);
+    write = λ f. absurd (omega (arith, e, f));
+    whole = λ w. record { files = files; names = names; text = text; calls = calls };
+  }
+  at-end files text names (inr e) calls = record {
+    memory = λ f. absurd (omega (arith, e, f));
+    refused = λ r. absurd ((apart status r).3 e);
+    write = λ f. absurd (omega (arith, e, f));
+    whole = λ w. record { files = files; names = names; text = text; calls = calls };
+  }
+
+  at-refusal : (refusal : Status) (line : List ℕ) → status ≡ code_of refusal → IsLineOf refusal line → Said given now line → LeavesBy out status given now
+  at-refusal refusal line e h said =
+      let is : IsRefusal status = subst IsRefusal (sym e) (refusal-code refusal line h) in record {
+        memory = λ f. absurd ((apart status is).1 f);
+        refused = λ r. record { refusal = refusal; code = e; line = line; is_line = h; said = said };
+        write = λ f. absurd ((apart status is).2 f);
+        whole = λ w. absurd (elim w [ inl f ↦ (apart status is).0 f | inr f ↦ (apart status is).3 f ]);
+      }
+
+said-on : (given middle : Given) (now : Option Given) → middle.said ≡ given.said → SaysNothing (Some middle) now → SaysNothing (Some given) now
+said-on given middle None e h = absurd h
+said-on given middle (Some now) e h = h ∙ e
+
+-- where a put found no memory, nothing was said
+silent-put : (file : File) (fault : PutFault) (given now : Option Given) → NoMemoryToPut ≡ fault → GivesCall given now (Put file.0 file.1 (Err fault)) →
+    SaysNothing given now
+silent-put file Failed given now e call = absurd cc
+silent-put file NoMemoryToPut None now e call = call
+silent-put file NoMemoryToPut (Some given) None e call = absurd call
+silent-put file NoMemoryToPut (Some given) (Some now) e call = call.0.said
+
+-- where a call found no memory, nothing was said
+silent : (files : List File) (text : List ℕ) (given now : Option Given) → GivesAll given now files text (Err NoMemoryToPut) → SaysNothing given now
+silent [] text None now call = call
+silent [] text (Some given) None call = absurd call
+silent [] text (Some given) (Some now) call = call.0.said
+silent (file ∷ files) text None now (inl (None, put, rest)) = silent files text None now rest
+silent (file ∷ files) text None now (inl (Some middle, put, rest)) = absurd cc
+silent (file ∷ files) text (Some given) now (inl (None, put, rest)) = absurd put
+silent (file ∷ files) text (Some given) now (inl (Some middle, put, rest)) =
+    said-on given middle now put.0.rest.said (silent files text (Some middle) now rest)
+silent (file ∷ files) text given now (inr (fault, e, put)) =
+    let same : NoMemoryToPut ≡ fault = cc in silent-put file fault given now same put
+
+same-says-nothing : (given now : Option Given) → now ≡ given → SaysNothing given now
+same-says-nothing None now e = e
+same-says-nothing (Some given) None e = absurd cc
+same-says-nothing (Some given) (Some now) e = let same : now ≡ given = cc in ap (λ (g : Given). g.said) same
+
+-- a line that goes out alone is said
+alone : (files : List File) (text : List ℕ) (given now : Option Given) → files ≡ [] → GivesAll given now files text (Ok tt) → Said given now text
+alone [] text given now e calls = calls
+alone (file ∷ files) text given now e calls = absurd cc
+
+-- the names of the files of an answer
+names-of : (out : List ℕ) (answer : Answer) → IsAnswer out answer → AreNames out (map (λ file. file.0) answer.files)
+names-of out answer (inl (done, names)) = names
+names-of out answer (inr (line, none)) = inl (ap (λ files. map (λ (file : File). file.0) files) none)
+
+module _ (out : List ℕ) (status : ℕ) (given now : Option Given) where
+  -- an answer that went out whole
+  whole-left : (answer : Answer) → IsAnswer out answer → status ≡ code_of answer.status →
+      GivesAll given now answer.files answer.text (Ok tt) → LeavesBy out status given now
+  whole-left answer (inl (inl done, names)) e calls = at-end out status given now answer.files answer.text names (inl (e ∙ ap code_of done)) calls
+  whole-left answer (inl (inr spent, names)) e calls = at-end out status given now answer.files answer.text names (inr (e ∙ ap code_of spent)) calls
+  whole-left answer (inr (line, none)) e calls =
+      at-refusal out status given now answer.status answer.text e line (alone answer.files answer.text given now none calls)
+
+  out-left : (answer : Answer) → IsAnswer out answer → (done : Done) → status ≡ code_of (status_after answer.status done) →
+      GivesAll given now answer.files answer.text done → LeavesBy out status given now
+  out-left answer w (Ok tt) e calls = whole-left answer w e calls
+  out-left answer w (Err Failed) e calls = at-fault out status given now answer.files answer.text (names-of out answer w) e calls
+  out-left answer w (Err NoMemoryToPut) e calls = at-memory out status given now e (silent answer.files answer.text given now calls)
+
+  -- a run of an errand that ends well
+  runs-left : (errand rest : Errand) (told told_now : Option Told) → EndsWell out errand → Went told told_now errand rest →
+      EndsBy rest given now status → LeavesBy out status given now
+  runs-left errand (Ends answer) told told_now w went (inl goes) =
+      out-left answer (went-well out told told_now errand answer w went) goes.done goes.code goes.calls
+  runs-left errand (Ends answer) told told_now w went (inr runs) = at-memory out status given now runs.code (same-says-nothing given now runs.same)
+  runs-left errand (Wants name limit next) told told_now w went runs = at-memory out status given now runs.code (same-says-nothing given now runs.same)
+
+  run-left : (errand : Errand) (told told_now : Option Told) → EndsWell out errand → Runs errand told told_now given now status → LeavesBy out status given now
+  run-left errand told told_now w r = runs-left errand r.rest told told_now w r.went r.ends
+
+  -- any answer stands for what comes after a step that ends well
+  job-left : (job : Option Job) (told told_now : Option Told) → JobEndsWell out job →
+      OfJob job told told_now (λ before errand. Runs errand before told_now given now status) → LeavesBy out status given now
+  job-left None told told_now w r = run-left (answers Usage usage_text) told told_now (inr (refl, refl)) r
+  job-left (Some (Answering errand)) told told_now w r = run-left errand told told_now w r
+  job-left (Some (Comparing auction servers first second s name)) told told_now w (inl (answer, shows, r)) =
+      run-left (Ends answer) told_now told_now (shown-well out answer (subst (λ n. ShowsWorlds told told_now auction servers first second s n answer) w shows)) r
+  job-left (Some (Comparing auction servers first second s name)) told told_now w (inr f) =
+      run-left (compared_errand auction servers first second s (λ both. answers JobDone [])) told told_now
+      (compared-well out auction servers first second s (λ both. answers JobDone []) (λ both. inl (inl refl, inl refl))) (f (λ both. answers JobDone []))
+  job-left (Some (Auditing auction one two three)) told told_now w (inl (answer, shows, r)) =
+      run-left (Ends answer) told_now told_now (audited-well out answer shows) r
+  job-left (Some (Auditing auction one two three)) told told_now w (inr f) =
+      run-left (read_errand auction one two three (λ read. answers JobDone [])) told told_now
+      (read-well out auction one two three (λ read. answers JobDone []) (λ read. inl (inl refl, inl refl))) (f (λ read. answers JobDone []))
+
+pub left : (words : List (List ℕ)) (told told_now : Option Told) (given now : Option Given) (status : ℕ) →
+    OfJob (job_of words) told told_now (λ before errand. Runs errand before told_now given now status) → LeavesBy (last_word words) status given now
+left words told told_now given now status r = job-left (last_word words) status given now (job_of words) told told_now (job-well words) r

@@ -1,0 +1,4 @@
+pub mod Answers
+pub mod JobAnswers
+pub mod Left
+pub mod Led

@@ -1,0 +1,62 @@
+-- What a run leaves at a desk, by its exit status.
+use Rattle.std.specs.Prelude.{◌≡◌, ◌⊎◌, ℕ, List, [], ◌∷◌, ◌++◌, map, codes, Option, Some, None, Ok, Err, IsSomeAnd}
+use Rattle.beet_field.specs.declared.point.Point.TheVariants.{One, Two, Three}
+use Rattle.beet_store.specs.Files.{File}
+use Rattle.beet_store.specs.Desks.{Given}
+use Rattle.beet_store.specs.declared.desk.PutFault.TheVariants.{Failed}
+use Rattle.beet_errand.specs.Statuses.{code_of}
+use Rattle.beet_errand.specs.declared.answer.Status.{Status}
+use Rattle.beet_record.specs.Records.{file_for}
+use Rattle.beet_answer.specs.Runs.{GivesAll, Said}
+use Rattle.beet_app_laws.specs.Refusals.{IsLineOf}
+
+-- nothing was said
+abbrev pub SaysNothing : Option Given → Option Given → Type 0
+SaysNothing None now = now ≡ None
+SaysNothing (Some given) now = IsSomeAnd now (λ later. later.said ≡ given.said)
+
+-- the line of a refusal with this exit status was said, and no other call was made, so that no file was put
+pub record SaysLine (status : ℕ) (given now : Option Given) : Type 0 where
+  pub refusal : Status
+  pub code : status ≡ code_of refusal
+  pub line : List ℕ
+  pub is_line : IsLineOf refusal line
+  pub said : Said given now line
+
+-- the last word of a command
+abbrev pub last_word : List (List ℕ) → List ℕ
+last_word [] = []
+last_word (word ∷ []) = word
+last_word (word ∷ other ∷ words) = last_word (other ∷ words)
+
+-- the names of files that a job puts whose command ends with this word: none, one for each server, or those of two worlds
+abbrev pub AreNames : List ℕ → List (List ℕ) → Type 0
+AreNames out names =
+    (names ≡ [])
+    ⊎ (names ≡ file_for out One ∷ file_for out Two ∷ file_for out Three ∷ [])
+    ⊎ (names ≡ (out ++ codes ".first") ∷ (out ++ codes ".second") ∷ (out ++ codes ".words") ∷ [])
+
+-- files were put, one after another, and then a text was said, up to the first call that failed, which was the last
+pub record EndsAtFault (out : List ℕ) (given now : Option Given) : Type 0 where
+  pub files : List File
+  pub names : AreNames out (map (λ file. file.0) files)
+  pub text : List ℕ
+  pub calls : GivesAll given now files text (Err Failed)
+
+-- files were put, one after another, and then a text was said
+pub record GivesWhole (out : List ℕ) (given now : Option Given) : Type 0 where
+  pub files : List File
+  pub names : AreNames out (map (λ file. file.0) files)
+  pub text : List ℕ
+  pub calls : GivesAll given now files text (Ok tt)
+
+-- the exit statuses of jobs that are refused
+abbrev pub IsRefusal : ℕ → Type 0
+IsRefusal status = (status ≡ 2) ⊎ (status ≡ 3) ⊎ (status ≡ 5) ⊎ (status ≡ 7) ⊎ (status ≡ 8) ⊎ (status ≡ 9)
+
+-- what is left by each exit status of a command that ends with this word
+pub record LeavesBy (out : List ℕ) (status : ℕ) (given now : Option Given) : Type 0 where
+  pub memory : status ≡ 1 → SaysNothing given now
+  pub refused : IsRefusal status → SaysLine status given now
+  pub write : status ≡ 4 → EndsAtFault out given now
+  pub whole : (status ≡ 0) ⊎ (status ≡ 6) → GivesWhole out given now
