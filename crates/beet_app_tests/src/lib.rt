@@ -4,4 +4,6 @@
 #[cfg(test)]
 mod meeting;
 #[cfg(test)]
+mod refused;
+#[cfg(test)]
 mod tests;

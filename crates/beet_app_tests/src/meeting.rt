@@ -137,8 +137,8 @@ const SEALS: [(&str, [&str; 3]); 3] = [
 /// The list of these envelopes.
 const LIST: &str = "beet-list,1\nanna,a.1,a.2,a.3\nbo,b.1,b.2,b.3\ncarl,c.1,c.2,c.3\n";
 
-/// Adds the envelopes that a line seals to these files.
-fn add_sealed(
+/// Adds the files that the job of a line puts to these files.
+pub(crate) fn add_put(
     rt: &(impl Threads + Wait + Sync),
     alloc: Global,
     line: &str,
@@ -147,7 +147,7 @@ fn add_sealed(
 ) -> Result<(), Fail> {
     let (_status, desk) = done(rt, alloc, line, "", 0, 0)?;
     for name in names {
-        let bytes = desk.file(name).ok_or("an envelope was not put")?;
+        let bytes = desk.file(name).ok_or("a file was not put")?;
         files.push(Held {
             name: String::from_str(alloc, name)?,
             bytes: Vec::from_slice(alloc, bytes)?,
@@ -157,10 +157,10 @@ fn add_sealed(
 }
 
 /// The files, with the list and all envelopes.
-fn sealed(rt: &(impl Threads + Wait + Sync), alloc: Global) -> Result<Vec<Held>, Fail> {
+pub(crate) fn sealed(rt: &(impl Threads + Wait + Sync), alloc: Global) -> Result<Vec<Held>, Fail> {
     let mut files = files(alloc, LIST)?;
     for (line, names) in SEALS {
-        add_sealed(rt, alloc, line, &names, &mut files)?;
+        add_put(rt, alloc, line, &names, &mut files)?;
     }
     Ok(files)
 }

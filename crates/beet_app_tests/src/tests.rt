@@ -61,30 +61,25 @@ const FILES: [(&str, &str); 14] = [
 ];
 
 /// Commands over these files.
-const TALLY: &str = "tally g1.auc b1.book";
-
 pub(crate) const CLEAR: &str = "clear g.auc s.srv b.book";
 
 pub(crate) const RECORD: &str = "record g.auc s.srv b.book o";
 
-const WORLDS: &str = "worlds g.auc s.srv b.book c.book 2 w";
+pub(crate) const WORLDS: &str = "worlds g.auc s.srv b.book c.book 2 w";
 
 const DIFFERING: &str = "worlds g.auc s.srv b.book d.book 2 w";
 
-const SEAL: &str =
-    "seal g.auc anna.bid seed:0a0a0a0a0a0a0a0a0a0a0a0a0a0a0a0a0a0a0a0a0a0a0a0a0a0a0a0a0a0a0a0a e";
-
 /// The files that they put.
-const TRANSCRIPTS: [&str; 3] = ["o.1", "o.2", "o.3"];
+pub(crate) const TRANSCRIPTS: [&str; 3] = ["o.1", "o.2", "o.3"];
 
-const BOTH_WORLDS: [&str; 3] = ["w.first", "w.second", "w.words"];
+pub(crate) const BOTH_WORLDS: [&str; 3] = ["w.first", "w.second", "w.words"];
 
-const ENVELOPES: [&str; 3] = ["e.1", "e.2", "e.3"];
+pub(crate) const ENVELOPES: [&str; 3] = ["e.1", "e.2", "e.3"];
 
 /// The name of a file that a test makes.
 const MADE: &str = "made";
 
-fn held(alloc: Global, name: &str, text: &str) -> Result<Held, AllocError> {
+pub(crate) fn held(alloc: Global, name: &str, text: &str) -> Result<Held, AllocError> {
     Ok(Held {
         name: String::from_str(alloc, name)?,
         bytes: Vec::from_slice(alloc, text.as_bytes())?,
@@ -102,7 +97,7 @@ pub(crate) fn files(alloc: Global, made: &str) -> Result<Vec<Held>, AllocError> 
 }
 
 /// The numbers of the calls that fail: this one alone, or none where it is 0.
-fn only(alloc: Global, call: u64) -> Result<Vec<u64>, AllocError> {
+pub(crate) fn only(alloc: Global, call: u64) -> Result<Vec<u64>, AllocError> {
     Ok(vec![in alloc; call]?)
 }
 
@@ -133,21 +128,6 @@ pub(crate) fn done(
 /// Compares what a desk was given to say.
 pub(crate) fn expect_said(rt: &impl Abort, desk: &MemoryDesk, text: &str) {
     assert!(rt; desk.said() == text.as_bytes(), "not {text}");
-}
-
-/// Compares the status and the text of a job, of which this fetch fails.
-fn expect_fetching(
-    rt: &(impl Abort + Threads + Wait + Sync),
-    alloc: Global,
-    line: &str,
-    fetch: u64,
-    status: u8,
-    text: &str,
-) -> Result<(), Fail> {
-    let (found, desk) = done(rt, alloc, line, "", fetch, 0)?;
-    assert_eq!(rt; found, status);
-    expect_said(rt, &desk, text);
-    Ok(())
 }
 
 /// Compares the status and the text of a job with the file that is made.
@@ -201,22 +181,6 @@ fn expect_files(
     Ok(desk)
 }
 
-/// The second put fails: the first file stands, and nothing is said.
-fn expect_first_alone(
-    rt: &(impl Abort + Threads + Wait + Sync),
-    alloc: Global,
-    line: &str,
-    names: &[&str],
-) -> Result<(), Fail> {
-    let desk = expect_files(rt, alloc, line, names, 2, 4, 1)?;
-    let Some(first) = names.first() else {
-        return Err(Fail::new("no file is named"));
-    };
-    assert!(rt; desk.file(first).is_some());
-    expect_said(rt, &desk, "");
-    Ok(())
-}
-
 /// The lengths of these files.
 fn expect_lengths(rt: &impl Abort, desk: &MemoryDesk, names: &[&str], lengths: &[usize]) {
     for (name, length) in names.iter().zip(lengths) {
@@ -228,31 +192,8 @@ fn expect_lengths(rt: &impl Abort, desk: &MemoryDesk, names: &[&str], lengths: &
 }
 
 #[test]
-fn a_fetch_fails(rt: HostRuntime) -> Result<(), Fail> {
-    expect_fetching(&rt, rt.alloc(), TALLY, 2, 3, "read fault: b1.book\n")?;
-    expect_fetching(&rt, rt.alloc(), CLEAR, 2, 3, "read fault: s.srv\n")?;
-    expect_fetching(
-        &rt,
-        rt.alloc(),
-        "rehearse g.auc s.srv b.book made",
-        7,
-        3,
-        "read fault: made\n",
-    )
-}
-
-#[test]
-fn a_text_is_not_taken(rt: HostRuntime) -> Result<(), Fail> {
-    expect_silent(&rt, rt.alloc(), TALLY)?;
-    expect_silent(&rt, rt.alloc(), CLEAR)?;
+fn the_usage_line_is_not_taken(rt: HostRuntime) -> Result<(), Fail> {
     expect_silent(&rt, rt.alloc(), "clear g.auc")
-}
-
-#[test]
-fn a_refused_file_is_the_last(rt: HostRuntime) -> Result<(), Fail> {
-    expect_first_alone(&rt, rt.alloc(), WORLDS, &BOTH_WORLDS)?;
-    expect_first_alone(&rt, rt.alloc(), RECORD, &TRANSCRIPTS)?;
-    expect_first_alone(&rt, rt.alloc(), SEAL, &ENVELOPES)
 }
 
 #[test]
