@@ -13,7 +13,7 @@ use Rattle.beet_field.specs.declared.trio.Trio.{Trio}
 use Rattle.beet_shamir.specs.Line.{point_of, recombined}
 use Rattle.beet_bids.specs.Curves.{Curve, quantity}
 use Rattle.beet_book.specs.Dealing.{points_at, quantities, AreShares}
-use Rattle.beet_book.specs.Totals.{Totals, plain_sums, none_of, supply_first, points_on, summed_quantities, AddsValues, CarriesValues}
+use Rattle.beet_book.specs.Totals.{Totals, plain_sums, none_of, supply_first, points_on, summed_quantities, CarriesValues}
 use Rattle.beet_book.proofs.Pairs.{length-pairwise, item-pairwise}
 use Rattle.beet_book.proofs.Sums.{item-supply, item-demand}
 
@@ -73,13 +73,6 @@ shares-none prices = record {
   paired = length-replicate (2 * prices) 0 ∙ sym (length-summed prices []);
   shares = rw (summed-none prices, ← zeros (2 * prices) One, ← zeros (2 * prices) Two, ← zeros (2 * prices) Three) refl;
 }
-
--- where the points of one bidder more are added, the totals carry the sums of one curve more
-pub shares-more : (prices : ℕ) (curves : List Curve) (curve : Curve) (before dealt after : Trio (List ℕ)) →
-    length (quantities curve) ≡ 2 * prices → AreShares (summed_quantities prices curves) before → AreShares (quantities curve) dealt →
-    AddsValues before dealt after → AreShares (summed_quantities prices (curves ++ curve ∷ [])) after
-shares-more prices curves curve before dealt after h x y adds =
-    rw (summed-more prices curves curve h) (adds (summed_quantities prices curves) (quantities curve) x y)
 
 -- sums of the same numbers
 sum-same : (f g : Curve → ℕ) (curves : List Curve) → All (λ curve. f curve ≡ g curve) curves → sum_by f curves ≡ sum_by g curves

@@ -15,8 +15,8 @@ use Rattle.beet_bids.specs.declared.curve.TheConstants.{LARGEST_QUANTITY}
 use Rattle.beet_bids.specs.Sums.{supply_at, demand_at}
 use Rattle.beet_book.specs.declared.entries.Entry.{Entry}
 use Rattle.beet_book.specs.Dealing.{quantities}
-use Rattle.beet_book.specs.Totals.{Totals, none_of, points_on, CarriesValues}
-use Rattle.beet_book.proofs.Summed.{shares-none, shares-more, supply-recombined, demand-recombined}
+use Rattle.beet_book.specs.Totals.{Totals, none_of, points_on, summed_quantities, CarriesValues}
+use Rattle.beet_book.proofs.Summed.{shares-none, summed-more, supply-recombined, demand-recombined}
 use Rattle.beet_load.specs.Collecting.{curves_of, AddsFarmer, AddsFarmers, AreCollected, Collects}
 use Rattle.beet_load.specs.Farmers.{list_at, farmer_errand, farmers_errand, bidders_of}
 use Rattle.beet_book.specs.Farmers.{Farmer}
@@ -55,8 +55,8 @@ adds_more grid before after farmers farmer c a =
     let long : length (quantities c') ≡ length c'.buy + length c'.sell = length-append c'.buy c'.sell in
     let more = curves_more farmers farmer in
     record {
-      shares = rw more (shares-more grid.prices (curves_of farmers) c' before.points a.dealt after.points
-          (omega (arith, long, a.of_grid.buy_length, a.of_grid.sell_length)) c.shares a.shares a.values);
+      shares = rw (more, summed-more grid.prices (curves_of farmers) c' (omega (arith, long, a.of_grid.buy_length, a.of_grid.sell_length)))
+          (a.values (summed_quantities grid.prices (curves_of farmers)) c.shares);
       prices = a.prices ∙ c.prices;
       curves = rw more (All-append IsCurve (curves_of farmers) (c' ∷ []) c.curves (one_curve IsCurve c' a.curve));
       of_grid = rw more (All-append (IsOfGrid grid) (curves_of farmers) (c' ∷ []) c.of_grid (one_curve (IsOfGrid grid) c' a.of_grid));

@@ -1,12 +1,11 @@
 -- The points of all bidders, added up.
 use Rattle.std.specs.Prelude.{◌≡◌, ℕ, List, [], map, length, All, Option}
-use Rattle.beet_field.specs.declared.trio.Trio.{Trio}
 use Rattle.beet_store.specs.Files.{Seen}
 use Rattle.beet_bids.specs.Grids.{Grid}
 use Rattle.beet_bids.specs.Curves.{Curve, IsCurve, IsOfGrid}
 use Rattle.beet_book.specs.declared.entries.Entry.{Entry}
-use Rattle.beet_book.specs.Dealing.{AreShares, quantities}
-use Rattle.beet_book.specs.Totals.{Totals, AddsValues, summed_quantities}
+use Rattle.beet_book.specs.Dealing.{AreShares}
+use Rattle.beet_book.specs.Totals.{Totals, AddsQuantities, summed_quantities}
 use Rattle.beet_load.specs.Farmers.{farmers_errand}
 use Rattle.beet_book.specs.Farmers.{Farmer}
 use Rattle.beet_errand.specs.Fetches.{Reached}
@@ -37,9 +36,7 @@ pub record AreCollected (grid : Grid) (entries : List Entry) (totals : Totals) (
 
 -- the points of the quantities of one bidder are added
 pub record AddsFarmer (grid : Grid) (before after : Totals) (farmer : Farmer) : Type 0 where
-  pub dealt : Trio (List ℕ)
   pub of_grid : IsOfGrid grid farmer.bidder.curve
   pub curve : IsCurve farmer.bidder.curve
-  pub shares : AreShares (quantities farmer.bidder.curve) dealt
-  pub values : AddsValues before.points dealt after.points
+  pub values : AddsQuantities farmer.bidder.curve before.points after.points
   pub prices : after.prices ≡ before.prices

@@ -8,13 +8,13 @@ ghost use Rattle.beet_words.specs.declared.bundle.TheConstants.{MOST_BIDDERS};
 
 use crate::farmers::read_farmer;
 use beet_bids::Grid;
-use beet_book::{Entry, Totals, deal_bidder};
+use beet_book::{Entry, Totals};
 use beet_errand::Stop;
 use beet_store::Shelf;
 use beet_words::WordList;
 use std::alloc::Global;
 
-/// Reads the bidder of an entry, which has this number, deals its quantities, and adds their points.
+/// Reads the bidder of an entry, which has this number, and deals its quantities straight into the sums.
 fn add_farmer<S: Shelf>(
     alloc: Global,
     shelf: &mut S,
@@ -29,8 +29,7 @@ fn add_farmer<S: Shelf>(
         (farmer_errand grid.now (option_map (λ words. words.now) given.entry) number entry.now) result }
 {
     let mut farmer = read_farmer(alloc, shelf, grid, given, number, entry)?;
-    let dealt = deal_bidder(alloc, grid, &farmer.curve, &mut farmer.tape)?;
-    totals.add(&dealt);
+    totals.deal(&farmer.curve, &mut farmer.tape);
     Ok(())
 }
 
