@@ -1,24 +1,18 @@
 -- Mapped words are as long.
-use Rattle.std.proofs.Common.{◌≡◌, ◌*◌, ℕ, List, [], ◌∷◌, map, length, refl, sym, ap, ◌∙◌, arith}
-use Rattle.std.specs.Prelude.{◌==◌}
-use Rattle.std.proofs.lemmas.List.{length-map}
+use Rattle.std.proofs.Common.{◌≡◌, ◌*◌, ℕ, List, [], ◌∷◌, map, length, refl, arith}
 use Rattle.beet_field.specs.Trio.{member}
 use Rattle.beet_field.specs.declared.point.Point.{Point}
 use Rattle.beet_words.specs.Bundles.{Words}
-use Rattle.beet_words.specs.Words.{ones}
 use Rattle.beet_bids.specs.Books.{Book}
 use Rattle.beet_bids.specs.declared.book.Bidder.{Bidder}
 use Rattle.beet_book.specs.Farmers.{farmers_of}
-use Rattle.beet_map.specs.Mapped.{ones_in}
+use Rattle.beet_map.proofs.WordLists.{ones-long}
 use Rattle.beet_worlds.specs.MappedBidders.{BiddersMapped}
 use Rattle.beet_worlds.specs.MappedWords.{Mapped}
 use Rattle.beet_worlds.proofs.BidderFacts.{first-mapped, rest-mapped}
 use Rattle.beet_worlds.proofs.EachMapped.{farmer}
 use Rattle.beet_worlds.proofs.EnoughFacts.{ones-same}
 use Rattle.beet_headline.specs.Halves.{AreAsLong}
-
-ones-long : (xs ys : List ℕ) → ones_in ys ≡ ones_in xs → length ys ≡ length xs
-ones-long xs ys e = sym (length-map ys (λ w. w == ones)) ∙ ap length e ∙ length-map xs (λ w. w == ones)
 
 bidders-long : (s : Point) (prices : ℕ) (bidders others : List Bidder) (words words' : List (List ℕ)) → length words ≡ length bidders →
     length words' ≡ length others → BiddersMapped s prices (farmers_of bidders words) (farmers_of others words') →

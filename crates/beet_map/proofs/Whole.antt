@@ -25,7 +25,8 @@ member_numbers c One = refl
 member_numbers c Two = refl
 member_numbers c Three = refl
 
-all_small : (c : Trio (List ℕ)) → AreWords c → AreElements (numbers_of c)
+-- the numbers of words are those of the field
+pub all_small : (c : Trio (List ℕ)) → AreWords c → AreElements (numbers_of c)
 all_small c few j n = subst (λ l. IsElement (slice_index l n)) (sym (member_numbers c j)) (accepted_small (member c j) (few j) n)
 
 all_same : (c d : Trio (List ℕ)) → ((j : Point) → ones_in (member d j) ≡ ones_in (member c j)) → numbers_of d ≡ numbers_of c → d ≡ c

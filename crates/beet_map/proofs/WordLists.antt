@@ -1,7 +1,7 @@
 -- Words are known from their numbers and the places of the words that are all ones.
 use Rattle.std.proofs.Common.{◌≡◌, ◌≢◌, ◌<◌, ◌+◌, ℕ, zero, suc, Bool, true, false, not, cond, ◌==◌, List, [], ◌∷◌, ◌++◌, length, slice_index, take, drop, sym, refl, ap, ◌∙◌, arith, append-nil}
 use Rattle.std.proofs.lemmas.Bool.Decides.{nat_tests}
-use Rattle.std.proofs.lemmas.List.{map-append}
+use Rattle.std.proofs.lemmas.List.{length-map, map-append}
 use Rattle.std.proofs.lemmas.List.Elements.{filter-append}
 use Rattle.beet_field.specs.Field.{p, IsElement}
 use Rattle.beet_words.specs.Words.{IsWord, accepted, ones}
@@ -38,6 +38,10 @@ words_same (x ∷ xs) (y ∷ ys) p e =
     let e' : accept_if (is_ones y) x (accepted xs) ≡ accept_if (is_ones y) y (accepted ys) = (λ i. accept_if (sym b i) x (accepted xs)) ∙ e in
     let here = first_same (is_ones y) x y (accepted xs) (accepted ys) b refl e' in
     let others = words_same xs ys ps (rest_same (is_ones y) x y (accepted xs) (accepted ys) e') in λ i. here i ∷ others i
+
+-- lists with words of all ones at the same places are as long
+pub ones-long : (xs ys : List ℕ) → ones_in ys ≡ ones_in xs → length ys ≡ length xs
+ones-long xs ys e = sym (length-map ys is_ones) ∙ ap length e ∙ length-map xs is_ones
 
 pub accepted-append : (xs ys : List ℕ) → accepted (xs ++ ys) ≡ accepted xs ++ accepted ys
 accepted-append xs ys = filter-append (λ w. not (w == ones)) xs ys

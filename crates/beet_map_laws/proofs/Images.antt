@@ -1,6 +1,5 @@
 -- The words of two worlds of a script that go with each other.
 use Rattle.std.proofs.Common.{◌≡◌, ◌≤◌, ◌<◌, ◌+◌, ℕ, List, [], length, slice_index, sym, refl, ap, subst, ◌∙◌, arith}
-use Rattle.beet_field.specs.Field.{IsElement}
 use Rattle.beet_field.specs.Trio.{member}
 use Rattle.beet_field.specs.declared.point.Point.{Point}
 use Rattle.beet_field.specs.declared.point.Point.TheVariants.{One, Two, Three}
@@ -16,16 +15,11 @@ use Rattle.beet_sharing.specs.Runs.{coming, draws_in, numbers_of, rounds_among, 
 use Rattle.beet_map.specs.Mapped.{AreWords, GateMapped, run_with}
 use Rattle.beet_map.specs.Secrets.{Secrets, begin_in, slopes_of, values_of}
 use Rattle.beet_map.proofs.Grounds.{are_alike, has_room}
-use Rattle.beet_map.proofs.Symmetry.{AreElements, map_back, may_back}
-use Rattle.beet_map.proofs.Whole.{AreAlike, WholeWords, whole_words}
-use Rattle.beet_map.proofs.WordLists.{accepted_small}
+use Rattle.beet_map.proofs.Symmetry.{map_back, may_back}
+use Rattle.beet_map.proofs.Whole.{AreAlike, WholeWords, all_small, whole_words}
 use Rattle.beet_map_laws.specs.Pairs.{AreTwoWorlds, CanDraw, GoTogether}
 use Rattle.beet_map_laws.proofs.Putting.{PutBack, put-back}
 use Rattle.beet_map_laws.proofs.Reaching.{Reached, reach}
-
-few-numbers : (words : Trio (List ℕ)) → AreWords words → AreElements (numbers_of words)
-few-numbers words are j n =
-    subst (λ l. IsElement (slice_index l n)) (sym (member-each accepted words j)) (accepted_small (member words j) (are j) n)
 
 pub two-back : (next : ℕ → List ℕ → Batch) (most inputs deals : ℕ) (me : Point) (w w' : Secrets) →
     AreTwoWorlds next most inputs deals me w w' → AreTwoWorlds next most inputs deals me w' w
@@ -100,7 +94,7 @@ module _ (next : ℕ → List ℕ → Batch) (most inputs wires deals wanted : �
           each-word words' one two three Three n = three n
 
       pub image : (words' : Trio (List ℕ)) × CanDraw wanted words' × GoTogether next most me w w' words words'
-      image = image-of (reach next me rounds w w' alike.may numbers fits (few-numbers words enough.are_words) rounds (omega arith))
+      image = image-of (reach next me rounds w w' alike.may numbers fits (all_small words enough.are_words) rounds (omega arith))
 
     -- a pair of the worlds the other way round
     pair-back : (words words' : Trio (List ℕ)) → AreWords words → AreWords words' → GoTogether next most me w' w words' words →
@@ -114,7 +108,7 @@ module _ (next : ℕ → List ℕ → Batch) (most inputs wires deals wanted : �
         let there : GateMapped me rounds (begin_in next w' n') (begin_in next w n) =
         subst (λ r. GateMapped me r (begin_in next w' n') (begin_in next w n)) same p.mapped.numbers in
         let here : GateMapped me rounds (begin_in next w n) (begin_in next w' n') =
-        map_back next me rounds w' w (may_back next me rounds w w' alike.may) n' n (few-numbers words' are') there in
+        map_back next me rounds w' w (may_back next me rounds w w' alike.may) n' n (all_small words' are') there in
         pair-of words words'
         (whole_words next most me rounds w w' alike words words' n n' are refl here refl
         (record { one = sym (p.mapped.places One); two = sym (p.mapped.places Two); three = sym (p.mapped.places Three) }))

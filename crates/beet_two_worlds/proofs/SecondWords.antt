@@ -1,13 +1,13 @@
 -- The words of the second world are as many as those of the first.
 use Rattle.std.proofs.Common.{◌≡◌, inl, inr, ◌<◌, ◌≤◌, ◌+◌, ◌*◌, ℕ, zero, suc, List, [], ◌∷◌, map, take, length, slice_get, get_or, Some, refl, sym, ap, subst, ◌∙◌, arith}
-use Rattle.std.specs.Prelude.{All, ◌==◌}
-use Rattle.std.proofs.lemmas.List.{length-map, take_all}
+use Rattle.std.specs.Prelude.{All}
+use Rattle.std.proofs.lemmas.List.{take_all}
 use Rattle.std.proofs.lemmas.List.Elements.{All-from_get_or, All-get_or, All-head, All-tail}
 use Rattle.beet_field.specs.declared.point.Point.{Point}
 use Rattle.beet_field.specs.declared.point.Point.TheVariants.{One, Two, Three}
 use Rattle.beet_words.specs.declared.bundle.TheConstants.{MOST_BIDDERS}
 use Rattle.beet_words.specs.Bundles.{Words, FitsBundle}
-use Rattle.beet_words.specs.Words.{accepted, ones}
+use Rattle.beet_words.specs.Words.{accepted}
 use Rattle.beet_bids.specs.Books.{Book}
 use Rattle.beet_bids.specs.Grids.{Grid, IsGrid}
 use Rattle.beet_bids.proofs.GridFacts.{comparisons-le}
@@ -17,7 +17,7 @@ use Rattle.beet_plan.specs.Kept.{coefficients_kept, words_kept}
 use Rattle.beet_load.specs.Farmers.{words_wanted}
 use Rattle.beet_load.specs.Servers.{coefficients_wanted, masks_wanted}
 use Rattle.beet_load.specs.Wholes.{CanDeal, CanRun}
-use Rattle.beet_map.specs.Mapped.{ones_in}
+use Rattle.beet_map.proofs.WordLists.{ones-long}
 use Rattle.beet_worlds.specs.Enough.{AreEnough, HasAccepted}
 use Rattle.beet_worlds.specs.MappedBidders.{BiddersMapped, FarmerMapped}
 use Rattle.beet_worlds.specs.MappedWords.{Mapped}
@@ -62,14 +62,11 @@ same-transcripts s first second words mapped r r' e =
 kept-has : (wanted : ℕ) (words : List ℕ) → length words ≤ wanted + 8 → HasAccepted wanted words → wanted ≤ length (accepted words)
 kept-has wanted words short h = subst (λ (w : List ℕ). wanted ≤ length (accepted w)) (take_all (wanted + 8) words short) h
 
-as-long : (xs ys : List ℕ) → ones_in ys ≡ ones_in xs → length ys ≡ length xs
-as-long xs ys e = sym (length-map ys (λ (w : ℕ). w == ones)) ∙ ap length e ∙ length-map xs (λ (w : ℕ). w == ones)
-
 -- the words of a bidder are as many in both worlds
 farmer-long : (s : Point) (wanted : ℕ) (one other : Farmer) → FarmerMapped s wanted one other → length other.words ≡ length one.words
 farmer-long s wanted one other m = elim (known-or one.bidder.known s) [
   | inl known ↦ ap length (m.own known)
-  | inr unknown ↦ as-long one.words other.words (m.moved unknown).places
+  | inr unknown ↦ ones-long one.words other.words (m.moved unknown).places
 ]
 
 farmer-there : (bidders : List Bidder) (words : List (List ℕ)) (k : ℕ) → k < length bidders → k < length words →
@@ -102,9 +99,9 @@ can-run s first second words mapped r grids m e = by second.grid grids e where
             let masks1 = m.masks.lengths One in
             let masks2 = m.masks.lengths Two in
             let masks3 = m.masks.lengths Three in
-            let long1 = as-long words.coefficients.one mapped.coefficients.one (m.places One) in
-            let long2 = as-long words.coefficients.two mapped.coefficients.two (m.places Two) in
-            let long3 = as-long words.coefficients.three mapped.coefficients.three (m.places Three) in
+            let long1 = ones-long words.coefficients.one mapped.coefficients.one (m.places One) in
+            let long2 = ones-long words.coefficients.two mapped.coefficients.two (m.places Two) in
+            let long3 = ones-long words.coefficients.three mapped.coefficients.three (m.places Three) in
             let wanted : ℕ = coefficients_wanted first.grid in
             let short1 : length mapped.coefficients.one ≤ wanted + 8 = omega (arith, long1, r.cut.one.coefficients) in
             let short2 : length mapped.coefficients.two ≤ wanted + 8 = omega (arith, long2, r.cut.two.coefficients) in
