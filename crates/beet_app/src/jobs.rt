@@ -124,7 +124,8 @@ fn server_in(word: &str) -> Option<Point>
 }
 
 /// Does the job of a command with six words, if they name one.
-fn do_six<S: Shelf>(
+fn do_six<S: Shelf, R: Threads + Sync>(
+    rt: &R,
     alloc: Global,
     shelf: &mut S,
     command: &str,
@@ -147,7 +148,9 @@ fn do_six<S: Shelf>(
         return None;
     }
     let server = server_in(server)?;
-    Some(worlds(alloc, shelf, auction, servers, first, second, server, out))
+    Some(worlds(
+        rt, alloc, shelf, auction, servers, first, second, server, out,
+    ))
 }
 
 /// Does the job that the words name, if they name one.
@@ -192,6 +195,7 @@ fn do_named<S: Shelf, R: Threads + Wait + Sync, G: Gate>(
             gate,
         ),
         [command, a, b, c, d, e, f] => do_six(
+            rt,
             alloc,
             shelf,
             command.as_str(),

@@ -1,7 +1,7 @@
 -- What the bidders of a book deal, one after another.
-use Rattle.std.proofs.Common.{◌≡◌, ◌≤◌, ◌<◌, ℕ, suc, zero, ◌+◌, ◌*◌, List, [], ◌∷◌, ◌++◌, map, length, take, slice_get, Some, arith, refl, sym, ap, ◌∙◌, subst, get_or, All, length-append}
-use Rattle.std.proofs.lemmas.List.{map-append, take_all}
-use Rattle.std.proofs.lemmas.List.Elements.{All-get_or}
+use Rattle.std.proofs.Common.{◌≡◌, ◌≤◌, ◌<◌, ℕ, suc, zero, ◌+◌, ◌*◌, List, [], ◌∷◌, ◌++◌, map, length, take, drop, slice_get, Option, Some, true, arith, refl, sym, ap, ◌∙◌, subst, get_or, All, length-append, length-drop}
+use Rattle.std.proofs.lemmas.List.{length-take-le, map-append, take_all}
+use Rattle.std.proofs.lemmas.List.Elements.{All-drop, All-get_or, All-take}
 use Rattle.std.proofs.lemmas.Grind.{same_number_lists}
 use Rattle.beet_field.specs.Trio.{member}
 use Rattle.beet_field.specs.declared.point.Point.{Point}
@@ -17,6 +17,7 @@ use Rattle.beet_bids.specs.Grids.{Grid}
 use Rattle.beet_bids.specs.declared.book.Bidder.{Bidder}
 use Rattle.beet_book.specs.Dealing.{points_at, quantities, dealt_points}
 use Rattle.beet_book.specs.Totals.{Totals, added, none_of, wires_of}
+use Rattle.beet_book.proofs.Merged.{points-joined}
 use Rattle.beet_book.proofs.Pairs.{length-pairwise, item-pairwise}
 use Rattle.beet_book.specs.Farmers.{Farmer, book_inputs, farmers_of, point_for, summed_points}
 use Rattle.beet_auction.proofs.Adding.{summed-none, summed-more}
@@ -24,7 +25,7 @@ use Rattle.beet_plan.specs.Kept.{words_kept}
 use Rattle.beet_load.specs.Wholes.{CanDeal}
 use Rattle.beet_view.specs.BookViews.{seen_at}
 use Rattle.beet_view.specs.declared.view.Seen.{Seen}
-use Rattle.beet_kept.specs.DealtBooks.{HasDealt, seen_with}
+use Rattle.beet_kept.specs.DealtBooks.{CanDealAll, HasDealt, seen_with, shows}
 
 -- a tape of words that are all kept has them left
 pub tape-left : (grid : Grid) (kept : ℕ) (tape : Tape) (words : List ℕ) → tape ≡ record { words = take kept words; passed = 0 } →
@@ -47,10 +48,11 @@ none-seen grid Two = refl
 none-seen grid Three = refl
 
 -- nothing is dealt yet
-pub dealt-none : (grid : Grid) (totals : Totals) (seen : Trio (List Seen)) → totals ≡ none_of grid.prices → seen ≡ unseen → HasDealt grid [] totals seen
-dealt-none grid totals seen t s = rw (t, s) (record { prices = refl; points = sym (summed-none grid.prices); bidders = none-seen grid })
+pub dealt-none : (grid : Grid) (whom : Option Point) (totals : Totals) (seen : Trio (List Seen)) → totals ≡ none_of grid.prices → seen ≡ unseen →
+    HasDealt grid whom [] totals seen
+dealt-none grid whom totals seen t s = rw (t, s) (record { prices = refl; points = sym (summed-none grid.prices); bidders = λ at _. none-seen grid at })
 
-module _ (grid : Grid) (farmers : List Farmer) (farmer : Farmer) (of_grid : IsOfGrid grid farmer.bidder.curve)
+module _ (grid : Grid) (whom : Option Point) (farmers : List Farmer) (farmer : Farmer) (of_grid : IsOfGrid grid farmer.bidder.curve)
     (enough : 2 * grid.prices ≤ length (accepted farmer.words)) where
   long : length (quantities farmer.bidder.curve) ≡ 2 * grid.prices
   long = omega (arith, length-append farmer.bidder.curve.buy farmer.bidder.curve.sell, of_grid.buy_length, of_grid.sell_length)
@@ -79,27 +81,27 @@ module _ (grid : Grid) (farmers : List Farmer) (farmer : Farmer) (of_grid : IsOf
       ∙ sym (map-append (seen_at grid s) farmers (farmer ∷ []))
 
   -- one bidder more is dealt, added and shown
-  pub dealt-more : (before after : Totals) (dealt points : Trio (List ℕ)) (seen seen' : Trio (List Seen)) (one two three : Seen) →
-      HasDealt grid farmers before seen → dealt ≡ dealt_points farmer.bidder.curve (accepted farmer.words) →
+  pub dealt-more : (before after : Totals) (dealt points : Trio (List ℕ)) (seen seen' : Trio (List Seen)) →
+      HasDealt grid whom farmers before seen → dealt ≡ dealt_points farmer.bidder.curve (accepted farmer.words) →
       after ≡ record before { points = added before.points dealt } → points ≡ dealt →
-      one ≡ seen_with One farmer points.one → two ≡ seen_with Two farmer points.two → three ≡ seen_with Three farmer points.three →
-      seen' ≡ record { one = seen.one ++ one ∷ []; two = seen.two ++ two ∷ []; three = seen.three ++ three ∷ [] } →
-      HasDealt grid (farmers ++ farmer ∷ []) after seen'
-  dealt-more before after dealt points seen seen' one two three h d a p o t r e =
-      let same = p ∙ d in
-      record {
-        prices = ap (λ (x : Totals). x.prices) a ∙ h.prices;
-        points =
-            ap (λ (x : Totals). x.points) a
-            ∙ ap (λ (x : Trio (List ℕ)). added x dealt) h.points
-            ∙ ap (added (summed_points grid.prices farmers)) d
-            ∙ sym (summed-more grid.prices farmers farmer long enough);
-        bidders = shown same;
-      } where
-        shown : points ≡ dealt_points farmer.bidder.curve (accepted farmer.words) → (s : Point) → member seen' s ≡ map (seen_at grid s) (farmers ++ farmer ∷ [])
-        shown same One = seen-more One seen.one seen'.one points.one one (h.bidders One) (ap (λ (x : Trio (List ℕ)). x.one) same) o (ap (λ (x : Trio (List Seen)). x.one) e)
-        shown same Two = seen-more Two seen.two seen'.two points.two two (h.bidders Two) (ap (λ (x : Trio (List ℕ)). x.two) same) t (ap (λ (x : Trio (List Seen)). x.two) e)
-        shown same Three = seen-more Three seen.three seen'.three points.three three (h.bidders Three) (ap (λ (x : Trio (List ℕ)). x.three) same) r (ap (λ (x : Trio (List Seen)). x.three) e)
+      ((s : Point) → shows whom s ≡ true → member seen' s ≡ member seen s ++ seen_with s farmer (member points s) ∷ []) →
+      HasDealt grid whom (farmers ++ farmer ∷ []) after seen'
+  dealt-more before after dealt points seen seen' h d a p e = record {
+    prices = ap (λ (x : Totals). x.prices) a ∙ h.prices;
+    points =
+        ap (λ (x : Totals). x.points) a
+        ∙ ap (λ (x : Trio (List ℕ)). added x dealt) h.points
+        ∙ ap (added (summed_points grid.prices farmers)) d
+        ∙ sym (summed-more grid.prices farmers farmer long enough);
+    bidders = λ s there. seen-more s (member seen s) (member seen' s) (member points s) (seen_with s farmer (member points s)) (h.bidders s there)
+        (by-server (p ∙ d) s) refl (e s there);
+  }
+    where
+      by-server : points ≡ dealt_points farmer.bidder.curve (accepted farmer.words) → (s : Point) →
+          member points s ≡ points_at (quantities farmer.bidder.curve) (accepted farmer.words) s
+      by-server same One = ap (λ (x : Trio (List ℕ)). x.one) same
+      by-server same Two = ap (λ (x : Trio (List ℕ)). x.two) same
+      by-server same Three = ap (λ (x : Trio (List ℕ)). x.three) same
 
 -- the first bidders with their words, and one more
 pub farmers-take : (i : ℕ) (bidders : List Bidder) (words : List (List ℕ)) (bidder : Bidder) (list : List ℕ) → slice_get bidders i ≡ Some bidder →
@@ -116,26 +118,71 @@ farmers-take (suc i) (b ∷ bs) (w ∷ ws) bidder list e f =
     ap (λ (fs : List Farmer). record { bidder = b; words = w } ∷ fs) (farmers-take i bs ws bidder list e f)
 
 -- the points of all bidders are the inputs
-pub inputs-dealt : (grid : Grid) (farmers : List Farmer) (totals : Totals) (seen : Trio (List Seen)) → HasDealt grid farmers totals seen →
-    wires_of totals ≡ book_inputs grid.prices farmers
-inputs-dealt grid farmers totals seen h =
+pub inputs-dealt : (grid : Grid) (whom : Option Point) (farmers : List Farmer) (totals : Totals) (seen : Trio (List Seen)) →
+    HasDealt grid whom farmers totals seen → wires_of totals ≡ book_inputs grid.prices farmers
+inputs-dealt grid whom farmers totals seen h =
     ap (λ (n : ℕ). wires_of (record { prices = n; points = totals.points })) h.prices
     ∙ ap (λ (x : Trio (List ℕ)). wires_of (record { prices = grid.prices; points = x })) h.points
 
 -- the bidder at a place is dealt
-pub dealt-at : (grid : Grid) (bidders : List Bidder) (words : List (List ℕ)) (i : ℕ) (bidder : Bidder) (list : List ℕ) (totals : Totals) (seen : Trio (List Seen)) →
+pub dealt-at : (grid : Grid) (whom : Option Point) (bidders : List Bidder) (words : List (List ℕ)) (i : ℕ) (bidder : Bidder) (list : List ℕ) (totals : Totals) (seen : Trio (List Seen)) →
     slice_get bidders i ≡ Some bidder → slice_get words i ≡ Some list →
-    HasDealt grid (farmers_of (take i bidders) (take i words) ++ record { bidder = bidder; words = list } ∷ []) totals seen →
-    HasDealt grid (farmers_of (take (i + 1) bidders) (take (i + 1) words)) totals seen
-dealt-at grid bidders words i bidder list totals seen b w h =
+    HasDealt grid whom (farmers_of (take i bidders) (take i words) ++ record { bidder = bidder; words = list } ∷ []) totals seen →
+    HasDealt grid whom (farmers_of (take (i + 1) bidders) (take (i + 1) words)) totals seen
+dealt-at grid whom bidders words i bidder list totals seen b w h =
     let next : suc i ≡ i + 1 = omega arith in
-    subst (λ (n : ℕ). HasDealt grid (farmers_of (take n bidders) (take n words)) totals seen) next
-    (subst (λ (fs : List Farmer). HasDealt grid fs totals seen) (sym (farmers-take i bidders words bidder list b w)) h)
+    subst (λ (n : ℕ). HasDealt grid whom (farmers_of (take n bidders) (take n words)) totals seen) next
+    (subst (λ (fs : List Farmer). HasDealt grid whom fs totals seen) (sym (farmers-take i bidders words bidder list b w)) h)
 
 -- all bidders are dealt
-pub dealt-all : (grid : Grid) (bidders : List Bidder) (words : List (List ℕ)) (i : ℕ) (totals : Totals) (seen : Trio (List Seen)) →
-    length bidders ≤ i → length words ≤ i → HasDealt grid (farmers_of (take i bidders) (take i words)) totals seen →
-    HasDealt grid (farmers_of bidders words) totals seen
-dealt-all grid bidders words i totals seen b w h =
-    subst (λ (l : List (List ℕ)). HasDealt grid (farmers_of bidders l) totals seen) (take_all i words w)
-    (subst (λ (l : List Bidder). HasDealt grid (farmers_of l (take i words)) totals seen) (take_all i bidders b) h)
+pub dealt-all : (grid : Grid) (whom : Option Point) (bidders : List Bidder) (words : List (List ℕ)) (i : ℕ) (totals : Totals) (seen : Trio (List Seen)) →
+    length bidders ≤ i → length words ≤ i → HasDealt grid whom (farmers_of (take i bidders) (take i words)) totals seen →
+    HasDealt grid whom (farmers_of bidders words) totals seen
+dealt-all grid whom bidders words i totals seen b w h =
+    subst (λ (l : List (List ℕ)). HasDealt grid whom (farmers_of bidders l) totals seen) (take_all i words w)
+    (subst (λ (l : List Bidder). HasDealt grid whom (farmers_of l (take i words)) totals seen) (take_all i bidders b) h)
+
+-- the bidders of two parts with their words
+pub farmers-joined : (few rest : List Bidder) (front back : List (List ℕ)) → length front ≡ length few →
+    farmers_of (few ++ rest) (front ++ back) ≡ farmers_of few front ++ farmers_of rest back
+farmers-joined [] rest [] back e = refl
+farmers-joined [] rest (w ∷ ws) back e = absurd cc
+farmers-joined (b ∷ bs) rest [] back e = absurd cc
+farmers-joined (b ∷ bs) rest (w ∷ ws) back e =
+    ap (λ (fs : List Farmer). record { bidder = b; words = w } ∷ fs) (farmers-joined bs rest ws back (omega arith))
+
+-- two parts that are dealt, put together
+pub dealt-joined : (grid : Grid) (whom : Option Point) (few rest : List Farmer) (one other both : Totals) (seen more all : Trio (List Seen)) →
+    HasDealt grid whom few one seen → HasDealt grid whom rest other more → both ≡ record one { points = added one.points other.points } →
+    all ≡ record { one = seen.one ++ more.one; two = seen.two ++ more.two; three = seen.three ++ more.three } →
+    HasDealt grid whom (few ++ rest) both all
+dealt-joined grid whom few rest one other both seen more all a b t e = record {
+  prices = ap (λ (x : Totals). x.prices) t ∙ a.prices;
+  points =
+      ap (λ (x : Totals). x.points) t
+      ∙ (λ i. added (a.points i) (b.points i))
+      ∙ sym (points-joined grid.prices few rest);
+  bidders = λ s there. by-server s ∙ (λ i. a.bidders s there i ++ b.bidders s there i) ∙ sym (map-append (seen_at grid s) few rest);
+}
+  where
+    by-server : (s : Point) → member all s ≡ member seen s ++ member more s
+    by-server One = ap (λ (x : Trio (List Seen)). x.one) e
+    by-server Two = ap (λ (x : Trio (List Seen)). x.two) e
+    by-server Three = ap (λ (x : Trio (List Seen)). x.three) e
+
+-- what is asked of all is asked of the first so many, and of the others
+pub can-deal-front : (grid : Grid) (bidders : List Bidder) (words : List (List ℕ)) (n : ℕ) → n ≤ length bidders → CanDealAll grid bidders words →
+    CanDealAll grid (take n bidders) (take n words)
+can-deal-front grid bidders words n h can = record {
+  paired = length-take-le n words (omega (arith, can.paired)) ∙ sym (length-take-le n bidders h);
+  of_grid = All-take (λ (b : Bidder). IsOfGrid grid b.curve) n bidders can.of_grid;
+  enough = All-take (CanDeal grid) n words can.enough;
+}
+
+pub can-deal-back : (grid : Grid) (bidders : List Bidder) (words : List (List ℕ)) (n : ℕ) → CanDealAll grid bidders words →
+    CanDealAll grid (drop n bidders) (drop n words)
+can-deal-back grid bidders words n can = record {
+  paired = omega (arith, can.paired, length-drop n bidders, length-drop n words);
+  of_grid = All-drop (λ (b : Bidder). IsOfGrid grid b.curve) n bidders can.of_grid;
+  enough = All-drop (CanDeal grid) n words can.enough;
+}

@@ -4,7 +4,7 @@ use Rattle.std.specs.Prelude.{MatchOption, if◌then◌else◌}
 use Rattle.std.proofs.lemmas.Bool.{cases_Bool}
 use Rattle.std.proofs.lemmas.List.{length-map, get_or-map, take_all}
 use Rattle.std.proofs.lemmas.List.Elements.{All-map}
-use Rattle.beet_field.specs.Trio.{member}
+use Rattle.beet_field.specs.Trio.{member, trio_of}
 use Rattle.beet_field.specs.declared.point.Point.{Point}
 use Rattle.beet_field.specs.declared.point.Point.TheVariants.{One, Two, Three}
 use Rattle.beet_field.specs.declared.trio.Trio.{Trio}
@@ -24,6 +24,7 @@ use Rattle.beet_server.specs.Cores.{Core, has_ended, setup_of}
 use Rattle.beet_delivery.specs.Events.{Delivered, same}
 use Rattle.beet_server.specs.Fits.{Fits}
 use Rattle.beet_sharing.specs.Runs.{Setup, rounds_among}
+use Rattle.beet_sharing.proofs.Lined.{member-trio}
 use Rattle.beet_server.specs.Lockstep.{HaveEnded, IsAtRound}
 use Rattle.beet_auction.specs.Endings.{AuctionEnds, book_finish, book_rounds}
 use Rattle.beet_book.specs.Farmers.{Farmer, book_inputs, book_with, farmers_of, point_for}
@@ -41,7 +42,7 @@ use Rattle.beet_view.specs.RunViews.{view_of_run}
 use Rattle.beet_view.specs.Transcripts.{view_bytes}
 use Rattle.beet_view.specs.Views.{IsSeenAt, Viewed}
 use Rattle.beet_view.specs.declared.view.Seen.{Seen}
-use Rattle.beet_kept.specs.BookRuns.{CanShow, HasRun, Ran}
+use Rattle.beet_kept.specs.BookRuns.{CanShow, CanWrite, HasRun, Ran}
 
 -- words that are cut already are those of the tapes
 pub cut-same : (grid : Grid) (words : Words) → AreCut grid (by_server words) → cut_servers grid words ≡ by_server words
@@ -182,10 +183,29 @@ module _ (book : Book) (words : Words) (b : IsBook book) (can : CanRun book word
       (has-run book words b can inputs inputs-are tapes tapes-are start cores (subst (λ (x : Grid). Starts x inputs tapes start) g starts) ended finish count named
       counted seen (λ s. shown s ∙ ap (λ (x : List (List ℕ)). map (seen_at book.grid s) (farmers_of book.bidders x)) l))
 
+  -- the same with the bidders as each server sees them, whether or not they are kept for it
+  pub ran-shown : (start cores : Trio (Core Auction)) (finish : Finish) (count : ℕ) → Starts grid inputs tapes start →
+      HaveEnded auction_batch inputs_of most_rounds start cores → plan_finish (auction_plan cores.one.script) cores.one.opened ≡ Some finish →
+      count ≡ cores.one.round →
+      HasRun book words (record { grid = grid; seen = trio_of (λ s. map (seen_at book.grid s) (farmers_of book.bidders lists)); cores = cores; finish = finish; rounds = count })
+  ran-shown start cores finish count starts ended named counted =
+      let shown : Point → List Seen = λ s. map (seen_at book.grid s) (farmers_of book.bidders lists) in
+      ran-whole start cores finish count (trio_of shown) starts ended named counted (member-trio shown)
+
 -- what a server sees, under its own name
 pub seen-by : (s me : Point) (grid : Grid) (before after : List Seen) → me ≡ s → after ≡ before → All (IsSeenAt s grid) before → All (IsSeenAt me grid) after
 seen-by s me grid before after m e h =
     subst (λ (x : Point). All (IsSeenAt x grid) after) (sym m) (subst (All (IsSeenAt s grid)) (sym e) h)
+
+-- of servers whose views can be shown, the transcript of each can be written
+pub can-write : (ran : Ran) (s : Point) (core : Core Auction) (items : List Seen) → CanShow ran → core ≡ member ran.cores s → items ≡ member ran.seen s →
+    CanWrite core ran.grid items
+can-write ran s core items h c i =
+    rw (c, i) (record {
+      ended = h.ended s;
+      few = h.few s;
+      seen = seen-by s _ ran.grid _ _ (h.name s) refl (h.seen s);
+    })
 
 -- the view of a core that has run is that of its server
 abbrev pub IsViewAt : Core Auction → Grid → List Seen → Setup → Viewed → Type 0

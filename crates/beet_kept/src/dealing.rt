@@ -1,22 +1,25 @@
 //! What the bidders of a book deal, and what each server sees of them.
 
-ghost use Rattle.std.specs.Prelude.{◌≡◌, ◌≤◌, ◌*◌, ◌++◌, ◌∷◌, [], IfOk, OnOk, All, List, length, map};
+ghost use Rattle.std.specs.Prelude.{◌≡◌, ◌≤◌, ◌*◌, ◌++◌, ◌∷◌, [], IfOk, OnOk, All, List, Option, length, map, true};
 ghost use Rattle.beet_field.specs.Trio.{member};
 ghost use Rattle.beet_field.specs.declared.point.Point.{Point as Server};
+ghost use Rattle.std.specs.Thread.{IsSync};
 ghost use Rattle.beet_bids.specs.Curves.{IsOfGrid};
+ghost use Rattle.beet_bids.specs.Grids.{Grid as Lattice};
 ghost use Rattle.beet_book.specs.Farmers.{Farmer, book_inputs, farmers_of};
 ghost use Rattle.beet_load.specs.Wholes.{CanDeal};
 ghost use Rattle.beet_view.specs.BookViews.{seen_at};
-ghost use Rattle.beet_kept.specs.DealtBooks.{HasDealt, own_at, seen_with};
+ghost use Rattle.beet_kept.specs.DealtBooks.{CanDealAll, HasDealt, own_at, seen_with, shows};
 
 use beet_bids::{Bidder, Book, Curve, Grid};
-use beet_book::{Totals, deal_bidder};
+use beet_book::{FEWEST_FOR_TWO, Totals, deal_bidder, workers};
 use beet_field::{Point, Trio};
 use beet_load::{front, words_kept};
 use beet_view::Seen;
 use beet_words::{FeList, WordList};
 use std::alloc::{AllocError, Global};
-use std::marker::Model;
+use std::marker::{Model, Sync};
+use std::thread::{Threads, join};
 
 /// The bidders, in their order, as each server sees them.
 #[derive(Drop)]
@@ -48,17 +51,18 @@ impl SeenByAll {
         }
     }
 
-    /// One bidder more, as each server sees it.
-    fn push(&mut self, one: Seen, two: Seen, three: Seen) -> Result<(), AllocError>
+    /// The bidders of others after these.
+    fn append(&mut self, others: SeenByAll) -> Result<(), AllocError>
         ensures { OnOk result (self.new ≡ record {
-          one = self.old.one ++ one ∷ [];
-          two = self.old.two ++ two ∷ [];
-          three = self.old.three ++ three ∷ [];
+          one = self.old.one ++ others.one;
+          two = self.old.two ++ others.two;
+          three = self.old.three ++ others.three;
         }) }
     {
-        self.one.push(one)?;
-        self.two.push(two)?;
-        self.three.push(three)?;
+        let mut others = others;
+        self.one.append(&mut others.one)?;
+        self.two.append(&mut others.two)?;
+        self.three.append(&mut others.three)?;
         Ok(())
     }
 
@@ -122,10 +126,59 @@ fn see(
     })
 }
 
-/// Deals the quantities of a bidder by its words, adds the points, and shows the bidder to each server.
+/// Appends a bidder with these points, as this server sees it, where bidders are kept for the server.
+fn show(
+    alloc: Global,
+    whom: Option<Point>,
+    at: Point,
+    bidder: &Bidder,
+    words: &WordList,
+    points: FeList,
+    seen: &mut Vec<Seen>,
+) -> Result<(), AllocError>
+    ensures { OnOk result (shows whom at ≡ true → seen.new.items
+        ≡ seen.old.items ++ seen_with at (record { bidder = bidder.now; words = words.now }) points ∷ []) }
+{
+    if whom.is_none() || whom == Some(at) {
+        seen.push(see(alloc, at, bidder, words, points)?)?;
+    }
+    Ok(())
+}
+
+impl SeenByAll {
+    /// Appends a bidder with these points, as each server sees it for which bidders are kept.
+    fn show_each(
+        &mut self,
+        alloc: Global,
+        whom: Option<Point>,
+        bidder: &Bidder,
+        words: &WordList,
+        points: Trio<FeList>,
+    ) -> Result<(), AllocError>
+        ensures { OnOk result ((s : Server) → shows whom s ≡ true → member self.new s
+            ≡ member self.old s ++ seen_with s (record { bidder = bidder.now; words = words.now }) (member points s) ∷ []) }
+    {
+        let Trio { one, two, three } = points;
+        show(alloc, whom, Point::One, bidder, words, one, &mut self.one)?;
+        show(alloc, whom, Point::Two, bidder, words, two, &mut self.two)?;
+        show(
+            alloc,
+            whom,
+            Point::Three,
+            bidder,
+            words,
+            three,
+            &mut self.three,
+        )
+    }
+}
+
+/// Deals the quantities of a bidder by its words, adds the points, and shows the bidder to the servers for which bidders are
+/// kept.
 fn deal_one(
     alloc: Global,
     grid: &Grid,
+    whom: Option<Point>,
     bidder: &Bidder,
     words: &WordList,
     totals: &mut Totals,
@@ -134,31 +187,143 @@ fn deal_one(
     requires of_grid { IsOfGrid grid.now bidder.now.curve }
     requires words { CanDeal grid.now words.now }
     requires prices { totals.old.prices ≡ grid.now.prices }
-    ensures { (farmers : List Farmer) → HasDealt grid.now farmers totals.old seen.old
-        → OnOk result (HasDealt grid.now (farmers ++ record { bidder = bidder.now; words = words.now } ∷ [])
+    ensures { (farmers : List Farmer) → HasDealt grid.now whom farmers totals.old seen.old
+        → OnOk result (HasDealt grid.now whom (farmers ++ record { bidder = bidder.now; words = words.now } ∷ [])
         totals.new seen.new) }
 {
     let mut tape = front(alloc, words, words_kept(grid))?;
     let dealt = deal_bidder(alloc, grid, &bidder.curve, &mut tape)?;
     totals.add(&dealt);
-    let points = dealt.into_points();
-    let one = see(alloc, Point::One, bidder, words, points.one)?;
-    let two = see(alloc, Point::Two, bidder, words, points.two)?;
-    let three = see(alloc, Point::Three, bidder, words, points.three)?;
-    seen.push(one, two, three)?;
+    seen.show_each(alloc, whom, bidder, words, dealt.into_points())?;
     Ok(())
 }
 
-/// What the bidders of a book deal: the inputs of the servers, and the bidders as each server sees them.
+/// Some bidders of a book: their points added up, and each bidder as the servers see it for which bidders are kept.
+#[derive(Drop)]
+struct DealtPart {
+    totals: Totals,
+    seen: SeenByAll,
+}
+
+/// Puts two parts together, of which the second has the bidders after those of the first.
+fn join_parts(first: DealtPart, second: DealtPart) -> Result<DealtPart, AllocError>
+    requires { second.totals.prices ≡ first.totals.prices }
+    ensures { (grid : Lattice) (whom : Option Server) (few rest : List Farmer) → HasDealt grid whom few first.totals first.seen
+        → HasDealt grid whom rest second.totals second.seen
+        → IfOk result (λ both. HasDealt grid whom (few ++ rest) both.totals both.seen) }
+{
+    let DealtPart {
+        mut totals,
+        mut seen,
+    } = first;
+    totals.merge(&second.totals);
+    seen.append(second.seen)?;
+    Ok(DealtPart { totals, seen })
+}
+
+/// Deals the quantities of the bidders one after another.
+fn deal_in_order(
+    alloc: Global,
+    grid: &Grid,
+    whom: Option<Point>,
+    bidders: &[Bidder],
+    words: &[WordList],
+) -> Result<DealtPart, AllocError>
+    requires { CanDealAll grid.now bidders.now words.now }
+    ensures { IfOk result (λ part. HasDealt grid.now whom (farmers_of bidders.now words.now) part.totals part.seen) }
+{
+    let mut totals = Totals::new(alloc, grid)?;
+    let mut seen = SeenByAll::new(alloc);
+    for i in 0..words.len() {
+        deal_one(
+            alloc,
+            grid,
+            whom,
+            &bidders[i],
+            &words[i],
+            &mut totals,
+            &mut seen,
+        )?;
+    }
+    Ok(DealtPart { totals, seen })
+}
+
+/// Deals the quantities of the bidders by so many threads, or one after another where they are few.
+#[cycle(halves)]
+fn deal_by<R: Threads + Sync>(
+    rt: &R,
+    alloc: Global,
+    grid: &Grid,
+    whom: Option<Point>,
+    threads: usize,
+    bidders: &[Bidder],
+    words: &[WordList],
+) -> Result<DealtPart, AllocError>
+    requires { CanDealAll grid.now bidders.now words.now }
+    ensures { IfOk result (λ part. HasDealt grid.now whom (farmers_of bidders.now words.now) part.totals part.seen) }
+{
+    if threads < 2 || bidders.len() < FEWEST_FOR_TWO as usize {
+        return deal_in_order(alloc, grid, whom, bidders, words);
+    }
+    let middle = bidders.len() / 2;
+    let (few, rest) = bidders.split_at(middle);
+    let (front, back) = words.split_at(middle);
+    deal_both(rt, alloc, grid, whom, threads, few, rest, front, back)
+}
+
+/// Deals the quantities of two parts at the same time, each by half of the threads, and puts the parts together.
+#[cycle(halves)]
+fn deal_both<R: Threads + Sync>(
+    rt: &R,
+    alloc: Global,
+    grid: &Grid,
+    whom: Option<Point>,
+    threads: usize,
+    few: &[Bidder],
+    rest: &[Bidder],
+    front: &[WordList],
+    back: &[WordList],
+) -> Result<DealtPart, AllocError>
+    requires threads { 2 ≤ threads }
+    requires front { CanDealAll grid.now few.now front.now }
+    requires back { CanDealAll grid.now rest.now back.now }
+    ensures { IfOk result (λ part.
+        HasDealt grid.now whom (farmers_of (few.now ++ rest.now) (front.now ++ back.now)) part.totals part.seen) }
+{
+    let half = threads.div_ceil(2);
+    let (first, second) = join(
+        rt,
+        || -> Result<DealtPart, AllocError>
+            requires { IsSync R.row × CanDealAll grid.now few.now front.now }
+            ensures { IfOk result (λ part.
+                HasDealt grid.entry.now whom (farmers_of few.entry.now front.entry.now) part.totals part.seen) }
+        { deal_by(rt, alloc, grid, whom, half, few, front) },
+        || -> Result<DealtPart, AllocError>
+            requires { IsSync R.row × CanDealAll grid.now rest.now back.now }
+            ensures { IfOk result (λ part.
+                HasDealt grid.entry.now whom (farmers_of rest.entry.now back.entry.now) part.totals part.seen) }
+        { deal_by(rt, alloc, grid, whom, half, rest, back) },
+    );
+    let few_part = first?;
+    let rest_part = second?;
+    let both = join_parts(few_part, rest_part)?;
+    Ok(both)
+}
+
+/// What the bidders of a book deal: the inputs of the servers, and the bidders as the servers see them for which they are
+/// kept.
 #[derive(Drop)]
 pub(crate) struct DealtBook {
     pub(crate) inputs: Trio<FeList>,
     pub(crate) seen: SeenByAll,
 }
 
-/// Deals the quantities of all bidders of a book, each by its own words.
-pub(crate) fn deal_book(
+/// Deals the quantities of all bidders of a book, each by its own words, by a thread for each processor. The bidders are
+/// kept for one server, or for all three where none is named.
+pub(crate) fn deal_book<R: Threads + Sync>(
+    rt: &R,
     alloc: Global,
+    whom: Option<Point>,
     book: &Book,
     words: &[WordList],
 ) -> Result<DealtBook, AllocError>
@@ -166,18 +331,13 @@ pub(crate) fn deal_book(
     requires words { All (CanDeal book.now.grid) words.now }
     ensures inputs { IfOk result (λ dealt. dealt.inputs
         ≡ book_inputs book.now.grid.prices (farmers_of book.now.bidders words.now)) }
-    ensures seen { IfOk result (λ dealt. (s : Server) → member dealt.seen s
+    ensures seen { IfOk result (λ dealt. (s : Server) → shows whom s ≡ true → member dealt.seen s
         ≡ map (seen_at book.now.grid s) (farmers_of book.now.bidders words.now)) }
 {
-    let grid = book.grid();
-    let bidders = book.bidders();
-    let mut totals = Totals::new(alloc, grid)?;
-    let mut seen = SeenByAll::new(alloc);
-    for i in 0..words.len() {
-        deal_one(alloc, grid, &bidders[i], &words[i], &mut totals, &mut seen)?;
-    }
+    let threads = workers(rt);
+    let dealt = deal_by(rt, alloc, book.grid(), whom, threads, book.bidders(), words)?;
     Ok(DealtBook {
-        inputs: totals.inputs(),
-        seen,
+        inputs: dealt.totals.inputs(),
+        seen: dealt.seen,
     })
 }

@@ -6,4 +6,4 @@ mod laws;
 mod running;
 
 pub use laws::recorded_views_are_read_again;
-pub use running::{Ran, run_whole, run_whole_in_threads};
+pub use running::{Ran, SeenRun, run_whole_in_threads, see_whole};

@@ -17,8 +17,10 @@ ghost use Rattle.beet_load.specs.Wholes.{CanRun};
 ghost use Rattle.beet_view.specs.RunViews.{view_of_run};
 ghost use Rattle.beet_view.specs.Transcripts.{view_bytes};
 ghost use Rattle.beet_view.specs.Views.{IsSeenAt};
-ghost use Rattle.beet_kept.specs.BookRuns.{HasRun};
-ghost use Rattle.beet_view.specs.BookViews.{seen_at, view_for};
+ghost use Rattle.beet_auction.specs.Endings.{book_finish, book_rounds};
+ghost use Rattle.beet_kept.specs.BookRuns.{CanWrite, HasRun, Writes};
+ghost use Rattle.beet_kept.specs.DealtBooks.{shows};
+ghost use Rattle.beet_view.specs.BookViews.{seen_at, transcript_for, view_for};
 ghost use Rattle.beet_words.specs.declared.bundle.TheConstants.{MOST_BIDDERS};
 
 use crate::dealing::{SeenByAll, deal_book};
@@ -31,12 +33,12 @@ use beet_plan::Finish;
 use beet_run::{finish_at, run_in_threads, run_on_one_thread};
 use beet_search::AuctionScript;
 use beet_server::ServerCore;
-use beet_view::{Seen, View, view_of, write_view};
+use beet_view::{Seen, view_of, write_view};
 use beet_words::{FeList, Words};
 use std::alloc::{AllocError, Global};
-use std::marker::Model;
+use std::marker::{Model, Sync};
 use std::sync::Wait;
-use std::thread::Threads;
+use std::thread::{Threads, join};
 
 /// Three servers that have run an auction to its end, and the bidders as each of them sees them.
 #[derive(Drop)]
@@ -85,26 +87,18 @@ impl Ran {
         self.rounds
     }
 
-    /// What one server has seen. Want of memory is the only error.
-    pub fn into_view(self, alloc: Global, at: Point) -> Result<View, AllocError>
-        ensures { (book : Bids) (words : Lists) → HasRun book words self
-            → IfOk result (λ view. view ≡ view_for book words at) }
-    {
-        let seen = self.seen.into_one(at);
-        view_of(alloc, self.cores.get(at), &self.grid, seen)
-    }
-
-    /// The transcript of each server. Each view is dropped once its transcript is written; the bidders' parts of the later
-    /// views are held until then. Want of memory is the only error.
-    pub fn into_transcripts(self, alloc: Global) -> Result<Trio<Vec<u8>>, AllocError>
+    /// The transcript of each server, each written by a thread of its own. Want of memory is the only error.
+    pub fn into_transcripts<R: Threads + Sync>(
+        self,
+        rt: &R,
+        alloc: Global,
+    ) -> Result<Trio<Vec<u8>>, AllocError>
         ensures { (book : Bids) (words : Lists) → HasRun book words self
             → IfOk result (λ files. (s : Server) → (member files s).items ≡ view_bytes (view_for book words s)) }
     {
         let seen = self.seen.into_parts();
-        let one = transcript_of(alloc, &self.cores.one, &self.grid, seen.one)?;
-        let two = transcript_of(alloc, &self.cores.two, &self.grid, seen.two)?;
-        let three = transcript_of(alloc, &self.cores.three, &self.grid, seen.three)?;
-        Ok(Trio { one, two, three })
+        let files = write_three(rt, alloc, &self.cores, &self.grid, seen)?;
+        Ok(files)
     }
 }
 
@@ -115,16 +109,66 @@ fn transcript_of(
     grid: &Grid,
     bidders: Vec<Seen>,
 ) -> Result<Vec<u8>, AllocError>
-    requires ended { has_ended auction_batch core.now ≡ true }
-    requires few { length bidders.items ≤ MOST_BIDDERS }
-    requires seen { All (IsSeenAt core.now.me grid.now) bidders.items }
-    ensures { (o : Setup) (x : Delivered) → Fits auction_batch o x core.now
-        → IfOk result (λ file. file.items ≡ view_bytes (view_of_run o core.now.me core.now.round grid.now
-        bidders.items core.now.masks.words core.now.coefficients.words)) }
+    requires { CanWrite core.now grid.now bidders.items }
+    ensures { IfOk result (λ file. Writes core.now grid.now bidders.items file.items) }
 {
     let view = view_of(alloc, core, grid, bidders)?;
     let file = write_view(alloc, &view)?;
     Ok(file)
+}
+
+/// The transcripts of two servers that have ended, each written by a thread of its own.
+fn write_two<R: Threads + Sync>(
+    rt: &R,
+    alloc: Global,
+    grid: &Grid,
+    first: &ServerCore<AuctionScript>,
+    seen: Vec<Seen>,
+    second: &ServerCore<AuctionScript>,
+    others: Vec<Seen>,
+) -> (Result<Vec<u8>, AllocError>, Result<Vec<u8>, AllocError>)
+    requires first { CanWrite first.now grid.now seen.items }
+    requires second { CanWrite second.now grid.now others.items }
+    ensures first { IfOk result.0 (λ file. Writes first.now grid.now seen.items file.items) }
+    ensures second { IfOk result.1 (λ file. Writes second.now grid.now others.items file.items) }
+{
+    join(
+        rt,
+        || transcript_of(alloc, first, grid, seen),
+        || transcript_of(alloc, second, grid, others),
+    )
+}
+
+/// The transcripts of three servers that have ended, each written by a thread of its own.
+fn write_three<R: Threads + Sync>(
+    rt: &R,
+    alloc: Global,
+    cores: &Trio<ServerCore<AuctionScript>>,
+    grid: &Grid,
+    seen: Trio<Vec<Seen>>,
+) -> Result<Trio<Vec<u8>>, AllocError>
+    requires one { CanWrite cores.now.one grid.now seen.one.items }
+    requires two { CanWrite cores.now.two grid.now seen.two.items }
+    requires three { CanWrite cores.now.three grid.now seen.three.items }
+    ensures one { IfOk result (λ files. Writes cores.now.one grid.now seen.one.items files.one.items) }
+    ensures two { IfOk result (λ files. Writes cores.now.two grid.now seen.two.items files.two.items) }
+    ensures three { IfOk result (λ files. Writes cores.now.three grid.now seen.three.items files.three.items) }
+{
+    let Trio { one, two, three } = seen;
+    let (one, (two, three)) = join(
+        rt,
+        || transcript_of(alloc, &cores.one, grid, one),
+        || -> (Result<Vec<u8>, AllocError>, Result<Vec<u8>, AllocError>)
+            requires { CanWrite cores.now.two grid.now two.items × CanWrite cores.now.three grid.now three.items }
+            ensures { IfOk result.0 (λ file. Writes cores.entry.now.two grid.entry.now two.items file.items)
+                × IfOk result.1 (λ file. Writes cores.entry.now.three grid.entry.now three.items file.items) }
+        { write_two(rt, alloc, grid, &cores.two, two, &cores.three, three) },
+    );
+    Ok(Trio {
+        one: one?,
+        two: two?,
+        three: three?,
+    })
 }
 
 /// The grid of a book, which is within its limits.
@@ -138,8 +182,8 @@ fn grid_of(book: &Book) -> Grid
     grid
 }
 
-/// What three servers begin with for a book: the grid, the bidders as each server sees them, the points of the inputs, and the
-/// words of the servers.
+/// What three servers begin with for a book: the grid, the bidders as the servers see them for which they are kept, the points
+/// of the inputs, and the words of the servers.
 #[derive(Drop)]
 struct Ready {
     grid: Grid,
@@ -148,19 +192,25 @@ struct Ready {
     tapes: Trio<ServerWords>,
 }
 
-/// Deals the bidders of a book, and cuts the words of the servers as those of tapes are cut.
-fn make_ready(alloc: Global, book: &Book, words: &Words) -> Result<Ready, AllocError>
+/// Deals the bidders of a book, which are kept for one server or for all three, and cuts the words of the servers as those of tapes are cut.
+fn make_ready<R: Threads + Sync>(
+    rt: &R,
+    alloc: Global,
+    whom: Option<Point>,
+    book: &Book,
+    words: &Words,
+) -> Result<Ready, AllocError>
     requires { CanRun book.now words.now }
     ensures book { IfOk result (λ ready. IsBook book.now) }
     ensures grid { IfOk result (λ ready. ready.grid ≡ book.now.grid) }
-    ensures seen { IfOk result (λ ready. (s : Server) → member ready.seen s
+    ensures seen { IfOk result (λ ready. (s : Server) → shows whom s ≡ true → member ready.seen s
         ≡ map (seen_at book.now.grid s) (farmers_of book.now.bidders words.now.bidders)) }
     ensures inputs { IfOk result (λ ready. ready.inputs
         ≡ book_inputs book.now.grid.prices (farmers_of book.now.bidders words.now.bidders)) }
     ensures tapes { IfOk result (λ ready. ready.tapes ≡ cut_servers ready.grid words.now) }
 {
     let grid = grid_of(book);
-    let dealt = deal_book(alloc, book, words.bidders.as_slice())?;
+    let dealt = deal_book(rt, alloc, whom, book, words.bidders.as_slice())?;
     let tapes = cut_three(alloc, &grid, words)?;
     Ok(Ready {
         grid,
@@ -170,24 +220,42 @@ fn make_ready(alloc: Global, book: &Book, words: &Words) -> Result<Ready, AllocE
     })
 }
 
-/// Runs the auction of a book among three servers, which begin with these words, to its end on the caller's thread. Want of
-/// memory is the only error, and comes before the first round.
-pub fn run_whole(alloc: Global, book: &Book, words: &Words) -> Result<Ran, Stop>
+/// How a run ended, after how many rounds, and the transcript of one server.
+#[derive(Drop)]
+pub struct SeenRun {
+    pub finish: Finish,
+    pub rounds: u32,
+    pub transcript: Vec<u8>,
+}
+
+/// Runs the auction of a book among three servers, which begin with these words, to its end on the caller's thread, and
+/// writes what one of them has seen. The bidders are dealt by all processors, and kept for this server alone. Want of memory
+/// is the only error.
+pub fn see_whole<R: Threads + Sync>(
+    rt: &R,
+    alloc: Global,
+    at: Point,
+    book: &Book,
+    words: &Words,
+) -> Result<SeenRun, Stop>
     requires { CanRun book.now words.now }
     ensures memory { IfErr result (λ stop. stop ≡ Stop.OutOfMemory) }
-    ensures run { IfOk result (HasRun book.now words.now) }
+    ensures transcript { IfOk result (λ run. run.transcript.items ≡ transcript_for book.now words.now at) }
+    ensures finish { IfOk result (λ run. run.finish ≡ book_finish book.now words.now.masks) }
+    ensures rounds { IfOk result (λ run. run.rounds ≡ book_rounds book.now words.now.masks) }
 {
-    let begun = make_ready(alloc, book, words)?;
+    let begun = make_ready(rt, alloc, Some(at), book, words)?;
     let grid = begun.grid;
     let cores = run_on_one_thread(alloc, &grid, begun.inputs, begun.tapes)?;
     let finish = finish_at(&cores.one);
     let rounds = cores.one.round();
-    Ok(Ran {
-        grid,
-        seen: begun.seen,
-        cores,
+    let Ok(transcript) = transcript_of(alloc, cores.get(at), &grid, begun.seen.into_one(at)) else {
+        return Err(Stop::OutOfMemory);
+    };
+    Ok(SeenRun {
         finish,
         rounds,
+        transcript,
     })
 }
 
@@ -204,7 +272,7 @@ pub fn run_whole_in_threads<R: Threads + Wait + Sync, G: Gate>(
     ensures memory { IfErr result (λ stop. stop ≡ Stop.OutOfMemory) }
     ensures run { IfOk result (HasRun book.now words.now) }
 {
-    let begun = make_ready(alloc, book, words)?;
+    let begun = make_ready(rt, alloc, None, book, words)?;
     let grid = begun.grid;
     let cores = run_in_threads(rt, alloc, &grid, begun.inputs, begun.tapes, gate)?;
     let finish = finish_at(&cores.one);

@@ -72,7 +72,7 @@ fn reply_for<R: Threads + Wait + Sync, G: Gate>(
     let ran = run_whole_in_threads(rt, alloc, &whole.book, &whole.words, gate)?;
     drop(whole);
     let reply = outcome_reply(alloc, ran.grid(), ran.finish(), ran.rounds())?;
-    let transcripts = ran.into_transcripts(alloc)?;
+    let transcripts = ran.into_transcripts(rt, alloc)?;
     let files = transcript_files(alloc, out, transcripts)?;
     Ok(Reply {
         status: reply.status,

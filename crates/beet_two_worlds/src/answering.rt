@@ -11,16 +11,18 @@ ghost use Rattle.beet_view.specs.BookViews.{transcript_for};
 ghost use Rattle.beet_two_worlds.specs.Ending.{AnswersBooks};
 
 use crate::refusing::refusal;
-use crate::seeing::{SeenRun, see};
 use beet_bids::{Book, Grid};
 use beet_errand::{NewFile, Reply, Stop};
 use beet_field::Point;
+use beet_kept::{SeenRun, see_whole};
 use beet_load::Whole;
 use beet_plan::Finish;
 use beet_run::outcome_reply;
 use beet_words::{Words, write_bundle};
 use beet_worlds::world_map;
 use std::alloc::{AllocError, Global};
+use std::marker::Sync;
+use std::thread::Threads;
 
 /// A file whose name is the stem with an ending.
 fn file_of(alloc: Global, stem: &str, ending: &str, bytes: Vec<u8>) -> Result<NewFile, AllocError>
@@ -68,7 +70,8 @@ fn equal_reply(
 }
 
 /// Runs both worlds of books that agree, and answers with both transcripts and the words of the second.
-fn agreed_reply(
+fn agreed_reply<R: Threads + Sync>(
+    rt: &R,
     alloc: Global,
     me: Point,
     out: &str,
@@ -83,8 +86,8 @@ fn agreed_reply(
     ensures answer { IfOk result (λ reply. reply ≡ agreed_answer out.now whole.now.book whole.now.words
         (transcript_for whole.now.book whole.now.words me) mapped.now) }
 {
-    let first_run = see(alloc, me, &whole.book, &whole.words)?;
-    let second_run = see(alloc, me, second, mapped)?;
+    let first_run = see_whole(rt, alloc, me, &whole.book, &whole.words)?;
+    let second_run = see_whole(rt, alloc, me, second, mapped)?;
     let words = write_bundle(alloc, mapped)?;
     let SeenRun {
         finish,
@@ -96,7 +99,8 @@ fn agreed_reply(
 }
 
 /// The answer for two books over one grid: they are refused where they do not agree for server `me`.
-pub(crate) fn answer_both(
+pub(crate) fn answer_both<R: Threads + Sync>(
+    rt: &R,
     alloc: Global,
     me: Point,
     out: &str,
@@ -109,7 +113,7 @@ pub(crate) fn answer_both(
     // The limits of the grid keep the lists of words short enough for a bundle.
     let _within_limits = second.grid().prices();
     match world_map(alloc, me, &whole.book, second, &whole.words) {
-        Ok(mapped) => agreed_reply(alloc, me, out, whole, second, &mapped),
+        Ok(mapped) => agreed_reply(rt, alloc, me, out, whole, second, &mapped),
         Err(fault) => Err(refusal(alloc, fault)),
     }
 }

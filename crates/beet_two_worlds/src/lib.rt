@@ -4,7 +4,6 @@
 mod answering;
 mod laws;
 mod refusing;
-mod seeing;
 mod two_worlds;
 
 pub use laws::differences_are_told;

@@ -10,10 +10,13 @@ use beet_field::Point;
 use beet_load::{load_curves, load_whole};
 use beet_store::Shelf;
 use std::alloc::Global;
+use std::marker::Sync;
+use std::thread::Threads;
 
 /// Runs the auction of the first book with the words that are read, and that of the second with words with which it looks
 /// the same to the server. It answers the transcripts of the server, which are equal, and the words of the second auction.
-pub fn worlds<S: Shelf>(
+pub fn worlds<S: Shelf, R: Threads + Sync>(
+    rt: &R,
     alloc: Global,
     shelf: &mut S,
     auction: &str,
@@ -28,5 +31,5 @@ pub fn worlds<S: Shelf>(
 {
     let whole = load_whole(alloc, shelf, auction, servers, book1)?;
     let second = load_curves(alloc, shelf, whole.book.grid(), book2)?;
-    answer_both(alloc, server, out, &whole, &second)
+    answer_both(rt, alloc, server, out, &whole, &second)
 }

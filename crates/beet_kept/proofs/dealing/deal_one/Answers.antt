@@ -11,6 +11,6 @@ deal_bidder-requires-clause-words c =
 pub returns : goal.returns
 returns c = λ farmers h.
     let left = tape-left c.args.grid.now c.words_kept.result c.in_ok-tape.tape c.args.words.now c.in_ok-tape.ensures c.words_kept.ensures c.requires.words in
-    dealt-more c.args.grid.now farmers (record { bidder = c.args.bidder.now; words = c.args.words.now }) c.requires.of_grid c.requires.words.enough
-    _ _ _ _ _ _ _ _ _ h (c.in_ok-dealt.ensures.dealt.points ∙ ap (dealt_points c.args.bidder.now.curve) left) c.add.ensures.sums c.into_points-points.ensures
-    c.in_ok-one.ensures c.in_ok-two.ensures c.in_ok-three.ensures c.in_ok-push.ensures
+    dealt-more c.args.grid.now c.args.whom farmers (record { bidder = c.args.bidder.now; words = c.args.words.now }) c.requires.of_grid c.requires.words.enough
+    _ _ _ _ _ _ h (c.in_ok-dealt.ensures.dealt.points ∙ ap (dealt_points c.args.bidder.now.curve) left) c.add.ensures.sums c.into_points.ensures
+    c.in_ok-show_each.ensures

@@ -24,7 +24,7 @@ invariant_of-result g c =
     let ran = c.in_ok-cores.ensures.ended in
     can-show c.args.book.now c.args.words.now h.book c.requires _
     (ran-whole c.args.book.now c.args.words.now h.book c.requires _ h.grid _ refl _ h.inputs _ h.tapes
-    _ _ _ _ _ ran.starts ran.ended c.finish_at-finish.ensures c.round-rounds.ensures h.seen)
+    _ _ _ _ _ ran.starts ran.ended c.finish_at-finish.ensures c.round-rounds.ensures (λ s. h.seen s refl))
     ran.ended.at_end
 
 pub returns-clause-run : goal.returns-clause-run
@@ -32,4 +32,4 @@ returns-clause-run g c =
     let h = c.in_ok-begun.ensures in
     let ran = c.in_ok-cores.ensures.ended in
     ran-whole c.args.book.now c.args.words.now h.book c.requires _ h.grid _ refl _ h.inputs _ h.tapes
-    _ _ _ _ _ ran.starts ran.ended c.finish_at-finish.ensures c.round-rounds.ensures h.seen
+    _ _ _ _ _ ran.starts ran.ended c.finish_at-finish.ensures c.round-rounds.ensures (λ s. h.seen s refl)
