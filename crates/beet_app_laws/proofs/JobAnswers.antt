@@ -1,5 +1,5 @@
 -- The ends of the errand of each job.
-use Rattle.std.proofs.Common.{◌≡◌, inl, inr, ℕ, List, [], ◌∷◌, ◌++◌, Option, Some, None, Bool, true, false, if◌then◌else◌, option_map, ap, refl, subst, sym}
+use Rattle.std.proofs.Common.{◌≡◌, inl, inr, ℕ, List, [], ◌∷◌, ◌++◌, Option, Some, None, Bool, true, false, if◌then◌else◌, option_map, IfSome, ap, refl, subst, sym}
 use Rattle.std.specs.Prelude.{◌&&◌, codes, ◌==◌, ◌+◌, map}
 use Rattle.beet_field.specs.declared.point.Point.{Point}
 use Rattle.beet_field.specs.declared.point.Point.TheVariants.{One, Two, Three as ThreeAt}
@@ -56,7 +56,7 @@ use Rattle.beet_trial.specs.Trial.{trial_errand}
 use Rattle.beet_two_worlds.specs.Differences.{difference_between}
 use Rattle.beet_two_worlds.specs.Ending.{compared_errand, unless_differing, ShowsWorlds}
 use Rattle.beet_two_worlds.specs.Reading.{both_errand, first_book, second_book, words_read}
-use Rattle.beet_audit.specs.Audits.{recombined_book}
+use Rattle.beet_audit.specs.Audits.{Finds, recombined_book}
 use Rattle.beet_audit.specs.declared.fault.AuditFault.{AuditFault}
 use Rattle.beet_auditor.specs.Ending.{ShowsAudit, audit_answer}
 use Rattle.beet_auditor.specs.Reading.{read_errand}
@@ -64,6 +64,7 @@ use Rattle.beet_auditor.specs.declared.reading.ReadViews.{ReadViews}
 use Rattle.beet_app.specs.Jobs.{Job, Answering, Comparing, Auditing, are_names, is_word, job_of, job_of_two, job_of_three, job_of_four, job_of_six, seal_of}
 use Rattle.beet_forms.specs.Names.{is_name_of}
 use Rattle.beet_app_laws.specs.Leavings.{last_word}
+use Rattle.beet_app_laws.proofs.Faults.{HasLine, difference-line, finds-never}
 use Rattle.beet_app_laws.proofs.Answers.{EndsWell, IsAnswer, StepsWell, all-words-well, bidders-well, curves-well, either, enough-well, limited-well, loaded-well, reads-well, servers-enough, words-well}
 
 pub finish-done : (finish : Finish) → IsDone (status_of finish)
@@ -140,9 +141,9 @@ module _ (out : List ℕ) where
       let grid = trial_grid prices in
       servers-enough out grid (trial_servers grid) _ (each-enough grid 1 (trial_farmers grid bidders) _ (inl (finish-done (book_finish (trial_book grid bidders) (masks_of (trial_servers grid))), inl refl)))
 
-  differing-well : (difference : Option MapFault) (next : Errand) → EndsWell out next → EndsWell out (unless_differing difference next)
-  differing-well None next h = h
-  differing-well (Some difference) next h = inr ((difference, refl), refl)
+  differing-well : (difference : Option MapFault) → IfSome difference HasLine → (next : Errand) → EndsWell out next → EndsWell out (unless_differing difference next)
+  differing-well None t next h = h
+  differing-well (Some difference) t next h = inr ((difference, t), refl)
 
   both-well : (auction servers first second : List ℕ) → StepsWell out (both_errand auction servers first second)
   unfolding both_errand
@@ -151,7 +152,8 @@ module _ (out : List ℕ) where
 
   pub compared-well : (auction servers first second : List ℕ) (s : Point) → StepsWell out (compared_errand auction servers first second s)
   compared-well auction servers first second s next h =
-      both-well auction servers first second _ (λ both. differing-well (difference_between s (first_book both) (second_book both)) (next both) (h both))
+      both-well auction servers first second _ (λ both. differing-well (difference_between s (first_book both) (second_book both))
+      (difference-line s (first_book both) (second_book both)) (next both) (h both))
 
   pub read-well : (auction one two three : List ℕ) → StepsWell out (read_errand auction one two three)
   unfolding read_errand
@@ -270,14 +272,15 @@ module _ (out : List ℕ) where
       let is : answer.status ≡ status_of end = ap (λ (a : Answer). a.status) w.same.is in
       inl (subst IsDone (sym is) (finish-done end), inr (inr (ap (λ (a : Answer). map (λ file. file.0) a.files) w.same.is)))
 
-  found-well : (read : ReadViews) (found : Option AuditFault) → IsAnswer out (audit_answer read found)
-  found-well read None =
+  found-well : (read : ReadViews) (found : Option AuditFault) → Finds read.grid read.views found → IsAnswer out (audit_answer read found)
+  found-well read None finds =
       inl (finish-done (book_finish (recombined_book read.grid read.views) (of_each (λ view. view.masks) read.views)), inl refl)
-  found-well read (Some fault) = inr ((fault, refl), refl)
+  found-well read (Some fault) finds =
+      inr ((fault, (λ e. finds-never read.grid read.views (subst (λ f. Finds read.grid read.views (Some f)) e finds)), refl), refl)
 
   -- and so is that of an audit, or it is the refusal
   pub audited-well : {old now : Option Told} {auction one two three : List ℕ} (answer : Answer) → ShowsAudit old now auction one two three answer → IsAnswer out answer
-  audited-well answer w = subst (IsAnswer out) (sym w.tells.is) (found-well w.read w.tells.found)
+  audited-well answer w = subst (IsAnswer out) (sym w.tells.is) (found-well w.read w.tells.found w.tells.finds)
 
 -- the job that words name ends so
 pub job-well : (words : List (List ℕ)) → JobEndsWell (last_word words) (job_of words)

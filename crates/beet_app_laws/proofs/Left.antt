@@ -10,13 +10,13 @@ use Rattle.beet_errand.specs.Fetches.{Went}
 use Rattle.beet_errand.specs.Statuses.{code_of}
 use Rattle.beet_errand.specs.declared.answer.Status.{Status}
 use Rattle.beet_errand.specs.declared.answer.Status.TheVariants.{Done as JobDone, OutOfMemory as NoMemory, Usage, ReadFault, WriteFault, BadFile, MasksSpent, WorldsRefused, AuditRefused, TooFewWords}
-use Rattle.beet_answer.specs.Runs.{EndsBy, GivesAll, Runs, Said, status_after}
+use Rattle.beet_answer.specs.Runs.{EndsBy, GivesAll, Runs, RunsOut, Said, status_after}
 use Rattle.beet_app.specs.Doing.{OfJob}
 use Rattle.beet_app.specs.Jobs.{Job, Answering, Comparing, Auditing, job_of}
 use Rattle.beet_app.specs.Texts.{usage_text}
 use Rattle.beet_two_worlds.specs.Ending.{ShowsWorlds, compared_errand}
 use Rattle.beet_auditor.specs.Reading.{read_errand}
-use Rattle.beet_app_laws.specs.Leavings.{AreNames, IsRefusal, LeavesBy, SaysNothing, last_word}
+use Rattle.beet_app_laws.specs.Leavings.{AreNames, EndsShort, IsRefusal, LeavesBy, SaysNothing, last_word}
 use Rattle.beet_app_laws.specs.Refusals.{IsLineOf}
 use Rattle.beet_app_laws.proofs.Answers.{EndsWell, IsAnswer, went-well}
 use Rattle.beet_app_laws.proofs.JobAnswers.{JobEndsWell, audited-well, compared-well, job-well, read-well, shown-well}
@@ -44,7 +44,7 @@ refusal-code AuditRefused line h = inr (inr (inr (inr (inl refl))))
 refusal-code TooFewWords line h = inr (inr (inr (inr (inr refl))))
 
 module _ (out : List ℕ) (status : ℕ) (given now : Option Given) where
-  at-memory : status ≡ 1 → SaysNothing given now → LeavesBy out status given now
+  at-memory : status ≡ 1 → EndsShort out given now → LeavesBy out status given now
   at-memory e h = record {
     memory = λ f. h;
     refused = λ r. absurd ((apart status r).1 e);
@@ -136,15 +136,22 @@ module _ (out : List ℕ) (status : ℕ) (given now : Option Given) where
       GivesAll given now answer.files answer.text done → LeavesBy out status given now
   out-left answer w (Ok tt) e calls = whole-left answer w e calls
   out-left answer w (Err Failed) e calls = at-fault out status given now answer.files answer.text (names-of out answer w) e calls
-  out-left answer w (Err NoMemoryToPut) e calls = at-memory out status given now e (silent answer.files answer.text given now calls)
+  out-left answer w (Err NoMemoryToPut) e calls = at-memory out status given now e (record {
+    silent = silent answer.files answer.text given now calls;
+    calls = inr (answer.files, answer.text, names-of out answer w, calls);
+  })
+
+  -- memory ran out before the desk was called
+  none-left : RunsOut given now status → LeavesBy out status given now
+  none-left runs = at-memory out status given now runs.code (record { silent = same-says-nothing given now runs.same; calls = inl runs.same })
 
   -- a run of an errand that ends well
   runs-left : (errand rest : Errand) (told told_now : Option Told) → EndsWell out errand → Went told told_now errand rest →
       EndsBy rest given now status → LeavesBy out status given now
   runs-left errand (Ends answer) told told_now w went (inl goes) =
       out-left answer (went-well out told told_now errand answer w went) goes.done goes.code goes.calls
-  runs-left errand (Ends answer) told told_now w went (inr runs) = at-memory out status given now runs.code (same-says-nothing given now runs.same)
-  runs-left errand (Wants name limit next) told told_now w went runs = at-memory out status given now runs.code (same-says-nothing given now runs.same)
+  runs-left errand (Ends answer) told told_now w went (inr runs) = none-left runs
+  runs-left errand (Wants name limit next) told told_now w went runs = none-left runs
 
   run-left : (errand : Errand) (told told_now : Option Told) → EndsWell out errand → Runs errand told told_now given now status → LeavesBy out status given now
   run-left errand told told_now w r = runs-left errand r.rest told told_now w r.went r.ends

@@ -3,7 +3,7 @@ use Rattle.std.specs.Prelude.{◌≡◌, ◌⊎◌, ℕ, List, [], ◌∷◌, �
 use Rattle.beet_field.specs.declared.point.Point.TheVariants.{One, Two, Three}
 use Rattle.beet_store.specs.Files.{File}
 use Rattle.beet_store.specs.Desks.{Given}
-use Rattle.beet_store.specs.declared.desk.PutFault.TheVariants.{Failed}
+use Rattle.beet_store.specs.declared.desk.PutFault.TheVariants.{Failed, OutOfMemory}
 use Rattle.beet_errand.specs.Statuses.{code_of}
 use Rattle.beet_errand.specs.declared.answer.Status.{Status}
 use Rattle.beet_record.specs.Records.{file_for}
@@ -29,12 +29,18 @@ last_word [] = []
 last_word (word ∷ []) = word
 last_word (word ∷ other ∷ words) = last_word (other ∷ words)
 
--- the names of files that a job puts whose command ends with this word: none, one for each server, or those of two worlds
+-- the names of files that a command puts which ends with this word, if it puts any: one for each server, or those of two worlds
 abbrev pub AreNames : List ℕ → List (List ℕ) → Type 0
 AreNames out names =
     (names ≡ [])
     ⊎ (names ≡ file_for out One ∷ file_for out Two ∷ file_for out Three ∷ [])
     ⊎ (names ≡ (out ++ codes ".first") ∷ (out ++ codes ".second") ∷ (out ++ codes ".words") ∷ [])
+
+-- memory ran out and nothing was said: no call was made, or files were put, one after another, up to the call that found no memory
+pub record EndsShort (out : List ℕ) (given now : Option Given) : Type 0 where
+  pub silent : SaysNothing given now
+  pub calls : (now ≡ given) ⊎ ((files : List File) × (text : List ℕ) × AreNames out (map (λ file. file.0) files)
+      × GivesAll given now files text (Err OutOfMemory))
 
 -- files were put, one after another, and then a text was said, up to the first call that failed, which was the last
 pub record EndsAtFault (out : List ℕ) (given now : Option Given) : Type 0 where
@@ -56,7 +62,7 @@ IsRefusal status = (status ≡ 2) ⊎ (status ≡ 3) ⊎ (status ≡ 5) ⊎ (sta
 
 -- what is left by each exit status of a command that ends with this word
 pub record LeavesBy (out : List ℕ) (status : ℕ) (given now : Option Given) : Type 0 where
-  pub memory : status ≡ 1 → SaysNothing given now
+  pub memory : status ≡ 1 → EndsShort out given now
   pub refused : IsRefusal status → SaysLine status given now
   pub write : status ≡ 4 → EndsAtFault out given now
   pub whole : (status ≡ 0) ⊎ (status ≡ 6) → GivesWhole out given now

@@ -10,7 +10,7 @@ use Rattle.beet_map.specs.Mapped.{GateMapped}
 use Rattle.beet_worlds.specs.MappedBidders.{BiddersMapped}
 use Rattle.beet_worlds.specs.MappedMasks.{MasksMapped}
 
--- words that are mapped, but that the coefficient words that are all ones may stand elsewhere
+-- words that are mapped, but that there may be any number of coefficient words that are all ones, anywhere
 pub record MappedWithoutPlaces (s : Point) (first : Book) (words : Words) (second : Book) (words' : Words) : Type 0 where
   pub lists : length words'.bidders ≡ length words.bidders
   pub are_words : AreWords words

@@ -55,7 +55,8 @@ pub fn three_rejected_masks_spend()
     ensures two_comparisons { is_spent (slice_index (p ∷ p ∷ 0 ∷ p ∷ [])) 2 ≡ true }
 {}
 
-/// Where no server waits, all is delivered: that all have ended is false of events that leave a message undelivered, and of none.
+/// Where no server waits, all is delivered: that all have ended is false of events that leave a message undelivered, and of no events
+/// where there is a round.
 pub fn with_a_message_undelivered_some_server_waits()
     ensures start { (book : Book) (words : Words) (s : Point) → IsBook book → CanRun book words →
         1 ≤ book_rounds book words.masks → standing book words [] s ≡ Waits 0 }
@@ -76,7 +77,7 @@ pub fn only_books_that_agree_look_the_same()
         transcript_with second words' s ≡ transcript_with first words s → Agree s first second }
 {}
 
-/// Without the condition on the places of the words that are all ones, mapped words are not the only ones.
+/// Without the condition on the words that are all ones, of which there may then be more, mapped words are not the only ones.
 pub fn without_places_there_are_other_words()
     ensures { (s : Point) (first second : Book) (words words' : Words) → Mapped s first words second words' →
         (other : Words) × MappedWithoutPlaces s first words second other × (other ≢ words') }

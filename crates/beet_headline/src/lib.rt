@@ -1,6 +1,6 @@
 //! What the auction is for, in laws: a server opens the outcome of the plaintext auction, nobody waits once all messages are
-//! delivered, and a server cannot tell two books apart that clear alike, whatever the random words of the others, for which there
-//! are as many choices in both.
+//! delivered, and a server cannot tell two books apart that clear alike and have the same bids of its own bidders, whatever the
+//! random words of the others, for which there are as many choices in both.
 //!
 //! There is no code here, and no memory is taken: the laws are contracts of functions that do nothing.
 #![tactic(auto)]
@@ -49,8 +49,8 @@ pub fn with_all_delivered_all_have_ended()
         (more : List Triple) × AllDelivered book words (es ++ more) }
 {}
 
-/// For two books that agree for a server, which is to say that they clear alike and have the same bids of the server's own bidders,
-/// all words with which the auction of the first can be run go with exactly one choice of words of the second, and all words of
+/// For two books that agree for a server, which is to say that they are over one grid, clear alike, and have as many bidders with the
+/// same marks and the same curves of the server's own, all words with which the auction of the first can be run go with exactly one choice of words of the second, and all words of
 /// the second go with exactly one choice of the first. Whatever the words, the server's transcripts are the same bytes in both
 /// worlds, and at every moment it has, receives and sends the same. Both choices are as long, list by list. Words that are mapped,
 /// as `world_map` answers them, are such a pair.
