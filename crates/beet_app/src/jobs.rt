@@ -148,9 +148,8 @@ fn do_six<S: Shelf, R: Threads + Sync>(
         return None;
     }
     let server = server_in(server)?;
-    Some(worlds(
-        rt, alloc, shelf, auction, servers, first, second, server, out,
-    ))
+    let answer = worlds(rt, alloc, shelf, auction, servers, first, second, server, out);
+    Some(answer)
 }
 
 /// Does the job that the words name, if they name one.
