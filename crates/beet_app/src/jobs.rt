@@ -148,7 +148,9 @@ fn do_six<S: Shelf, R: Threads + Sync>(
         return None;
     }
     let server = server_in(server)?;
-    let answer = worlds(rt, alloc, shelf, auction, servers, first, second, server, out);
+    let answer = worlds(
+        rt, alloc, shelf, auction, servers, first, second, server, out,
+    );
     Some(answer)
 }
 
