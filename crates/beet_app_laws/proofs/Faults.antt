@@ -55,7 +55,7 @@ abbrev Never : (Option AuditFault → Type 0) → Type 0
 Never finds = finds (Some OutOfMemory) → ⊥
 
 below-never : (n : ℕ) (at : ℕ → Option AuditFault → Type 0) → ((k : ℕ) → Never (at k)) → Never (EachBelow n at)
-below-never n at never h = never h.0 h.1.1.1
+below-never n at never (k, lt, before, h) = never k h
 
 servers-never : (at : Point → Option AuditFault → Type 0) → ((s : Point) → Never (at s)) → Never (EachServer at)
 servers-never at never (inl h) = never One h
@@ -89,7 +89,7 @@ rounds-never views rounds s h = let e : OutOfMemory ≡ RoundsDiffer s (length (
 message-never : (sender receiver : Point) (t : ℕ) (held sent : List ℕ) → Never (Message sender receiver t held sent)
 message-never sender receiver t held sent (inl h) =
     let e : OutOfMemory ≡ LengthDiffers sender receiver t (length held) (length sent) = h.1 in absurd cc
-message-never sender receiver t held sent (inr (long, k, lt, before, h)) =
+message-never sender receiver t held sent (inr (long, (k, lt, before, h))) =
     let e : OutOfMemory ≡ MessageDiffers sender receiver t k (slice_index held k) (slice_index sent k) = h.1 in absurd cc
 
 from-never : (o : Setup) (views : Trio Viewed) (t : ℕ) (receiver sender : Point) → Never (MessageFrom o views t receiver sender)

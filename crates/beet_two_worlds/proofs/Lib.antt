@@ -1,4 +1,4 @@
-mod DifferenceFacts
+pub mod DifferenceFacts
 mod SecondWords
 mod JobSteps
 mod BookAnswers
