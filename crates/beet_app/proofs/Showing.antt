@@ -39,11 +39,11 @@ put_then given now file files text P (inl (None, call, rest)) f = absurd call
 put_then given now file files text P (inr (fault, e, call)) f = absurd cc
 
 -- three files stand, and a text was said
-record Hold (first second third : File) (text : List ℕ) (given now : Given) : Type 0 where
-  one : bytes_of now.files first.0 ≡ Some first.1
-  two : bytes_of now.files second.0 ≡ Some second.1
-  three : bytes_of now.files third.0 ≡ Some third.1
-  said : now.said ≡ given.said ++ text
+pub record Hold (first second third : File) (text : List ℕ) (given now : Given) : Type 0 where
+  pub one : bytes_of now.files first.0 ≡ Some first.1
+  pub two : bytes_of now.files second.0 ≡ Some second.1
+  pub three : bytes_of now.files third.0 ≡ Some third.1
+  pub said : now.said ≡ given.said ++ text
 
 -- the text is said after three files
 said_then : (first second third : File) (text : List ℕ) (given g1 g2 g3 : Given) (now : Option Given) →
@@ -59,7 +59,7 @@ said_then first second third text given g1 g2 g3 (Some now) d e f r1 r2 r3 call 
       said = call.0.said ∙ ap (λ s. s ++ text) (r3.rest.said ∙ r2.rest.said ∙ r1.rest.said);
     }
 
-three_stand : (first second third : File) (text : List ℕ) (given : Given) (now : Option Given) →
+pub three_stand : (first second third : File) (text : List ℕ) (given : Given) (now : Option Given) →
     first.0 ≢ second.0 → first.0 ≢ third.0 → second.0 ≢ third.0 →
     GivesAll (Some given) now (first ∷ second ∷ third ∷ []) text (Ok tt) → IsSomeAnd now (Hold first second third text given)
 three_stand first second third text given now d e f h =
@@ -70,7 +70,7 @@ three_stand first second third text given now d e f h =
     said_then first second third text given g1 g2 g3 now d e f r1 r2 r3 h3)))
 
 -- names that go on with another second byte differ
-apart : (out one other : List ℕ) → get_or one 1 0 ≢ get_or other 1 0 → (out ++ one) ≢ (out ++ other)
+pub apart : (out one other : List ℕ) → get_or one 1 0 ≢ get_or other 1 0 → (out ++ one) ≢ (out ++ other)
 apart out one other d e = d (ap (λ l. get_or l 1 0) (append_cancel_left out one other e))
 
 first-second : (out : List ℕ) → (out ++ codes ".first") ≢ (out ++ codes ".second")

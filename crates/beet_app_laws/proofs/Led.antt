@@ -8,7 +8,7 @@ use Rattle.beet_store.specs.Desks.{Given, Done}
 use Rattle.beet_store.specs.declared.desk.PutFault.TheVariants.{Failed, OutOfMemory as NoMemoryToPut}
 use Rattle.beet_forms.specs.FaultLines.{fault_line_of}
 use Rattle.beet_auction.specs.Endings.{book_finish}
-use Rattle.beet_errand.specs.Errands.{Answer, Errand, Ends, Wants, after_fetch, answers, text_answer, too_long, unread, with_bytes}
+use Rattle.beet_errand.specs.Errands.{Answer, Errand, Ends, Step, Wants, after_fetch, answers, text_answer, too_long, unread, with_bytes}
 use Rattle.beet_errand.specs.Fetches.{IsDone, Leads, Went}
 use Rattle.beet_errand.specs.Statuses.{code_of}
 use Rattle.beet_errand.specs.Texts.{read_fault_text}
@@ -17,7 +17,7 @@ use Rattle.beet_errand.specs.declared.answer.Status.TheVariants.{Done as JobDone
 use Rattle.beet_audit.specs.OneRuns.{OneRun}
 use Rattle.beet_audit.specs.declared.fault.AuditFault.{AuditFault}
 use Rattle.beet_auditor.specs.Ending.{ShowsAudit, audit_answer}
-use Rattle.beet_auditor.specs.Reading.{AreRead as FilesRead, read_errand}
+use Rattle.beet_auditor.specs.Reading.{read_errand}
 use Rattle.beet_auditor.specs.declared.reading.ReadViews.{ReadViews}
 use Rattle.beet_worlds.specs.declared.agreeing.MapFault.{MapFault}
 use Rattle.beet_two_worlds.specs.Differences.{difference_between}
@@ -51,7 +51,7 @@ module _ (files : List File) where
   fetched name limit next false answer (inr e) = inr (sym (held-over name limit next (bytes_of files name)) ∙ e)
 
   -- fetches lead to the answer over the files, or one of them failed
-  lead-end : (fetches : List Fetch) (errand : Errand) (answer : Answer) → Leads files fetches errand (Ends answer) →
+  pub lead-end : (fetches : List Fetch) (errand : Errand) (answer : Answer) → Leads files fetches errand (Ends answer) →
       (answer.status ≡ ReadFault) ⊎ (answer_over files errand ≡ answer)
   lead-end [] (Ends end) answer e = let same : end ≡ answer = cc in inr same
   lead-end [] (Wants name limit next) answer e = absurd cc
@@ -112,7 +112,7 @@ run-led : (told : Told) (told_now : Option Told) (errand : Errand) (given now : 
 run-led told told_now errand given now status due is r = runs-led told told_now errand r.rest given now status due is r.went r.ends
 
 -- an errand at its end goes nowhere
-at-end : (told now : Option Told) (answer : Answer) (rest : Errand) → Went told now (Ends answer) rest → Ends answer ≡ rest
+pub at-end : (told now : Option Told) (answer : Answer) (rest : Errand) → Went told now (Ends answer) rest → Ends answer ≡ rest
 at-end None now answer rest (none, [], e) = e
 at-end None now answer rest (none, fetch ∷ fetches, l) = absurd l
 at-end (Some told) now answer rest ([], is, e) = e
@@ -159,7 +159,7 @@ module _ (auction servers first second : List ℕ) (s : Point) (out : List ℕ) 
     go (inl e) = absurd (not-unread (status_of_first w.both) (finish-done (book_finish (first_book w.both) (words_read w.both).masks)) e)
     go (inr e) = is ∙ ap (λ (a : Answer). a.status) e ∙ sym (ap (λ (a : Answer). a.status) w.same.is)
 
-module _ (auction one two three : List ℕ) (told : Told) (told_now : Option Told) where
+module _ (told : Told) (told_now : Option Told) where
   same-fetches : (some other : List Fetch) → told_now ≡ Some (record told { fetches = told.fetches ++ some }) →
       told_now ≡ Some (record told { fetches = told.fetches ++ other }) → some ≡ other
   same-fetches some other e f =
@@ -168,13 +168,15 @@ module _ (auction one two three : List ℕ) (told : Told) (told_now : Option Tol
       let same : one ≡ two = cc in append_cancel_left told.fetches some other (ap (λ (t : Told). t.fetches) same)
 
   -- what is read of the files is what they read to
-  files-read : (read : ReadViews) → FilesRead (Some told) told_now auction one two three read → ReadsTo told.files (read_errand auction one two three) read
-  files-read read are next =
+  pub read-to : {A : Type 0} (step : Step A) (value : A) → ((next : A → Errand) → Went (Some told) told_now (step next) (next value)) →
+      ReadsTo told.files step value
+  read-to step value are next =
       let (some, e, l) = are next in
-      let (other, f, m) = are (λ read. answers JobDone []) in
+      let (other, f, m) = are (λ value. answers JobDone []) in
       lead-over told.files some _ _ (subst (NoneFailed told.files) (sym (same-fetches some other e f))
       (none-failed told.files other _ (text_answer JobDone []) (λ e. absurd cc) m)) l
 
+module _ (auction one two three : List ℕ) (told : Told) (told_now : Option Told) where
   views-due : (read : ReadViews) (found : Option AuditFault) (due : Status) →
       MatchOption found (OneRun read.grid read.views) (λ fault. OneRun read.grid read.views → ⊥) → IsDueOfViews read due → due ≡ (audit_answer read found).status
   views-due read None due o (inl (is, e)) = e
@@ -185,7 +187,7 @@ module _ (auction one two three : List ℕ) (told : Told) (told_now : Option Tol
   audit-due : (answer : Answer) (due : Status) → ShowsAudit (Some told) told_now auction one two three answer →
       IsDueOfAudit told.files auction one two three due → due ≡ answer.status
   audit-due answer due w d =
-      views-due w.read w.tells.found due w.tells.one_run (d.views w.read (files-read w.read w.are_read)) ∙ sym (ap (λ (a : Answer). a.status) w.tells.is)
+      views-due w.read w.tells.found due w.tells.one_run (d.views w.read (read-to told told_now (read_errand auction one two three) w.read w.are_read)) ∙ sym (ap (λ (a : Answer). a.status) w.tells.is)
 
 job-led : (job : Option Job) (told : Told) (told_now : Option Told) (given now : Option Given) (status : ℕ) (due : Status) →
     OfJob job (Some told) told_now (λ before errand. Runs errand before told_now given now status) → IsDue told.files job due → EndsAsDue due status

@@ -1,4 +1,4 @@
 pub mod DifferenceFacts
-mod SecondWords
+pub mod SecondWords
 mod JobSteps
 mod BookAnswers
