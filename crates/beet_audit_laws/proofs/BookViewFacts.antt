@@ -1,6 +1,6 @@
 -- The views of the auction of a book hold words, and keep the curves of the bidders whose marks name their servers.
-use Rattle.std.proofs.Common.{◌≡◌, ◌<◌, ℕ, Bool, true, false, List, [], map, length, get_or, Some, None, All, arith, sym, subst}
-use Rattle.std.specs.Prelude.{IfSome, if◌then◌else◌}
+use Rattle.std.proofs.Common.{◌≡◌, ◌<◌, ℕ, List, [], map, length, get_or, None, All, arith, sym, subst}
+use Rattle.std.specs.Prelude.{IfSome}
 use Rattle.std.proofs.lemmas.List.{get_or-map, length-map}
 use Rattle.beet_field.specs.Trio.{member, trio_of}
 use Rattle.beet_field.specs.declared.point.Point.{Point}
@@ -8,21 +8,18 @@ use Rattle.beet_field.specs.declared.point.Point.TheVariants.{One, Two, Three}
 use Rattle.beet_words.specs.Bundles.{Words, AreWords}
 use Rattle.beet_words.specs.Words.{IsWord}
 use Rattle.beet_bids.specs.Books.{Book, IsBook}
-use Rattle.beet_bids.specs.Curves.{Curve, IsOfGrid}
+use Rattle.beet_bids.specs.Curves.{IsOfGrid}
 use Rattle.beet_book.specs.Farmers.{Farmer, farmers_of}
 use Rattle.beet_book.proofs.FarmerLists.{farmers-words}
 use Rattle.beet_sharing.proofs.Lined.{member-trio}
 use Rattle.beet_load.specs.Wholes.{CanRun}
 use Rattle.beet_view.specs.BookViews.{names, seen_at, view_for}
 use Rattle.beet_view.specs.declared.view.Seen.{Seen}
+use Rattle.beet_kept.proofs.FittingViews.{own-kept}
 use Rattle.beet_kept.proofs.HasRuns.{seen-all}
 use Rattle.beet_audit.specs.Audits.{bidder_at}
 use Rattle.beet_audit_laws.proofs.KeptWords.{IsKeptAt}
 use Rattle.beet_audit_laws.proofs.ThirdFacts.{IsSound, each-word, kept-from}
-
-own-from : (P : Curve × List ℕ → Type 0) (test : Bool) (own : Curve × List ℕ) → P own → IfSome (if test then Some own else None) P
-own-from P true own h = h
-own-from P false own h = tt
 
 module _ (book : Book) (words : Words) (b : IsBook book) (can : CanRun book words) (are : AreWords words) where
   abbrev farmers : List Farmer
@@ -57,7 +54,7 @@ module _ (book : Book) (words : Words) (b : IsBook book) (can : CanRun book word
       kept-from s (bidder_at (view_for book words s) n).known (bidder_at (view_for book words s) n).own (λ own. IsOfGrid book.grid own.0)
       (seen-all book words b can s n nobody lt).own
       (subst (λ (seen : Seen). IfSome seen.own (λ own. All IsWord own.1)) (sym is)
-      (own-from (λ own. All IsWord own.1) (names farmer.bidder.known s) (farmer.bidder.curve, farmer.words) (farmer-words n none lt')))
+      (own-kept (λ own. All IsWord own.1) (names farmer.bidder.known s) (farmer.bidder.curve, farmer.words) (farmer-words n none lt')))
 
   pub sound-for : (s : Point) → IsSound (member (trio_of (view_for book words)) s)
   sound-for s =

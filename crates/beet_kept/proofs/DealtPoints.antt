@@ -1,7 +1,7 @@
 -- What the bidders of a book deal, one after another.
-use Rattle.std.proofs.Common.{◌≡◌, ◌≤◌, ◌<◌, ℕ, suc, zero, ◌+◌, ◌*◌, List, [], ◌∷◌, ◌++◌, map, length, take, drop, slice_get, Option, Some, true, arith, refl, sym, ap, ◌∙◌, subst, get_or, All, length-append, length-drop}
-use Rattle.std.proofs.lemmas.List.{length-take-le, map-append, take_all}
-use Rattle.std.proofs.lemmas.List.Elements.{All-drop, All-get_or, All-take}
+use Rattle.std.proofs.Common.{◌≡◌, ◌≤◌, ◌<◌, ℕ, suc, zero, ◌+◌, ◌*◌, List, [], ◌∷◌, ◌++◌, map, length, take, slice_get, Option, Some, true, arith, refl, sym, ap, ◌∙◌, subst, get_or, All, length-append}
+use Rattle.std.proofs.lemmas.List.{map-append, take_all}
+use Rattle.std.proofs.lemmas.List.Elements.{All-get_or}
 use Rattle.std.proofs.lemmas.Grind.{same_number_lists}
 use Rattle.beet_field.specs.Trio.{member}
 use Rattle.beet_field.specs.declared.point.Point.{Point}
@@ -25,7 +25,7 @@ use Rattle.beet_plan.specs.Kept.{words_kept}
 use Rattle.beet_load.specs.Wholes.{CanDeal}
 use Rattle.beet_view.specs.BookViews.{seen_at}
 use Rattle.beet_view.specs.declared.view.Seen.{Seen}
-use Rattle.beet_kept.specs.DealtBooks.{CanDealAll, HasDealt, seen_with, shows}
+use Rattle.beet_kept.specs.DealtBooks.{HasDealt, seen_with, shows}
 
 -- a tape of words that are all kept has them left
 pub tape-left : (grid : Grid) (kept : ℕ) (tape : Tape) (words : List ℕ) → tape ≡ record { words = take kept words; passed = 0 } →
@@ -169,20 +169,3 @@ dealt-joined grid whom few rest one other both seen more all a b t e = record {
     by-server One = ap (λ (x : Trio (List Seen)). x.one) e
     by-server Two = ap (λ (x : Trio (List Seen)). x.two) e
     by-server Three = ap (λ (x : Trio (List Seen)). x.three) e
-
--- what is asked of all is asked of the first so many, and of the others
-pub can-deal-front : (grid : Grid) (bidders : List Bidder) (words : List (List ℕ)) (n : ℕ) → n ≤ length bidders → CanDealAll grid bidders words →
-    CanDealAll grid (take n bidders) (take n words)
-can-deal-front grid bidders words n h can = record {
-  paired = length-take-le n words (omega (arith, can.paired)) ∙ sym (length-take-le n bidders h);
-  of_grid = All-take (λ (b : Bidder). IsOfGrid grid b.curve) n bidders can.of_grid;
-  enough = All-take (CanDeal grid) n words can.enough;
-}
-
-pub can-deal-back : (grid : Grid) (bidders : List Bidder) (words : List (List ℕ)) (n : ℕ) → CanDealAll grid bidders words →
-    CanDealAll grid (drop n bidders) (drop n words)
-can-deal-back grid bidders words n can = record {
-  paired = omega (arith, can.paired, length-drop n bidders, length-drop n words);
-  of_grid = All-drop (λ (b : Bidder). IsOfGrid grid b.curve) n bidders can.of_grid;
-  enough = All-drop (CanDeal grid) n words can.enough;
-}

@@ -62,7 +62,7 @@ farmers-all P Q (b ∷ bs) (w ∷ ws) all each =
     (farmers-all P Q bs ws (All-tail P b bs all) (All-tail Q w ws each))
 
 -- what holds of a curve with its words holds of them where they are kept
-own-kept : (P : Curve × List ℕ → Type 0) (knows : Bool) (own : Curve × List ℕ) → P own → IfSome (if knows then Some own else None) P
+pub own-kept : (P : Curve × List ℕ → Type 0) (knows : Bool) (own : Curve × List ℕ) → P own → IfSome (if knows then Some own else None) P
 own-kept P true own holds = holds
 own-kept P false own holds = tt
 

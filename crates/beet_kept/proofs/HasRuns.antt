@@ -1,5 +1,5 @@
 -- What three servers that have run the auction of a book have seen.
-use Rattle.std.proofs.Common.{◌≡◌, ◌<◌, ℕ, ◌*◌, List, map, length, All, arith, refl, sym, ap, ◌∙◌, subst, true, Some, Option, inl, inr, None, get_or, ◌≢◌, Result, Ok, Err, IfOk, Vec, Global}
+use Rattle.std.proofs.Common.{◌≡◌, ◌<◌, ℕ, ◌*◌, List, map, length, All, arith, refl, sym, ap, ◌∙◌, subst, true, Some, Option, inl, inr, None, get_or, ◌≢◌, Vec, Global}
 use Rattle.std.specs.Prelude.{MatchOption, if◌then◌else◌}
 use Rattle.std.proofs.lemmas.Bool.{cases_Bool}
 use Rattle.std.proofs.lemmas.List.{length-map, get_or-map, take_all}
@@ -40,7 +40,7 @@ use Rattle.beet_run.proofs.Ending.{ends-auction}
 use Rattle.beet_view.specs.BookViews.{names, seen_at, view_for}
 use Rattle.beet_view.specs.RunViews.{view_of_run}
 use Rattle.beet_view.specs.Transcripts.{view_bytes}
-use Rattle.beet_view.specs.Views.{IsSeenAt, Viewed}
+use Rattle.beet_view.specs.Views.{IsSeenAt}
 use Rattle.beet_view.specs.declared.view.Seen.{Seen}
 use Rattle.beet_kept.specs.BookRuns.{CanShow, CanWrite, HasRun, Ran}
 
@@ -207,30 +207,7 @@ can-write ran s core items h c i =
       seen = seen-by s _ ran.grid _ _ (h.name s) refl (h.seen s);
     })
 
--- the view of a core that has run is that of its server
-abbrev pub IsViewAt : Core Auction → Grid → List Seen → Setup → Viewed → Type 0
-IsViewAt core grid items o view = view ≡ view_of_run o core.me core.round grid items core.masks.words core.coefficients.words
-
-pub view-shown : (book : Book) (words : Words) (ran : Ran) (s : Point) (items : List Seen) (view : Viewed) → HasRun book words ran → items ≡ member ran.seen s →
-    ((o : Setup) (x : Delivered) → Fits auction_batch o x (member ran.cores s) → IsViewAt (member ran.cores s) ran.grid items o view) →
-    view ≡ view_for book words s
-view-shown book words ran s items view h i tells =
-    let o = setup_for book words in
-    let c = member ran.cores s in
-    tells o _ (h.stands s).fits
-    ∙ ap (λ (l : List Seen). view_of_run o c.me c.round ran.grid l c.masks.words c.coefficients.words) i
-    ∙ shows book words ran s h
-
-pub view-shown-if : {E : Type 0} → (book : Book) (words : Words) (ran : Ran) (s : Point) (core : Core Auction) (items : List Seen) (result : Result Viewed E) →
-    HasRun book words ran → core ≡ member ran.cores s → items ≡ member ran.seen s →
-    ((o : Setup) (x : Delivered) → Fits auction_batch o x core → IfOk result (IsViewAt core ran.grid items o)) →
-    IfOk result (λ view. view ≡ view_for book words s)
-view-shown-if book words ran s core items (Ok view) h c i tells =
-    view-shown book words ran s items view h i
-    (subst (λ (y : Core Auction). (o : Setup) (x : Delivered) → Fits auction_batch o x y → IsViewAt y ran.grid items o view) c tells)
-view-shown-if book words ran s core items (Err fault) h c i tells = tt
-
--- and the transcript of such a core is that of its server
+-- the transcript of a core that has run is that of its server
 pub transcript-shown : (book : Book) (words : Words) (ran : Ran) (s : Point) (items : List Seen) (file : List ℕ) → HasRun book words ran → items ≡ member ran.seen s →
     ((o : Setup) (x : Delivered) → Fits auction_batch o x (member ran.cores s) →
     file ≡ view_bytes (view_of_run o (member ran.cores s).me (member ran.cores s).round ran.grid items (member ran.cores s).masks.words (member ran.cores s).coefficients.words)) →

@@ -23,7 +23,7 @@ use std::thread::{Threads, join};
 
 /// The bidders, in their order, as each server sees them.
 #[derive(Drop)]
-pub(crate) struct SeenByAll {
+pub struct SeenByAll {
     one: Vec<Seen>,
     two: Vec<Seen>,
     three: Vec<Seen>,

@@ -5,5 +5,6 @@ mod dealing;
 mod laws;
 mod running;
 
+pub use dealing::SeenByAll;
 pub use laws::recorded_views_are_read_again;
-pub use running::{Ran, SeenRun, run_whole_in_threads, see_whole};
+pub use running::{Ran, Ready, SeenRun, make_ready, see_whole};

@@ -27,17 +27,15 @@ use crate::dealing::{SeenByAll, deal_book};
 use beet_bids::{Book, Grid};
 use beet_errand::Stop;
 use beet_field::{Point, Trio};
-use beet_link::Gate;
 use beet_load::{ServerWords, cut_three};
 use beet_plan::Finish;
-use beet_run::{finish_at, run_in_threads, run_on_one_thread};
+use beet_run::{finish_at, run_on_one_thread};
 use beet_search::AuctionScript;
 use beet_server::ServerCore;
 use beet_view::{Seen, view_of, write_view};
 use beet_words::{FeList, Words};
 use std::alloc::{AllocError, Global};
 use std::marker::{Model, Sync};
-use std::sync::Wait;
 use std::thread::{Threads, join};
 
 /// Three servers that have run an auction to its end, and the bidders as each of them sees them.
@@ -63,8 +61,28 @@ impl Model for Ran {
 }
 
 impl Ran {
-    ghost use Rattle.beet_kept.specs.BookRuns.{HasRun};
+    ghost use Rattle.beet_kept.specs.BookRuns.{CanShow, HasRun};
     ghost use Rattle.beet_view.specs.BookViews.{view_for};
+
+    /// Three servers that have run an auction over the grid to its end, with the bidders as each of them sees them.
+    pub fn of(
+        grid: Grid,
+        seen: SeenByAll,
+        cores: Trio<ServerCore<AuctionScript>>,
+        finish: Finish,
+        rounds: u32,
+    ) -> Ran
+        requires { CanShow (record { grid = grid; seen = seen; cores = cores; finish = finish; rounds = rounds }) }
+        ensures { result ≡ record { grid = grid; seen = seen; cores = cores; finish = finish; rounds = rounds } }
+    {
+        Ran {
+            grid,
+            seen,
+            cores,
+            finish,
+            rounds,
+        }
+    }
 
     /// The grid of the auction.
     pub fn grid(&self) -> &Grid
@@ -185,15 +203,16 @@ fn grid_of(book: &Book) -> Grid
 /// What three servers begin with for a book: the grid, the bidders as the servers see them for which they are kept, the points
 /// of the inputs, and the words of the servers.
 #[derive(Drop)]
-struct Ready {
-    grid: Grid,
-    seen: SeenByAll,
-    inputs: Trio<FeList>,
-    tapes: Trio<ServerWords>,
+pub struct Ready {
+    pub grid: Grid,
+    pub seen: SeenByAll,
+    pub inputs: Trio<FeList>,
+    pub tapes: Trio<ServerWords>,
 }
 
-/// Deals the bidders of a book, which are kept for one server or for all three, and cuts the words of the servers as those of tapes are cut.
-fn make_ready<R: Threads + Sync>(
+/// Deals the bidders of a book by all processors, and cuts the words of the servers as those of tapes are cut. The bidders are
+/// kept for one server, or for all three where none is named.
+pub fn make_ready<R: Threads + Sync>(
     rt: &R,
     alloc: Global,
     whom: Option<Point>,
@@ -256,32 +275,5 @@ pub fn see_whole<R: Threads + Sync>(
         finish,
         rounds,
         transcript,
-    })
-}
-
-/// Runs the auction of a book among three servers, which begin with these words, to its end, each in a thread of its own and
-/// under the gate. Want of memory is the only error, and comes before the first round.
-pub fn run_whole_in_threads<R: Threads + Wait + Sync, G: Gate>(
-    rt: &R,
-    alloc: Global,
-    book: &Book,
-    words: &Words,
-    gate: &G,
-) -> Result<Ran, Stop>
-    requires { CanRun book.now words.now }
-    ensures memory { IfErr result (λ stop. stop ≡ Stop.OutOfMemory) }
-    ensures run { IfOk result (HasRun book.now words.now) }
-{
-    let begun = make_ready(rt, alloc, None, book, words)?;
-    let grid = begun.grid;
-    let cores = run_in_threads(rt, alloc, &grid, begun.inputs, begun.tapes, gate)?;
-    let finish = finish_at(&cores.one);
-    let rounds = cores.one.round();
-    Ok(Ran {
-        grid,
-        seen: begun.seen,
-        cores,
-        finish,
-        rounds,
     })
 }

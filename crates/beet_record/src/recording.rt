@@ -4,15 +4,20 @@ ghost use Rattle.std.specs.Prelude.{◌≡◌, ◌∷◌, [], IfErr, IfOk, strin
 ghost use Rattle.beet_field.specs.declared.point.Point.TheVariants.{One, Two, Three};
 ghost use Rattle.beet_errand.specs.Fetches.{IsDone, Reads};
 ghost use Rattle.beet_load.specs.WholeViews.{loaded_of};
+ghost use Rattle.beet_load.specs.Wholes.{CanRun};
+ghost use Rattle.beet_kept.specs.BookRuns.{HasRun};
 ghost use Rattle.beet_record.specs.Records.{file_for, record_job, recorded_answer};
 
+use beet_bids::Book;
 use beet_errand::{NewFile, Reply, Stop};
 use beet_field::{Point, Trio};
-use beet_kept::run_whole_in_threads;
+use beet_kept::{Ran, make_ready};
 use beet_link::Gate;
 use beet_load::{Whole, load_whole};
-use beet_run::outcome_reply;
+use beet_run::{finish_at, outcome_reply};
 use beet_store::Shelf;
+use beet_threaded::run_in_threads;
+use beet_words::Words;
 use std::alloc::{AllocError, Global};
 use std::sync::Wait;
 use std::thread::Threads;
@@ -56,6 +61,27 @@ fn transcript_files(
     let two = transcript_file(alloc, out, Point::Two, transcripts.two)?;
     let three = transcript_file(alloc, out, Point::Three, transcripts.three)?;
     Ok(vec![in alloc; one, two, three]?)
+}
+
+/// Runs the auction of a book among three servers, which begin with these words, to its end, each in a thread of its own and
+/// under the gate. Want of memory is the only error, and comes before the first round.
+fn run_whole_in_threads<R: Threads + Wait + Sync, G: Gate>(
+    rt: &R,
+    alloc: Global,
+    book: &Book,
+    words: &Words,
+    gate: &G,
+) -> Result<Ran, Stop>
+    requires { CanRun book.now words.now }
+    ensures memory { IfErr result (λ stop. stop ≡ Stop.OutOfMemory) }
+    ensures run { IfOk result (HasRun book.now words.now) }
+{
+    let begun = make_ready(rt, alloc, None, book, words)?;
+    let grid = begun.grid;
+    let cores = run_in_threads(rt, alloc, &grid, begun.inputs, begun.tapes, gate)?;
+    let finish = finish_at(&cores.one);
+    let rounds = cores.one.round();
+    Ok(Ran::of(grid, begun.seen, cores, finish, rounds))
 }
 
 /// The reply for an auction that is read. What was read is dropped after the run.

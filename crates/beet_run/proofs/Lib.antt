@@ -1,6 +1,5 @@
 pub mod ShareLines
 pub mod Starting
-pub mod Spares
 pub mod Ending
 pub mod BookRuns
 pub mod StatusFacts

@@ -3,8 +3,6 @@
 
 mod outcome;
 mod running;
-mod ways;
 
 pub use outcome::{finish_words, opened_words, outcome_reply};
-pub use running::{finish_at, run_auction, start_servers};
-pub use ways::{run_in_threads, run_on_one_thread};
+pub use running::{finish_at, run_on_one_thread, start_servers};

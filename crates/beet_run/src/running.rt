@@ -1,4 +1,4 @@
-//! Three servers begin an auction, and run it to its end.
+//! Three servers begin an auction, and run it to its end on one thread.
 
 ghost use Rattle.std.specs.Prelude.{◌≡◌, ◌≤◌, ◌*◌, IfErr, IfOk, All, Some, length};
 ghost use Rattle.beet_field.specs.Trio.{member};
@@ -8,21 +8,18 @@ ghost use Rattle.beet_gates.specs.Plans.{plan_finish};
 ghost use Rattle.beet_plan.specs.Auction.{auction_batch, auction_plan, most_coefficients, most_masks};
 ghost use Rattle.beet_server.specs.Cores.{IsFresh, fresh};
 ghost use Rattle.beet_load.specs.Servers.{HaveEnough};
-ghost use Rattle.beet_run.specs.Runs.{EndsAuction, HasEndedRun, Starts};
+ghost use Rattle.beet_run.specs.Runs.{HasEndedRun, HaveRunToEnd, Starts};
 
-use crate::ways::run_in_threads;
 use beet_bids::Grid;
 use beet_errand::Stop;
 use beet_field::{Point, Trio};
-use beet_link::Gate;
 use beet_load::ServerWords;
 use beet_plan::Finish;
 use beet_search::AuctionScript;
 use beet_server::{ServerCore, StartFault};
 use beet_words::FeList;
+use beet_world::lockstep;
 use std::alloc::Global;
-use std::sync::Wait;
-use std::thread::Threads;
 
 /// A server that begins with these points and words.
 fn start(
@@ -83,21 +80,19 @@ pub fn finish_at(core: &ServerCore<AuctionScript>) -> Finish
     }
 }
 
-/// Runs the auction that three servers begin with these points and words to its end, each in a thread of its own and under the
-/// gate: how it ends, and after how many rounds. Want of memory is the only error, and comes before the first round.
-pub fn run_auction<R: Threads + Wait + Sync, G: Gate>(
-    rt: &R,
+/// Starts the three servers of an auction with these points of the inputs and these words, and runs them to the end on the
+/// caller's thread, round by round. Want of memory is the only error, and comes before the first round.
+pub fn run_on_one_thread(
     alloc: Global,
     grid: &Grid,
     inputs: Trio<FeList>,
     words: Trio<ServerWords>,
-    gate: &G,
-) -> Result<(Finish, u32), Stop>
+) -> Result<Trio<ServerCore<AuctionScript>>, Stop>
     requires enough { HaveEnough grid.now words }
     requires inputs { (i : Server) → length (member inputs i) ≡ 2 * grid.now.prices }
     ensures memory { IfErr result (λ stop. stop ≡ Stop.OutOfMemory) }
-    ensures ends { IfOk result (λ run. EndsAuction grid.now inputs words run.0 run.1) }
+    ensures ended { IfOk result (HaveRunToEnd grid.now inputs words) }
 {
-    let ended = run_in_threads(rt, alloc, grid, inputs, words, gate)?;
-    Ok((finish_at(&ended.one), ended.one.round()))
+    let cores = start_servers(alloc, grid, inputs, words)?;
+    Ok(lockstep(cores))
 }

@@ -1,43 +1,26 @@
-//! The two ways in which three servers run an auction from its start to its end: on the caller's thread, or each in a thread of
-//! its own.
+//! The run of an auction among three servers, each in a thread of its own.
+#![tactic(auto)]
 
 ghost use Rattle.std.specs.Prelude.{◌≡◌, ◌*◌, IfErr, IfOk, length};
 ghost use Rattle.beet_field.specs.Trio.{member};
 ghost use Rattle.beet_field.specs.declared.point.Point.{Point as Server};
 ghost use Rattle.beet_load.specs.Servers.{HaveEnough};
-ghost use Rattle.beet_run.specs.Runs.{HaveRunToEnd};
+ghost use Rattle.beet_run.specs.Runs.{EndsAuction, HaveRunToEnd};
 
-use crate::running::start_servers;
 use beet_bids::Grid;
 use beet_errand::Stop;
 use beet_field::Trio;
 use beet_link::Gate;
 use beet_load::ServerWords;
+use beet_plan::Finish;
+use beet_run::{finish_at, start_servers};
 use beet_search::AuctionScript;
 use beet_server::ServerCore;
 use beet_threads::run_three;
 use beet_words::FeList;
-use beet_world::lockstep;
 use std::alloc::{AllocError, Global};
 use std::sync::Wait;
 use std::thread::Threads;
-
-/// Starts the three servers of an auction with these points of the inputs and these words, and runs them to the end on the
-/// caller's thread, round by round. Want of memory is the only error, and comes before the first round.
-pub fn run_on_one_thread(
-    alloc: Global,
-    grid: &Grid,
-    inputs: Trio<FeList>,
-    words: Trio<ServerWords>,
-) -> Result<Trio<ServerCore<AuctionScript>>, Stop>
-    requires enough { HaveEnough grid.now words }
-    requires inputs { (i : Server) → length (member inputs i) ≡ 2 * grid.now.prices }
-    ensures memory { IfErr result (λ stop. stop ≡ Stop.OutOfMemory) }
-    ensures ended { IfOk result (HaveRunToEnd grid.now inputs words) }
-{
-    let cores = start_servers(alloc, grid, inputs, words)?;
-    Ok(lockstep(cores))
-}
 
 /// The same points, in memory of their own.
 fn copy_points(alloc: Global, points: &Trio<FeList>) -> Result<Trio<FeList>, AllocError>
@@ -93,4 +76,23 @@ pub fn run_in_threads<R: Threads + Wait + Sync, G: Gate>(
     let cores = start_servers(alloc, grid, inputs, words)?;
     let spares = start_servers(alloc, grid, spare_inputs, spare_words)?;
     Ok(run_three(rt, alloc, cores, spares, gate))
+}
+
+/// Runs the auction that three servers begin with these points and words to its end, each in a thread of its own and under the
+/// gate: how it ends, and after how many rounds. Want of memory is the only error, and comes before the first round.
+pub fn run_auction<R: Threads + Wait + Sync, G: Gate>(
+    rt: &R,
+    alloc: Global,
+    grid: &Grid,
+    inputs: Trio<FeList>,
+    words: Trio<ServerWords>,
+    gate: &G,
+) -> Result<(Finish, u32), Stop>
+    requires enough { HaveEnough grid.now words }
+    requires inputs { (i : Server) → length (member inputs i) ≡ 2 * grid.now.prices }
+    ensures memory { IfErr result (λ stop. stop ≡ Stop.OutOfMemory) }
+    ensures ends { IfOk result (λ run. EndsAuction grid.now inputs words run.0 run.1) }
+{
+    let ended = run_in_threads(rt, alloc, grid, inputs, words, gate)?;
+    Ok((finish_at(&ended.one), ended.one.round()))
 }

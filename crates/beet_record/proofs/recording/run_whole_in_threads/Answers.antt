@@ -1,7 +1,8 @@
-use Rattle.std.proofs.Common.{refl}
+use Rattle.std.proofs.Common.{refl, subst, sym}
+use Rattle.beet_kept.specs.BookRuns.{HasRun}
 use Rattle.beet_kept.proofs.HasRuns.{can-show, inputs-enough, ran-whole, tapes-enough}
 use Rattle.beet_run.proofs.Ending.{has-ended-run}
-use Rattle.beet_kept.proofs.running.run_whole_in_threads.Goals as goal
+use Rattle.beet_record.proofs.recording.run_whole_in_threads.Goals as goal
 
 pub run_in_threads-requires-clause-enough : goal.run_in_threads-requires-clause-enough
 run_in_threads-requires-clause-enough g c = λ lifetimes outlive.
@@ -18,8 +19,8 @@ finish_at-finish-requires g c =
     let ran = c.in_ok-cores.ensures.ended in
     has-ended-run _ _ _ _ ran.starts c.in_ok-cores.cores ran.ended
 
-pub invariant_of-result : goal.invariant_of-result
-invariant_of-result g c =
+pub of-requires : goal.of-requires
+of-requires g c =
     let h = c.in_ok-begun.ensures in
     let ran = c.in_ok-cores.ensures.ended in
     can-show c.args.book.now c.args.words.now h.book c.requires _
@@ -31,5 +32,6 @@ pub returns-clause-run : goal.returns-clause-run
 returns-clause-run g c =
     let h = c.in_ok-begun.ensures in
     let ran = c.in_ok-cores.ensures.ended in
-    ran-whole c.args.book.now c.args.words.now h.book c.requires _ h.grid _ refl _ h.inputs _ h.tapes
-    _ _ _ _ _ ran.starts ran.ended c.finish_at-finish.ensures c.round-rounds.ensures (λ s. h.seen s refl)
+    subst (HasRun c.args.book.now c.args.words.now) (sym c.of.ensures)
+    (ran-whole c.args.book.now c.args.words.now h.book c.requires _ h.grid _ refl _ h.inputs _ h.tapes
+    _ _ _ _ _ ran.starts ran.ended c.finish_at-finish.ensures c.round-rounds.ensures (λ s. h.seen s refl))
