@@ -47,7 +47,7 @@ sum-each f g f' g' (suc n) same =
     rw (each-suc g n, each-suc g' n, sum_by_push f (each g n) (g n), sum_by_push f' (each g' n) (g' n), before, last) refl
 
 -- numbers of the field are all drawn
-all-accepted : (xs : List ℕ) → All IsElement xs → accepted xs ≡ xs
+pub all-accepted : (xs : List ℕ) → All IsElement xs → accepted xs ≡ xs
 all-accepted [] h = refl
 all-accepted (x ∷ xs) h =
     let less : x < p = All-head IsElement x xs h in
