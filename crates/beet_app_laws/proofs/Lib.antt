@@ -3,3 +3,4 @@ pub mod Answers
 pub mod JobAnswers
 pub mod Left
 pub mod Led
+pub mod Telling

@@ -27,7 +27,7 @@ use Rattle.beet_sharing.specs.Runs.{Setup, rounds_among}
 use Rattle.beet_sharing.proofs.Lined.{member-trio}
 use Rattle.beet_auction.specs.Setups.{auction_setup, book_setup}
 use Rattle.beet_load.specs.Servers.{HasEnough}
-use Rattle.beet_load.specs.Wholes.{CanDeal, CanRun}
+use Rattle.beet_load.specs.Wholes.{CanDeal, CanStart}
 use Rattle.beet_view.specs.BookViews.{names, seen_at, view_for}
 use Rattle.beet_view.specs.RunViews.{rounds_seen}
 use Rattle.beet_view.specs.Views.{Viewed}
@@ -72,7 +72,7 @@ module _ (grid : Grid) (farmer : Farmer) (of_grid : IsOfGrid grid farmer.bidder.
   pub seen-shares : AreShares (quantities farmer.bidder.curve) (seen_points grid farmer)
   seen-shares = dealt-shares (quantities farmer.bidder.curve) (accepted farmer.words) (seen_points grid farmer) (omega (arith, many, enough)) seen-dealt
 
-module _ (book : Book) (words : Words) (b : IsBook book) (can : CanRun book words) where
+module _ (book : Book) (words : Words) (b : IsBook book) (can : CanStart book words) where
   abbrev grid : Grid
   grid = book.grid
 

@@ -62,16 +62,16 @@ point-on points k v a Three e = ap (λ (t : Trio ℕ). t.three) e
 module _ (grid : Grid) (views : Trio Viewed) (few : length views.one.bidders ≤ MOST_BIDDERS)
     (curves : (i : ℕ) → i < length views.one.bidders → IsCurve (curve_of grid.prices (points_of_bidder views i)))
     (lines : (i : ℕ) → i < length views.one.bidders → OnOwnLines grid.prices (points_of_bidder views i)) where
-  abbrev n : ℕ
+  abbrev pub n : ℕ
   n = length views.one.bidders
 
-  abbrev slopes : ℕ → List ℕ
+  abbrev pub slopes : ℕ → List ℕ
   slopes i = each (own_slope (points_of_bidder views i)) (2 * grid.prices)
 
-  abbrev farmer : ℕ → Farmer
+  abbrev pub farmer : ℕ → Farmer
   farmer i = record { bidder = recombined_bidder grid views i; words = slopes i }
 
-  abbrev farmers : List Farmer
+  abbrev pub farmers : List Farmer
   farmers = each farmer n
 
   drawn : (i : ℕ) → accepted (slopes i) ≡ slopes i
@@ -97,10 +97,10 @@ module _ (grid : Grid) (views : Trio Viewed) (few : length views.one.bidders ≤
       (λ k lt. ap (λ m. m % p)
       (sum-each (λ (points : Trio (List ℕ)). slice_index (member points s) k) (points_of_bidder views) (λ (f : Farmer). point_for f s k) farmer n (same-point s k lt))))
 
-  same-inputs : inputs_at grid.prices (all_points views) ≡ book_inputs grid.prices farmers
+  pub same-inputs : inputs_at grid.prices (all_points views) ≡ book_inputs grid.prices farmers
   same-inputs = λ j. record { one = same-inputs-at One j; two = same-inputs-at Two j; three = same-inputs-at Three j }
 
-  same-book : book_with grid farmers ≡ recombined_book grid views
+  pub same-book : book_with grid farmers ≡ recombined_book grid views
   same-book = ap (λ (l : List Bidder). record { grid = grid; bidders = l }) (map-each (λ (f : Farmer). f.bidder) farmer n)
 
   pub is-recombined : IsBook (recombined_book grid views)

@@ -9,7 +9,7 @@ ghost use Rattle.beet_field.specs.declared.trio.Trio.{Trio};
 ghost use Rattle.beet_words.specs.Bundles.{Words};
 ghost use Rattle.beet_bids.specs.Books.{Book, IsBook};
 ghost use Rattle.beet_bids.specs.Grids.{Grid};
-ghost use Rattle.beet_load.specs.Wholes.{CanRun};
+ghost use Rattle.beet_load.specs.Wholes.{CanStart};
 ghost use Rattle.beet_view.specs.BookViews.{view_for};
 ghost use Rattle.beet_view.specs.Views.{IsView, Viewed};
 ghost use Rattle.beet_audit.specs.Audits.{Finds, HaveElements, recombined_book};
@@ -29,8 +29,8 @@ pub fn nothing_is_wrong_with_one_run()
 
 /// What the three servers see of the auction of a book is of one run, and its points recombine to the book.
 pub fn the_views_of_a_book_are_of_one_run()
-    ensures run { (book : Book) (words : Words) → IsBook book → CanRun book words →
+    ensures run { (book : Book) (words : Words) → IsBook book → CanStart book words →
         OneRun book.grid (trio_of (view_for book words)) }
-    ensures book { (book : Book) (words : Words) → IsBook book → CanRun book words →
+    ensures book { (book : Book) (words : Words) → IsBook book → CanStart book words →
         recombined_book book.grid (trio_of (view_for book words)) ≡ book }
 {}

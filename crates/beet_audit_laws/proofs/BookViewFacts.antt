@@ -12,7 +12,7 @@ use Rattle.beet_bids.specs.Curves.{IsOfGrid}
 use Rattle.beet_book.specs.Farmers.{Farmer, farmers_of}
 use Rattle.beet_book.proofs.FarmerLists.{farmers-words}
 use Rattle.beet_sharing.proofs.Lined.{member-trio}
-use Rattle.beet_load.specs.Wholes.{CanRun}
+use Rattle.beet_load.specs.Wholes.{CanStart}
 use Rattle.beet_view.specs.BookViews.{names, seen_at, view_for}
 use Rattle.beet_view.specs.declared.view.Seen.{Seen}
 use Rattle.beet_kept.proofs.FittingViews.{own-kept}
@@ -21,7 +21,7 @@ use Rattle.beet_audit.specs.Audits.{bidder_at}
 use Rattle.beet_audit_laws.proofs.KeptWords.{IsKeptAt}
 use Rattle.beet_audit_laws.proofs.ThirdFacts.{IsSound, each-word, kept-from}
 
-module _ (book : Book) (words : Words) (b : IsBook book) (can : CanRun book words) (are : AreWords words) where
+module _ (book : Book) (words : Words) (b : IsBook book) (can : CanStart book words) (are : AreWords words) where
   abbrev farmers : List Farmer
   farmers = farmers_of book.bidders words.bidders
 

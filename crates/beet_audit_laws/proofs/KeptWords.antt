@@ -15,7 +15,7 @@ use Rattle.beet_audit.specs.OneRuns.{Keeps}
 use Rattle.beet_audit.proofs.PointFacts.{item-shares, lengths-shares, trio-same}
 use Rattle.beet_audit_laws.specs.InUse.{DealsAlike, KeptAlike, SameDrawn}
 use Rattle.beet_audit_laws.proofs.CommonPoints.{same-slope}
-use Rattle.beet_audit_laws.proofs.SharedPoints.{quantities-many}
+use Rattle.beet_book.proofs.Quantities.{quantities-many}
 
 -- what is kept where a mark names the server, and words that are words
 abbrev pub IsKeptAt : Point → Option Point → Option (Curve × List ℕ) → Type 0

@@ -1,5 +1,5 @@
 -- Three views and others over the same bidders' points begin the same run.
-use Rattle.std.proofs.Common.{◌≡◌, ◌≢◌, ◌<◌, ◌*◌, ℕ, List, length, slice_index, arith, refl, sym, ◌∙◌, ap, subst, length-append}
+use Rattle.std.proofs.Common.{◌≡◌, ◌≢◌, ◌<◌, ℕ, List, length, slice_index, arith, refl, sym, ◌∙◌, ap, subst}
 use Rattle.beet_field.specs.Trio.{member, of_each}
 use Rattle.beet_field.specs.declared.point.Point.{Point}
 use Rattle.beet_field.specs.declared.point.Point.TheVariants.{One, Two, Three}
@@ -9,10 +9,9 @@ use Rattle.beet_words.specs.Words.{accepted}
 use Rattle.beet_gates.specs.Each.{each}
 use Rattle.beet_gates.specs.declared.Batch.{Batch}
 use Rattle.beet_gates.proofs.EachFacts.{each-same}
-use Rattle.beet_bids.specs.Curves.{Curve, IsOfGrid}
 use Rattle.beet_bids.specs.Grids.{Grid}
 use Rattle.beet_plan.specs.Auction.{auction_batch, auction_over}
-use Rattle.beet_book.specs.Dealing.{AreShares, HasLengths, quantities}
+use Rattle.beet_book.specs.Dealing.{AreShares, HasLengths}
 use Rattle.beet_book.specs.PointSums.{inputs_at}
 use Rattle.beet_book.specs.Totals.{points_on}
 use Rattle.beet_sharing.specs.Runs.{Setup, numbers_of}
@@ -24,9 +23,6 @@ use Rattle.beet_audit.specs.Audits.{all_points, bidder_at, points_of_bidder, run
 use Rattle.beet_audit.proofs.PointFacts.{item-shares, lengths-shares, trio-same}
 use Rattle.beet_audit_laws.proofs.CommonPoints.{same-points}
 use Rattle.beet_audit_laws.proofs.SameRuns.{first, second}
-
-pub quantities-many : (grid : Grid) (curve : Curve) → IsOfGrid grid curve → length (quantities curve) ≡ 2 * grid.prices
-quantities-many grid curve h = omega (arith, length-append curve.buy curve.sell, h.buy_length, h.sell_length)
 
 -- points that are shares of values
 module _ (values : List ℕ) (points : Trio (List ℕ)) (x : AreShares values points) where

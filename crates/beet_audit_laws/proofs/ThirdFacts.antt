@@ -30,7 +30,8 @@ use Rattle.beet_audit_laws.specs.InUse.{SameAmong, SeenAlike}
 use Rattle.beet_audit_laws.proofs.Heard.{each-item, heard}
 use Rattle.beet_audit_laws.proofs.KeptWords.{IsKeptAt, kept-alike}
 use Rattle.beet_audit_laws.proofs.SameRuns.{UseSame, message-same, numbers-same, words-same}
-use Rattle.beet_audit_laws.proofs.SharedPoints.{inputs, masks, masks', masks-at, numbers, numbers', numbers-at, points-at, quantities-many, run, run', same-setup, same-shares, script}
+use Rattle.beet_book.proofs.Quantities.{quantities-many}
+use Rattle.beet_audit_laws.proofs.SharedPoints.{inputs, masks, masks', masks-at, numbers, numbers', numbers-at, points-at, run, run', same-setup, same-shares, script}
 
 -- a view whose words are words, and which keeps a curve of exactly the bidders whose mark names its server
 pub record IsSound (view : Viewed) : Type 0 where

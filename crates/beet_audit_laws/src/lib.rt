@@ -8,7 +8,7 @@ ghost use Rattle.beet_field.specs.declared.trio.Trio.{Trio};
 ghost use Rattle.beet_words.specs.Bundles.{Words, AreWords};
 ghost use Rattle.beet_bids.specs.Books.{Book, IsBook};
 ghost use Rattle.beet_bids.specs.Grids.{Grid};
-ghost use Rattle.beet_load.specs.Wholes.{CanRun};
+ghost use Rattle.beet_load.specs.Wholes.{CanStart};
 ghost use Rattle.beet_view.specs.BookViews.{view_for};
 ghost use Rattle.beet_view.specs.Views.{Viewed};
 ghost use Rattle.beet_audit.specs.OneRuns.{OneRun};
@@ -25,7 +25,7 @@ ghost use Rattle.beet_audit_laws.specs.InUse.{AreViews, SameAmong, SameButAt};
 pub fn two_views_settle_the_third()
     ensures any { (grid : Grid) (views others : Trio Viewed) (s : Point) → AreViews views → AreViews others →
         OneRun grid views → SameButAt s views others → OneRun grid others ↔ SameAmong grid views s (member others s) }
-    ensures book { (book : Book) (words : Words) (views : Trio Viewed) (s : Point) → IsBook book → CanRun book words →
+    ensures book { (book : Book) (words : Words) (views : Trio Viewed) (s : Point) → IsBook book → CanStart book words →
         AreWords words → AreViews views → SameButAt s (trio_of (view_for book words)) views →
         OneRun book.grid views ↔ SameAmong book.grid (trio_of (view_for book words)) s (member views s) }
 {}

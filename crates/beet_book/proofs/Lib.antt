@@ -1,5 +1,6 @@
 pub mod Pairs
 pub mod Items
+pub mod Quantities
 pub mod Sums
 pub mod Deals
 pub mod Each

@@ -5,12 +5,12 @@ ghost use Rattle.std.specs.Prelude.{IfOk};
 ghost use Rattle.beet_errand.specs.Fetches.{IsDone, Reads};
 ghost use Rattle.beet_clear.specs.Clear.{clear_job};
 
+use beet_auction_threads::run_auction;
 use beet_errand::{Reply, Stop};
 use beet_link::Gate;
 use beet_load::load;
 use beet_run::outcome_reply;
 use beet_store::Shelf;
-use beet_threaded::run_auction;
 use std::alloc::Global;
 use std::sync::Wait;
 use std::thread::Threads;

@@ -1,5 +1,5 @@
 -- Envelopes that were sealed open the outcome of their book.
-use Rattle.std.proofs.Common.{◌≡◌, ℕ, ◌+◌, ◌*◌, ◌%◌, ◌<◌, ◌≤◌, List, [], ◌∷◌, map, length, slice_index, All, Ok, arith, refl, sym, ◌∙◌, ap, length-append}
+use Rattle.std.proofs.Common.{◌≡◌, ℕ, ◌+◌, ◌*◌, ◌%◌, ◌<◌, ◌≤◌, List, [], ◌∷◌, map, length, slice_index, All, Ok, arith, refl, sym, ◌∙◌, ap}
 use Rattle.std.specs.Prelude.{sum_by}
 use Rattle.std.proofs.lemmas.List.Elements.{All-head, All-tail, All-from_get_or}
 use Rattle.std.proofs.lemmas.List.Sums.{sum_by-cons}
@@ -15,6 +15,7 @@ use Rattle.beet_gates.proofs.EachFacts.{each-same}
 use Rattle.beet_bids.specs.Books.{IsBook}
 use Rattle.beet_bids.specs.Curves.{Curve, IsOfGrid}
 use Rattle.beet_bids.specs.Grids.{Grid, IsGrid}
+use Rattle.beet_book.proofs.Quantities.{quantities-many}
 use Rattle.beet_book.specs.Dealing.{quantities, dealt_points, points_at}
 use Rattle.beet_book.specs.Totals.{supply_first}
 use Rattle.beet_book.proofs.Pairs.{length-pairwise, item-pairwise}
@@ -35,10 +36,6 @@ use Rattle.beet_envelopes.specs.Seal.{sealed_envelope}
 use Rattle.beet_envelopes.specs.SealedBooks.{HaveWords, sealed_points}
 use Rattle.beet_farmer.specs.declared.envelope.TheConstants.{ENVELOPE_LIMIT}
 
--- there are as many quantities as points
-count : (grid : Grid) (curve : Curve) → IsOfGrid grid curve → length (quantities curve) ≡ 2 * grid.prices
-count grid curve of_grid = omega (arith, length-append curve.buy curve.sell, of_grid.buy_length, of_grid.sell_length)
-
 member-dealt : (curve : Curve) (numbers : List ℕ) (s : Point) → member (dealt_points curve numbers) s ≡ points_at (quantities curve) numbers s
 member-dealt curve numbers One = refl
 member-dealt curve numbers Two = refl
@@ -47,12 +44,12 @@ member-dealt curve numbers Three = refl
 long : (grid : Grid) (curve : Curve) (words : List ℕ) (s : Point) → IsOfGrid grid curve → words_wanted grid ≤ length (accepted words) →
     length (points_at (quantities curve) (accepted words) s) ≡ 2 * grid.prices
 long grid curve words s of_grid enough =
-    omega (arith, length-pairwise (λ value slope. point_of value slope s) (quantities curve) (accepted words), count grid curve of_grid, enough)
+    omega (arith, length-pairwise (λ value slope. point_of value slope s) (quantities curve) (accepted words), quantities-many grid curve of_grid, enough)
 
 item : (grid : Grid) (curve : Curve) (words : List ℕ) (s : Point) (k : ℕ) → IsOfGrid grid curve → words_wanted grid ≤ length (accepted words) → k < 2 * grid.prices →
     slice_index (points_at (quantities curve) (accepted words) s) k ≡ point_of (slice_index (quantities curve) k) (slice_index (accepted words) k) s
 item grid curve words s k of_grid enough lt =
-    item-pairwise (λ value slope. point_of value slope s) (quantities curve) (accepted words) k (omega (arith, count grid curve of_grid, lt)) (omega (arith, enough, lt))
+    item-pairwise (λ value slope. point_of value slope s) (quantities curve) (accepted words) k (omega (arith, quantities-many grid curve of_grid, lt)) (omega (arith, enough, lt))
 
 below : (v a : ℕ) (s : Point) → IsElement (point_of v a s)
 below v a s = omega arith

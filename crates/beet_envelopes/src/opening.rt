@@ -9,6 +9,7 @@ ghost use Rattle.beet_envelopes.specs.Open.{entries_job, open_job};
 ghost use Rattle.beet_farmer.specs.declared.list_file.TheConstants.{LIST_LIMIT};
 
 use crate::gathering::add_bidders;
+use beet_auction_threads::run_auction;
 use beet_bids::Grid;
 use beet_book::Servers;
 use beet_errand::{Reply, Stop, fetch_file, judge};
@@ -17,7 +18,6 @@ use beet_link::Gate;
 use beet_load::{read_grid, read_sources, read_words};
 use beet_run::outcome_reply;
 use beet_store::Shelf;
-use beet_threaded::run_auction;
 use std::alloc::Global;
 use std::sync::Wait;
 use std::thread::Threads;

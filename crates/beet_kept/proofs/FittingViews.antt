@@ -34,7 +34,7 @@ use Rattle.beet_sharing.specs.Rounds.{HasInputs}
 use Rattle.beet_sharing.specs.Runs.{Setup, Shared, coming, hidden_at, message, sent_for, shared_at, standing_at}
 use Rattle.beet_book.specs.Farmers.{Farmer, book_with, farmers_of, point_for}
 use Rattle.beet_auction.proofs.BookLines.{book-lines, slopes_of}
-use Rattle.beet_load.specs.Wholes.{CanRun}
+use Rattle.beet_load.specs.Wholes.{CanStart}
 use Rattle.beet_book.proofs.FarmerLists.{farmers-bidders}
 use Rattle.beet_view.specs.BookViews.{names, seen_at, view_for}
 use Rattle.beet_view.specs.RunViews.{round_seen}
@@ -85,7 +85,7 @@ rounds-few : (prices : ℕ) (gates : Gates) (policy : Policy) → prices ≤ MOS
 rounds-few prices Chain policy few = let comparisons = comparisons-le prices 13 (omega (arith, few)) in omega (arith, comparisons)
 rounds-few prices Tree policy few = let comparisons = comparisons-le prices 13 (omega (arith, few)) in omega (arith, comparisons)
 
-module _ (book : Book) (words : Words) (g : IsGrid book.grid) (b : IsBook book) (can : CanRun book words) where
+module _ (book : Book) (words : Words) (g : IsGrid book.grid) (b : IsBook book) (can : CanStart book words) where
   abbrev auction : Auction
   auction = auction_over book.grid
 

@@ -32,7 +32,7 @@ use Rattle.beet_auction.specs.Setups.{inputs_of, setup_for, rounds_for}
 use Rattle.beet_auction.proofs.BookLines.{book-lines, slopes_of}
 use Rattle.beet_auction.proofs.Ends.{book-ends}
 use Rattle.beet_load.specs.Servers.{ServerWords, AreCut, HaveEnough, masks_of, cut_servers}
-use Rattle.beet_load.specs.Wholes.{CanRun, by_server}
+use Rattle.beet_load.specs.Wholes.{CanStart, by_server}
 use Rattle.beet_book.proofs.FarmerLists.{book-whole}
 use Rattle.beet_run.specs.Runs.{EndsAuction, Starts, setup_with}
 use Rattle.beet_run.proofs.BookRuns.{one-end}
@@ -64,7 +64,7 @@ own-seen grid s (Some at) curve words h = elim (cases_Bool (same at s)) [
 seen-farmer : (grid : Grid) (s : Point) (farmer : Farmer) → IsOfGrid grid farmer.bidder.curve → IsSeenAt s grid (seen_at grid s farmer)
 seen-farmer grid s farmer of_grid = record { points = length-each (point_for farmer s) (2 * grid.prices); own = own-seen grid s farmer.bidder.known farmer.bidder.curve farmer.words of_grid }
 
-module _ (book : Book) (words : Words) (b : IsBook book) (can : CanRun book words) where
+module _ (book : Book) (words : Words) (b : IsBook book) (can : CanStart book words) where
   abbrev farmers : List Farmer
   farmers = farmers_of book.bidders words.bidders
 
@@ -159,7 +159,7 @@ shows book words ran s h =
     ∙ ap (view_of_run o s (rounds_for book words) book.grid (map (seen_at book.grid s) (farmers_of book.bidders words.bidders)) (member words.masks s)) (h.coefficients s)
 
 -- the same with the grid, the lists and the tapes that the program has
-module _ (book : Book) (words : Words) (b : IsBook book) (can : CanRun book words) (grid : Grid) (g : grid ≡ book.grid) (lists : List (List ℕ))
+module _ (book : Book) (words : Words) (b : IsBook book) (can : CanStart book words) (grid : Grid) (g : grid ≡ book.grid) (lists : List (List ℕ))
     (l : lists ≡ words.bidders) (inputs : Trio (List ℕ)) (e : inputs ≡ book_inputs book.grid.prices (farmers_of book.bidders lists))
     (tapes : Trio ServerWords) (t : tapes ≡ cut_servers grid words) where
   inputs-are : inputs ≡ book_inputs book.grid.prices (farmers_of book.bidders words.bidders)

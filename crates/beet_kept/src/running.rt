@@ -1,27 +1,19 @@
 //! Three servers run the auction of a book, and what each of them has seen is shown.
 
-ghost use Rattle.std.specs.Prelude.{◌≡◌, ◌≤◌, IfErr, IfOk, All, length, map, true};
+ghost use Rattle.std.specs.Prelude.{◌≡◌, IfErr, IfOk, map, true};
 ghost use Rattle.beet_field.specs.Trio.{member};
 ghost use Rattle.beet_field.specs.declared.point.Point.{Point as Server};
 ghost use Rattle.beet_words.specs.Bundles.{Words as Lists};
 ghost use Rattle.beet_bids.specs.Books.{Book as Bids, IsBook};
 ghost use Rattle.beet_bids.specs.Grids.{IsGrid};
-ghost use Rattle.beet_plan.specs.Auction.{auction_batch};
-ghost use Rattle.beet_server.specs.Cores.{has_ended};
-ghost use Rattle.beet_delivery.specs.Events.{Delivered};
-ghost use Rattle.beet_server.specs.Fits.{Fits};
-ghost use Rattle.beet_sharing.specs.Runs.{Setup};
 ghost use Rattle.beet_book.specs.Farmers.{book_inputs, farmers_of};
 ghost use Rattle.beet_load.specs.Servers.{cut_servers};
-ghost use Rattle.beet_load.specs.Wholes.{CanRun};
-ghost use Rattle.beet_view.specs.RunViews.{view_of_run};
+ghost use Rattle.beet_load.specs.Wholes.{CanStart};
 ghost use Rattle.beet_view.specs.Transcripts.{view_bytes};
-ghost use Rattle.beet_view.specs.Views.{IsSeenAt};
 ghost use Rattle.beet_auction.specs.Endings.{book_finish, book_rounds};
 ghost use Rattle.beet_kept.specs.BookRuns.{CanWrite, HasRun, Writes};
 ghost use Rattle.beet_kept.specs.DealtBooks.{shows};
 ghost use Rattle.beet_view.specs.BookViews.{seen_at, transcript_for, view_for};
-ghost use Rattle.beet_words.specs.declared.bundle.TheConstants.{MOST_BIDDERS};
 
 use crate::dealing::{SeenByAll, deal_book};
 use beet_bids::{Book, Grid};
@@ -200,8 +192,8 @@ fn grid_of(book: &Book) -> Grid
     grid
 }
 
-/// What three servers begin with for a book: the grid, the bidders as the servers see them for which they are kept, the points
-/// of the inputs, and the words of the servers.
+/// What three servers begin with for a book: the grid, the bidders as each server sees them for which they are kept, the points of
+/// the inputs, and the words of the servers.
 #[derive(Drop)]
 pub struct Ready {
     pub grid: Grid,
@@ -210,8 +202,8 @@ pub struct Ready {
     pub tapes: Trio<ServerWords>,
 }
 
-/// Deals the bidders of a book by all processors, and cuts the words of the servers as those of tapes are cut. The bidders are
-/// kept for one server, or for all three where none is named.
+/// Deals the bidders of a book on all processors, and keeps as many of each server's words as of a tape. The bidders are kept for
+/// one server, or for all three where none is named.
 pub fn make_ready<R: Threads + Sync>(
     rt: &R,
     alloc: Global,
@@ -219,7 +211,7 @@ pub fn make_ready<R: Threads + Sync>(
     book: &Book,
     words: &Words,
 ) -> Result<Ready, AllocError>
-    requires { CanRun book.now words.now }
+    requires { CanStart book.now words.now }
     ensures book { IfOk result (λ ready. IsBook book.now) }
     ensures grid { IfOk result (λ ready. ready.grid ≡ book.now.grid) }
     ensures seen { IfOk result (λ ready. (s : Server) → shows whom s ≡ true → member ready.seen s
@@ -248,7 +240,7 @@ pub struct SeenRun {
 }
 
 /// Runs the auction of a book among three servers, which begin with these words, to its end on the caller's thread, and
-/// writes what one of them has seen. The bidders are dealt by all processors, and kept for this server alone. Want of memory
+/// writes what one of them has seen. The bidders are dealt on all processors, and kept for this server alone. Want of memory
 /// is the only error.
 pub fn see_whole<R: Threads + Sync>(
     rt: &R,
@@ -257,7 +249,7 @@ pub fn see_whole<R: Threads + Sync>(
     book: &Book,
     words: &Words,
 ) -> Result<SeenRun, Stop>
-    requires { CanRun book.now words.now }
+    requires { CanStart book.now words.now }
     ensures memory { IfErr result (λ stop. stop ≡ Stop.OutOfMemory) }
     ensures transcript { IfOk result (λ run. run.transcript.items ≡ transcript_for book.now words.now at) }
     ensures finish { IfOk result (λ run. run.finish ≡ book_finish book.now words.now.masks) }

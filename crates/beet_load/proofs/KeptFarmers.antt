@@ -18,7 +18,7 @@ use Rattle.beet_errand.proofs.Frame.{reached_none, reached_more, reached_last, s
 use Rattle.beet_load.specs.Farmers.{list_at, farmer_errand, farmers_errand}
 use Rattle.beet_load.specs.Loading.{Loaded}
 use Rattle.beet_load.specs.Servers.{AllWords, HaveEnough, AreCut}
-use Rattle.beet_load.specs.Wholes.{AreKept, CanDeal, CanRun, IsFarmer, Keeps, KeepsBids, KeepsFarmer, all_words, bids_errand, by_server}
+use Rattle.beet_load.specs.Wholes.{AreKept, CanDeal, CanStart, IsFarmer, Keeps, KeepsBids, KeepsFarmer, all_words, bids_errand, by_server}
 use Rattle.beet_load.proofs.Summing.{next_entry, none_left}
 use Rattle.beet_bids.specs.declared.bid_file.TheConstants.{BID_LIMIT}
 
@@ -80,7 +80,7 @@ module _ (grid : Grid) (entries : List Entry) (kept farmers : List Farmer) (h : 
 
   pub kept-runs : (words : AllWords) (all : List (List ℕ)) (book : Book) (made : Words) → all ≡ map (λ farmer. farmer.words) kept →
       book ≡ record { grid = grid; bidders = bidders } → made ≡ all_words words.servers all →
-      HaveEnough grid words.servers → AreCut grid words.servers → CanRun book made
+      HaveEnough grid words.servers → AreCut grid words.servers → CanStart book made
   kept-runs words all book made these b m enough cut =
       let many : length all ≡ length bidders = ap length these ∙ length-map kept (λ farmer. farmer.words) ∙ sym (ap length is ∙ length-map kept (λ farmer. farmer.bidder)) in
       let each : All (CanDeal grid) all = subst (All (CanDeal grid)) (sym these) (All-map (CanDeal grid) (λ farmer. farmer.words) kept (λ i d lt. (h.each i d lt).words)) in

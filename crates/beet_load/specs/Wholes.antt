@@ -69,7 +69,7 @@ pub record CanDeal (grid : Grid) (words : List ℕ) : Type 0 where
   pub kept : length words ≤ words_kept grid.prices
 
 -- three servers can run the auction of a book with these words
-pub record CanRun (book : Book) (words : Words) : Type 0 where
+pub record CanStart (book : Book) (words : Words) : Type 0 where
   pub servers : HaveEnough book.grid (by_server words)
   pub cut : AreCut book.grid (by_server words)
   pub lists : length words.bidders ≡ length book.bidders

@@ -2,7 +2,7 @@
 
 ghost use Rattle.std.specs.Prelude.{◌≤◌, ◌*◌, length};
 ghost use Rattle.beet_bids.specs.Books.{IsBook};
-ghost use Rattle.beet_load.specs.Wholes.{CanRun};
+ghost use Rattle.beet_load.specs.Wholes.{CanStart};
 ghost use Rattle.beet_book.specs.declared.book_file.TheConstants.{MOST_PRODUCT};
 
 use beet_bids::Book;
@@ -15,6 +15,6 @@ pub struct Whole {
     pub book: Book,
     pub words: Words,
     ghost is_book: { IsBook book },
-    ghost runs: { CanRun book words },
+    ghost runs: { CanStart book words },
     ghost within: { length book.bidders * book.grid.prices ≤ MOST_PRODUCT },
 }

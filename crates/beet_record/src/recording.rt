@@ -4,10 +4,11 @@ ghost use Rattle.std.specs.Prelude.{◌≡◌, ◌∷◌, [], IfErr, IfOk, strin
 ghost use Rattle.beet_field.specs.declared.point.Point.TheVariants.{One, Two, Three};
 ghost use Rattle.beet_errand.specs.Fetches.{IsDone, Reads};
 ghost use Rattle.beet_load.specs.WholeViews.{loaded_of};
-ghost use Rattle.beet_load.specs.Wholes.{CanRun};
+ghost use Rattle.beet_load.specs.Wholes.{CanStart};
 ghost use Rattle.beet_kept.specs.BookRuns.{HasRun};
 ghost use Rattle.beet_record.specs.Records.{file_for, record_job, recorded_answer};
 
+use beet_auction_threads::run_in_threads;
 use beet_bids::Book;
 use beet_errand::{NewFile, Reply, Stop};
 use beet_field::{Point, Trio};
@@ -16,7 +17,6 @@ use beet_link::Gate;
 use beet_load::{Whole, load_whole};
 use beet_run::{finish_at, outcome_reply};
 use beet_store::Shelf;
-use beet_threaded::run_in_threads;
 use beet_words::Words;
 use std::alloc::{AllocError, Global};
 use std::sync::Wait;
@@ -72,7 +72,7 @@ fn run_whole_in_threads<R: Threads + Wait + Sync, G: Gate>(
     words: &Words,
     gate: &G,
 ) -> Result<Ran, Stop>
-    requires { CanRun book.now words.now }
+    requires { CanStart book.now words.now }
     ensures memory { IfErr result (λ stop. stop ≡ Stop.OutOfMemory) }
     ensures run { IfOk result (HasRun book.now words.now) }
 {

@@ -69,7 +69,7 @@ pub fn start_servers(
     Ok(Trio { one, two, three })
 }
 
-/// How the run of a server that has ended ended.
+/// The finish that the script names at a server that has ended.
 pub fn finish_at(core: &ServerCore<AuctionScript>) -> Finish
     requires { HasEndedRun core.now }
     ensures { plan_finish (auction_plan core.now.script) core.now.opened ≡ Some result }

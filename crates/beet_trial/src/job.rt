@@ -8,6 +8,7 @@ ghost use Rattle.beet_trial.specs.Trial.{sized_answer, sizes_text, trial_job};
 
 use crate::adding::add_bidders;
 use crate::rules::{grid_of, servers_of};
+use beet_auction_threads::run_auction;
 use beet_bids::Grid;
 use beet_book::Totals;
 use beet_errand::{Reply, Stop};
@@ -15,7 +16,6 @@ use beet_link::Gate;
 use beet_load::check_three;
 use beet_plan::Finish;
 use beet_run::outcome_reply;
-use beet_threaded::run_auction;
 use std::alloc::{AllocError, Global};
 use std::sync::Wait;
 use std::thread::Threads;

@@ -16,7 +16,7 @@ use Rattle.beet_book.specs.Farmers.{Farmer, farmers_of}
 use Rattle.beet_plan.specs.Kept.{coefficients_kept, words_kept}
 use Rattle.beet_load.specs.Farmers.{words_wanted}
 use Rattle.beet_load.specs.Servers.{coefficients_wanted, masks_wanted}
-use Rattle.beet_load.specs.Wholes.{CanDeal, CanRun}
+use Rattle.beet_load.specs.Wholes.{CanDeal, CanStart}
 use Rattle.beet_map.proofs.WordLists.{ones-long}
 use Rattle.beet_worlds.specs.Enough.{AreEnough, HasAccepted}
 use Rattle.beet_worlds.specs.MappedBidders.{BiddersMapped, FarmerMapped}
@@ -37,7 +37,7 @@ bidders-kept : (grid : Grid) (lists : List (List ℕ)) → All (CanDeal grid) li
 bidders-kept grid lists all = λ k d lt. (all k d lt).kept
 
 -- the words with which an auction can run are no more than those that are read for it
-pub words-uncut : (book : Book) (words : Words) → CanRun book words → cut_words book.grid words ≡ words
+pub words-uncut : (book : Book) (words : Words) → CanStart book words → cut_words book.grid words ≡ words
 words-uncut book words r =
     let grid = book.grid in
     let m1 = take_all (masks_wanted grid) words.masks.one r.cut.one.masks in
@@ -54,7 +54,7 @@ words-uncut book words r =
     }
 
 -- so their transcripts are those of the words that are read
-pub same-transcripts : (s : Point) (first second : Book) (words mapped : Words) → CanRun first words → CanRun second mapped →
+pub same-transcripts : (s : Point) (first second : Book) (words mapped : Words) → CanStart first words → CanStart second mapped →
     transcript_with second mapped s ≡ transcript_with first words s → transcript_for second mapped s ≡ transcript_for first words s
 same-transcripts s first second words mapped r r' e =
     sym (ap (λ (w : Words). transcript_for second w s) (words-uncut second mapped r')) ∙ e ∙ ap (λ (w : Words). transcript_for first w s) (words-uncut first words r)
@@ -87,14 +87,14 @@ lists-long s prices bidders others words words' a b c m k lt =
     (m.each_one k (record { bidder = one.0; words = get_or words k [] }) (record { bidder = other.0; words = get_or words' k [] }) one.1 other.1)
 
 -- three servers can run the second auction with the mapped words
-pub can-run : (s : Point) (first second : Book) (words mapped : Words) → CanRun first words → second.grid ≡ first.grid →
-    Mapped s first words second mapped → AreEnough second mapped → CanRun second mapped
+pub can-run : (s : Point) (first second : Book) (words mapped : Words) → CanStart first words → second.grid ≡ first.grid →
+    Mapped s first words second mapped → AreEnough second mapped → CanStart second mapped
 can-run s first second words mapped r grids m e = by second.grid grids e where
   by : (grid : Grid) → grid ≡ first.grid → AreEnough (record { grid = grid; bidders = second.bidders }) mapped →
-      CanRun (record { grid = grid; bidders = second.bidders }) mapped
-  by grid g e = subst (λ (grid : Grid). AreEnough (record { grid = grid; bidders = second.bidders }) mapped → CanRun (record { grid = grid; bidders = second.bidders }) mapped)
+      CanStart (record { grid = grid; bidders = second.bidders }) mapped
+  by grid g e = subst (λ (grid : Grid). AreEnough (record { grid = grid; bidders = second.bidders }) mapped → CanStart (record { grid = grid; bidders = second.bidders }) mapped)
       (sym g) there e where
-        there : AreEnough (record { grid = first.grid; bidders = second.bidders }) mapped → CanRun (record { grid = first.grid; bidders = second.bidders }) mapped
+        there : AreEnough (record { grid = first.grid; bidders = second.bidders }) mapped → CanStart (record { grid = first.grid; bidders = second.bidders }) mapped
         there e =
             let masks1 = m.masks.lengths One in
             let masks2 = m.masks.lengths Two in
@@ -130,7 +130,7 @@ can-run s first second words mapped r grids m e = by second.grid grids e where
             }
 
 -- and they can stand in a bundle
-pub bundle-fits : (book : Book) (words : Words) → CanRun book words → IsGrid book.grid → length book.bidders ≤ MOST_BIDDERS → FitsBundle words
+pub bundle-fits : (book : Book) (words : Words) → CanStart book words → IsGrid book.grid → length book.bidders ≤ MOST_BIDDERS → FitsBundle words
 bundle-fits book words r grid few =
     let prices = grid.prices_limit in
     let comparisons = comparisons-le book.grid.prices 13 (omega (arith, prices)) in

@@ -3,7 +3,7 @@
 ghost use Rattle.std.specs.Prelude.{◌≡◌, ◌++◌, ◌∷◌, [], IfErr, IfOk, codes, string_bytes};
 ghost use Rattle.beet_words.specs.Bundles.{FitsBundle};
 ghost use Rattle.beet_errand.specs.Texts.{line_of};
-ghost use Rattle.beet_load.specs.Wholes.{CanRun};
+ghost use Rattle.beet_load.specs.Wholes.{CanStart};
 ghost use Rattle.beet_run.specs.Outcomes.{status_of};
 ghost use Rattle.beet_run.specs.OutcomeTexts.{outcome_text};
 ghost use Rattle.beet_two_worlds.specs.Answering.{agreed_answer};
@@ -79,7 +79,7 @@ fn agreed_reply<R: Threads + Sync>(
     second: &Book,
     mapped: &Words,
 ) -> Result<Reply, Stop>
-    requires second_runs { CanRun second.now mapped.now }
+    requires second_runs { CanStart second.now mapped.now }
     requires fits { FitsBundle mapped.now }
     requires same { transcript_for second.now mapped.now me ≡ transcript_for whole.now.book whole.now.words me }
     ensures memory { IfErr result (λ stop. stop ≡ Stop.OutOfMemory) }

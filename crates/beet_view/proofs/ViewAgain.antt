@@ -246,7 +246,7 @@ server_at-server bytes Two at rest s = rw (number_first bytes 1 3 at 2 rest (ome
 server_at-server bytes Three at rest s = rw (number_first bytes 1 3 at 3 rest (omega arith) (omega arith) (omega arith) s) refl
 
 -- the kind of gates is the one whose number was written
-gates_of-number : (gates : Gates) → gates_of (number_of_gates gates) ≡ gates
+pub gates_of-number : (gates : Gates) → gates_of (number_of_gates gates) ≡ gates
 gates_of-number Chain = refl
 gates_of-number Tree = refl
 

@@ -1,5 +1,5 @@
 use Rattle.beet_run.proofs.Ending.{ends-auction, has-ended-run}
-use Rattle.beet_threaded.proofs.run_auction.Goals as goal
+use Rattle.beet_auction_threads.proofs.run_auction.Goals as goal
 
 pub finish_at-requires : goal.finish_at-requires
 finish_at-requires g c =
