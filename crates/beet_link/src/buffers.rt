@@ -45,11 +45,22 @@ impl Buffer {
         Ok(Buffer { message })
     }
 
-    /// Puts the message into the buffer, over the one before.
+    /// Puts the message into the buffer, over the one before. No more is written than the numbers that the message has.
     pub fn fill(&mut self, message: RoundMessage)
         ensures { self.new ≡ message }
     {
-        *self.message = message;
+        self.message.from = message.from;
+        self.message.to = message.to;
+        self.message.round = message.round;
+        self.message.numbers.clear();
+        if self
+            .message
+            .numbers
+            .try_extend_from_slice(message.numbers.as_slice())
+            .is_err()
+        {
+            unreachable!();
+        }
     }
 
     /// The message.

@@ -24,7 +24,7 @@ use std::sync::atomic::{AtomicBool, Ordering};
 use std::thread;
 
 /// How often a server that finds no message tries again before it gives up its turn.
-const SPINS: u32 = 50;
+const SPINS: u32 = 2;
 
 /// A server with its ends: to and from its lower and its higher peer.
 #[derive(Drop)]
