@@ -60,7 +60,7 @@ module _ (files : List File) where
       fetched name limit next fetch.failed answer (lead-end fetches (after_fetch files name limit next fetch.failed) answer l.2)
 
   -- no fetch failed
-  abbrev NoneFailed : List Fetch → Type 0
+  abbrev pub NoneFailed : List Fetch → Type 0
   NoneFailed [] = Unit {0}
   NoneFailed (fetch ∷ fetches) = (fetch.failed ≡ false) × NoneFailed fetches
 
@@ -80,7 +80,7 @@ module _ (files : List File) where
       (answered fetches name limit next fetch.failed answer ne l.2, none-failed fetches (after_fetch files name limit next fetch.failed) answer ne l.2)
 
   -- fetches of which none failed lead to an errand with the same answer
-  lead-over : (fetches : List Fetch) (errand rest : Errand) → NoneFailed fetches → Leads files fetches errand rest → answer_over files errand ≡ answer_over files rest
+  pub lead-over : (fetches : List Fetch) (errand rest : Errand) → NoneFailed fetches → Leads files fetches errand rest → answer_over files errand ≡ answer_over files rest
   lead-over [] errand rest n e = ap (answer_over files) e
   lead-over (fetch ∷ fetches) (Ends end) rest n l = absurd l
   lead-over (fetch ∷ fetches) (Wants name limit next) rest n l =

@@ -4,3 +4,4 @@ pub mod JobAnswers
 pub mod Left
 pub mod Led
 pub mod Telling
+pub mod Reading

@@ -3,6 +3,7 @@ use Rattle.std.proofs.Common.{◌≡◌, ℕ, List, [], ◌∷◌, length, get_o
 use Rattle.beet_field.specs.Point.{number_of}
 use Rattle.beet_field.specs.declared.point.Point.{Point}
 use Rattle.beet_field.specs.declared.point.Point.TheVariants.{One, Two, Three}
+use Rattle.beet_field.specs.declared.trio.Trio.{Trio}
 use Rattle.beet_store.specs.Files.{File}
 use Rattle.beet_gates.specs.declared.Gates.{Gates}
 use Rattle.beet_bids.specs.Curves.{Curve}
@@ -35,7 +36,7 @@ IsTold A = (a b : A) → AreAlike a b → a ≡ b
 part : {A B : Type 0} → IsTold B → (f : A → B) (a b : A) → AreAlike a b → f a ≡ f b
 part t f a b h = t (f a) (f b) (λ g. h (λ x. g (f x)))
 
-told-list : IsTold (List ℕ)
+pub told-list : IsTold (List ℕ)
 told-list a b h = h (λ l. l)
 
 told-number : IsTold ℕ
@@ -74,6 +75,13 @@ told-pair t u a b h =
     let second = part u (λ p. p.1) a b h in
     λ i. (first i, second i)
 
+pub told-trio : {A : Type 0} → IsTold A → IsTold (Trio A)
+told-trio {A = A} t a b h =
+    let one = part t (λ (x : Trio A). x.one) a b h in
+    let two = part t (λ (x : Trio A). x.two) a b h in
+    let three = part t (λ (x : Trio A). x.three) a b h in
+    λ i. record { one = one i; two = two i; three = three i }
+
 -- what is told of a value that is there
 abbrev where_some : {A : Type 0} → (A → List ℕ) → Option A → List ℕ
 where_some f None = []
@@ -98,7 +106,7 @@ abbrev others_of : {A : Type 0} → List A → List A
 others_of [] = []
 others_of (x ∷ xs) = xs
 
-told-each : {A : Type 0} → IsTold A → IsTold (List A)
+pub told-each : {A : Type 0} → IsTold A → IsTold (List A)
 told-each t [] [] h = refl
 told-each t [] (y ∷ ys) h = let e : 0 ≡ 1 = ap length (h (λ l. count (first_of l))) in absurd (omega (arith, e))
 told-each t (x ∷ xs) [] h = let e : 1 ≡ 0 = ap length (h (λ l. count (first_of l))) in absurd (omega (arith, e))
@@ -150,10 +158,8 @@ told-view a b h =
 pub told-views : IsTold ReadViews
 told-views a b h =
     let grid = part told-grid (λ (r : ReadViews). r.grid) a b h in
-    let one = part told-view (λ (r : ReadViews). r.views.one) a b h in
-    let two = part told-view (λ (r : ReadViews). r.views.two) a b h in
-    let three = part told-view (λ (r : ReadViews). r.views.three) a b h in
-    λ i. record { grid = grid i; views = record { one = one i; two = two i; three = three i } }
+    let views = part (told-trio told-view) (λ (r : ReadViews). r.views) a b h in
+    λ i. record { grid = grid i; views = views i }
 
 told-bidder : IsTold Bidder
 told-bidder a b h =
@@ -176,11 +182,9 @@ told-words a b h =
 told-loaded : IsTold Loaded
 told-loaded a b h =
     let grid = part told-grid (λ (l : Loaded). l.grid) a b h in
-    let one = part told-words (λ (l : Loaded). l.servers.one) a b h in
-    let two = part told-words (λ (l : Loaded). l.servers.two) a b h in
-    let three = part told-words (λ (l : Loaded). l.servers.three) a b h in
+    let servers = part (told-trio told-words) (λ (l : Loaded). l.servers) a b h in
     let farmers = part (told-each told-farmer) (λ (l : Loaded). l.farmers) a b h in
-    λ i. record { grid = grid i; servers = record { one = one i; two = two i; three = three i }; farmers = farmers i }
+    λ i. record { grid = grid i; servers = servers i; farmers = farmers i }
 
 -- two books that are read
 pub told-both : IsTold Both

@@ -1,3 +1,4 @@
 pub mod Refusals
 pub mod Leavings
 pub mod Dues
+pub mod Held

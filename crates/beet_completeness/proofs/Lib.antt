@@ -1,0 +1,4 @@
+pub mod Leading
+pub mod Jobs
+pub mod Audits
+pub mod Rehearsals

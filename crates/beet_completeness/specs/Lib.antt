@@ -1,0 +1,2 @@
+pub mod WithoutFault
+pub mod Complete

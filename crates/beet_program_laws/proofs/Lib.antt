@@ -1,0 +1,11 @@
+pub mod Files
+pub mod Steps
+pub mod Held
+pub mod Grids
+pub mod Read
+pub mod Ends
+pub mod Jobs
+pub mod Trials
+pub mod Worlds
+pub mod Audits
+pub mod Accepted

@@ -1,0 +1,386 @@
+-- What the files of an auction are read as: a book of accepted bids, and words with which its auction can be run.
+use Rattle.std.proofs.Common.{◌≡◌, inl, inr, ◌≤◌, ◌+◌, ◌*◌, ◌==◌, ℕ, zero, suc, Bool, true, false, List, [], ◌∷◌, ◌++◌, length, map, take, get_or, slice_get, nat_lt, Option, Some, None, Ok, Err, if◌then◌else◌, refl, sym, ap, subst, ◌∙◌, arith, length-append}
+use Rattle.std.specs.Prelude.{All, IfSome, codes}
+use Rattle.std.proofs.lemmas.Bool.{ltb-false}
+use Rattle.std.proofs.lemmas.List.{length-map, take_all}
+use Rattle.std.proofs.lemmas.List.FromFn.{length-map-range_with_len}
+use Rattle.std.proofs.lemmas.List.Elements.{All-append, All-cons, All-head, All-map, All-nil, All-tail, All-take}
+use Rattle.beet_field.specs.declared.trio.Trio.{Trio}
+use Rattle.beet_store.specs.Files.{File}
+use Rattle.beet_forms.specs.Faults.{Reading}
+use Rattle.beet_forms.specs.FaultLines.{fault_line_of}
+use Rattle.beet_words.specs.Bundles.{AreWords, Words, bundle_of}
+use Rattle.beet_words.specs.Seeds.{seed_word, seed_words}
+use Rattle.beet_words.specs.TapeFiles.{tape_of}
+use Rattle.beet_words.specs.Words.{IsWord, accepted}
+use Rattle.beet_words.specs.declared.bundle.TheConstants.{BUNDLE_LIMIT, MOST_BIDDERS}
+use Rattle.beet_words.specs.declared.tape_file.TheConstants.{TAPE_LIMIT}
+use Rattle.beet_bids.specs.AuctionFiles.{auction_of}
+use Rattle.beet_bids.specs.BidFiles.{bid_of}
+use Rattle.beet_bids.specs.Books.{Book, IsBook}
+use Rattle.beet_bids.specs.Curves.{IsCurve, IsOfGrid}
+use Rattle.beet_bids.specs.Grids.{Grid}
+use Rattle.beet_bids.specs.declared.auction_file.TheConstants.{AUCTION_LIMIT}
+use Rattle.beet_bids.specs.declared.bid_file.TheConstants.{BID_LIMIT}
+use Rattle.beet_bids.specs.declared.book.Bidder.{Bidder}
+use Rattle.beet_plan.specs.Kept.{coefficients_kept, words_kept}
+use Rattle.beet_plan.specs.declared.TheConstants.{SPARE_WORDS}
+use Rattle.beet_book.specs.BookFiles.{book_of}
+use Rattle.beet_book.specs.Farmers.{Farmer, book_with, farmers_of}
+use Rattle.beet_book.specs.ServerFiles.{servers_of}
+use Rattle.beet_book.specs.declared.book_file.TheConstants.{BOOK_LIMIT, MOST_PRODUCT}
+use Rattle.beet_book.specs.declared.entries.BidderSource.{BidderSource}
+use Rattle.beet_book.specs.declared.entries.BidderSource.TheVariants.{Seed, Tape}
+use Rattle.beet_book.specs.declared.entries.Entry.{Entry}
+use Rattle.beet_book.specs.declared.server_file.TheConstants.{SERVERS_LIMIT}
+use Rattle.beet_book.specs.declared.sources.ServerSource.{ServerSource}
+use Rattle.beet_book.specs.declared.sources.ServerSource.TheVariants.{Seed as ServerSeed, Tapes}
+use Rattle.beet_book.specs.declared.sources.Servers.{Servers}
+use Rattle.beet_book.specs.declared.sources.Servers.TheVariants.{Three, Bundle}
+use Rattle.beet_worlds.specs.Enough.{HasAccepted}
+use Rattle.beet_headline.specs.Halves.{CanRun}
+use Rattle.beet_errand.specs.Errands.{Step, gives, reads, text_answer}
+use Rattle.beet_errand.specs.Fetches.{IsDone}
+use Rattle.beet_errand.specs.declared.answer.Status.TheVariants.{BadFile, TooFewWords}
+use Rattle.beet_load.specs.Farmers.{farmer_errand, farmers_errand, list_at, words_errand, words_wanted}
+use Rattle.beet_load.specs.Limits.{over_product}
+use Rattle.beet_load.specs.Loading.{Loaded, loaded_errand}
+use Rattle.beet_load.specs.Servers.{AllWords, HasEnough, IsCut, ServerWords, all_words_errand, coefficients_wanted, counted, cut_server, cut_servers, enough_held, enough_of, enough_of_all, masks_wanted, seeded, server_errand, source_errand, three_errand, wrong_count}
+use Rattle.beet_load.specs.Wholes.{CanDeal, CanStart, IsFarmer, all_words, bids_errand, curves_errand, limited_errand}
+use Rattle.beet_load.specs.WordTexts.{server_short_text, too_few_text}
+use Rattle.beet_load.proofs.Cuts.{seeded_cut, take-few}
+use Rattle.beet_app_laws.specs.Held.{IsHeld}
+use Rattle.beet_program_laws.specs.Outcomes.{loaded_with}
+use Rattle.beet_program_laws.proofs.Files.{AreFew, bid-is, book-few, bundle-are, seed-are, tape-are}
+use Rattle.beet_program_laws.proofs.Held.{held-yield}
+use Rattle.beet_program_laws.proofs.Steps.{Yields, any-yield, gives-yield, not-bad, passes-yield, reads-yield, then-yields, weaker-yield}
+
+pub not-short : IsDone TooFewWords → ⊥
+not-short (inl e) = cc
+not-short (inr e) = cc
+
+-- a bidder that is read with its words
+pub record IsRead (grid : Grid) (farmer : Farmer) : Type 0 where
+  pub is : IsFarmer grid farmer
+  pub words : All IsWord farmer.words
+
+-- the words of a server that are read
+pub record AreKept (grid : Grid) (words : ServerWords) : Type 0 where
+  pub cut : IsCut grid words
+  pub masks : All IsWord words.masks
+  pub coefficients : All IsWord words.coefficients
+
+-- those of a seed
+pub seeded-kept : (grid : Grid) (seed : List ℕ) → AreKept grid (seeded grid seed)
+seeded-kept grid seed = record {
+  cut = seeded_cut grid seed (seeded grid seed) refl;
+  masks = seed-are seed 1 (masks_wanted grid);
+  coefficients = seed-are seed 0 (coefficients_kept grid);
+}
+
+-- and are enough
+pub record CanServe (grid : Grid) (words : ServerWords) : Type 0 where
+  pub enough : HasEnough grid words
+  pub kept : AreKept grid words
+
+pub record CanServeAll (grid : Grid) (servers : Trio ServerWords) : Type 0 where
+  pub one : CanServe grid servers.one
+  pub two : CanServe grid servers.two
+  pub three : CanServe grid servers.three
+
+-- lists of words, where they are given
+abbrev pub AreLists : Option (List (List ℕ)) → Type 0
+AreLists lists = IfSome lists (λ all. All (λ list. All IsWord list) all)
+
+-- what is read of an auction
+pub record IsLoaded (loaded : Loaded) : Type 0 where
+  pub few : length loaded.farmers ≤ MOST_BIDDERS
+  pub farmers : All (IsRead loaded.grid) loaded.farmers
+  pub servers : CanServeAll loaded.grid loaded.servers
+
+-- what is read of an auction whose book is kept whole: the auction's file was held, and the book is within the limit
+pub record IsLimited (files : List File) (auction : List ℕ) (loaded : Loaded) : Type 0 where
+  pub grid : IsHeld files auction AUCTION_LIMIT auction_of loaded.grid
+  pub product : length loaded.farmers * loaded.grid.prices ≤ MOST_PRODUCT
+  pub right : IsLoaded loaded
+
+within-limit : (n m prices : ℕ) → n ≡ 0 + m → nat_lt MOST_PRODUCT (m * prices) ≡ false → n * prices ≤ MOST_PRODUCT
+within-limit n m prices e f = let same : n ≡ m = omega (arith, e) in subst (λ (k : ℕ). k * prices ≤ MOST_PRODUCT) (sym same) (ltb-false MOST_PRODUCT (m * prices) f)
+
+-- an item of a list has what all have
+item-has : {A : Type 0} (P : A → Type 0) (xs : List A) (i : ℕ) → All P xs → IfSome (slice_get xs i) P
+item-has P [] i all = tt
+item-has P (x ∷ xs) zero all = All-head P x xs all
+item-has P (x ∷ xs) (suc i) all = item-has P xs i (All-tail P x xs all)
+
+list-has : (lists : Option (List (List ℕ))) (i : ℕ) → AreLists lists → IfSome (list_at lists i) (λ list. All IsWord list)
+list-has None i all = tt
+list-has (Some lists) i all = item-has (λ list. All IsWord list) lists i all
+
+one-more : (n read before rest : ℕ) → n ≡ read + rest → read ≡ before + 1 → n ≡ before + suc rest
+one-more n read before rest e f = omega (arith, e, f)
+
+module _ (files : List File) where
+  -- ---- bidders
+
+  words-yield : (given : Option (List ℕ)) → IfSome given (λ list. All IsWord list) → (source : BidderSource) (kept : ℕ) →
+      Yields files (words_errand given source kept) (AreFew kept)
+  words-yield (Some words) all source kept = gives-yield files (AreFew kept) (take kept words) (All-take IsWord kept words all, take-few kept words)
+  words-yield None all (Seed seed) kept =
+      gives-yield files (AreFew kept) (seed_words seed 0 kept) (seed-are seed 0 kept, omega (arith, length-map-range_with_len (seed_word seed 0) 0 kept))
+  words-yield None all (Tape name) kept = reads-yield files name TAPE_LIMIT (λ bytes. tape_of bytes kept) (AreFew kept) (λ bytes words e. tape-are bytes kept words e)
+
+  farmer-yield : (grid : Grid) (given : Option (List ℕ)) → IfSome given (λ list. All IsWord list) → (number : ℕ) (entry : Entry) →
+      Yields files (farmer_errand grid given number entry) (IsRead grid)
+  farmer-yield grid given all number entry =
+      then-yields files (reads entry.bid BID_LIMIT (bid_of grid)) _ (λ curve. IsCurve curve × IsOfGrid grid curve) (IsRead grid)
+      (reads-yield files entry.bid BID_LIMIT (bid_of grid) (λ curve. IsCurve curve × IsOfGrid grid curve) (λ bytes curve e. bid-is grid bytes curve e)) (λ curve is.
+      then-yields files (words_errand given entry.source (words_kept grid.prices)) _ (AreFew (words_kept grid.prices)) (IsRead grid)
+      (words-yield given all entry.source (words_kept grid.prices)) (λ words few.
+      let farmer : Farmer = record { bidder = record { known = entry.known; curve = curve }; words = words } in
+      passes-yield files (nat_lt (length (accepted words)) (words_wanted grid))
+      (text_answer TooFewWords (too_few_text number (length (accepted words)) (words_wanted grid))) (gives farmer) (IsRead grid) not-short (λ enough.
+      gives-yield files (IsRead grid) farmer (record {
+        is = record { curve = is.0; of_grid = is.1; words = record { enough = ltb-false _ _ enough; kept = few.1 } };
+        words = few.0;
+      }))))
+
+  farmers-yield : (grid : Grid) (lists : Option (List (List ℕ))) → AreLists lists → (read : List Farmer) → All (IsRead grid) read → (entries : List Entry) →
+      Yields files (farmers_errand grid lists read entries) (λ farmers. All (IsRead grid) farmers × (length farmers ≡ length read + length entries))
+  farmers-yield grid lists all read are [] =
+      gives-yield files (λ farmers. All (IsRead grid) farmers × (length farmers ≡ length read + 0)) read (are, omega arith)
+  farmers-yield grid lists all read are (entry ∷ entries) =
+      then-yields files (farmer_errand grid (list_at lists (length read)) (length read + 1) entry)
+      (λ farmer. farmers_errand grid lists (read ++ farmer ∷ []) entries) (IsRead grid)
+      (λ farmers. All (IsRead grid) farmers × (length farmers ≡ length read + length (entry ∷ entries)))
+      (farmer-yield grid (list_at lists (length read)) (list-has lists (length read) all) (length read + 1) entry) (λ farmer is.
+      let more = All-append (IsRead grid) read (farmer ∷ []) are (All-cons (IsRead grid) farmer [] is (All-nil (IsRead grid))) in
+      let long : length (read ++ farmer ∷ []) ≡ length read + 1 = length-append read (farmer ∷ []) in
+      weaker-yield files (farmers_errand grid lists (read ++ farmer ∷ []) entries)
+      (λ farmers. All (IsRead grid) farmers × (length farmers ≡ length (read ++ farmer ∷ []) + length entries))
+      (λ farmers. All (IsRead grid) farmers × (length farmers ≡ length read + length (entry ∷ entries)))
+      (λ farmers h. (h.0, one-more (length farmers) (length (read ++ farmer ∷ [])) (length read) (length entries) h.1 long))
+      (farmers-yield grid lists all (read ++ farmer ∷ []) more entries))
+
+  -- ---- servers
+
+  source-yield : (grid : Grid) (source : ServerSource) → Yields files (source_errand grid source) (AreKept grid)
+  source-yield grid (ServerSeed seed) = gives-yield files (AreKept grid) (seeded grid seed) (seeded-kept grid seed)
+  source-yield grid (Tapes coefficients masks) =
+      then-yields files (reads coefficients TAPE_LIMIT (λ bytes. tape_of bytes (coefficients_kept grid))) _ (AreFew (coefficients_kept grid)) (AreKept grid)
+      (reads-yield files coefficients TAPE_LIMIT (λ bytes. tape_of bytes (coefficients_kept grid)) (AreFew (coefficients_kept grid)) (λ bytes words e. tape-are bytes (coefficients_kept grid) words e)) (λ numbers few.
+      then-yields files (reads masks TAPE_LIMIT (λ bytes. tape_of bytes (masks_wanted grid))) _ (AreFew (masks_wanted grid)) (AreKept grid)
+      (reads-yield files masks TAPE_LIMIT (λ bytes. tape_of bytes (masks_wanted grid)) (AreFew (masks_wanted grid)) (λ bytes words e. tape-are bytes (masks_wanted grid) words e)) (λ words few'.
+      gives-yield files (AreKept grid) (record { masks = words; coefficients = numbers })
+      (record { cut = record { masks = few'.1; coefficients = few.1 }; masks = few'.0; coefficients = few.0 })))
+
+  enough-yield : {A : Type 0} (grid : Grid) (server : ℕ) (words : ServerWords) (step : Step A) (P : A → Type 0) →
+      (HasEnough grid words → Yields files step P) → Yields {A = A} files (λ next. enough_of grid server words (step next)) P
+  enough-yield grid server words step P y =
+      passes-yield files (nat_lt (length (accepted words.coefficients)) (coefficients_wanted grid))
+      (text_answer TooFewWords (server_short_text server (codes "coefficients") (length (accepted words.coefficients)) (coefficients_wanted grid)))
+      (λ next. enough_held server (codes "masks") (length words.masks) (masks_wanted grid) (step next)) P not-short (λ numbers.
+      passes-yield files (nat_lt (length words.masks) (masks_wanted grid))
+      (text_answer TooFewWords (server_short_text server (codes "masks") (length words.masks) (masks_wanted grid))) step P not-short (λ masks.
+      y (record { coefficients = ltb-false _ _ numbers; masks = ltb-false _ _ masks })))
+
+  pub servers-yield : {A : Type 0} (grid : Grid) (servers : Trio ServerWords) (step : Step A) (P : A → Type 0) →
+      (HasEnough grid servers.one → HasEnough grid servers.two → HasEnough grid servers.three → Yields files step P) →
+      Yields {A = A} files (λ next. enough_of_all grid servers (step next)) P
+  servers-yield grid servers step P y =
+      enough-yield grid 1 servers.one (λ next. enough_of grid 2 servers.two (enough_of grid 3 servers.three (step next))) P (λ one.
+      enough-yield grid 2 servers.two (λ next. enough_of grid 3 servers.three (step next)) P (λ two.
+      enough-yield grid 3 servers.three step P (λ three. y one two three)))
+
+  server-yield : (grid : Grid) (server : ℕ) (source : ServerSource) → Yields files (server_errand grid server source) (CanServe grid)
+  server-yield grid server source =
+      then-yields files (source_errand grid source) _ (AreKept grid) (CanServe grid) (source-yield grid source) (λ words kept.
+      enough-yield grid server words (gives words) (CanServe grid) (λ enough. gives-yield files (CanServe grid) words (record { enough = enough; kept = kept })))
+
+  three-yield : (grid : Grid) (sources : Trio ServerSource) → Yields files (three_errand grid sources) (CanServeAll grid)
+  three-yield grid sources =
+      then-yields files (server_errand grid 1 sources.one) _ (CanServe grid) (CanServeAll grid) (server-yield grid 1 sources.one) (λ one h1.
+      then-yields files (server_errand grid 2 sources.two) _ (CanServe grid) (CanServeAll grid) (server-yield grid 2 sources.two) (λ two h2.
+      then-yields files (server_errand grid 3 sources.three) _ (CanServe grid) (CanServeAll grid) (server-yield grid 3 sources.three) (λ three h3.
+      gives-yield files (CanServeAll grid) (record { one = one; two = two; three = three }) (record { one = h1; two = h2; three = h3 }))))
+
+  cut-kept : (grid : Grid) (masks coefficients : List ℕ) → All IsWord masks → All IsWord coefficients → AreKept grid (cut_server grid masks coefficients)
+  cut-kept grid masks coefficients m c = record {
+    cut = record { masks = take-few (masks_wanted grid) masks; coefficients = take-few (coefficients_kept grid) coefficients };
+    masks = All-take IsWord (masks_wanted grid) masks m;
+    coefficients = All-take IsWord (coefficients_kept grid) coefficients c;
+  }
+
+  chosen-words : (b : Bool) (held words : Words) → (if b then Ok held else Err wrong_count) ≡ Ok words → AreWords held → AreWords words
+  chosen-words true held words e are = let same : held ≡ words = cc in subst AreWords same are
+  chosen-words false held words e are = absurd cc
+
+  counted-are : (count : Option ℕ) (bytes : List ℕ) (reading : Reading Words) → bundle_of bytes ≡ reading → (words : Words) → counted count reading ≡ Ok words → AreWords words
+  counted-are None bytes reading is words e = bundle-are bytes words (is ∙ e)
+  counted-are (Some count) bytes (Ok held) is words e = chosen-words (length held.bidders == count) held words e (bundle-are bytes held is)
+  counted-are (Some count) bytes (Err fault) is words e = absurd cc
+
+  pub all-words-yield : (grid : Grid) (count : Option ℕ) (sources : Servers) →
+      Yields files (all_words_errand grid count sources) (λ words. CanServeAll grid words.servers × AreLists words.bidders)
+  all-words-yield grid count (Three sources) =
+      then-yields files (three_errand grid sources) (λ servers. gives (record { servers = servers; bidders = None })) (CanServeAll grid) (λ words. CanServeAll grid words.servers × AreLists words.bidders)
+      (three-yield grid sources) (λ servers h.
+      gives-yield files (λ words. CanServeAll grid words.servers × AreLists words.bidders) (record { servers = servers; bidders = None }) (h, tt))
+  all-words-yield grid count (Bundle name) =
+      then-yields files (reads name BUNDLE_LIMIT (λ bytes. counted count (bundle_of bytes)))
+      (λ words next. enough_of_all grid (cut_servers grid words) (next (record { servers = cut_servers grid words; bidders = Some words.bidders }))) AreWords (λ words. CanServeAll grid words.servers × AreLists words.bidders)
+      (reads-yield files name BUNDLE_LIMIT (λ bytes. counted count (bundle_of bytes)) AreWords (λ bytes words e. counted-are count bytes (bundle_of bytes) refl words e)) (λ words are.
+      let all : AllWords = record { servers = cut_servers grid words; bidders = Some words.bidders } in
+      servers-yield grid (cut_servers grid words) (gives all) (λ words. CanServeAll grid words.servers × AreLists words.bidders) (λ one two three.
+      gives-yield files (λ words. CanServeAll grid words.servers × AreLists words.bidders) all (
+        record {
+          one = record { enough = one; kept = cut-kept grid words.masks.one words.coefficients.one are.masks.0 are.coefficients.0 };
+          two = record { enough = two; kept = cut-kept grid words.masks.two words.coefficients.two are.masks.1 are.coefficients.1 };
+          three = record { enough = three; kept = cut-kept grid words.masks.three words.coefficients.three are.masks.2 are.coefficients.2 };
+        },
+        are.bidders,
+      )))
+
+  -- ---- the whole
+
+  words-farmers-yield : (grid : Grid) (sources : Servers) (entries : List Entry) → length entries ≤ MOST_BIDDERS →
+      Yields {A = Loaded} files (λ next. all_words_errand grid (Some (length entries)) sources (λ words. farmers_errand grid words.bidders [] entries (λ farmers.
+      next (record { grid = grid; servers = words.servers; farmers = farmers })))) IsLoaded
+  words-farmers-yield grid sources entries few =
+      then-yields files (all_words_errand grid (Some (length entries)) sources)
+      (λ words next. farmers_errand grid words.bidders [] entries (λ farmers. next (record { grid = grid; servers = words.servers; farmers = farmers }))) (λ words. CanServeAll grid words.servers × AreLists words.bidders) IsLoaded
+      (all-words-yield grid (Some (length entries)) sources) (λ words good.
+      then-yields files (farmers_errand grid words.bidders [] entries)
+      (λ farmers. gives (record { grid = grid; servers = words.servers; farmers = farmers })) (λ farmers. All (IsRead grid) farmers × (length farmers ≡ 0 + length entries)) IsLoaded
+      (farmers-yield grid words.bidders good.1 [] (All-nil (IsRead grid)) entries) (λ farmers h.
+      gives-yield files IsLoaded (record { grid = grid; servers = words.servers; farmers = farmers })
+      (record { few = omega (arith, few, h.1); farmers = h.0; servers = good.0 })))
+
+  pub loaded-yield : (auction servers book : List ℕ) → Yields files (loaded_errand auction servers book) IsLoaded
+  unfolding loaded_errand
+  loaded-yield auction servers book =
+      then-yields files (reads auction AUCTION_LIMIT auction_of) _ (λ grid. Unit {0}) IsLoaded (any-yield files auction AUCTION_LIMIT auction_of) (λ grid any.
+      then-yields files (reads servers SERVERS_LIMIT servers_of) _ (λ sources. Unit {0}) IsLoaded (any-yield files servers SERVERS_LIMIT servers_of) (λ sources any.
+      then-yields files (reads book BOOK_LIMIT book_of) _ (λ entries. length entries ≤ MOST_BIDDERS) IsLoaded
+      (reads-yield files book BOOK_LIMIT book_of (λ entries. length entries ≤ MOST_BIDDERS) (λ bytes entries e. book-few bytes entries e)) (λ entries few.
+      words-farmers-yield grid sources entries few)))
+
+  -- where a job is done that keeps a whole book, what it has read is so
+  pub limited : (auction servers book : List ℕ) → Yields files (limited_errand auction servers book) (IsLimited files auction)
+  unfolding limited_errand
+  limited auction servers book =
+      then-yields files (reads auction AUCTION_LIMIT auction_of) _ (IsHeld files auction AUCTION_LIMIT auction_of) (IsLimited files auction)
+      (held-yield files auction AUCTION_LIMIT auction_of) (λ grid held.
+      then-yields files (reads servers SERVERS_LIMIT servers_of) _ (λ sources. Unit {0}) (IsLimited files auction) (any-yield files servers SERVERS_LIMIT servers_of) (λ sources any.
+      then-yields files (reads book BOOK_LIMIT book_of) _ (λ entries. length entries ≤ MOST_BIDDERS) (IsLimited files auction)
+      (reads-yield files book BOOK_LIMIT book_of (λ entries. length entries ≤ MOST_BIDDERS) (λ bytes entries e. book-few bytes entries e)) (λ entries few.
+      passes-yield {A = Loaded} files (nat_lt MOST_PRODUCT (length entries * grid.prices)) (text_answer BadFile (fault_line_of book over_product.place over_product.reason)) _
+      (IsLimited files auction) not-bad (λ within.
+      then-yields files (all_words_errand grid (Some (length entries)) sources)
+      (λ words next. farmers_errand grid words.bidders [] entries (λ farmers. next (record { grid = grid; servers = words.servers; farmers = farmers })))
+      (λ words. CanServeAll grid words.servers × AreLists words.bidders) (IsLimited files auction)
+      (all-words-yield grid (Some (length entries)) sources) (λ words good.
+      then-yields files (farmers_errand grid words.bidders [] entries)
+      (λ farmers. gives (record { grid = grid; servers = words.servers; farmers = farmers })) (λ farmers. All (IsRead grid) farmers × (length farmers ≡ 0 + length entries))
+      (IsLimited files auction)
+      (farmers-yield grid words.bidders good.1 [] (All-nil (IsRead grid)) entries) (λ farmers h.
+      gives-yield files (IsLimited files auction) (record { grid = grid; servers = words.servers; farmers = farmers }) (record {
+        grid = held;
+        product = within-limit (length farmers) (length entries) grid.prices h.1 within;
+        right = record { few = omega (arith, few, h.1); farmers = h.0; servers = good.0 };
+      })))))))
+
+  pub limited-yield : (auction servers book : List ℕ) → Yields files (limited_errand auction servers book) IsLoaded
+  limited-yield auction servers book =
+      weaker-yield files (limited_errand auction servers book) (IsLimited files auction) IsLoaded (λ loaded h. h.right) (limited auction servers book)
+
+  -- bidders without words
+  abbrev IsBidder : Grid → Bidder → Type 0
+  IsBidder grid bidder = IsCurve bidder.curve × IsOfGrid grid bidder.curve
+
+  bids-yield : (grid : Grid) (read : List Bidder) → All (IsBidder grid) read → (entries : List Entry) →
+      Yields files (bids_errand grid read entries) (λ bidders. All (IsBidder grid) bidders × (length bidders ≡ length read + length entries))
+  bids-yield grid read are [] =
+      gives-yield files (λ bidders. All (IsBidder grid) bidders × (length bidders ≡ length read + 0)) read (are, omega arith)
+  bids-yield grid read are (entry ∷ entries) =
+      then-yields files (reads entry.bid BID_LIMIT (bid_of grid)) _ (λ curve. IsCurve curve × IsOfGrid grid curve)
+      (λ bidders. All (IsBidder grid) bidders × (length bidders ≡ length read + length (entry ∷ entries)))
+      (reads-yield files entry.bid BID_LIMIT (bid_of grid) (λ curve. IsCurve curve × IsOfGrid grid curve) (λ bytes curve e. bid-is grid bytes curve e)) (λ curve is.
+      let bidder : Bidder = record { known = entry.known; curve = curve } in
+      let more = All-append (IsBidder grid) read (bidder ∷ []) are (All-cons (IsBidder grid) bidder [] is (All-nil (IsBidder grid))) in
+      let long : length (read ++ bidder ∷ []) ≡ length read + 1 = length-append read (bidder ∷ []) in
+      weaker-yield files (bids_errand grid (read ++ bidder ∷ []) entries)
+      (λ bidders. All (IsBidder grid) bidders × (length bidders ≡ length (read ++ bidder ∷ []) + length entries))
+      (λ bidders. All (IsBidder grid) bidders × (length bidders ≡ length read + length (entry ∷ entries)))
+      (λ bidders h. (h.0, one-more (length bidders) (length (read ++ bidder ∷ [])) (length read) (length entries) h.1 long))
+      (bids-yield grid (read ++ bidder ∷ []) more entries))
+
+  pub curves-yield : (book : List ℕ) (grid : Grid) → Yields files (curves_errand book grid) (λ bidders. IsBook (record { grid = grid; bidders = bidders }))
+  curves-yield book grid =
+      then-yields files (reads book BOOK_LIMIT book_of) _ (λ entries. length entries ≤ MOST_BIDDERS) (λ bidders. IsBook (record { grid = grid; bidders = bidders }))
+      (reads-yield files book BOOK_LIMIT book_of (λ entries. length entries ≤ MOST_BIDDERS) (λ bytes entries e. book-few bytes entries e)) (λ entries few.
+      passes-yield {A = List Bidder} files (nat_lt MOST_PRODUCT (length entries * grid.prices)) (text_answer BadFile (fault_line_of book over_product.place over_product.reason))
+      (bids_errand grid [] entries) (λ bidders. IsBook (record { grid = grid; bidders = bidders })) not-bad (λ within.
+      weaker-yield files (bids_errand grid [] entries) (λ bidders. All (IsBidder grid) bidders × (length bidders ≡ 0 + length entries))
+      (λ bidders. IsBook (record { grid = grid; bidders = bidders }))
+      (λ bidders h. record { few = omega (arith, few, h.1); curves = λ k d lt. (h.0 k d lt).0; of_grid = λ k d lt. (h.0 k d lt).1 })
+      (bids-yield grid [] (All-nil (IsBidder grid)) entries)))
+
+-- ---- the book and the words
+
+pub farmers-back : (farmers : List Farmer) → farmers_of (map (λ (f : Farmer). f.bidder) farmers) (map (λ (f : Farmer). f.words) farmers) ≡ farmers
+farmers-back [] = refl
+farmers-back (farmer ∷ farmers) = ap (λ (l : List Farmer). farmer ∷ l) (farmers-back farmers)
+
+pub has-accepted : (wanted : ℕ) (words : List ℕ) → wanted ≤ length (accepted words) → length words ≤ wanted + SPARE_WORDS → HasAccepted wanted words
+has-accepted wanted words enough short =
+    subst (λ (w : List ℕ). wanted ≤ length (accepted w)) (sym (take_all (wanted + SPARE_WORDS) words short)) enough
+
+module _ (grid : Grid) (servers : Trio ServerWords) (farmers : List Farmer) where
+  abbrev pub the_book : Book
+  the_book = book_with grid farmers
+
+  abbrev pub the_words : Words
+  the_words = all_words servers (map (λ (f : Farmer). f.words) farmers)
+
+  pub back : loaded_with the_book the_words ≡ record { grid = grid; servers = servers; farmers = farmers }
+  back = ap (λ (l : List Farmer). record { grid = grid; servers = servers; farmers = l }) (farmers-back farmers)
+
+  module _ (few : length farmers ≤ MOST_BIDDERS) (each : All (IsRead grid) farmers) (all : CanServeAll grid servers) where
+    pub is-book : IsBook the_book
+    is-book = record {
+      few = omega (arith, length-map farmers (λ (f : Farmer). f.bidder), few);
+      curves = All-map (λ (b : Bidder). IsCurve b.curve) (λ (f : Farmer). f.bidder) farmers (λ k d lt. (each k d lt).is.curve);
+      of_grid = All-map (λ (b : Bidder). IsOfGrid grid b.curve) (λ (f : Farmer). f.bidder) farmers (λ k d lt. (each k d lt).is.of_grid);
+    }
+
+    many : length the_words.bidders ≡ length the_book.bidders
+    many = length-map farmers (λ (f : Farmer). f.words) ∙ sym (length-map farmers (λ (f : Farmer). f.bidder))
+
+    deal : All (CanDeal grid) the_words.bidders
+    deal = All-map (CanDeal grid) (λ (f : Farmer). f.words) farmers (λ k d lt. (each k d lt).is.words)
+
+    pub can-run-cut : CanStart the_book the_words
+    can-run-cut = record {
+      servers = record { one = all.one.enough; two = all.two.enough; three = all.three.enough };
+      cut = record { one = all.one.kept.cut; two = all.two.kept.cut; three = all.three.kept.cut };
+      lists = many;
+      bidders = deal;
+    }
+
+    pub can-run : CanRun the_book the_words
+    can-run = record {
+      are_words = record {
+        masks = (all.one.kept.masks, all.two.kept.masks, all.three.kept.masks);
+        coefficients = (all.one.kept.coefficients, all.two.kept.coefficients, all.three.kept.coefficients);
+        bidders = All-map (λ list. All IsWord list) (λ (f : Farmer). f.words) farmers (λ k d lt. (each k d lt).words);
+      };
+      enough = record {
+        masks = (all.one.enough.masks, all.two.enough.masks, all.three.enough.masks);
+        one = has-accepted (coefficients_wanted grid) servers.one.coefficients all.one.enough.coefficients all.one.kept.cut.coefficients;
+        two = has-accepted (coefficients_wanted grid) servers.two.coefficients all.two.enough.coefficients all.two.kept.cut.coefficients;
+        three = has-accepted (coefficients_wanted grid) servers.three.coefficients all.three.enough.coefficients all.three.kept.cut.coefficients;
+        count = many;
+        bidders = λ k d lt. (let h = deal k d lt in has-accepted (words_wanted grid) (get_or the_words.bidders k d) h.enough h.kept);
+      };
+    }

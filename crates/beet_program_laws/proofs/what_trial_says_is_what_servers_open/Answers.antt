@@ -1,0 +1,5 @@
+use Rattle.beet_program_laws.proofs.Trials.{tries}
+use Rattle.beet_program_laws.proofs.what_trial_says_is_what_servers_open.Goals as goal
+
+pub returns : goal.returns
+returns c = λ bidders prices told told_now given now status ran w. tries told told_now given now status w bidders prices ran

@@ -1,0 +1,166 @@
+-- What each command has read, put and said where its run ends with status 0 or 6, over a shelf that holds these files.
+use Rattle.std.specs.Prelude.{◌≡◌, ◌++◌, ℕ, List, [], ◌∷◌, All, map, codes, Option, Some, None, Ok}
+use Rattle.beet_field.specs.Trio.{member, of_each}
+use Rattle.beet_field.specs.declared.point.Point.{Point}
+use Rattle.beet_field.specs.declared.trio.Trio.{Trio}
+use Rattle.beet_store.specs.Files.{File}
+use Rattle.beet_store.specs.Desks.{Given}
+use Rattle.beet_words.specs.Bundles.{Words, bundle_bytes}
+use Rattle.beet_words.specs.Words.{IsWord}
+use Rattle.beet_bids.specs.AuctionFiles.{auction_of}
+use Rattle.beet_bids.specs.Books.{Book, IsBook}
+use Rattle.beet_bids.specs.Grids.{Grid}
+use Rattle.beet_bids.specs.declared.auction_file.TheConstants.{AUCTION_LIMIT}
+use Rattle.beet_book.specs.Farmers.{Farmer, book_with}
+use Rattle.beet_book.specs.PointSums.{inputs_at}
+use Rattle.beet_book.specs.ServerFiles.{servers_of}
+use Rattle.beet_book.specs.declared.server_file.TheConstants.{SERVERS_LIMIT}
+use Rattle.beet_book.specs.declared.sources.Servers.{Servers}
+use Rattle.beet_farmer.specs.Lists.{list_of}
+use Rattle.beet_farmer.specs.declared.list_file.ListEntry.{ListEntry}
+use Rattle.beet_farmer.specs.declared.list_file.TheConstants.{LIST_LIMIT}
+use Rattle.beet_plan.specs.Auction.{auction_over}
+use Rattle.beet_delivery.specs.Events.{after, undelivered}
+use Rattle.beet_auction.specs.AnyPoints.{points_finish, points_rounds}
+use Rattle.beet_auction.specs.Setups.{rounds_for, setup_for}
+use Rattle.beet_world.specs.Schedules.{schedule_of}
+use Rattle.beet_world.specs.Worlds.{named_in}
+use Rattle.beet_world.specs.declared.schedule.Delivery.{Delivery}
+use Rattle.beet_world.specs.declared.schedule.TheConstants.{SCHEDULE_LIMIT}
+use Rattle.beet_worlds.specs.ViewsWith.{transcript_with}
+use Rattle.beet_headline.specs.Halves.{AllHaveEnded, AreOnePair, AreTwoBooks, standing}
+use Rattle.beet_errand.specs.Errands.{reads}
+use Rattle.beet_errand.specs.Statuses.{code_of}
+use Rattle.beet_errand.specs.Texts.{line_of}
+use Rattle.beet_answer.specs.Runs.{GivesAll, Said}
+use Rattle.beet_load.specs.Loading.{loaded_errand}
+use Rattle.beet_load.specs.Servers.{AllWords, all_words_errand, masks_of}
+use Rattle.beet_load.specs.Wholes.{CanDeal, all_words, limited_errand}
+use Rattle.beet_run.specs.OutcomeTexts.{outcome_text}
+use Rattle.beet_run.specs.Outcomes.{status_of}
+use Rattle.beet_rehearse.specs.Rehearse.{rehearsal_status}
+use Rattle.beet_rehearse.specs.StandingTexts.{rehearsal_text}
+use Rattle.beet_rehearse.specs.declared.standing.Rehearsal.{Rehearsal}
+use Rattle.beet_envelopes.specs.Gather.{bidders_errand}
+use Rattle.beet_envelopes.specs.SealedBooks.{HaveWords, HoldEachSealed}
+use Rattle.beet_trial.specs.Rules.{trial_book, trial_farmers, trial_grid, trial_servers}
+use Rattle.beet_trial.specs.Sizes.{sizes_of}
+use Rattle.beet_trial.specs.Trial.{sizes_text}
+use Rattle.beet_two_worlds.specs.Reading.{both_errand}
+use Rattle.beet_audit.specs.Audits.{recombined_book, run_of}
+use Rattle.beet_audit.specs.OneRuns.{OneRun}
+use Rattle.beet_auditor.specs.Reading.{read_errand}
+use Rattle.beet_auditor.specs.declared.reading.ReadViews.{ReadViews}
+use Rattle.beet_app_laws.specs.Dues.{ReadsTo}
+use Rattle.beet_program_laws.specs.Outcomes.{IsShown, ServersOpen, TellsTheEnd, loaded_with, transcript_files}
+
+-- `clear`: the files read as a book with words; what its servers open was said, and nothing else
+pub record Clears (files : List File) (auction servers book_file : List ℕ) (status : ℕ) (given now : Option Given) : Type 0 where
+  pub book : Book
+  pub words : Words
+  pub read : ReadsTo files (loaded_errand auction servers book_file) (loaded_with book words)
+  pub run : ServersOpen book words
+  pub text : List ℕ
+  pub tells : TellsTheEnd book words status text
+  pub said : Said given now text
+
+-- `record`: so it is, and before the text the transcripts of the run were put
+pub record RecordsRun (files : List File) (auction servers book_file out : List ℕ) (status : ℕ) (given now : Option Given) : Type 0 where
+  pub book : Book
+  pub words : Words
+  pub read : ReadsTo files (limited_errand auction servers book_file) (loaded_with book words)
+  pub run : ServersOpen book words
+  pub text : List ℕ
+  pub tells : TellsTheEnd book words status text
+  pub gives : GivesAll given now (transcript_files out book words) text (Ok tt)
+
+-- `rehearse`: the files read as a book with words, and a schedule; it was said how each server stands after the deliveries of the schedule, and
+-- how many messages are undelivered. The status is 6 where a server has ended with spent masks. Where nothing is undelivered, all have ended
+pub record ShowsStandings (files : List File) (auction servers book_file name : List ℕ) (status : ℕ) (given now : Option Given) : Type 0 where
+  pub book : Book
+  pub words : Words
+  pub read : ReadsTo files (loaded_errand auction servers book_file) (loaded_with book words)
+  pub schedule : List Delivery
+  pub scheduled : ReadsTo files (reads name SCHEDULE_LIMIT schedule_of) schedule
+  pub run : ServersOpen book words
+  pub rehearsal : Rehearsal
+  pub shown : (s : Point) → IsShown (standing book words (named_in schedule) s) (member rehearsal.servers s)
+  pub left : rehearsal.undelivered ≡ undelivered (rounds_for book words) (after (rounds_for book words) (named_in schedule))
+  pub all : rehearsal.undelivered ≡ 0 → AllHaveEnded book words (named_in schedule)
+  pub status_is : status ≡ code_of (rehearsal_status rehearsal)
+  pub said : Said given now (rehearsal_text book.grid rehearsal)
+
+-- `open`: the files read as a grid, words of servers and points of bidders, which may lie on no line; it was said what is found over the
+-- sums of these points. Where the files hold what bidders sealed of a book, it is its outcome, which its servers open
+pub record OpensEnvelopes (files : List File) (auction servers list : List ℕ) (status : ℕ) (given now : Option Given) : Type 0 where
+  pub grid : Grid
+  pub grid_read : ReadsTo files (reads auction AUCTION_LIMIT auction_of) grid
+  pub sources : Servers
+  pub sources_read : ReadsTo files (reads servers SERVERS_LIMIT servers_of) sources
+  pub entries : List ListEntry
+  pub entries_read : ReadsTo files (reads list LIST_LIMIT list_of) entries
+  pub words : AllWords
+  pub words_read : ReadsTo files (all_words_errand grid None sources) words
+  pub bidders : List (Trio (List ℕ))
+  pub bidders_read : ReadsTo files (bidders_errand grid [] entries) bidders
+  pub text : List ℕ
+  pub text_is :
+      let a = auction_over grid in
+      let inputs = inputs_at grid.prices bidders in
+      let masks = masks_of words.servers in
+      (status ≡ code_of (status_of (points_finish a inputs masks)))
+      × (text ≡ outcome_text grid (points_finish a inputs masks) (points_rounds a inputs masks))
+  pub sealed : (farmers : List Farmer) → HoldEachSealed files grid entries farmers → IsBook (book_with grid farmers) → HaveWords grid farmers →
+      TellsTheEnd (book_with grid farmers) (all_words words.servers (map (λ farmer. farmer.words) farmers)) status text
+  pub servers_open : (farmers : List Farmer) → IsBook (book_with grid farmers) →
+      All (λ farmer. CanDeal grid farmer.words × All IsWord farmer.words) farmers →
+      ServersOpen (book_with grid farmers) (all_words words.servers (map (λ farmer. farmer.words) farmers))
+  pub said : Said given now text
+
+-- `trial`: the words are two sizes; what servers open of the book that the rule makes of them was said
+pub record RunsTrial (first second : List ℕ) (status : ℕ) (given now : Option Given) : Type 0 where
+  pub bidders : ℕ
+  pub prices : ℕ
+  pub sizes : sizes_of first second ≡ Some (bidders, prices)
+  pub text : List ℕ
+  pub words : Words
+  pub words_are : words ≡ all_words (trial_servers (trial_grid prices)) (map (λ farmer. farmer.words) (trial_farmers (trial_grid prices) bidders))
+  pub run : ServersOpen (trial_book (trial_grid prices) bidders) words
+  pub tells : TellsTheEnd (trial_book (trial_grid prices) bidders) words status text
+  pub said : Said given now (sizes_text bidders prices ++ text)
+
+-- `worlds`: the files read as two books that agree for the server, and words for the first; there are words for the second that go with these and
+-- with no others. What the server sees of both runs was put, which is the same, and these words; and how the first run ends was said
+pub record PutsBothWorlds (files : List File) (auction servers book1 book2 : List ℕ) (s : Point) (out : List ℕ) (status : ℕ) (given now : Option Given) :
+    Type 0 where
+  pub first : Book
+  pub words : Words
+  pub second : Book
+  pub read : ReadsTo files (both_errand auction servers book1 book2) (record { first = loaded_with first words; second = second.bidders })
+  pub two : AreTwoBooks s first second
+  pub run : ServersOpen first words
+  pub second_words : Words
+  pub pair : AreOnePair s first words second second_words
+  pub text : List ℕ
+  pub tells : TellsTheEnd first words status text
+  pub gives : GivesAll given now
+      ((out ++ codes ".first", transcript_with first words s)
+      ∷ (out ++ codes ".second", transcript_with second second_words s)
+      ∷ (out ++ codes ".words", bundle_bytes second_words)
+      ∷ [])
+      (text ++ line_of (codes "transcripts equal")) (Ok tt)
+
+-- `audit`: the files read as a grid and three views of one run, which is that of a book with words: the book that the points recombine to, and
+-- the words of the tapes, with words of the bidders that begin the same run; how its auction ends was said
+pub record AuditsOneRun (files : List File) (auction one two three : List ℕ) (status : ℕ) (given now : Option Given) : Type 0 where
+  pub read : ReadViews
+  pub are_read : ReadsTo files (read_errand auction one two three) read
+  pub one_run : OneRun read.grid read.views
+  pub words : Words
+  pub masks : words.masks ≡ of_each (λ view. view.masks) read.views
+  pub coefficients : words.coefficients ≡ of_each (λ view. view.coefficients) read.views
+  pub same_run : run_of read.grid read.views ≡ setup_for (recombined_book read.grid read.views) words
+  pub run : ServersOpen (recombined_book read.grid read.views) words
+  pub text : List ℕ
+  pub tells : TellsTheEnd (recombined_book read.grid read.views) words status text
+  pub said : Said given now text
