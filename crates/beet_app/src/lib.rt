@@ -41,8 +41,9 @@ use std::thread::Threads;
 /// the line that tells the cause is said, and no file is put. The text is said after all files were put.
 ///
 /// In `clear`, `record`, `open` and `trial` three servers run at the same time, the first on the caller's thread and two in
-/// workers; each meets the gate once in each round, before it puts its messages of the round. So `run` may wait, and what is
-/// promised holds if it returns. Where a worker cannot be started or a link finds no memory, spare servers run in their place
+/// workers, where the auction has many prices and each server a processor, or where the gate must be met; each meets it once
+/// in each round, before it puts its messages of the round. So `run` may wait, and what is promised holds if it returns. Else
+/// the servers run on the caller's thread. Where a worker cannot be started or a link finds no memory, spare servers run in their place
 /// on the caller's thread, without the gate.
 pub fn run<S: Shelf, K: Desk, R: Threads + Wait + Sync, G: Gate>(
     rt: &R,

@@ -1,14 +1,12 @@
-use crate::tests::{CLEAR, RECORD, done, expect_said, files, words_of};
-use beet_app::run;
+use crate::tests::{CLEAR, RECORD, desk_of, done, expect_said, files, held, run_over};
 use beet_field::{Point, Trio};
 use beet_link::{Gate, Note};
-use beet_store::{Held, MemoryDesk, MemoryShelf};
+use beet_store::{Held, MemoryDesk};
 use crossbeam_channel::{Receiver, Sender};
 use std::alloc::Global;
 use std::process::Abort;
 use std::sync::Wait;
 use std::sync::atomic::{AtomicU64, Ordering};
-use std::test::Fail;
 use std::thread;
 use std::thread::Threads;
 
@@ -86,17 +84,9 @@ fn expect_met<R: Wait + Sync + Drop>(rt: &impl Abort, gate: &Meeting<R>, rounds:
     assert_eq!(rt; gate.met.three.load(Ordering::SeqCst), rounds);
 }
 
-/// Does the job of a line over these files under a new gate: the text, and that all three servers met in each of so many rounds.
-fn expect_meeting<R: Abort + Threads + Wait + Sync + Copy + Drop>(
-    rt: R,
-    alloc: Global,
-    line: &str,
-    files: Vec<Held>,
-    rounds: u64,
-    text: &str,
-) -> Result<(), Fail> {
-    let (first, notes) = crossbeam_channel::bounded(alloc, 3)?;
-    let gate = Meeting {
+/// A gate at which no server has come, with the queue that it sends first notes to.
+fn gate_of<R: Abort + Wait + Sync + Drop>(rt: R, first: Sender<Note>) -> Meeting<R> {
+    Meeting {
         rt,
         first,
         here: AtomicU64::new(0),
@@ -106,16 +96,37 @@ fn expect_meeting<R: Abort + Threads + Wait + Sync + Copy + Drop>(
             two: AtomicU64::new(0),
             three: AtomicU64::new(0),
         },
-    };
-    let words = words_of(alloc, line)?;
-    let mut shelf = MemoryShelf::new(files, Vec::new(alloc));
+    }
+}
+
+/// Does the job of a line over these files under a gate, and compares its text.
+fn expect_done<G: Gate>(
+    rt: &(impl Abort + Threads + Wait + Sync),
+    alloc: Global,
+    line: &str,
+    files: Vec<Held>,
+    gate: &G,
+    text: &str,
+) {
     let mut desk = MemoryDesk::new(Vec::new(alloc));
-    let status = run(&rt, alloc, &words, &mut shelf, &mut desk, &gate);
-    assert_eq!(&rt; status, 0);
-    expect_said(&rt, &desk, text);
+    assert!(rt; run_over(rt, alloc, line, files, 0, &mut desk, gate) == 0);
+    expect_said(rt, &desk, text);
+}
+
+/// Does the job of a line over these files under a new gate: the text, and that all three servers met in each of so many rounds.
+fn expect_meeting<R: Abort + Threads + Wait + Sync + Copy + Drop>(
+    rt: R,
+    alloc: Global,
+    line: &str,
+    files: Vec<Held>,
+    rounds: u64,
+    text: &str,
+) {
+    let (first, notes) = crossbeam_channel::bounded(alloc, 3).expect(&rt, "memory");
+    let gate = gate_of(rt, first);
+    expect_done(&rt, alloc, line, files, &gate, text);
     expect_met(&rt, &gate, rounds);
     expect_first_notes(&rt, &notes);
-    Ok(())
 }
 
 /// Each bid, sealed, and the names of its envelopes.
@@ -137,42 +148,58 @@ const SEALS: [(&str, [&str; 3]); 3] = [
 /// The list of these envelopes.
 const LIST: &str = "beet-list,1\nanna,a.1,a.2,a.3\nbo,b.1,b.2,b.3\ncarl,c.1,c.2,c.3\n";
 
+/// Appends a file that a desk was given.
+fn push_put(rt: &impl Abort, alloc: Global, desk: &MemoryDesk, name: &str, files: &mut Vec<Held>) {
+    let bytes = desk.file(name).expect(rt, "a file that was put");
+    let file = held(rt, alloc, name, bytes);
+    files.push(file).expect(rt, "memory");
+}
+
 /// Adds the files that the job of a line puts to these files.
 pub(crate) fn add_put(
-    rt: &(impl Threads + Wait + Sync),
+    rt: &(impl Abort + Threads + Wait + Sync),
     alloc: Global,
     line: &str,
     names: &[&str],
     files: &mut Vec<Held>,
-) -> Result<(), Fail> {
-    let (_status, desk) = done(rt, alloc, line, "", 0, 0)?;
+) {
+    let mut desk = desk_of(rt, alloc, 0);
+    done(rt, alloc, line, "", &mut desk);
     for name in names {
-        let bytes = desk.file(name).ok_or("a file was not put")?;
-        files.push(Held {
-            name: String::from_str(alloc, name)?,
-            bytes: Vec::from_slice(alloc, bytes)?,
-        })?;
+        push_put(rt, alloc, &desk, name, files);
     }
-    Ok(())
+}
+
+/// Adds the envelopes of these bids to these files.
+fn add_sealed(
+    rt: &(impl Abort + Threads + Wait + Sync),
+    alloc: Global,
+    seals: &[(&str, [&str; 3])],
+    files: &mut Vec<Held>,
+) {
+    for (line, names) in seals {
+        add_put(rt, alloc, line, names, files);
+    }
 }
 
 /// The files, with the list and all envelopes.
-pub(crate) fn sealed(rt: &(impl Threads + Wait + Sync), alloc: Global) -> Result<Vec<Held>, Fail> {
-    let mut files = files(alloc, LIST)?;
-    for (line, names) in SEALS {
-        add_put(rt, alloc, line, &names, &mut files)?;
-    }
-    Ok(files)
+pub(crate) fn sealed(rt: &(impl Abort + Threads + Wait + Sync), alloc: Global) -> Vec<Held> {
+    let mut files = files(rt, alloc, LIST);
+    add_sealed(rt, alloc, &SEALS, &mut files);
+    files
 }
 
+/// What is said of the outcome of the auction, and of that of the trial.
+const OUTCOME: &str = "price 110\nvolume 35\nrounds 255\n";
+
+const TRIAL: &str = "bidders 0 prices 1\nprice 1000\nvolume 0\nrounds 128\n";
+
 #[test]
-fn servers_meet_in_every_round(rt: HostRuntime) -> Result<(), Fail> {
+fn servers_meet_in_every_round(rt: HostRuntime) {
     let alloc = rt.alloc();
-    let outcome = "price 110\nvolume 35\nrounds 255\n";
-    expect_meeting(rt, alloc, CLEAR, files(alloc, "")?, 255, outcome)?;
-    expect_meeting(rt, alloc, RECORD, files(alloc, "")?, 255, outcome)?;
-    let envelopes = sealed(&rt, alloc)?;
-    expect_meeting(rt, alloc, "open g.auc s.srv made", envelopes, 255, outcome)?;
-    let trial = "bidders 0 prices 1\nprice 1000\nvolume 0\nrounds 128\n";
-    expect_meeting(rt, alloc, "trial 0 1", files(alloc, "")?, 128, trial)
+    expect_meeting(rt, alloc, CLEAR, files(&rt, alloc, ""), 255, OUTCOME);
+    expect_meeting(rt, alloc, RECORD, files(&rt, alloc, ""), 255, OUTCOME);
+    let open = "open g.auc s.srv made";
+    expect_meeting(rt, alloc, open, sealed(&rt, alloc), 255, OUTCOME);
+    expect_meeting(rt, alloc, "trial 0 1", files(&rt, alloc, ""), 128, TRIAL);
 }

@@ -2,15 +2,14 @@
 
 use crate::meeting::{add_put, sealed};
 use crate::tests::{
-    BOTH_WORLDS, CLEAR, ENVELOPES, RECORD, TRANSCRIPTS, WORLDS, expect_said, held, only, words_of,
+    BOTH_WORLDS, CLEAR, ENVELOPES, RECORD, TRANSCRIPTS, WORLDS, desk_of, expect_said, push_all,
+    run_over,
 };
-use beet_app::run;
 use beet_link::FreeGate;
-use beet_store::{Held, MemoryDesk, MemoryShelf};
+use beet_store::{Held, MemoryDesk};
 use std::alloc::Global;
 use std::process::Abort;
 use std::sync::Wait;
-use std::test::Fail;
 use std::thread::Threads;
 
 /// A book whose bidders have tapes, the tape of a bid that is sealed, and a schedule of no message.
@@ -99,29 +98,12 @@ const JOBS: [Job; 9] = [
 ];
 
 /// All files that the jobs fetch.
-fn all_files(rt: &(impl Threads + Wait + Sync), alloc: Global) -> Result<Vec<Held>, Fail> {
-    let mut files = sealed(rt, alloc)?;
-    for (name, text) in FILES {
-        files.push(held(alloc, name, text)?)?;
-    }
-    files.push(held(alloc, EIGHT.0, EIGHT.1)?)?;
-    add_put(rt, alloc, RECORD, &TRANSCRIPTS, &mut files)?;
-    Ok(files)
-}
-
-/// Does a job, of which this fetch and this call of the desk fail: its status, and what the desk was given.
-fn refused_at(
-    rt: &(impl Threads + Wait + Sync),
-    alloc: Global,
-    line: &str,
-    fetch: usize,
-    call: usize,
-) -> Result<(u8, MemoryDesk), Fail> {
-    let words = words_of(alloc, line)?;
-    let mut shelf = MemoryShelf::new(all_files(rt, alloc)?, only(alloc, fetch as u64)?);
-    let mut desk = MemoryDesk::new(only(alloc, call as u64)?);
-    let status = run(rt, alloc, &words, &mut shelf, &mut desk, &FreeGate);
-    Ok((status, desk))
+fn all_files(rt: &(impl Abort + Threads + Wait + Sync), alloc: Global) -> Vec<Held> {
+    let mut files = sealed(rt, alloc);
+    push_all(rt, alloc, &mut files, &FILES);
+    push_all(rt, alloc, &mut files, &[EIGHT]);
+    add_put(rt, alloc, RECORD, &TRANSCRIPTS, &mut files);
+    files
 }
 
 /// Compares how many of these files a desk holds, which are the first.
@@ -131,19 +113,24 @@ fn expect_first(rt: &impl Abort, desk: &MemoryDesk, files: &[&str], count: usize
     }
 }
 
-/// Does a job, of which this fetch and this call of the desk fail, and compares its status and how many of its files stand.
+/// Does a job, of which this fetch and this call of the desk fail, and compares its status, how many of its files stand, and
+/// its text, unless there is none to compare.
 fn expect_refused(
     rt: &(impl Abort + Threads + Wait + Sync),
     alloc: Global,
     (line, _, put): Job,
     (fetch, call): (usize, usize),
-    status: u8,
-    count: usize,
-) -> Result<MemoryDesk, Fail> {
-    let (found, desk) = refused_at(rt, alloc, line, fetch, call)?;
-    assert_eq!(rt; found, status, "of {line}");
+    (status, count): (u8, usize),
+    text: Option<&str>,
+) {
+    let mut desk = desk_of(rt, alloc, call as u64);
+    let files = all_files(rt, alloc);
+    let found = run_over(rt, alloc, line, files, fetch as u64, &mut desk, &FreeGate);
+    assert!(rt; found == status, "of {line}");
     expect_first(rt, &desk, put, count);
-    Ok(desk)
+    if let Some(text) = text {
+        expect_said(rt, &desk, text);
+    }
 }
 
 /// A fetch of a job fails, and the line names its file.
@@ -153,11 +140,9 @@ fn expect_read_fault(
     job: Job,
     fetch: usize,
     name: &str,
-) -> Result<(), Fail> {
-    let desk = expect_refused(rt, alloc, job, (fetch, 0), 3, 0)?;
-    let text = format!(in alloc; "read fault: {name}\n")?;
-    expect_said(rt, &desk, text.as_str());
-    Ok(())
+) {
+    let text = format!(in alloc; "read fault: {name}\n").expect(rt, "memory");
+    expect_refused(rt, alloc, job, (fetch, 0), (3, 0), Some(text.as_str()));
 }
 
 /// A call of the desk fails: the files before it stand, and nothing is said.
@@ -166,35 +151,52 @@ fn expect_write_fault(
     alloc: Global,
     job: Job,
     before: usize,
-) -> Result<(), Fail> {
-    let desk = expect_refused(rt, alloc, job, (0, before.saturating_add(1)), 4, before)?;
-    expect_said(rt, &desk, "");
-    Ok(())
+) {
+    let calls = (0, before.saturating_add(1));
+    expect_refused(rt, alloc, job, calls, (4, before), Some(""));
 }
 
-/// Each fetch and each call of the desk of a job fails once. It makes no more: where the next ones would fail, it is done.
-fn expect_each_refused(
+/// Each fetch of a job fails once.
+fn expect_read_faults(
     rt: &(impl Abort + Threads + Wait + Sync),
     alloc: Global,
     job: Job,
-) -> Result<(), Fail> {
-    let (_, fetched, put) = job;
+    fetched: &[&str],
+) {
     for (i, name) in fetched.iter().enumerate() {
-        expect_read_fault(rt, alloc, job, i.saturating_add(1), name)?;
+        expect_read_fault(rt, alloc, job, i.saturating_add(1), name);
     }
-    for before in 0..=put.len() {
-        expect_write_fault(rt, alloc, job, before)?;
+}
+
+/// Each call of the desk of a job fails once, of which so many put files.
+fn expect_write_faults(
+    rt: &(impl Abort + Threads + Wait + Sync),
+    alloc: Global,
+    job: Job,
+    put: usize,
+) {
+    for before in 0..=put {
+        expect_write_fault(rt, alloc, job, before);
     }
+}
+
+/// Each fetch and each call of the desk of a job fails once. It makes no more: where the next ones would fail, it is done.
+fn expect_each_refused(rt: &(impl Abort + Threads + Wait + Sync), alloc: Global, job: Job) {
+    let (_, fetched, put) = job;
+    expect_read_faults(rt, alloc, job, fetched);
+    expect_write_faults(rt, alloc, job, put.len());
     let beyond = (fetched.len().saturating_add(1), put.len().saturating_add(2));
-    expect_refused(rt, alloc, job, beyond, 0, put.len())?;
-    Ok(())
+    expect_refused(rt, alloc, job, beyond, (0, put.len()), None);
+}
+
+/// Does the jobs.
+fn expect_jobs(rt: &(impl Abort + Threads + Wait + Sync), alloc: Global, jobs: &[Job]) {
+    for job in jobs {
+        expect_each_refused(rt, alloc, *job);
+    }
 }
 
 #[test]
-fn each_call_of_the_outside_is_refused_once(rt: HostRuntime) -> Result<(), Fail> {
-    let alloc = rt.alloc();
-    for job in JOBS {
-        expect_each_refused(&rt, alloc, job)?;
-    }
-    Ok(())
+fn each_call_of_the_outside_is_refused_once(rt: HostRuntime) {
+    expect_jobs(&rt, rt.alloc(), &JOBS);
 }

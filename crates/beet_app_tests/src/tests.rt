@@ -3,12 +3,11 @@ ghost use Rattle.std.specs.Prelude.{◌≤◌};
 use beet_answer::give_answer;
 use beet_app::run;
 use beet_errand::{NewFile, Reply, Status};
-use beet_link::FreeGate;
+use beet_link::{FreeGate, Gate};
 use beet_store::{Held, MemoryDesk, MemoryShelf};
-use std::alloc::{AllocError, Global};
+use std::alloc::Global;
 use std::process::Abort;
 use std::sync::Wait;
-use std::test::Fail;
 use std::thread::Threads;
 
 /// An auction of four prices with three bidders, another book of them that has the same outcome, one that has not, and an
@@ -79,50 +78,78 @@ pub(crate) const ENVELOPES: [&str; 3] = ["e.1", "e.2", "e.3"];
 /// The name of a file that a test makes.
 const MADE: &str = "made";
 
-pub(crate) fn held(alloc: Global, name: &str, text: &str) -> Result<Held, AllocError> {
-    Ok(Held {
-        name: String::from_str(alloc, name)?,
-        bytes: Vec::from_slice(alloc, text.as_bytes())?,
-    })
+/// A file of this name and this text.
+pub(crate) fn held(rt: &impl Abort, alloc: Global, name: &str, text: &[u8]) -> Held {
+    Held {
+        name: String::from_str(alloc, name).expect(rt, "memory"),
+        bytes: Vec::from_slice(alloc, text).expect(rt, "memory"),
+    }
+}
+
+/// Appends these files.
+pub(crate) fn push_all(
+    rt: &impl Abort,
+    alloc: Global,
+    files: &mut Vec<Held>,
+    texts: &[(&str, &str)],
+) {
+    for (name, text) in texts {
+        let file = held(rt, alloc, name, text.as_bytes());
+        files.push(file).expect(rt, "memory");
+    }
 }
 
 /// The files, and one that is made.
-pub(crate) fn files(alloc: Global, made: &str) -> Result<Vec<Held>, AllocError> {
+pub(crate) fn files(rt: &impl Abort, alloc: Global, made: &str) -> Vec<Held> {
     let mut files = Vec::new(alloc);
-    for (name, text) in FILES {
-        files.push(held(alloc, name, text)?)?;
-    }
-    files.push(held(alloc, MADE, made)?)?;
-    Ok(files)
+    push_all(rt, alloc, &mut files, &FILES);
+    push_all(rt, alloc, &mut files, &[(MADE, made)]);
+    files
 }
 
 /// The numbers of the calls that fail: this one alone, or none where it is 0.
-pub(crate) fn only(alloc: Global, call: u64) -> Result<Vec<u64>, AllocError> {
-    Ok(vec![in alloc; call]?)
+pub(crate) fn only(rt: &impl Abort, alloc: Global, call: u64) -> Vec<u64> {
+    vec![in alloc; call].expect(rt, "memory")
 }
 
-pub(crate) fn words_of(alloc: Global, line: &str) -> Result<Vec<String>, AllocError> {
+pub(crate) fn words_of(rt: &impl Abort, alloc: Global, line: &str) -> Vec<String> {
     let mut words = Vec::new(alloc);
     for word in line.split_whitespace() {
-        words.push(String::from_str(alloc, word)?)?;
+        let word = String::from_str(alloc, word).expect(rt, "memory");
+        words.push(word).expect(rt, "memory");
     }
-    Ok(words)
+    words
 }
 
-/// Does the job of a line over the files, where this fetch and this call of the desk fail.
+/// Does the job of a line over these files, where this fetch fails: its status.
+pub(crate) fn run_over<G: Gate>(
+    rt: &(impl Abort + Threads + Wait + Sync),
+    alloc: Global,
+    line: &str,
+    files: Vec<Held>,
+    fetch: u64,
+    desk: &mut MemoryDesk,
+    gate: &G,
+) -> u8 {
+    let words = words_of(rt, alloc, line);
+    let mut shelf = MemoryShelf::new(files, only(rt, alloc, fetch));
+    run(rt, alloc, &words, &mut shelf, desk, gate)
+}
+
+/// Does the job of a line over the files, where this call of the desk fails: its status.
 pub(crate) fn done(
-    rt: &(impl Threads + Wait + Sync),
+    rt: &(impl Abort + Threads + Wait + Sync),
     alloc: Global,
     line: &str,
     made: &str,
-    fetch: u64,
-    call: u64,
-) -> Result<(u8, MemoryDesk), AllocError> {
-    let words = words_of(alloc, line)?;
-    let mut shelf = MemoryShelf::new(files(alloc, made)?, only(alloc, fetch)?);
-    let mut desk = MemoryDesk::new(only(alloc, call)?);
-    let status = run(rt, alloc, &words, &mut shelf, &mut desk, &FreeGate);
-    Ok((status, desk))
+    desk: &mut MemoryDesk,
+) -> u8 {
+    run_over(rt, alloc, line, files(rt, alloc, made), 0, desk, &FreeGate)
+}
+
+/// A desk of which this call fails.
+pub(crate) fn desk_of(rt: &impl Abort, alloc: Global, call: u64) -> MemoryDesk {
+    MemoryDesk::new(only(rt, alloc, call))
 }
 
 /// Compares what a desk was given to say.
@@ -130,31 +157,19 @@ pub(crate) fn expect_said(rt: &impl Abort, desk: &MemoryDesk, text: &str) {
     assert!(rt; desk.said() == text.as_bytes(), "not {text}");
 }
 
-/// Compares the status and the text of a job with the file that is made.
-fn expect_made(
+/// Does a job with the file that is made, where this call of the desk fails, and compares its status and its text.
+fn expect_job(
     rt: &(impl Abort + Threads + Wait + Sync),
     alloc: Global,
     line: &str,
     made: &str,
+    call: u64,
     status: u8,
     text: &str,
-) -> Result<(), Fail> {
-    let (found, desk) = done(rt, alloc, line, made, 0, 0)?;
-    assert_eq!(rt; found, status);
+) {
+    let mut desk = desk_of(rt, alloc, call);
+    assert!(rt; done(rt, alloc, line, made, &mut desk) == status);
     expect_said(rt, &desk, text);
-    Ok(())
-}
-
-/// The first call of the desk fails, and nothing is said.
-fn expect_silent(
-    rt: &(impl Abort + Threads + Wait + Sync),
-    alloc: Global,
-    line: &str,
-) -> Result<(), Fail> {
-    let (found, desk) = done(rt, alloc, line, "", 0, 1)?;
-    assert_eq!(rt; found, 4);
-    expect_said(rt, &desk, "");
-    Ok(())
 }
 
 /// How many of these files a desk was given.
@@ -165,20 +180,18 @@ fn given_of(desk: &MemoryDesk, names: &[&str]) -> usize {
         .count()
 }
 
-/// Does a job where this call of the desk fails: its status, and how many of these files stand.
+/// Does a job, and compares its status and how many of these files stand.
 fn expect_files(
     rt: &(impl Abort + Threads + Wait + Sync),
     alloc: Global,
     line: &str,
     names: &[&str],
-    call: u64,
+    desk: &mut MemoryDesk,
     status: u8,
     count: usize,
-) -> Result<MemoryDesk, Fail> {
-    let (found, desk) = done(rt, alloc, line, "", 0, call)?;
-    assert_eq!(rt; found, status);
-    assert_eq!(rt; given_of(&desk, names), count);
-    Ok(desk)
+) {
+    assert!(rt; done(rt, alloc, line, "", desk) == status);
+    assert!(rt; given_of(desk, names) == count);
 }
 
 /// The lengths of these files.
@@ -192,29 +205,29 @@ fn expect_lengths(rt: &impl Abort, desk: &MemoryDesk, names: &[&str], lengths: &
 }
 
 #[test]
-fn the_usage_line_is_not_taken(rt: HostRuntime) -> Result<(), Fail> {
-    expect_silent(&rt, rt.alloc(), "clear g.auc")
+fn the_usage_line_is_not_taken(rt: HostRuntime) {
+    expect_job(&rt, rt.alloc(), "clear g.auc", "", 1, 4, "");
 }
 
 #[test]
-fn transcripts_are_put(rt: HostRuntime) -> Result<(), Fail> {
-    let desk = expect_files(&rt, rt.alloc(), RECORD, &TRANSCRIPTS, 0, 0, 3)?;
+fn transcripts_are_put(rt: HostRuntime) {
+    let mut desk = desk_of(&rt, rt.alloc(), 0);
+    expect_files(&rt, rt.alloc(), RECORD, &TRANSCRIPTS, &mut desk, 0, 3);
     expect_lengths(&rt, &desk, &TRANSCRIPTS, &[34_800, 35_000, 34_800]);
-    Ok(())
 }
 
 #[test]
-fn worlds_look_the_same(rt: HostRuntime) -> Result<(), Fail> {
-    let desk = expect_files(&rt, rt.alloc(), WORLDS, &BOTH_WORLDS, 0, 0, 3)?;
+fn worlds_look_the_same(rt: HostRuntime) {
+    let mut desk = desk_of(&rt, rt.alloc(), 0);
+    expect_files(&rt, rt.alloc(), WORLDS, &BOTH_WORLDS, &mut desk, 0, 3);
     expect_lengths(&rt, &desk, &BOTH_WORLDS, &[35_000, 35_000, 62_224]);
     assert!(rt; desk.file("w.first") == desk.file("w.second"));
-    Ok(())
 }
 
 #[test]
-fn worlds_do_not_agree(rt: HostRuntime) -> Result<(), Fail> {
-    expect_files(&rt, rt.alloc(), DIFFERING, &BOTH_WORLDS, 0, 7, 0)?;
-    Ok(())
+fn worlds_do_not_agree(rt: HostRuntime) {
+    let mut desk = desk_of(&rt, rt.alloc(), 0);
+    expect_files(&rt, rt.alloc(), DIFFERING, &BOTH_WORLDS, &mut desk, 7, 0);
 }
 
 /// A file of so many bytes.
@@ -223,29 +236,19 @@ fn expect_too_long(
     alloc: Global,
     line: &str,
     length: usize,
-) -> Result<(), Fail>
+)
     requires { length ≤ 20000000 }
 {
-    let made = "x".repeat(alloc, length)?;
-    expect_made(
-        rt,
-        alloc,
-        line,
-        made.as_str(),
-        5,
-        "bad file: made row 0 reason 20\n",
-    )
+    let made = "x".repeat(alloc, length).expect(rt, "memory");
+    let text = "bad file: made row 0 reason 20\n";
+    expect_job(rt, alloc, line, made.as_str(), 0, 5, text);
 }
 
 #[test]
-fn files_are_too_long(rt: HostRuntime) -> Result<(), Fail> {
-    expect_too_long(&rt, rt.alloc(), "clear g.auc s.srv made", 4_194_305)?;
-    expect_too_long(
-        &rt,
-        rt.alloc(),
-        "rehearse g.auc s.srv b.book made",
-        16_777_217,
-    )
+fn files_are_too_long(rt: HostRuntime) {
+    expect_too_long(&rt, rt.alloc(), "clear g.auc s.srv made", 4_194_305);
+    let rehearse = "rehearse g.auc s.srv b.book made";
+    expect_too_long(&rt, rt.alloc(), rehearse, 16_777_217);
 }
 
 /// The senders and receivers of a round, in falling order.
@@ -255,64 +258,67 @@ const LINKS: [(u32, u32); 6] = [(2, 1), (3, 1), (1, 2), (3, 2), (1, 3), (2, 3)];
 const ROUNDS: u32 = 128;
 
 /// Adds a row to a schedule.
-fn deliver(
+fn deliver(rt: &impl Abort, alloc: Global, schedule: &mut String, from: u32, to: u32, round: u32) {
+    let row = format!(in alloc; "{from},{to},{round}\n").expect(rt, "memory");
+    schedule.push_str(row.as_str()).expect(rt, "memory");
+}
+
+/// Adds the messages of a round to a schedule.
+fn deliver_round(
+    rt: &impl Abort,
     alloc: Global,
     schedule: &mut String,
-    from: u32,
-    to: u32,
+    links: &[(u32, u32)],
     round: u32,
-) -> Result<(), AllocError> {
-    let row = format!(in alloc; "{from},{to},{round}\n")?;
-    schedule.push_str(row.as_str())
+) {
+    for (from, to) in links {
+        deliver(rt, alloc, schedule, *from, *to, round);
+    }
 }
 
 /// Adds all messages to a schedule, the last round first.
-fn deliver_backwards(alloc: Global, schedule: &mut String) -> Result<(), AllocError> {
+fn deliver_backwards(rt: &impl Abort, alloc: Global, schedule: &mut String) {
     for before in 0..ROUNDS {
-        for (from, to) in LINKS {
-            deliver(alloc, schedule, from, to, ROUNDS - 1 - before)?;
-        }
+        deliver_round(rt, alloc, schedule, &LINKS, ROUNDS - 1 - before);
     }
-    Ok(())
 }
 
 /// A schedule of all messages, the last round first, as often as there are rounds.
-fn backwards(alloc: Global) -> Result<String, AllocError> {
-    let mut schedule = String::from_str(alloc, "beet-schedule,1\n")?;
+fn backwards(rt: &impl Abort, alloc: Global) -> String {
+    let mut schedule = String::from_str(alloc, "beet-schedule,1\n").expect(rt, "memory");
     for _ in 0..ROUNDS {
-        deliver_backwards(alloc, &mut schedule)?;
+        deliver_backwards(rt, alloc, &mut schedule);
     }
-    Ok(schedule)
+    schedule
 }
 
+/// What is said where all messages are delivered.
+const ALL_END: &str =
+    "server 1 price 100 volume 35\nserver 2 price 100 volume 35\nserver 3 price 100 volume 35\nundelivered 0\n";
+
 #[test]
-fn everything_backwards_for_each_round(rt: HostRuntime) -> Result<(), Fail> {
-    let schedule = backwards(rt.alloc())?;
-    expect_made(
-        &rt,
-        rt.alloc(),
-        "rehearse g1.auc s.srv b1.book made",
-        schedule.as_str(),
-        0,
-        "server 1 price 100 volume 35\nserver 2 price 100 volume 35\nserver 3 price 100 volume 35\nundelivered 0\n",
-    )
+fn everything_backwards_for_each_round(rt: HostRuntime) {
+    let schedule = backwards(&rt, rt.alloc());
+    let line = "rehearse g1.auc s.srv b1.book made";
+    expect_job(&rt, rt.alloc(), line, schedule.as_str(), 0, 0, ALL_END);
 }
 
 /// A file whose bytes are its name.
-fn named_file(alloc: Global, name: &str) -> Result<NewFile, AllocError> {
-    Ok(NewFile {
-        name: String::from_str(alloc, name)?,
-        bytes: Vec::from_slice(alloc, name.as_bytes())?,
-    })
+fn named_file(rt: &impl Abort, alloc: Global, name: &str) -> NewFile {
+    NewFile {
+        name: String::from_str(alloc, name).expect(rt, "memory"),
+        bytes: Vec::from_slice(alloc, name.as_bytes()).expect(rt, "memory"),
+    }
 }
 
 /// A reply that puts two files.
-fn two_files(alloc: Global) -> Result<Reply, AllocError> {
-    Ok(Reply {
+fn two_files(rt: &impl Abort, alloc: Global) -> Reply {
+    let (first, second) = (named_file(rt, alloc, "o.1"), named_file(rt, alloc, "o.2"));
+    Reply {
         status: Status::MasksSpent,
-        files: vec![in alloc; named_file(alloc, "o.1")?, named_file(alloc, "o.2")?]?,
-        text: Vec::from_slice(alloc, b"said\n")?,
-    })
+        files: vec![in alloc; first, second].expect(rt, "memory"),
+        text: Vec::from_slice(alloc, b"said\n").expect(rt, "memory"),
+    }
 }
 
 /// Gives the reply to a desk of which this call fails, and compares the status, the files and the text.
@@ -323,23 +329,23 @@ fn expect_given(
     status: u8,
     second: Option<&[u8]>,
     text: &str,
-) -> Result<(), Fail> {
-    let mut desk = MemoryDesk::new(only(alloc, call)?);
-    let end = give_answer(alloc, &mut desk, Ok(two_files(alloc)?));
-    assert_eq!(rt; end.code(), status);
+) {
+    let mut desk = desk_of(rt, alloc, call);
+    let end = give_answer(alloc, &mut desk, Ok(two_files(rt, alloc)));
+    assert!(rt; end.code() == status);
     assert!(rt; desk.file("o.1") == Some(b"o.1".as_slice()));
     assert!(rt; desk.file("o.2") == second);
     expect_said(rt, &desk, text);
-    Ok(())
 }
 
 #[test]
-fn files_come_before_the_text(rt: HostRuntime) -> Result<(), Fail> {
-    expect_given(&rt, rt.alloc(), 0, 6, Some(b"o.2".as_slice()), "said\n")?;
-    expect_given(&rt, rt.alloc(), 3, 4, Some(b"o.2".as_slice()), "")
+fn files_come_before_the_text(rt: HostRuntime) {
+    let second = Some(b"o.2".as_slice());
+    expect_given(&rt, rt.alloc(), 0, 6, second, "said\n");
+    expect_given(&rt, rt.alloc(), 3, 4, second, "");
 }
 
 #[test]
-fn second_put_fails(rt: HostRuntime) -> Result<(), Fail> {
-    expect_given(&rt, rt.alloc(), 2, 4, None, "")
+fn second_put_fails(rt: HostRuntime) {
+    expect_given(&rt, rt.alloc(), 2, 4, None, "");
 }

@@ -1,4 +1,4 @@
-//! The run of an auction among three servers, each in a thread of its own.
+//! The run of an auction among three servers, each in a thread of its own where that is faster.
 #![tactic(auto)]
 
 ghost use Rattle.std.specs.Prelude.{◌≡◌, ◌*◌, IfErr, IfOk, length};
@@ -8,12 +8,13 @@ ghost use Rattle.beet_load.specs.Servers.{HaveEnough};
 ghost use Rattle.beet_run.specs.Runs.{EndsAuction, HaveRunToEnd};
 
 use beet_bids::Grid;
+use beet_book::workers;
 use beet_errand::Stop;
 use beet_field::Trio;
 use beet_link::Gate;
 use beet_load::ServerWords;
 use beet_plan::Finish;
-use beet_run::{finish_at, start_servers};
+use beet_run::{finish_at, run_on_one_thread, start_servers};
 use beet_search::AuctionScript;
 use beet_server::ServerCore;
 use beet_threads::run_three;
@@ -21,6 +22,17 @@ use beet_words::FeList;
 use std::alloc::{AllocError, Global};
 use std::sync::Wait;
 use std::thread::Threads;
+
+/// The servers of a run. In threads each wants a processor of its own: two on one processor take turns in every round.
+const SERVERS: usize = 3;
+
+/// The fewest prices of an auction that threads make faster: below, to start two of them takes longer than they save.
+const FEWEST_PRICES: u32 = 2048;
+
+/// Whether the servers run in threads: the gate must be met, or there are as many prices and a processor for each server.
+fn are_in_threads<R: Threads, G: Gate>(rt: &R, grid: &Grid, gate: &G) -> bool {
+    gate.must_be_met() || grid.prices() >= FEWEST_PRICES && workers(rt) >= SERVERS
+}
 
 /// The same points, in memory of their own.
 fn copy_points(alloc: Global, points: &Trio<FeList>) -> Result<Trio<FeList>, AllocError>
@@ -57,8 +69,9 @@ fn copy_words(alloc: Global, words: &Trio<ServerWords>) -> Result<Trio<ServerWor
 /// Starts the three servers of an auction with these points of the inputs and these words, and runs them to the end, each in a
 /// thread of its own. Each meets the gate once in each round, before it puts its messages. Spare servers with the same points
 /// and words are started before the run; they run in lockstep, without the gate, where no thread or no memory can be had for
-/// it. Want of memory is the only error, and comes before the first round.
-pub fn run_in_threads<R: Threads + Wait + Sync, G: Gate>(
+/// it. An auction of few prices, or on fewer processors than servers, runs on the caller's thread, unless the gate must be
+/// met. Want of memory is the only error, and comes before the first round.
+pub fn run_servers<R: Threads + Wait + Sync, G: Gate>(
     rt: &R,
     alloc: Global,
     grid: &Grid,
@@ -71,6 +84,9 @@ pub fn run_in_threads<R: Threads + Wait + Sync, G: Gate>(
     ensures memory { IfErr result (λ stop. stop ≡ Stop.OutOfMemory) }
     ensures ended { IfOk result (HaveRunToEnd grid.now inputs words) }
 {
+    if !are_in_threads(rt, grid, gate) {
+        return run_on_one_thread(alloc, grid, inputs, words);
+    }
     let spare_inputs = copy_points(alloc, &inputs)?;
     let spare_words = copy_words(alloc, &words)?;
     let cores = start_servers(alloc, grid, inputs, words)?;
@@ -78,8 +94,8 @@ pub fn run_in_threads<R: Threads + Wait + Sync, G: Gate>(
     Ok(run_three(rt, alloc, cores, spares, gate))
 }
 
-/// Runs the auction that three servers begin with these points and words to its end, each in a thread of its own and under the
-/// gate: how it ends, and after how many rounds. Want of memory is the only error, and comes before the first round.
+/// Runs the auction that three servers begin with these points and words to its end, as `run_servers` does: how it ends, and
+/// after how many rounds. Want of memory is the only error, and comes before the first round.
 pub fn run_auction<R: Threads + Wait + Sync, G: Gate>(
     rt: &R,
     alloc: Global,
@@ -93,6 +109,6 @@ pub fn run_auction<R: Threads + Wait + Sync, G: Gate>(
     ensures memory { IfErr result (λ stop. stop ≡ Stop.OutOfMemory) }
     ensures ends { IfOk result (λ run. EndsAuction grid.now inputs words run.0 run.1) }
 {
-    let ended = run_in_threads(rt, alloc, grid, inputs, words, gate)?;
+    let ended = run_servers(rt, alloc, grid, inputs, words, gate)?;
     Ok((finish_at(&ended.one), ended.one.round()))
 }

@@ -68,6 +68,14 @@ impl Curve {
         Some(Curve { buy, sell })
     }
 
+    /// The curve of these quantities, which are known to be one.
+    pub(crate) fn known(buy: Vec<u64>, sell: Vec<u64>) -> Curve
+        requires { IsCurve (record { buy = buy.items; sell = sell.items }) }
+        ensures { result ≡ record { buy = buy.items; sell = sell.items } }
+    {
+        Curve { buy, sell }
+    }
+
     /// Whether both lists have a quantity for each price of the grid.
     pub fn is_of(&self, grid: &Grid) -> bool
         ensures of_grid { IsTrue result ↔ IsOfGrid grid.now self.now }

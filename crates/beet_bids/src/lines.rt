@@ -140,7 +140,7 @@ pub(crate) fn read_lines(
         Answers (λ v. v.items) (reading_of fault (filter_map line_of rows.old)) result }
     ensures lines { IfOk result (λ v. AreLines grid.now v.items) }
 {
-    let mut lines = Vec::new(alloc);
+    let mut lines = Vec::with_capacity(alloc, grid.prices() as usize)?;
     let mut before = None;
     while rows.next(row)? {
         let line = read_line(grid, before, lines.len() as u32 + 2, row)?;
@@ -180,8 +180,5 @@ pub(crate) fn curve_of(alloc: Global, grid: &Grid, lines: &[Line]) -> Result<Cur
         buy.resize(end, line.buy)?;
         sell.resize(end, line.sell)?;
     }
-    match Curve::of(grid, buy, sell) {
-        Some(curve) => Ok(curve),
-        None => unreachable!(),
-    }
+    Ok(Curve::known(buy, sell))
 }

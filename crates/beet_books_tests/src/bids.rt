@@ -2,9 +2,8 @@ use crate::samples::{Refusal, expect_refusal, grid_of};
 use beet_bids::{Bidder, Book, Curve, Grid, Outcome, Policy, outcome, read_auction, read_bid};
 use beet_forms::ReadFault;
 use beet_gates::Gates;
-use std::alloc::{AllocError, Global};
+use std::alloc::Global;
 use std::process::Abort;
-use std::test::Fail;
 
 /// The sizes of grids, and how many comparisons find a price of theirs.
 const COMPARISONS: [(u32, u32); 7] = [
@@ -18,11 +17,13 @@ const COMPARISONS: [(u32, u32); 7] = [
 ];
 
 /// Makes the grid of each case.
-fn expect_comparisons(rt: &impl Abort, cases: &[(u32, u32)]) -> Result<(), Fail> {
+fn expect_comparisons(rt: &impl Abort, cases: &[(u32, u32)]) {
     for (prices, wanted) in cases {
-        assert!(rt; grid_of(*prices)?.comparisons() == *wanted, "of {prices}");
+        assert!(rt;
+            grid_of(rt, *prices).comparisons() == *wanted,
+            "of {prices}"
+        );
     }
-    Ok(())
 }
 
 /// Prices that the grid of 100, 105, 110 and 115 has not.
@@ -36,13 +37,13 @@ fn expect_no_places(rt: &impl Abort, grid: &Grid, prices: &[u64]) {
 }
 
 #[test]
-fn grids(rt: HostRuntime) -> Result<(), Fail> {
-    let grid = grid_of(4)?;
+fn grids(rt: HostRuntime) {
+    let grid = grid_of(&rt, 4);
     assert!(rt; (grid.base(), grid.tick(), grid.prices()) == (100, 5, 4));
     assert!(rt; grid.gates() == Gates::Chain);
     assert!(rt; grid.place(115) == Some(3));
     expect_no_places(&rt, &grid, &NO_PRICES);
-    expect_comparisons(&rt, &COMPARISONS)
+    expect_comparisons(&rt, &COMPARISONS);
 }
 
 /// An auction of four prices with chains of gates.
@@ -137,7 +138,9 @@ fn auctions(rt: HostRuntime) {
 }
 
 /// Auction files, with their kinds of gates and what is opened.
-const KINDS: [(&str, Gates, Policy); 5] = [
+type Kind = (&'static str, Gates, Policy);
+
+const KINDS: [Kind; 5] = [
     (CHAIN, Gates::Chain, Policy::Volume),
     (TREE, Gates::Tree, Policy::Volume),
     (PRICE, Gates::Chain, Policy::Price),
@@ -152,14 +155,19 @@ fn kinds_in(rt: &impl Abort, alloc: Global, text: &str) -> Option<(Gates, Policy
     Some((grid.gates(), grid.policy()))
 }
 
-#[test]
-fn kinds_of_auctions(rt: HostRuntime) {
-    for (text, gates, policy) in KINDS {
+/// Reads the auction file of each case.
+fn expect_kinds(rt: &impl Abort, alloc: Global, cases: &[Kind]) {
+    for (text, gates, policy) in cases {
         assert!(rt;
-            kinds_in(&rt, rt.alloc(), text) == Some((gates, policy)),
+            kinds_in(rt, alloc, text) == Some((*gates, *policy)),
             "of {text}"
         );
     }
+}
+
+#[test]
+fn kinds_of_auctions(rt: HostRuntime) {
+    expect_kinds(&rt, rt.alloc(), &KINDS);
 }
 
 /// Bid files at four prices, and how they are refused.
@@ -189,6 +197,11 @@ fn curve_of(rt: &impl Abort, alloc: Global, grid: &Grid, text: &str) -> Result<C
     read_bid(alloc, grid, text.as_bytes())
 }
 
+/// The curve of a bid file that is read.
+fn curve_in(rt: &impl Abort, alloc: Global, grid: &Grid, text: &str) -> Curve {
+    curve_of(rt, alloc, grid, text).expect(rt, "a curve")
+}
+
 /// Reads the bid file of each case.
 fn expect_bids(rt: &impl Abort, alloc: Global, grid: &Grid, cases: &[(&str, Refusal)]) {
     for (text, wanted) in cases {
@@ -210,13 +223,13 @@ fn expect_curve(rt: &impl Abort, grid: &Grid, curve: &Curve, wanted: &[(u64, u64
 }
 
 #[test]
-fn bids(rt: HostRuntime) -> Result<(), Fail> {
-    let grid = grid_of(4)?;
+fn bids(rt: HostRuntime) {
+    let grid = grid_of(&rt, 4);
     expect_bids(&rt, rt.alloc(), &grid, &BIDS);
     let text = "beet-bid,1\n100,45,0\n110,30,7\n";
-    let curve = curve_of(&rt, rt.alloc(), &grid, text)?.copy(rt.alloc())?;
-    expect_curve(&rt, &grid, &curve, &QUANTITIES);
-    Ok(())
+    let curve = curve_in(&rt, rt.alloc(), &grid, text);
+    let copy = curve.copy(rt.alloc()).expect(&rt, "memory");
+    expect_curve(&rt, &grid, &copy, &QUANTITIES);
 }
 
 /// Bids, each as a file.
@@ -271,84 +284,72 @@ const BOOKS: [Case; 9] = [
     (1, Policy::Volume, &["beet-bid,1\n100,1,0"], None),
 ];
 
-/// The bidders with these bids.
-fn bidders_of(
-    rt: &impl Abort,
-    alloc: Global,
-    grid: &Grid,
-    bids: &[&str],
-) -> Result<Vec<Bidder>, ReadFault> {
-    let mut bidders = Vec::new(alloc);
-    for bid in bids {
-        let curve = curve_of(rt, alloc, grid, bid)?;
-        bidders.push(Bidder { known: None, curve })?;
-    }
-    Ok(bidders)
+/// Appends a bidder with this curve.
+fn push_bidder(rt: &impl Abort, bidders: &mut Vec<Bidder>, curve: Curve) {
+    bidders
+        .push(Bidder { known: None, curve })
+        .expect(rt, "memory");
 }
 
-/// Whether these bidders have this outcome.
-fn has_outcome(grid: Grid, bidders: Vec<Bidder>, wanted: Outcome) -> bool {
-    Book::new(grid, bidders).is_some_and(|book| outcome(&book) == wanted)
+/// The bidders with these bids.
+fn bidders_of(rt: &impl Abort, alloc: Global, grid: &Grid, bids: &[&str]) -> Vec<Bidder> {
+    let mut bidders = Vec::new(alloc);
+    for bid in bids {
+        push_bidder(rt, &mut bidders, curve_in(rt, alloc, grid, bid));
+    }
+    bidders
+}
+
+/// The outcome of the book of these bidders.
+fn outcome_with(rt: &impl Abort, grid: Grid, bidders: Vec<Bidder>) -> Outcome {
+    outcome(&Book::new(grid, bidders).expect(rt, "a book"))
 }
 
 /// Clears the book of each case.
-fn expect_outcomes(rt: &impl Abort, alloc: Global, cases: &[Case]) -> Result<(), Fail> {
+fn expect_outcomes(rt: &impl Abort, alloc: Global, cases: &[Case]) {
     for (prices, policy, bids, wanted) in cases {
-        let grid = grid_of(*prices)?.with_policy(*policy);
-        let bidders = bidders_of(rt, alloc, &grid, bids)?;
-        assert!(rt; has_outcome(grid, bidders, outcome_of(*wanted)));
+        let grid = grid_of(rt, *prices).with_policy(*policy);
+        let bidders = bidders_of(rt, alloc, &grid, bids);
+        assert!(rt; outcome_with(rt, grid, bidders) == outcome_of(*wanted));
     }
-    Ok(())
 }
 
 #[test]
-fn outcomes(rt: HostRuntime) -> Result<(), Fail> {
-    expect_outcomes(&rt, rt.alloc(), &BOOKS)
+fn outcomes(rt: HostRuntime) {
+    expect_outcomes(&rt, rt.alloc(), &BOOKS);
 }
 
 /// How many bidders a book has at most.
 const MOST: usize = 2_000;
 
 /// The most bidders with this curve.
-fn many_of(alloc: Global, curve: &Curve) -> Result<Vec<Bidder>, AllocError> {
+fn many_of(rt: &impl Abort, alloc: Global, curve: &Curve) -> Vec<Bidder> {
     let mut bidders = Vec::new(alloc);
     for _ in 0..MOST {
-        let curve = curve.copy(alloc)?;
-        bidders.push(Bidder { known: None, curve })?;
+        push_bidder(rt, &mut bidders, curve.copy(alloc).expect(rt, "memory"));
     }
-    Ok(bidders)
+    bidders
 }
 
-/// Compares how many bidders a book has, and its outcome.
-fn expect_full(rt: &impl Abort, book: &Book, wanted: Cleared) {
-    assert_eq!(rt; book.bidders().len(), MOST);
-    assert!(rt; outcome(book) == outcome_of(wanted));
+/// The largest book at one price, where all bids are this one.
+fn largest(rt: &impl Abort, alloc: Global, bid: &str) -> Book {
+    let grid = grid_of(rt, 1);
+    let curve = curve_in(rt, alloc, &grid, bid);
+    let bidders = many_of(rt, alloc, &curve);
+    Book::new(grid, bidders).expect(rt, "a book")
 }
 
-/// Clears the largest book, where all bidders have this curve.
-fn expect_largest_of(
-    rt: &impl Abort,
-    alloc: Global,
-    grid: Grid,
-    curve: &Curve,
-    wanted: Cleared,
-) -> Result<(), Fail> {
-    let book = Book::new(grid, many_of(alloc, curve)?).ok_or("no book")?;
-    expect_full(rt, &book, wanted);
-    Ok(())
-}
-
-/// Clears the largest book at one price, where all bids are this one.
-fn expect_largest(rt: &impl Abort, alloc: Global, bid: &str, wanted: Cleared) -> Result<(), Fail> {
-    let grid = grid_of(1)?;
-    let curve = curve_of(rt, alloc, &grid, bid)?;
-    expect_largest_of(rt, alloc, grid, &curve, wanted)
+/// Compares how many bidders the largest book has where all bids are this one, and its outcome.
+fn expect_largest(rt: &impl Abort, alloc: Global, bid: &str, wanted: Cleared) {
+    let book = largest(rt, alloc, bid);
+    assert!(rt; book.bidders().len() == MOST);
+    assert!(rt; outcome(&book) == outcome_of(wanted));
 }
 
 #[test]
-fn largest_book(rt: HostRuntime) -> Result<(), Fail> {
+fn largest_book(rt: HostRuntime) {
     let alloc = rt.alloc();
-    expect_largest(&rt, alloc, "beet-bid,1\n100,281474976710655,0", None)?;
+    expect_largest(&rt, alloc, "beet-bid,1\n100,281474976710655,0", None);
     let both = "beet-bid,1\n100,281474976710655,281474976710655";
-    expect_largest(&rt, alloc, both, Some((0, 100, &[562_949_953_421_310_000])))
+    expect_largest(&rt, alloc, both, Some((0, 100, &[562_949_953_421_310_000])));
 }

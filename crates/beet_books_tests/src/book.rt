@@ -1,4 +1,4 @@
-ghost use Rattle.std.specs.Prelude.{◌*◌, All, IfOk};
+ghost use Rattle.std.specs.Prelude.{◌*◌, All};
 ghost use Rattle.beet_bids.specs.Curves.{IsOfGrid};
 ghost use Rattle.beet_book.specs.Dealing.{HasLengths};
 
@@ -12,10 +12,9 @@ use beet_field::{Point, Trio};
 use beet_forms::ReadFault;
 use beet_shamir::recombine;
 use beet_words::{FeList, Tape};
-use std::alloc::{AllocError, Global};
+use std::alloc::Global;
 use std::marker::Sync;
 use std::process::Abort;
-use std::test::Fail;
 use std::thread::Threads;
 
 /// Servers files, and how they are refused.
@@ -55,22 +54,21 @@ fn expect_servers(rt: &impl Abort, alloc: Global, cases: &[(&str, Refusal)]) {
     }
 }
 
-/// Whether a servers file names the words of each server.
-fn says_three(rt: &impl Abort, alloc: Global, text: &str) -> Result<bool, ReadFault> {
-    Ok(matches!(servers_of(rt, alloc, text)?, Servers::Three(_)))
+/// What a servers file says that is read.
+fn servers_in(rt: &impl Abort, alloc: Global, text: &str) -> Servers {
+    servers_of(rt, alloc, text).expect(rt, "a servers file")
 }
 
-/// Whether a servers file names a bundle.
-fn says_bundle(rt: &impl Abort, alloc: Global, text: &str) -> Result<bool, ReadFault> {
-    Ok(matches!(servers_of(rt, alloc, text)?, Servers::Bundle(_)))
+/// Whether a servers file names a bundle, or else the words of each server.
+fn names_bundle(servers: &Servers) -> bool {
+    matches!(servers, Servers::Bundle(_))
 }
 
 #[test]
-fn servers(rt: HostRuntime) -> Result<(), Fail> {
+fn servers(rt: HostRuntime) {
     expect_servers(&rt, rt.alloc(), &SERVERS);
-    assert!(rt; says_three(&rt, rt.alloc(), THREE)?);
-    assert!(rt; says_bundle(&rt, rt.alloc(), BUNDLE)?);
-    Ok(())
+    assert!(rt; !names_bundle(&servers_in(&rt, rt.alloc(), THREE)));
+    assert!(rt; names_bundle(&servers_in(&rt, rt.alloc(), BUNDLE)));
 }
 
 /// Books, and how they are refused.
@@ -125,31 +123,30 @@ fn expect_two(rt: &impl Abort, entries: &[Entry]) {
 }
 
 #[test]
-fn books(rt: HostRuntime) -> Result<(), Fail> {
+fn books(rt: HostRuntime) {
     expect_books(&rt, rt.alloc(), &BOOKS);
-    let entries = entries_of(&rt, rt.alloc(), ANNA_AND_BO)?;
+    let entries = entries_of(&rt, rt.alloc(), ANNA_AND_BO).expect(&rt, "a book");
     expect_two(&rt, &entries);
-    Ok(())
 }
 
-/// How many bidders a book has.
-fn count_of(rt: &impl Abort, alloc: Global, text: &str) -> Result<usize, ReadFault> {
-    Ok(entries_of(rt, alloc, text)?.len())
+/// Reads a book of the most bidders.
+fn expect_most(rt: &impl Abort, alloc: Global, text: &str) {
+    let entries = entries_of(rt, alloc, text).expect(rt, "a book");
+    assert!(rt; entries.len() == 2_000);
 }
 
-/// Reads a book of the most bidders, and then with a row more.
-fn expect_most(rt: &impl Abort, alloc: Global, text: &mut String) -> Result<(), Fail> {
-    assert!(rt; count_of(rt, alloc, text.as_str())? == 2_000);
-    text.push_str("x\n")?;
-    let found = count_of(rt, alloc, text.as_str()).err();
+/// Reads a book of a row more.
+fn expect_too_many(rt: &impl Abort, alloc: Global, text: &str) {
+    let found = entries_of(rt, alloc, text).err();
     expect_refusal(rt, found, Some((2_002, 5)), "the longer book");
-    Ok(())
 }
 
 #[test]
-fn one_bidder_too_many(rt: HostRuntime) -> Result<(), Fail> {
-    let mut text = numbered_rows(rt.alloc(), "beet-book,1\n", 2_000, ",0,b,tape,t")?;
-    expect_most(&rt, rt.alloc(), &mut text)
+fn one_bidder_too_many(rt: HostRuntime) {
+    let mut text = numbered_rows(&rt, rt.alloc(), "beet-book,1\n", 2_000, ",0,b,tape,t");
+    expect_most(&rt, rt.alloc(), text.as_str());
+    text.push_str("x\n").expect(&rt, "memory");
+    expect_too_many(&rt, rt.alloc(), text.as_str());
 }
 
 /// What is bought at four prices, or sold.
@@ -158,25 +155,23 @@ const BOUGHT: [u64; 4] = [45, 45, 30, 10];
 const SOLD: [u64; 4] = [0, 20, 40, 60];
 
 /// The curve of these quantities.
-fn curve_of(alloc: Global, grid: &Grid, buy: &[u64], sell: &[u64]) -> Result<Curve, Fail> {
-    let (buy, sell) = (Vec::from_slice(alloc, buy)?, Vec::from_slice(alloc, sell)?);
-    Ok(Curve::of(grid, buy, sell).ok_or("no curve")?)
+fn curve_of(rt: &impl Abort, alloc: Global, grid: &Grid, buy: &[u64], sell: &[u64]) -> Curve {
+    let buy = Vec::from_slice(alloc, buy).expect(rt, "memory");
+    let sell = Vec::from_slice(alloc, sell).expect(rt, "memory");
+    Curve::of(grid, buy, sell).expect(rt, "a curve")
 }
 
 /// A curve that buys at four prices, and one that sells there.
-fn two_curves(alloc: Global, grid: &Grid) -> Result<Vec<Curve>, Fail> {
-    let mut curves = Vec::new(alloc);
-    curves.push(curve_of(alloc, grid, &BOUGHT, &[0; 4])?)?;
-    curves.push(curve_of(alloc, grid, &[0; 4], &SOLD)?)?;
-    Ok(curves)
+fn two_curves(rt: &impl Abort, alloc: Global, grid: &Grid) -> Vec<Curve> {
+    let buyer = curve_of(rt, alloc, grid, &BOUGHT, &[0; 4]);
+    let seller = curve_of(rt, alloc, grid, &[0; 4], &SOLD);
+    vec![in alloc; buyer, seller].expect(rt, "memory")
 }
 
 /// The tapes by which they are dealt.
-fn two_tapes(alloc: Global) -> Result<Vec<Tape>, Fail> {
-    let mut tapes = Vec::new(alloc);
-    tapes.push(tape_of_eight(alloc)?)?;
-    tapes.push(tape_of_eight(alloc)?)?;
-    Ok(tapes)
+fn two_tapes(rt: &impl Abort, alloc: Global) -> Vec<Tape> {
+    let (buyer, seller) = (tape_of_eight(rt, alloc), tape_of_eight(rt, alloc));
+    vec![in alloc; buyer, seller].expect(rt, "memory")
 }
 
 /// Compares the points of the buyer at each server.
@@ -204,20 +199,15 @@ fn expect_values(rt: &impl Abort, wires: &Trio<FeList>, cases: &[(usize, u64)]) 
 }
 
 /// Compares the points of the first of two bidders, and answers the sums of both.
-fn sums_of(
-    rt: &impl Abort,
-    alloc: Global,
-    grid: &Grid,
-    dealt: &[Dealt],
-) -> Result<Trio<FeList>, AllocError>
+fn sums_of(rt: &impl Abort, alloc: Global, grid: &Grid, dealt: &[Dealt]) -> Trio<FeList>
     requires { All (λ points. HasLengths points (2 * grid.now.prices)) dealt.now }
 {
     assert!(rt; dealt.len() == 2);
     expect_points(rt, &dealt[0]);
-    let mut totals = Totals::new(alloc, grid)?;
+    let mut totals = Totals::new(alloc, grid).expect(rt, "memory");
     totals.add(&dealt[0]);
     totals.add(&dealt[1]);
-    Ok(totals.inputs())
+    totals.inputs()
 }
 
 /// Deals two curves by tapes, which are used up, and answers the sums of both.
@@ -227,8 +217,8 @@ fn deal_two<R: Abort + Threads + Sync>(
     grid: &Grid,
     curves: &[Curve],
     tapes: &mut [Tape],
-) -> Result<Trio<FeList>, AllocError> {
-    let dealt = deal_all(rt, alloc, grid, curves, tapes)?;
+) -> Trio<FeList> {
+    let dealt = deal_all(rt, alloc, grid, curves, tapes);
     assert!(rt; tapes.iter().all(|tape| tape.masks_left() == 0));
     sums_of(rt, alloc, grid, &dealt)
 }
@@ -246,69 +236,59 @@ const SUMS: [(usize, u64); 8] = [
 ];
 
 /// Deals two curves, and compares their sums.
-fn expect_sums<R: Abort + Threads + Sync>(
-    rt: &R,
-    alloc: Global,
-    grid: &Grid,
-    curves: &[Curve],
-) -> Result<(), Fail> {
-    let mut tapes = two_tapes(alloc)?;
-    let wires = deal_two(rt, alloc, grid, curves, &mut tapes)?;
+fn expect_sums<R: Abort + Threads + Sync>(rt: &R, alloc: Global, grid: &Grid, curves: &[Curve]) {
+    let mut tapes = two_tapes(rt, alloc);
+    let wires = deal_two(rt, alloc, grid, curves, &mut tapes);
     expect_values(rt, &wires, &SUMS);
-    Ok(())
 }
 
 #[test]
-fn dealing(rt: HostRuntime) -> Result<(), Fail> {
-    let grid = grid_of(4)?;
-    let curves = two_curves(rt.alloc(), &grid)?;
-    expect_sums(&rt, rt.alloc(), &grid, &curves)
+fn dealing(rt: HostRuntime) {
+    let grid = grid_of(&rt, 4);
+    let curves = two_curves(&rt, rt.alloc(), &grid);
+    expect_sums(&rt, rt.alloc(), &grid, &curves);
 }
 
 /// A bid at 250 prices, which buys less and sells more from price to price.
-fn long_bid(alloc: Global) -> Result<String, AllocError> {
-    let mut text = String::from_str(alloc, "beet-bid,1\n")?;
+fn long_bid(rt: &impl Abort, alloc: Global) -> String {
+    let mut text = String::from_str(alloc, "beet-bid,1\n").expect(rt, "memory");
     for place in 0..250u32 {
         let (price, buy, sell) = (100 + 5 * place, 1_000 - place, 2 * place);
-        let row = format!(in alloc; "{price},{buy},{sell}\n")?;
-        text.push_str(row.as_str())?;
+        let row = format!(in alloc; "{price},{buy},{sell}\n").expect(rt, "memory");
+        text.push_str(row.as_str()).expect(rt, "memory");
     }
-    Ok(text)
+    text
 }
 
 /// The curve of that bid.
-fn long_curve(alloc: Global, grid: &Grid) -> Result<Curve, Fail>
-    ensures { IfOk result (IsOfGrid grid.now) }
+fn long_curve(rt: &impl Abort, alloc: Global, grid: &Grid) -> Curve
+    ensures { IsOfGrid grid.now result }
 {
-    let bid = long_bid(alloc)?;
-    if bid.len() > 65_536 {
-        return Err(Fail::new("too long a bid"));
-    }
-    Ok(read_bid(alloc, grid, bid.as_bytes())?)
+    let bid = long_bid(rt, alloc);
+    assert!(rt; bid.len() <= 65_536);
+    read_bid(alloc, grid, bid.as_bytes()).expect(rt, "a curve")
 }
 
 /// The points of the bidder of this number, who has this curve.
-fn deal_curve(alloc: Global, grid: &Grid, curve: &Curve, number: u64) -> Result<Dealt, Fail>
+fn deal_curve(rt: &impl Abort, alloc: Global, grid: &Grid, curve: &Curve, number: u64) -> Dealt
     requires { IsOfGrid grid.now curve.now }
-    ensures { IfOk result (λ dealt. HasLengths dealt (2 * grid.now.prices)) }
+    ensures { HasLengths result (2 * grid.now.prices) }
 {
-    let mut tape = Tape::of_seed(alloc, &[7; 32], number, 508)?;
-    if tape.accepted_left() < 2 * grid.prices() {
-        return Err(Fail::new("too few words"));
-    }
-    Ok(deal_bidder(alloc, grid, curve, &mut tape)?)
+    let mut tape = Tape::of_seed(alloc, &[7; 32], number, 508).expect(rt, "memory");
+    assert!(rt; tape.accepted_left() >= 2 * grid.prices());
+    deal_bidder(alloc, grid, curve, &mut tape).expect(rt, "memory")
 }
 
 /// The inputs of 2,000 bidders with this curve.
-fn inputs_of_many(alloc: Global, grid: &Grid, curve: &Curve) -> Result<Trio<FeList>, Fail>
+fn inputs_of_many(rt: &impl Abort, alloc: Global, grid: &Grid, curve: &Curve) -> Trio<FeList>
     requires { IsOfGrid grid.now curve.now }
 {
-    let mut totals = Totals::new(alloc, grid)?;
+    let mut totals = Totals::new(alloc, grid).expect(rt, "memory");
     for number in 0..2_000u64 {
-        let dealt = deal_curve(alloc, grid, curve, number)?;
+        let dealt = deal_curve(rt, alloc, grid, curve, number);
         totals.add(&dealt);
     }
-    Ok(totals.inputs())
+    totals.inputs()
 }
 
 /// Sums of 2,000 bids.
@@ -322,10 +302,9 @@ const MANY_SUMS: [(usize, u64); 6] = [
 ];
 
 #[test]
-fn full_book(rt: HostRuntime) -> Result<(), Fail> {
-    let grid = grid_of(250)?;
-    let curve = long_curve(rt.alloc(), &grid)?;
-    let wires = inputs_of_many(rt.alloc(), &grid, &curve)?;
+fn full_book(rt: HostRuntime) {
+    let grid = grid_of(&rt, 250);
+    let curve = long_curve(&rt, rt.alloc(), &grid);
+    let wires = inputs_of_many(&rt, rt.alloc(), &grid, &curve);
     expect_values(&rt, &wires, &MANY_SUMS);
-    Ok(())
 }

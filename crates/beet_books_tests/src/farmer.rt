@@ -1,4 +1,4 @@
-ghost use Rattle.std.specs.Prelude.{◌≡◌, ◌*◌, IfOk, length};
+ghost use Rattle.std.specs.Prelude.{◌≡◌, ◌*◌, length};
 ghost use Rattle.beet_bids.specs.Curves.{IsOfGrid};
 ghost use Rattle.beet_book.specs.Dealing.{HasLengths};
 ghost use Rattle.beet_farmer.specs.Sealing.{points_in};
@@ -11,37 +11,34 @@ use beet_farmer::{Envelope, ListEntry, read_envelope, read_list, seal, write_env
 use beet_field::{P, Point, Trio};
 use beet_forms::ReadFault;
 use beet_words::Tape;
-use std::alloc::{AllocError, Global};
+use std::alloc::Global;
 use std::process::Abort;
-use std::test::Fail;
 
 /// The envelopes of a curve, by which the tape is used up.
 fn seal_all(
+    rt: &impl Abort,
     alloc: Global,
     grid: &Grid,
     curve: &Curve,
     tape: &mut Tape,
-) -> Result<Trio<Envelope>, Fail>
+) -> Trio<Envelope>
     requires { IsOfGrid grid.now curve.now }
-    ensures { IfOk result (λ envelopes. HasLengths (points_in envelopes) (2 * grid.now.prices)) }
+    ensures { HasLengths (points_in result) (2 * grid.now.prices) }
 {
-    if tape.accepted_left() < 2 * grid.prices() {
-        return Err(Fail::new("too few words"));
-    }
-    let envelopes = seal(alloc, grid, curve, tape)?;
-    if tape.masks_left() != 0 {
-        return Err(Fail::new("words are left"));
-    }
-    Ok(envelopes)
+    assert!(rt; tape.accepted_left() >= 2 * grid.prices());
+    let envelopes = seal(alloc, grid, curve, tape).expect(rt, "memory");
+    assert!(rt; tape.masks_left() == 0);
+    envelopes
 }
 
 /// The envelopes of a buyer, dealt by the words from 1 to 8.
-fn sealed(alloc: Global, grid: &Grid) -> Result<Trio<Envelope>, Fail>
-    ensures { IfOk result (λ envelopes. HasLengths (points_in envelopes) (2 * grid.now.prices)) }
+fn sealed(rt: &impl Abort, alloc: Global, grid: &Grid) -> Trio<Envelope>
+    ensures { HasLengths (points_in result) (2 * grid.now.prices) }
 {
-    let curve = read_bid(alloc, grid, b"beet-bid,1\n100,45,0\n110,30,0\n115,10,0\n")?;
-    let mut tape = tape_of_eight(alloc)?;
-    seal_all(alloc, grid, &curve, &mut tape)
+    let bid = b"beet-bid,1\n100,45,0\n110,30,0\n115,10,0\n";
+    let curve = read_bid(alloc, grid, bid).expect(rt, "a curve");
+    let mut tape = tape_of_eight(rt, alloc);
+    seal_all(rt, alloc, grid, &curve, &mut tape)
 }
 
 /// Whether the file is one of 104 bytes, which the server reads as its envelope with these points.
@@ -66,52 +63,40 @@ fn expect_envelope(
     envelope: &Envelope,
     server: Point,
     points: &[u64],
-) -> Result<(), AllocError>
+)
     requires { length envelope.now.points ≡ 2 * grid.now.prices }
 {
     assert!(rt; envelope.server == server);
     assert!(rt; are(envelope.points.as_slice(), points));
-    let file = write_envelope(alloc, grid, envelope)?;
+    let file = write_envelope(alloc, grid, envelope).expect(rt, "memory");
     assert!(rt; is_file(rt, alloc, grid, server, &file, points));
-    Ok(())
 }
 
 /// Compares the envelopes of the buyer.
-fn expect_envelopes(
-    rt: &impl Abort,
-    alloc: Global,
-    grid: &Grid,
-    envelopes: &Trio<Envelope>,
-) -> Result<(), AllocError>
+fn expect_envelopes(rt: &impl Abort, alloc: Global, grid: &Grid, envelopes: &Trio<Envelope>)
     requires { HasLengths (points_in envelopes.now) (2 * grid.now.prices) }
 {
-    expect_envelope(rt, alloc, grid, &envelopes.one, Point::One, POINTS.one)?;
-    expect_envelope(rt, alloc, grid, &envelopes.two, Point::Two, POINTS.two)?;
-    expect_envelope(
-        rt,
-        alloc,
-        grid,
-        &envelopes.three,
-        Point::Three,
-        POINTS.three,
-    )
+    let Trio { one, two, three } = envelopes;
+    expect_envelope(rt, alloc, grid, one, Point::One, POINTS.one);
+    expect_envelope(rt, alloc, grid, two, Point::Two, POINTS.two);
+    expect_envelope(rt, alloc, grid, three, Point::Three, POINTS.three);
 }
 
 #[test]
-fn sealing(rt: HostRuntime) -> Result<(), Fail> {
-    let grid = grid_of(4)?;
-    let envelopes = sealed(rt.alloc(), &grid)?;
-    expect_envelopes(&rt, rt.alloc(), &grid, &envelopes)?;
-    Ok(())
+fn sealing(rt: HostRuntime) {
+    let grid = grid_of(&rt, 4);
+    let envelopes = sealed(&rt, rt.alloc(), &grid);
+    expect_envelopes(&rt, rt.alloc(), &grid, &envelopes);
 }
 
 /// How many bytes an envelope of four prices has.
 const SIZE: usize = 104;
 
 /// The buyer's envelope for server 1 as a file.
-fn file_one(alloc: Global, grid: &Grid) -> Result<Vec<u8>, Fail> {
-    let envelopes = sealed(alloc, grid)?;
-    Ok(write_envelope(alloc, grid, &envelopes.one)?)
+fn file_one(rt: &impl Abort, alloc: Global) -> Vec<u8> {
+    let grid = grid_of(rt, 4);
+    let envelopes = sealed(rt, alloc, &grid);
+    write_envelope(alloc, &grid, &envelopes.one).expect(rt, "memory")
 }
 
 /// Expects that the first bytes of an envelope are refused by a server.
@@ -123,63 +108,59 @@ fn expect_refused(
     count: usize,
     offset: u64,
     reason: u32,
-) -> Result<(), Fail> {
+) {
     assert!(rt; count <= file.len() && count <= 200);
-    let found = read_envelope(alloc, &grid_of(4)?, server, &file[..count]).err();
+    let found = read_envelope(alloc, &grid_of(rt, 4), server, &file[..count]).err();
     expect_offset(rt, found, offset, reason);
-    Ok(())
 }
 
 /// Gives the buyer's envelope to another server, and changes its tick.
-fn expect_others(rt: &impl Abort, alloc: Global, file: &mut [u8]) -> Result<(), Fail> {
+fn expect_others(rt: &impl Abort, alloc: Global, file: &mut [u8]) {
     assert!(rt; file.len() == SIZE);
-    expect_refused(rt, alloc, Point::Two, file, SIZE, 8, 6)?;
+    expect_refused(rt, alloc, Point::Two, file, SIZE, 8, 6);
     file[31] = 6;
-    expect_refused(rt, alloc, Point::One, file, SIZE, 24, 2)?;
-    expect_refused(rt, alloc, Point::Two, file, SIZE, 8, 6)
+    expect_refused(rt, alloc, Point::One, file, SIZE, 24, 2);
+    expect_refused(rt, alloc, Point::Two, file, SIZE, 8, 6);
 }
 
 #[test]
-fn other_envelopes(rt: HostRuntime) -> Result<(), Fail> {
-    let mut file = file_one(rt.alloc(), &grid_of(4)?)?;
-    expect_others(&rt, rt.alloc(), &mut file)
+fn other_envelopes(rt: HostRuntime) {
+    expect_others(&rt, rt.alloc(), &mut file_one(&rt, rt.alloc()));
 }
 
 /// Cuts the buyer's envelope off before each of its bytes.
-fn expect_cuts(rt: &impl Abort, alloc: Global, file: &[u8]) -> Result<(), Fail> {
+fn expect_cuts(rt: &impl Abort, alloc: Global, file: &[u8]) {
     for count in 0..8 {
-        expect_refused(rt, alloc, Point::One, file, count, 0, 1)?;
+        expect_refused(rt, alloc, Point::One, file, count, 0, 1);
     }
     for count in 8..SIZE {
         let whole = count as u64 / 8 * 8;
-        expect_refused(rt, alloc, Point::One, file, count, whole, 3)?;
+        expect_refused(rt, alloc, Point::One, file, count, whole, 3);
     }
-    expect_refused(rt, alloc, Point::Two, file, 15, 8, 3)
+    expect_refused(rt, alloc, Point::Two, file, 15, 8, 3);
 }
 
 #[test]
-fn cut_envelopes(rt: HostRuntime) -> Result<(), Fail> {
-    let file = file_one(rt.alloc(), &grid_of(4)?)?;
-    expect_cuts(&rt, rt.alloc(), &file)
+fn cut_envelopes(rt: HostRuntime) {
+    expect_cuts(&rt, rt.alloc(), &file_one(&rt, rt.alloc()));
 }
 
 /// Puts the numbers p and p - 1 in the place of the first point.
-fn expect_numbers(rt: &impl Abort, alloc: Global, file: &mut [u8]) -> Result<(), Fail> {
+fn expect_numbers(rt: &impl Abort, alloc: Global, file: &mut [u8]) {
     assert!(rt; file.len() == SIZE);
     file[40..48].copy_from_slice(&P.to_be_bytes());
-    expect_refused(rt, alloc, Point::One, file, SIZE, 40, 4)?;
+    expect_refused(rt, alloc, Point::One, file, SIZE, 40, 4);
     file[47] = 0xfe;
     let points = [P - 1, 47, 33, 14, 5, 6, 7, 8];
-    assert!(rt; is_file(rt, alloc, &grid_of(4)?, Point::One, file, &points));
-    Ok(())
+    assert!(rt; is_file(rt, alloc, &grid_of(rt, 4), Point::One, file, &points));
 }
 
 #[test]
-fn points(rt: HostRuntime) -> Result<(), Fail> {
-    let mut file = file_one(rt.alloc(), &grid_of(4)?)?;
-    expect_numbers(&rt, rt.alloc(), &mut file)?;
-    file.push(0)?;
-    expect_refused(&rt, rt.alloc(), Point::One, &file, SIZE + 1, 104, 5)
+fn points(rt: HostRuntime) {
+    let mut file = file_one(&rt, rt.alloc());
+    expect_numbers(&rt, rt.alloc(), &mut file);
+    file.push(0).expect(&rt, "memory");
+    expect_refused(&rt, rt.alloc(), Point::One, &file, SIZE + 1, 104, 5);
 }
 
 /// Lists, and how they are refused.
@@ -197,15 +178,10 @@ fn entries_of(rt: &impl Abort, alloc: Global, text: &str) -> Result<Vec<ListEntr
     read_list(alloc, text.as_bytes())
 }
 
-/// How many entries a list has.
-fn count_of(rt: &impl Abort, alloc: Global, text: &str) -> Result<usize, ReadFault> {
-    Ok(entries_of(rt, alloc, text)?.len())
-}
-
 /// Reads the list of each case.
 fn expect_lists(rt: &impl Abort, alloc: Global, cases: &[(&str, Refusal)]) {
     for (text, wanted) in cases {
-        expect_refusal(rt, count_of(rt, alloc, text).err(), *wanted, text);
+        expect_refusal(rt, entries_of(rt, alloc, text).err(), *wanted, text);
     }
 }
 
@@ -217,27 +193,31 @@ fn expect_two(rt: &impl Abort, entries: &[ListEntry]) {
     assert!(rt; entries[1].envelopes.three.as_str() == "b.3");
 }
 
+/// Compares how many entries a list has.
+fn expect_count(rt: &impl Abort, alloc: Global, text: &str, count: usize) {
+    let entries = entries_of(rt, alloc, text).expect(rt, "a list");
+    assert!(rt; entries.len() == count);
+}
+
 #[test]
-fn lists(rt: HostRuntime) -> Result<(), Fail> {
+fn lists(rt: HostRuntime) {
     expect_lists(&rt, rt.alloc(), &LISTS);
-    assert!(rt; count_of(&rt, rt.alloc(), "beet-list,1\n")? == 0);
+    expect_count(&rt, rt.alloc(), "beet-list,1\n", 0);
     let text = "beet-list,1\nanna,a.1,a.2,a.3\nbo,b.1,b.2,b.3\n";
-    let entries = entries_of(&rt, rt.alloc(), text)?;
+    let entries = entries_of(&rt, rt.alloc(), text).expect(&rt, "a list");
     expect_two(&rt, &entries);
-    Ok(())
 }
 
-/// Reads a list of the most bidders, and then with a row more.
-fn expect_most(rt: &impl Abort, alloc: Global, text: &mut String) -> Result<(), Fail> {
-    assert!(rt; count_of(rt, alloc, text.as_str())? == 2_000);
-    text.push_str("x\n")?;
-    let found = count_of(rt, alloc, text.as_str()).err();
+/// Reads a list of a row too many.
+fn expect_too_many(rt: &impl Abort, alloc: Global, text: &str) {
+    let found = entries_of(rt, alloc, text).err();
     expect_refusal(rt, found, Some((2_002, 5)), "the longer list");
-    Ok(())
 }
 
 #[test]
-fn one_bidder_too_many(rt: HostRuntime) -> Result<(), Fail> {
-    let mut text = numbered_rows(rt.alloc(), "beet-list,1\n", 2_000, ",a,b,c")?;
-    expect_most(&rt, rt.alloc(), &mut text)
+fn one_bidder_too_many(rt: HostRuntime) {
+    let mut text = numbered_rows(&rt, rt.alloc(), "beet-list,1\n", 2_000, ",a,b,c");
+    expect_count(&rt, rt.alloc(), text.as_str(), 2_000);
+    text.push_str("x\n").expect(&rt, "memory");
+    expect_too_many(&rt, rt.alloc(), text.as_str());
 }

@@ -5,9 +5,8 @@ use beet_field::{Fe, Trio};
 use beet_forms::ReadFault;
 use beet_gates::Gates;
 use beet_words::{Tape, read_tape};
-use std::alloc::{AllocError, Global};
+use std::alloc::Global;
 use std::process::Abort;
-use std::test::Fail;
 
 /// The row and the reason that a text is refused with, or none where it is read.
 pub type Refusal = Option<(u32, u32)>;
@@ -27,8 +26,8 @@ pub fn expect_offset(rt: &impl Abort, found: Option<ReadFault>, offset: u64, rea
 }
 
 /// The grid of the prices 100, 105 and so on.
-pub fn grid_of(prices: u32) -> Result<Grid, Fail> {
-    Ok(Grid::new(100, 5, prices, Gates::Chain).ok_or("no grid")?)
+pub fn grid_of(rt: &impl Abort, prices: u32) -> Grid {
+    Grid::new(100, 5, prices, Gates::Chain).expect(rt, "a grid")
 }
 
 /// Whether the numbers are these.
@@ -58,25 +57,24 @@ const EIGHT: &[u8] = b"0000000000000001
 ";
 
 /// The tape of the words from 1 to 8.
-pub fn tape_of_eight(alloc: Global) -> Result<Tape, Fail> {
-    let words = read_tape(alloc, EIGHT, 8)?;
-    if words.len() != 8 {
-        return Err(Fail::new("not eight words"));
-    }
-    Ok(Tape::of_words(words))
+pub fn tape_of_eight(rt: &impl Abort, alloc: Global) -> Tape {
+    let words = read_tape(alloc, EIGHT, 8).expect(rt, "words");
+    assert!(rt; words.len() == 8);
+    Tape::of_words(words)
 }
 
 /// A text of this header and of so many rows, each its number and then the same.
 pub fn numbered_rows(
+    rt: &impl Abort,
     alloc: Global,
     header: &str,
     count: u32,
     then: &str,
-) -> Result<String, AllocError> {
-    let mut text = String::from_str(alloc, header)?;
+) -> String {
+    let mut text = String::from_str(alloc, header).expect(rt, "memory");
     for i in 0..count {
-        let row = format!(in alloc; "{i}{then}\n")?;
-        text.push_str(row.as_str())?;
+        let row = format!(in alloc; "{i}{then}\n").expect(rt, "memory");
+        text.push_str(row.as_str()).expect(rt, "memory");
     }
-    Ok(text)
+    text
 }

@@ -15,8 +15,8 @@ use std::alloc::Global;
 use std::sync::Wait;
 use std::thread::Threads;
 
-/// The outcome of a book, and the rounds in which three servers find it, each in a thread of its own and under the gate:
-/// `clear AUCTION SERVERS BOOK`, with names of files.
+/// The outcome of a book, and the rounds in which three servers find it, in threads and under the gate where `run_servers` says
+/// so: `clear AUCTION SERVERS BOOK`, with names of files.
 pub fn clear<S: Shelf, R: Threads + Wait + Sync, G: Gate>(
     rt: &R,
     alloc: Global,

@@ -1,6 +1,6 @@
 -- Auctions of which a server sees the same are of books that agree for it.
-use Rattle.std.proofs.Common.{◌≡◌, ℕ, zero, suc, inl, inr, List, [], ◌∷◌, Ok, map, take, length, slice_get, Option, Some, None, Bool, true, false, refl, sym, ap, subst, ◌∙◌, arith}
-use Rattle.std.specs.Prelude.{Result, if◌then◌else◌}
+use Rattle.std.proofs.Common.{◌≡◌, ℕ, zero, suc, inl, inr, List, [], ◌∷◌, Ok, map, take, length, slice_get, Option, Some, Bool, true, false, refl, sym, ap, subst, ◌∙◌, arith}
+use Rattle.std.specs.Prelude.{Result}
 use Rattle.std.proofs.lemmas.Bool.{cases_Bool}
 use Rattle.std.proofs.lemmas.List.{length-map}
 use Rattle.beet_field.specs.declared.point.Point.{Point}
@@ -13,7 +13,7 @@ use Rattle.beet_bids.specs.declared.book.Bidder.{Bidder}
 use Rattle.beet_book.specs.Farmers.{Farmer, farmers_of}
 use Rattle.beet_plan.specs.Kept.{words_kept}
 use Rattle.beet_delivery.proofs.EventFacts.{same_self}
-use Rattle.beet_view.specs.BookViews.{names, seen_at}
+use Rattle.beet_view.specs.BookViews.{kept_if, names, seen_at}
 use Rattle.beet_view.specs.Transcripts.{view_bytes, view_in}
 use Rattle.beet_view.specs.Views.{Viewed}
 use Rattle.beet_view.specs.declared.view.Seen.{Seen}
@@ -44,10 +44,6 @@ farmer-at [] words k b e at = cc at
 farmer-at (c ∷ cs) [] k b e at = absurd (omega arith)
 farmer-at (c ∷ cs) (w ∷ ws) zero b e at = (w, ap (λ (x : Bidder). Some (farmer x w)) (some-same c b at))
 farmer-at (c ∷ cs) (w ∷ ws) (suc k) b e at = let few : length ws ≡ length cs = omega arith in farmer-at cs ws k b few at
-
--- what a server keeps of a bidder that it knows
-abbrev kept_if : Bool → Curve → List ℕ → Option (Curve × List ℕ)
-kept_if own curve words = if own then Some (curve, words) else None
 
 own-curve : (s : Point) (known : Option Point) (one other : Curve) (list list' : List ℕ) → known ≡ Some s →
     kept_if (names known s) other list' ≡ kept_if (names known s) one list → other ≡ one

@@ -52,8 +52,8 @@ fn open_entries<S: Shelf, R: Threads + Wait + Sync, G: Gate>(
     Ok(outcome_reply(alloc, grid, finish, rounds)?)
 }
 
-/// The outcome of the bids in the envelopes of a list, and the rounds in which three servers find it, each in a thread
-/// of its own and under the gate. The points in the envelopes need not lie on lines. Where they were sealed,
+/// The outcome of the bids in the envelopes of a list, and the rounds in which three servers find it, in threads and under
+/// the gate where `run_servers` says so. The points in the envelopes need not lie on lines. Where they were sealed,
 /// `sealed_books_open_their_outcome` says that each file is within its limit and is read, that the bidders of the list have the
 /// points that were sealed, and that the outcome is that of their book.
 pub fn open_envelopes<S: Shelf, R: Threads + Wait + Sync, G: Gate>(

@@ -2,9 +2,8 @@ use beet_forms::{
     Name, NumberFault, Place, Row, RowReader, fault_line, five_fields, four_fields, is_header,
     is_name, number, push_decimal, rows, three_fields, two_fields,
 };
-use std::alloc::{AllocError, Global};
+use std::alloc::Global;
 use std::process::Abort;
-use std::test::Fail;
 
 /// Digits, the largest number that is taken, and the answer.
 const NUMBERS: [(&str, u64, Result<u64, NumberFault>); 10] = [
@@ -36,19 +35,18 @@ fn expect_numbers(rt: &impl Abort, cases: &[(&str, u64, Result<u64, NumberFault>
 }
 
 /// The digits of zero and of the largest number.
-fn least_and_largest(alloc: Global) -> Result<Vec<u8>, AllocError> {
+fn least_and_largest(rt: &impl Abort, alloc: Global) -> Vec<u8> {
     let mut digits = Vec::new(alloc);
-    push_decimal(&mut digits, 0)?;
-    push_decimal(&mut digits, u64::MAX)?;
-    Ok(digits)
+    push_decimal(&mut digits, 0).expect(rt, "memory");
+    push_decimal(&mut digits, u64::MAX).expect(rt, "memory");
+    digits
 }
 
 #[test]
-fn numbers(rt: HostRuntime) -> Result<(), Fail> {
+fn numbers(rt: HostRuntime) {
     expect_numbers(&rt, &NUMBERS);
-    let digits = least_and_largest(rt.alloc())?;
+    let digits = least_and_largest(&rt, rt.alloc());
     assert!(rt; digits.as_slice() == b"018446744073709551615".as_slice());
-    Ok(())
 }
 
 /// Bytes, and whether they are a name.
@@ -63,21 +61,24 @@ const NAMES: [(&[u8], bool); 8] = [
     (&[b'n'; 201], false),
 ];
 
+/// The name of these bytes, if they are one.
+fn name_of(rt: &impl Abort, alloc: Global, bytes: &[u8]) -> Option<Name> {
+    Name::of(alloc, bytes).expect(rt, "memory")
+}
+
 /// Makes a name of the bytes of each case.
-fn expect_names(rt: &impl Abort, alloc: Global, cases: &[(&[u8], bool)]) -> Result<(), AllocError> {
+fn expect_names(rt: &impl Abort, alloc: Global, cases: &[(&[u8], bool)]) {
     for (bytes, wanted) in cases {
         assert!(rt; is_name(bytes) == *wanted);
-        assert!(rt; Name::of(alloc, bytes)?.is_some() == *wanted);
+        assert!(rt; name_of(rt, alloc, bytes).is_some() == *wanted);
     }
-    Ok(())
 }
 
 #[test]
-fn names(rt: HostRuntime) -> Result<(), Fail> {
-    expect_names(&rt, rt.alloc(), &NAMES)?;
-    let name = Name::of(rt.alloc(), b"anna.bid")?;
-    assert!(rt; name.is_some_and(|name| name.as_str() == "anna.bid"));
-    Ok(())
+fn names(rt: HostRuntime) {
+    expect_names(&rt, rt.alloc(), &NAMES);
+    let name = name_of(&rt, rt.alloc(), b"anna.bid").expect(&rt, "a name");
+    assert!(rt; name.as_str() == "anna.bid");
 }
 
 /// Compares the line of a bad file.
@@ -88,19 +89,17 @@ fn expect_line(
     place: Place,
     reason: u32,
     wanted: &str,
-) -> Result<(), AllocError> {
-    let line = fault_line(alloc, file, place, reason)?;
+) {
+    let line = fault_line(alloc, file, place, reason).expect(rt, "memory");
     assert!(rt; line.as_slice() == wanted.as_bytes(), "not {wanted}");
-    Ok(())
 }
 
 #[test]
-fn fault_lines(rt: HostRuntime) -> Result<(), Fail> {
+fn fault_lines(rt: HostRuntime) {
     let in_row = "bad file: x.bid row 2 reason 7\n";
-    expect_line(&rt, rt.alloc(), "x.bid", Place::Row(2), 7, in_row)?;
+    expect_line(&rt, rt.alloc(), "x.bid", Place::Row(2), 7, in_row);
     let at = "bad file: o.2 at 34992 reason 2\n";
-    expect_line(&rt, rt.alloc(), "o.2", Place::At(34_992), 2, at)?;
-    Ok(())
+    expect_line(&rt, rt.alloc(), "o.2", Place::At(34_992), 2, at);
 }
 
 /// Five rows, of two, three, two, four and five fields.
@@ -152,54 +151,41 @@ fn expect_rows(rt: &impl Abort, rows: &[Row]) {
 }
 
 #[test]
-fn rows_of_a_file(rt: HostRuntime) -> Result<(), Fail> {
-    let rows = rows(rt.alloc(), FIVE_ROWS)?;
-    expect_rows(&rt, &rows);
-    Ok(())
+fn rows_of_a_file(rt: HostRuntime) {
+    expect_rows(&rt, &rows(rt.alloc(), FIVE_ROWS).expect(&rt, "memory"));
 }
 
 /// The first three of them.
 const THREE_ROWS: &[u8] = b"beet-bid,1\r\n\n\"100\",\"a \"\"b\"\", c\",0\r\n x ,";
 
 /// Whether the next row is the header of a bid.
-fn begins(rows: &mut RowReader, row: &mut Row) -> Result<bool, AllocError> {
+fn begins(rt: &impl Abort, rows: &mut RowReader, row: &mut Row) -> bool {
     rows.begins_with(row, b"beet-bid", b"1")
+        .expect(rt, "memory")
 }
 
-/// Whether the next row is the second of them.
-fn second_is_next(rows: &mut RowReader, row: &mut Row) -> Result<bool, AllocError> {
-    Ok(rows.next(row)? && is_second(row))
-}
-
-/// Whether the next row is the third of them.
-fn third_is_next(rows: &mut RowReader, row: &mut Row) -> Result<bool, AllocError> {
-    Ok(rows.next(row)? && is_third(row))
+/// Whether there is a next row, which is read.
+fn is_next(rt: &impl Abort, rows: &mut RowReader, row: &mut Row) -> bool {
+    rows.next(row).expect(rt, "memory")
 }
 
 /// Reads the three rows into one, and compares it after each.
-fn expect_reading(rt: &impl Abort, rows: &mut RowReader, row: &mut Row) -> Result<(), AllocError> {
-    assert!(rt; begins(rows, row)?);
-    assert!(rt; second_is_next(rows, row)?);
-    assert!(rt; third_is_next(rows, row)?);
-    assert!(rt; !rows.next(row)?);
-    Ok(())
-}
-
-/// Reads the three rows from their beginning.
-fn expect_three(rt: &impl Abort, alloc: Global) -> Result<(), AllocError> {
-    let mut rows = RowReader::new(alloc, THREE_ROWS);
-    expect_reading(rt, &mut rows, &mut Row::new(alloc))
+fn expect_reading(rt: &impl Abort, rows: &mut RowReader, row: &mut Row) {
+    assert!(rt; begins(rt, rows, row));
+    assert!(rt; is_next(rt, rows, row) && is_second(row));
+    assert!(rt; is_next(rt, rows, row) && is_third(row));
+    assert!(rt; !is_next(rt, rows, row));
 }
 
 /// Whether a text of an empty row begins with that header.
-fn empty_begins(alloc: Global) -> Result<bool, AllocError> {
-    begins(&mut RowReader::new(alloc, b"\n"), &mut Row::new(alloc))
+fn empty_begins(rt: &impl Abort, alloc: Global) -> bool {
+    let mut rows = RowReader::new(alloc, b"\n");
+    begins(rt, &mut rows, &mut Row::new(alloc))
 }
 
 #[test]
-fn rows_one_at_a_time(rt: HostRuntime) -> Result<(), Fail> {
-    expect_three(&rt, rt.alloc())?;
-    let begins = empty_begins(rt.alloc())?;
-    assert!(rt; !begins);
-    Ok(())
+fn rows_one_at_a_time(rt: HostRuntime) {
+    let mut rows = RowReader::new(rt.alloc(), THREE_ROWS);
+    expect_reading(&rt, &mut rows, &mut Row::new(rt.alloc()));
+    assert!(rt; !empty_begins(&rt, rt.alloc()));
 }

@@ -4,23 +4,17 @@ use crate::printing::Printing;
 use beet_store::{
     Desk, FetchFault, Held, HostDesk, HostShelf, MemoryDesk, MemoryShelf, PutFault, Shelf,
 };
-use std::alloc::{AllocError, Global};
+use std::alloc::Global;
 use std::fs;
 use std::process::Abort;
 use std::rt::Files;
-use std::test::Fail;
 
-/// Appends a file of this name and these bytes.
-fn push_held(
-    alloc: Global,
-    files: &mut Vec<Held>,
-    name: &str,
-    bytes: &[u8],
-) -> Result<(), AllocError> {
-    let name = String::from_str(alloc, name)?;
-    let bytes = Vec::from_slice(alloc, bytes)?;
-    files.push(Held { name, bytes })?;
-    Ok(())
+/// A file of this name and these bytes.
+fn held(rt: &impl Abort, alloc: Global, name: &str, bytes: &[u8]) -> Held {
+    Held {
+        name: String::from_str(alloc, name).expect(rt, "memory"),
+        bytes: Vec::from_slice(alloc, bytes).expect(rt, "memory"),
+    }
 }
 
 /// Fetches, and compares the answer.
@@ -64,11 +58,10 @@ const FETCHES: [(&str, u64, Result<&[u8], FetchFault>); 4] = [
 ];
 
 /// A shelf with two files of one name, of which the second fetch fails.
-fn shelf_of_two(alloc: Global) -> Result<MemoryShelf, AllocError> {
-    let mut files = Vec::new(alloc);
-    push_held(alloc, &mut files, "a", b"one")?;
-    push_held(alloc, &mut files, "a", b"two")?;
-    Ok(MemoryShelf::new(files, vec![in alloc; 2]?))
+fn shelf_of_two(rt: &impl Abort, alloc: Global) -> MemoryShelf {
+    let (one, two) = (held(rt, alloc, "a", b"one"), held(rt, alloc, "a", b"two"));
+    let files = vec![in alloc; one, two].expect(rt, "memory");
+    MemoryShelf::new(files, vec![in alloc; 2].expect(rt, "memory"))
 }
 
 /// Does the fetches, and compares how many failed.
@@ -84,11 +77,10 @@ fn expect_fetches<S: Shelf>(
 }
 
 #[test]
-fn memory_shelf_fails_where_listed(rt: HostRuntime) -> Result<(), Fail> {
-    let mut shelf = shelf_of_two(rt.alloc())?;
+fn memory_shelf_fails_where_listed(rt: HostRuntime) {
+    let mut shelf = shelf_of_two(&rt, rt.alloc());
     expect_fetches(&rt, rt.alloc(), &mut shelf, &FETCHES);
-    assert_eq!(rt; shelf.faults(), 2);
-    Ok(())
+    assert!(rt; shelf.faults() == 2);
 }
 
 /// What follows is put, where the second call and the fifth fail.
@@ -111,20 +103,20 @@ fn expect_text(rt: &impl Abort, desk: &mut MemoryDesk) {
 }
 
 #[test]
-fn memory_desk_fails_where_listed(rt: HostRuntime) -> Result<(), Fail> {
-    let mut desk = MemoryDesk::new(vec![in rt.alloc(); 2, 5]?);
+fn memory_desk_fails_where_listed(rt: HostRuntime) {
+    let calls = vec![in rt.alloc(); 2, 5].expect(&rt, "memory");
+    let mut desk = MemoryDesk::new(calls);
     expect_files(&rt, rt.alloc(), &mut desk);
     expect_text(&rt, &mut desk);
-    Ok(())
 }
 
 /// Bytes of more than one piece, each unlike its neighbours.
-fn long_bytes(alloc: Global) -> Result<Vec<u8>, AllocError> {
+fn long_bytes(rt: &impl Abort, alloc: Global) -> Vec<u8> {
     let mut bytes = Vec::new(alloc);
     for i in 0..20_000u64 {
-        bytes.push((i % 251) as u8)?;
+        bytes.push((i % 251) as u8).expect(rt, "memory");
     }
-    Ok(bytes)
+    bytes
 }
 
 /// Puts a long file and fetches it, and then a short one in its place.
@@ -134,12 +126,11 @@ fn expect_file<S: Shelf, K: Desk>(
     shelf: &mut S,
     desk: &mut K,
     name: &str,
-) -> Result<(), AllocError> {
-    let long = long_bytes(alloc)?;
+) {
+    let long = long_bytes(rt, alloc);
     expect_long_file(rt, alloc, shelf, desk, name, &long);
     expect_put(rt, alloc, desk, name, b"short", Ok(()));
     expect_fetch(rt, alloc, shelf, name, 5, Ok(b"short"));
-    Ok(())
 }
 
 /// Puts the long file and fetches it.
@@ -182,13 +173,12 @@ fn expect_faults<R>(rt: &impl Abort, shelf: &HostShelf<R>, desk: &HostDesk<R>) {
 }
 
 #[test]
-fn host_types_reach_real_files(rt: HostRuntime) -> Result<(), Fail> {
+fn host_types_reach_real_files(rt: HostRuntime) {
     let (mut shelf, mut desk) = (HostShelf::new(&rt), HostDesk::new(&rt));
-    expect_file(&rt, rt.alloc(), &mut shelf, &mut desk, FILE)?;
-    fs::remove_file(&rt, FILE)?;
+    expect_file(&rt, rt.alloc(), &mut shelf, &mut desk, FILE);
+    fs::remove_file(&rt, FILE).expect(&rt, "the file is removed");
     expect_failures(&rt, rt.alloc(), &mut shelf, &mut desk, FILE);
     expect_faults(&rt, &shelf, &desk);
-    Ok(())
 }
 
 /// The file that a text is printed to.
@@ -214,10 +204,9 @@ fn expect_not_said<R: Abort + Files>(rt: &R, name: &'static str) {
 }
 
 #[test]
-fn a_long_text_is_said_whole(rt: HostRuntime) -> Result<(), Fail> {
-    let text = long_bytes(rt.alloc())?;
+fn a_long_text_is_said_whole(rt: HostRuntime) {
+    let text = long_bytes(&rt, rt.alloc());
     expect_said(&rt, rt.alloc(), &text);
-    fs::remove_file(&rt, SAID)?;
+    fs::remove_file(&rt, SAID).expect(&rt, "the file is removed");
     expect_not_said(&rt, "beet_store_missing/said");
-    Ok(())
 }

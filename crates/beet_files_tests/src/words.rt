@@ -8,9 +8,8 @@ use beet_words::{
     Allowed, FeList, Tape, Word, WordList, Words, count_accepted, push_number, read_bundle,
     read_many, read_number, read_points, read_seed, read_tape, write_bundle, write_tape,
 };
-use std::alloc::{AllocError, Global};
+use std::alloc::Global;
 use std::process::Abort;
-use std::test::Fail;
 
 /// The word whose bits are all set.
 const ONES: u64 = 0x1fff_ffff_ffff_ffff;
@@ -23,60 +22,55 @@ fn expect_words(rt: &impl Abort, six: Word, ones: Word) {
 }
 
 /// Pushes a word to a list that is empty.
-fn expect_push(rt: &impl Abort, list: &mut WordList, word: Word) -> Result<(), AllocError> {
+fn expect_push(rt: &impl Abort, list: &mut WordList, word: Word) {
     assert!(rt; list.is_empty());
-    list.push(word)?;
+    list.push(word).expect(rt, "memory");
     assert!(rt; list.as_slice() == [word].as_slice());
-    assert_eq!(rt; list.len(), 1);
-    Ok(())
+    assert!(rt; list.len() == 1);
 }
 
 /// The list of a word of 6, which was empty, and then one of ones.
-fn two_words(
-    rt: &impl Abort,
-    alloc: Global,
-    six: Word,
-    ones: Word,
-) -> Result<WordList, AllocError> {
+fn two_words(rt: &impl Abort, alloc: Global, six: Word, ones: Word) -> WordList {
     let mut list = WordList::new(alloc);
-    expect_push(rt, &mut list, six)?;
-    list.push(ones)?;
-    Ok(list)
+    expect_push(rt, &mut list, six);
+    list.push(ones).expect(rt, "memory");
+    list
 }
 
 /// How many numbers can be drawn from a copy of the list.
-fn accepted_of_copy(alloc: Global, words: &WordList) -> Result<usize, AllocError> {
-    Ok(count_accepted(words.copy(alloc)?.as_slice()))
+fn accepted_of_copy(rt: &impl Abort, alloc: Global, words: &WordList) -> usize {
+    let copy = words.copy(alloc).expect(rt, "memory");
+    count_accepted(copy.as_slice())
 }
 
 /// How many masks are left on a copy of the tape of these words.
-fn masks_of_copy(rt: &impl Abort, alloc: Global, words: WordList) -> Result<u32, AllocError> {
+fn masks_of_copy(rt: &impl Abort, alloc: Global, words: WordList) -> u32 {
     assert!(rt; words.len() == 2);
-    Ok(Tape::of_words(words).copy(alloc)?.masks_left())
+    let tape = Tape::of_words(words);
+    tape.copy(alloc).expect(rt, "memory").masks_left()
 }
 
 /// Compares copies of the list of both words, and of their tape.
-fn expect_copies(rt: &impl Abort, alloc: Global, words: WordList) -> Result<(), AllocError> {
-    assert!(rt; accepted_of_copy(alloc, &words)? == 1);
-    assert!(rt; masks_of_copy(rt, alloc, words)? == 2);
-    Ok(())
+fn expect_copies(rt: &impl Abort, alloc: Global, words: WordList) {
+    assert!(rt; accepted_of_copy(rt, alloc, &words) == 1);
+    assert!(rt; masks_of_copy(rt, alloc, words) == 2);
 }
 
 /// Whether a copy of the list of this number has it alone.
-fn copies(alloc: Global, number: Fe) -> Result<bool, AllocError> {
-    let list = FeList::of(vec![in alloc; number]?);
-    Ok(list.copy(alloc)?.as_slice() == [number].as_slice())
+fn copies(rt: &impl Abort, alloc: Global, number: Fe) -> bool {
+    let list = FeList::of(vec![in alloc; number].expect(rt, "memory"));
+    let copy = list.copy(alloc).expect(rt, "memory");
+    copy.as_slice() == [number].as_slice()
 }
 
 #[test]
-fn words_and_lists(rt: HostRuntime) -> Result<(), Fail> {
-    let six = Word::of(6).ok_or("a word")?;
-    let ones = Word::of(ONES).ok_or("a word")?;
+fn words_and_lists(rt: HostRuntime) {
+    let six = Word::of(6).expect(&rt, "a word");
+    let ones = Word::of(ONES).expect(&rt, "a word");
     assert!(rt; Word::of(ONES + 1).is_none());
     expect_words(&rt, six, ones);
-    expect_copies(&rt, rt.alloc(), two_words(&rt, rt.alloc(), six, ones)?)?;
-    assert!(rt; copies(rt.alloc(), Fe::reduce(5))?);
-    Ok(())
+    expect_copies(&rt, rt.alloc(), two_words(&rt, rt.alloc(), six, ones));
+    assert!(rt; copies(&rt, rt.alloc(), Fe::reduce(5)));
 }
 
 /// The first two words of the first stream of the zero seed.
@@ -97,13 +91,18 @@ fn expect_draw(rt: &impl Abort, tape: &mut Tape) {
     assert_eq!(rt; tape.masks_left(), 1);
 }
 
+/// The tape of so many words of a stream of a seed.
+fn tape_of_seed(rt: &impl Abort, alloc: Global, seed: &[u8; 32], stream: u64, count: u32) -> Tape {
+    Tape::of_seed(alloc, seed, stream, count).expect(rt, "memory")
+}
+
 #[test]
-fn words_of_the_zero_seed(rt: HostRuntime) -> Result<(), Fail> {
-    let seed = read_seed(&[b'0'; 64]).ok_or("a seed")?;
-    expect_draw(&rt, &mut Tape::of_seed(rt.alloc(), &seed, 0, 2)?);
-    let other = Tape::of_seed(rt.alloc(), &seed, 1, 1)?;
-    assert!(rt; other.words()[0].value() != FIRST);
-    Ok(())
+fn words_of_the_zero_seed(rt: HostRuntime) {
+    let seed = read_seed(&[b'0'; 64]).expect(&rt, "a seed");
+    expect_draw(&rt, &mut tape_of_seed(&rt, rt.alloc(), &seed, 0, 2));
+    let other = tape_of_seed(&rt, rt.alloc(), &seed, 1, 1);
+    let first = other.words().first().expect(&rt, "a word");
+    assert!(rt; first.value() != FIRST);
 }
 
 /// A tape file of three words, of which two are kept, and what is written of them.
@@ -141,15 +140,24 @@ fn expect_kept(rt: &impl Abort, tape: &mut Tape) {
     assert!(rt; tape.next_mask().is_ones());
 }
 
+/// The tape of two words of the tape file.
+fn kept(rt: &impl Abort, alloc: Global) -> Tape {
+    let words = read_tape(alloc, TAPE_FILE, 2).expect(rt, "words");
+    Tape::of_words(words)
+}
+
+/// Whether the words of a tape are written so.
+fn is_written(rt: &impl Abort, alloc: Global, tape: &Tape, file: &[u8]) -> bool {
+    let written = write_tape(alloc, tape.words()).expect(rt, "memory");
+    written.as_slice() == file
+}
+
 #[test]
-fn tape_files(rt: HostRuntime) -> Result<(), Fail> {
-    let alloc = rt.alloc();
-    let mut tape = Tape::of_words(read_tape(alloc, TAPE_FILE, 2)?);
+fn tape_files(rt: HostRuntime) {
+    let mut tape = kept(&rt, rt.alloc());
     expect_kept(&rt, &mut tape);
-    let written = write_tape(alloc, tape.words())?;
-    assert!(rt; written.as_slice() == WRITTEN);
-    expect_bad_tapes(&rt, alloc, &BAD_TAPES);
-    Ok(())
+    assert!(rt; is_written(&rt, rt.alloc(), &tape, WRITTEN));
+    expect_bad_tapes(&rt, rt.alloc(), &BAD_TAPES);
 }
 
 /// The numbers from 0 to 8.
@@ -161,11 +169,11 @@ const BELOW_NINE: Allowed = Allowed {
 };
 
 /// The fields of 3 and 9.
-fn three_and_nine(alloc: Global) -> Result<Vec<u8>, AllocError> {
+fn three_and_nine(rt: &impl Abort, alloc: Global) -> Vec<u8> {
     let mut file = Vec::new(alloc);
-    push_number(&mut file, 3)?;
-    push_number(&mut file, 9)?;
-    Ok(file)
+    push_number(&mut file, 3).expect(rt, "memory");
+    push_number(&mut file, 9).expect(rt, "memory");
+    file
 }
 
 /// Why so many points from an offset on are refused.
@@ -181,34 +189,32 @@ fn points_fault(
 }
 
 /// Reads the first of them as a point.
-fn expect_point(rt: &impl Abort, alloc: Global, file: &[u8]) -> Result<(), ReadFault> {
-    let (points, at) = read_points(alloc, file, BELOW_NINE, 1, 0)?;
-    assert_eq!(rt; at, 8);
-    assert_eq!(rt; points.as_slice()[0].value(), 3);
-    Ok(())
+fn expect_point(rt: &impl Abort, alloc: Global, file: &[u8]) {
+    let (points, at) = read_points(alloc, file, BELOW_NINE, 1, 0).expect(rt, "a point");
+    assert!(rt; at == 8);
+    assert!(rt; points.as_slice()[0].value() == 3);
 }
 
 /// Reads both as numbers.
-fn expect_numbers(rt: &impl Abort, alloc: Global, file: &[u8]) -> Result<(), ReadFault> {
+fn expect_numbers(rt: &impl Abort, alloc: Global, file: &[u8]) {
     let below_ten = Allowed {
         high: 9,
         ..BELOW_NINE
     };
-    let (numbers, at) = read_many(alloc, file, 2, 0, |from| read_number(file, below_ten, from))?;
-    assert_eq!(rt; at, 16);
+    let read = read_many(alloc, file, 2, 0, |from| read_number(file, below_ten, from));
+    let (numbers, at) = read.expect(rt, "two numbers");
+    assert!(rt; at == 16);
     assert!(rt; numbers.as_slice() == [3, 9].as_slice());
-    Ok(())
 }
 
 #[test]
-fn numbers_of_a_file(rt: HostRuntime) -> Result<(), Fail> {
+fn numbers_of_a_file(rt: HostRuntime) {
     let alloc = rt.alloc();
-    let file = three_and_nine(alloc)?;
-    expect_point(&rt, alloc, &file)?;
+    let file = three_and_nine(&rt, alloc);
+    expect_point(&rt, alloc, &file);
     expect_offset(&rt, points_fault(&rt, alloc, &file, 2, 0), 8, 3);
     expect_offset(&rt, points_fault(&rt, alloc, &file, 2, 16), 16, 2);
-    expect_numbers(&rt, alloc, &file)?;
-    Ok(())
+    expect_numbers(&rt, alloc, &file);
 }
 
 /// No bidder, and no words.
@@ -237,8 +243,8 @@ fn bundle_fault(rt: &impl Abort, alloc: Global, bytes: &[u8], count: usize) -> O
 }
 
 /// The bundle of no words, as a file.
-fn empty_bundle(alloc: Global) -> Result<Vec<u8>, AllocError> {
-    write_bundle(alloc, &no_words(alloc))
+fn empty_bundle(rt: &impl Abort, alloc: Global) -> Vec<u8> {
+    write_bundle(alloc, &no_words(alloc)).expect(rt, "memory")
 }
 
 /// Compares the offset and the reason that the first bytes of a bundle are refused with.
@@ -270,10 +276,9 @@ fn expect_longer_bundle(rt: &impl Abort, alloc: Global, file: &mut [u8]) {
 }
 
 #[test]
-fn bundles(rt: HostRuntime) -> Result<(), Fail> {
-    let mut file = empty_bundle(rt.alloc())?;
+fn bundles(rt: HostRuntime) {
+    let mut file = empty_bundle(&rt, rt.alloc());
     expect_cut_bundle(&rt, rt.alloc(), &file);
-    file.push(0)?;
+    file.push(0).expect(&rt, "memory");
     expect_longer_bundle(&rt, rt.alloc(), &mut file);
-    Ok(())
 }

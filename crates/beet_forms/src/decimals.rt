@@ -1,9 +1,9 @@
 //! Decimal numbers.
 
-ghost use Rattle.std.specs.Prelude.{◌≡◌, ◌==◌, ◌&&◌, nat_lt, if◌then◌else◌, length, slice_index, ◌++◌, decimal, IfOk, OnOk, OnErr};
+ghost use Rattle.std.specs.Prelude.{◌≡◌, ◌==◌, ◌&&◌, nat_lt, if◌then◌else◌, ◌≤◌, length, slice_index, ◌++◌, decimal, IfOk, OnOk, OnErr};
 ghost use Rattle.std.specs.Char.{is_ascii_digit};
 ghost use Rattle.std.specs.List.{list_all};
-ghost use Rattle.beet_forms.specs.Numbers.{number_of, decimal_value, IsReadBack};
+ghost use Rattle.beet_forms.specs.Numbers.{number_of, decimal_value, digits_within, IsReadBack};
 
 use itoa::Buffer;
 use std::alloc::AllocError;
@@ -25,6 +25,9 @@ pub enum NumberFault {
     #[error("above the largest number")]
     TooLarge,
 }
+
+/// The most digits of which each number is below 2^64.
+const FEW: usize = 19;
 
 /// Whether each byte is a digit.
 fn are_digits(digits: &[u8]) -> bool
@@ -55,6 +58,46 @@ fn value_within(digits: &[u8], max: u64) -> Option<u64>
     Some(value)
 }
 
+/// What [`read_digits`] answers, of any number of digits.
+#[cold]
+#[inline(never)]
+fn read_many(digits: &[u8], max: u64) -> Option<Option<u64>>
+    ensures { result ≡ digits_within max digits.now }
+{
+    if !are_digits(digits) {
+        return None;
+    }
+    Some(value_within(digits, max))
+}
+
+/// What [`read_digits`] answers, of so few digits that their number is below 2^64. They are gone over once.
+fn read_few(digits: &[u8], max: u64) -> Option<Option<u64>>
+    requires { length digits.now ≤ FEW }
+    ensures { result ≡ digits_within max digits.now }
+{
+    let mut value = 0u64;
+    for digit in digits {
+        if !digit.is_ascii_digit() {
+            return None;
+        }
+        value = 10 * value + (*digit - b'0') as u64;
+    }
+    if value > max {
+        return Some(None);
+    }
+    Some(Some(value))
+}
+
+/// The number that the digits write, and within that none where it is above the largest. None where a byte is no digit.
+fn read_digits(digits: &[u8], max: u64) -> Option<Option<u64>>
+    ensures { result ≡ digits_within max digits.now }
+{
+    if digits.len() > FEW {
+        return read_many(digits, max);
+    }
+    read_few(digits, max)
+}
+
 /// The number that decimal digits write, up to a maximum. The faults are tested in the order of [`NumberFault`].
 pub fn number(digits: &[u8], max: u64) -> Result<u64, NumberFault>
     ensures value { result ≡ number_of digits.now max }
@@ -63,13 +106,13 @@ pub fn number(digits: &[u8], max: u64) -> Result<u64, NumberFault>
     if digits.is_empty() {
         return Err(NumberFault::Empty);
     }
-    if !are_digits(digits) {
+    let Some(value) = read_digits(digits, max) else {
         return Err(NumberFault::NotDigit);
-    }
+    };
     if has_leading_zero(digits) {
         return Err(NumberFault::LeadingZero);
     }
-    value_within(digits, max).ok_or(NumberFault::TooLarge)
+    value.ok_or(NumberFault::TooLarge)
 }
 
 /// Appends the decimal digits of a number, which `number` reads back. Want of memory is the only error.

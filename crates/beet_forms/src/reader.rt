@@ -54,11 +54,12 @@ impl<'a> RowReader<'a> {
         ensures rows { result ≡ rows_of bytes.now }
         ensures few { length result ≤ length bytes.now }
     {
-        let reader = ReaderBuilder::new()
-            .has_headers(false)
-            .flexible(true)
-            .from_reader(alloc, bytes);
-        RowReader { reader }
+        RowReader {
+            reader: ReaderBuilder::new()
+                .has_headers(false)
+                .flexible(true)
+                .from_reader(alloc, bytes),
+        }
     }
 
     /// Puts the next row in the place of `row`, and answers whether there was one. Want of memory is the only error.

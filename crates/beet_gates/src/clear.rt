@@ -223,15 +223,16 @@ pub fn clear_run<S: Script>(
     // The law bounds the deals by this number, so a u32 counts them.
     let _dealt_at_most = script.masks();
     let mut run = Run::start(alloc, inputs, script.wires())?;
+    let mut place = script.begin();
     let mut batch = Batch::end();
     for done in 0..rounds {
-        script.refill(done, run.opened(), &mut batch);
+        script.refill(done, run.opened(), &mut place, &mut batch);
         run.step(&batch, masks)?;
         if is_last(&batch.act) {
             return Ok(run.finish(done));
         }
     }
-    script.refill(rounds, run.opened(), &mut batch);
+    script.refill(rounds, run.opened(), &mut place, &mut batch);
     run.step(&batch, masks)?;
     Ok(run.finish(rounds))
 }

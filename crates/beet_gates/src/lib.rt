@@ -6,7 +6,7 @@
 //! values of its wires to the opened numbers.
 #![tactic(auto)]
 
-ghost use Rattle.std.specs.Prelude.{◌≡◌, ℕ, List, []};
+ghost use Rattle.std.specs.Prelude.{◌≡◌, ◌≤◌, ◌++◌, ℕ, List, []};
 ghost use Rattle.beet_gates.specs.declared.Batch.{Batch};
 ghost use Rattle.beet_gates.specs.Scripts.{LawFrom, start_of, bounds_of};
 
@@ -72,6 +72,10 @@ pub struct Batch {
 
 /// A program of batches, each of which may depend on the numbers opened before it.
 pub trait Script: Copy {
+    /// How far a run has come in the script. It is no part of what the run does: with it a batch costs a look at the numbers
+    /// opened since the one before, and not at all of them.
+    type Place: Copy;
+
     ghost inputs_of: { Self → ℕ };
 
     ghost rounds_of: { Self → ℕ };
@@ -84,6 +88,9 @@ pub trait Script: Copy {
 
     /// The batch after so many, with these numbers opened so far.
     ghost batch_of: { Self → ℕ → List ℕ → Batch };
+
+    /// A run that has done so many batches, and has opened these numbers, may go on from the place.
+    ghost is_at: { Self → ℕ → List ℕ → Self.Place → Type 0 };
 
     /// The number of inputs.
     fn inputs(&self) -> u32
@@ -109,12 +116,23 @@ pub trait Script: Copy {
     fn next(&self, done: u32, opened: &[Fe]) -> Batch
         ensures { result ≡ batch_of self.now done opened.now };
 
-    /// Puts what `next` answers in the place of another batch. A script that runs for many rounds does it in place.
-    fn refill(&self, done: u32, opened: &[Fe], batch: &mut Batch)
-        ensures { batch.new ≡ batch_of self.now done opened.now }
+    /// The place of a run that has done no batch.
+    fn begin(&self) -> Self::Place
+        ensures { is_at self.now 0 [] result };
+
+    /// Goes on from a place, and makes a batch what `next` answers. A script that runs for many rounds reads only the numbers
+    /// that were opened since, and fills the batch in place.
+    fn refill(&self, done: u32, opened: &[Fe], place: &mut Self::Place, batch: &mut Batch)
+        requires { is_at self.now done opened.now place.old }
+        ensures batch { batch.new ≡ batch_of self.now done opened.now }
+        ensures place { is_at self.now done opened.now place.new }
     {
         *batch = self.next(done, opened);
     }
+
+    /// A run may go on from the same place later, whatever numbers were opened since.
+    ghost goes_on: { (s : Self) (done later : ℕ) (opened more : List ℕ) (place : Self.Place) →
+        is_at s done opened place → done ≤ later → is_at s later (opened ++ more) place };
 
     /// Whatever numbers are opened, each batch names only wires that stand before it or earlier in its own lets, no
     /// product or opening is empty, no batch has more than 128 lets or 64 pairs or wires, the end comes after at most

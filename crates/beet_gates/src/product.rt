@@ -9,8 +9,11 @@ use beet_field::Fe;
 pub struct Product;
 
 impl Script for Product {
+    ghost use Rattle.std.specs.Prelude.{⊤};
     ghost use Rattle.std.proofs.Common.{rules};
     ghost use Rattle.beet_gates.specs.Product.{product_batch};
+
+    type Place = ();
 
     ghost inputs_of = { λ _. 2 };
 
@@ -23,6 +26,10 @@ impl Script for Product {
     ghost wires_of = { λ _. 3 };
 
     ghost batch_of = { λ _ done _. product_batch done };
+
+    ghost is_at = { λ _ _ _ _. ⊤ };
+
+    ghost goes_on = { λ _ _ _ _ _ _ there _. there };
 
     ghost lawful = { Prim.search rules };
 
@@ -65,4 +72,6 @@ impl Script for Product {
             act,
         }
     }
+
+    fn begin(&self) {}
 }

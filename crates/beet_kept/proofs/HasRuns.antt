@@ -1,6 +1,6 @@
 -- What three servers that have run the auction of a book have seen.
 use Rattle.std.proofs.Common.{◌≡◌, ◌<◌, ℕ, ◌*◌, List, map, length, All, arith, refl, sym, ap, ◌∙◌, subst, true, Some, Option, inl, inr, None, get_or, ◌≢◌, Vec, Global}
-use Rattle.std.specs.Prelude.{MatchOption, if◌then◌else◌}
+use Rattle.std.specs.Prelude.{MatchOption}
 use Rattle.std.proofs.lemmas.Bool.{cases_Bool}
 use Rattle.std.proofs.lemmas.List.{length-map, get_or-map, take_all}
 use Rattle.std.proofs.lemmas.List.Elements.{All-map}
@@ -37,7 +37,7 @@ use Rattle.beet_book.proofs.FarmerLists.{book-whole}
 use Rattle.beet_run.specs.Runs.{EndsAuction, Starts, setup_with}
 use Rattle.beet_run.proofs.BookRuns.{one-end}
 use Rattle.beet_run.proofs.Ending.{ends-auction}
-use Rattle.beet_view.specs.BookViews.{names, seen_at, view_for}
+use Rattle.beet_view.specs.BookViews.{kept_if, names, seen_at, view_for}
 use Rattle.beet_view.specs.RunViews.{view_of_run}
 use Rattle.beet_view.specs.Transcripts.{view_bytes}
 use Rattle.beet_view.specs.Views.{IsSeenAt}
@@ -53,7 +53,7 @@ cut-same grid words h = λ i. record {
 }
 
 own-seen : (grid : Grid) (s : Point) (known : Option Point) (curve : Curve) (words : List ℕ) → IsOfGrid grid curve →
-    MatchOption {T = Curve × List ℕ} (if names known s then Some (curve, words) else None) (known ≢ Some s) (λ own. (known ≡ Some s) × IsOfGrid grid own.0)
+    MatchOption {T = Curve × List ℕ} (kept_if (names known s) curve words) (known ≢ Some s) (λ own. (known ≡ Some s) × IsOfGrid grid own.0)
 own-seen grid s None curve words h = λ e. cc e
 own-seen grid s (Some at) curve words h = elim (cases_Bool (same at s)) [
   | inl is_known ↦ rw is_known (ap Some (same_is at s is_known), h)

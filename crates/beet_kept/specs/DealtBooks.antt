@@ -1,5 +1,5 @@
 -- What the bidders of a book deal: the summed points, and the bidders as each server sees them.
-use Rattle.std.specs.Prelude.{◌≡◌, List, map, Option, Some, None, if◌then◌else◌, ℕ, length, All, Bool, true}
+use Rattle.std.specs.Prelude.{◌≡◌, List, map, Option, Some, None, ℕ, length, All, Bool, true}
 use Rattle.beet_field.specs.Trio.{member}
 use Rattle.beet_field.specs.declared.point.Point.{Point}
 use Rattle.beet_field.specs.declared.trio.Trio.{Trio}
@@ -10,12 +10,12 @@ use Rattle.beet_book.specs.Totals.{Totals}
 use Rattle.beet_book.specs.Farmers.{Farmer, summed_points}
 use Rattle.beet_delivery.specs.Events.{same}
 use Rattle.beet_load.specs.Wholes.{CanDeal}
-use Rattle.beet_view.specs.BookViews.{names, seen_at}
+use Rattle.beet_view.specs.BookViews.{kept_if, names, seen_at}
 use Rattle.beet_view.specs.declared.view.Seen.{Seen}
 
 -- the curve and the words of a bidder, where this server knows it
 abbrev pub own_at : Point → Farmer → Option (Curve × List ℕ)
-own_at s farmer = if names farmer.bidder.known s then Some (farmer.bidder.curve, farmer.words) else None
+own_at s farmer = kept_if (names farmer.bidder.known s) farmer.bidder.curve farmer.words
 
 -- a bidder with these points, as this server sees it
 abbrev pub seen_with : Point → Farmer → List ℕ → Seen

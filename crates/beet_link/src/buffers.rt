@@ -2,7 +2,6 @@
 
 ghost use Rattle.std.specs.Prelude.{◌≡◌};
 
-use arrayvec::ArrayVec;
 use beet_field::Point;
 use beet_round::RoundMessage;
 use rtrb::{Consumer, Producer, RingBuffer};
@@ -16,7 +15,7 @@ use std::thread;
 const BUFFERS: usize = 2;
 
 /// A message in memory of its own, which is used again. So the queue of a link takes little memory, though it has room for all messages
-/// of a run.
+/// of a run. Contracts see the message.
 #[derive(Drop)]
 pub struct Buffer {
     message: Box<RoundMessage>,
@@ -33,41 +32,22 @@ impl Model for Buffer {
 impl Buffer {
     /// A buffer with a message of no numbers.
     fn new(alloc: Global, from: Point, to: Point) -> Result<Buffer, AllocError> {
-        let message = Box::new(
-            alloc,
-            RoundMessage {
-                from,
-                to,
-                round: 0,
-                numbers: ArrayVec::new(),
-            },
-        )?;
+        let message = Box::new(alloc, RoundMessage::blank(from, to))?;
         Ok(Buffer { message })
     }
 
-    /// Puts the message into the buffer, over the one before. No more is written than the numbers that the message has.
-    pub fn fill(&mut self, message: RoundMessage)
-        ensures { self.new ≡ message }
+    /// Puts the message into the buffer, over the one before.
+    pub(crate) fn fill(&mut self, message: &RoundMessage)
+        ensures { self.new ≡ message.now }
     {
-        self.message.from = message.from;
-        self.message.to = message.to;
-        self.message.round = message.round;
-        self.message.numbers.clear();
-        if self
-            .message
-            .numbers
-            .try_extend_from_slice(message.numbers.as_slice())
-            .is_err()
-        {
-            unreachable!();
-        }
+        self.message.fill(message);
     }
 
     /// The message.
-    pub fn message(&self) -> RoundMessage
-        ensures { result ≡ self.now }
+    pub fn message(&self) -> &RoundMessage
+        ensures { result.now ≡ self.now }
     {
-        self.message.copy()
+        &self.message
     }
 }
 

@@ -3,7 +3,7 @@
 ghost use Rattle.std.specs.Prelude.{◌≡◌, MatchOption};
 ghost use Rattle.beet_link.specs.Ends.{IsNext, one_on};
 
-use crate::buffers::{Free, Read, free_buffer, give_back};
+use crate::buffers::{Buffer, Free, Read, free_buffer, give_back};
 use crate::rule::{Puts, Queue, QueuePass, Takes};
 use beet_round::RoundMessage;
 use std::alloc::Global;
@@ -60,10 +60,10 @@ impl Model for LinkRx {
 }
 
 impl LinkTx {
-    /// Puts the next message of the run. It is never refused, and takes no memory. Where both messages
-    /// before it are still to be taken, it waits.
-    pub fn put<R: Wait>(&mut self, rt: &R, message: RoundMessage)
-        requires { IsNext self.old message }
+    /// Puts the next message of the run. It is never refused, and takes no memory. Where the buffers of
+    /// both messages before it are still to be given back, it waits.
+    pub fn put<R: Wait>(&mut self, rt: &R, message: &RoundMessage)
+        requires { IsNext self.old message.now }
         ensures { self.new ≡ one_on self.old }
     {
         let mut buffer = free_buffer(rt, &mut self.free);
@@ -76,18 +76,20 @@ impl LinkTx {
 }
 
 impl LinkRx {
-    /// Takes the front of the link. The answer is `None` only where the link was empty at a moment
-    /// of the call, and then nothing changes. No memory is taken.
-    pub fn take<R: Wait>(&mut self, rt: &R) -> Option<RoundMessage>
+    /// Takes the front of the link, in a buffer that is to be given back. The answer is `None` only
+    /// where the link was empty at a moment of the call, and then nothing changes. No memory is taken.
+    pub fn take<R: Wait>(&mut self, rt: &R) -> Option<Buffer>
         ensures { MatchOption result (self.new ≡ self.old)
             (λ m. IsNext self.old m × (self.new ≡ one_on self.old)) }
     {
-        if self.queue.is_empty_as::<Takes>(&mut self.pass) {
-            return None;
-        }
         let buffer = self.queue.pop_as::<Takes, R>(rt, &mut self.pass)?;
-        let message = buffer.message();
+        Some(buffer)
+    }
+
+    /// Gives back a buffer whose message was read. For one that is kept a later `put` may wait forever.
+    pub fn give_back(&mut self, buffer: Buffer)
+        ensures { self.new ≡ self.old }
+    {
         give_back(&mut self.read, buffer);
-        Some(message)
     }
 }

@@ -23,9 +23,14 @@ pub trait Gate: Sync {
 
     /// Meets the server of this seat.
     fn meet(&self, seat: &mut Self::Seat, note: Note);
+
+    /// Whether three servers must meet it. Where they need not, they may run on one thread without it.
+    fn must_be_met(&self) -> bool {
+        true
+    }
 }
 
-/// The gate that does nothing.
+/// The gate that does nothing, and that no server need meet.
 pub struct FreeGate;
 
 impl Gate for FreeGate {
@@ -34,4 +39,8 @@ impl Gate for FreeGate {
     fn seat(&self, _server: Point) {}
 
     fn meet(&self, _seat: &mut (), _note: Note) {}
+
+    fn must_be_met(&self) -> bool {
+        false
+    }
 }

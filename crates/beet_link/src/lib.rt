@@ -8,6 +8,7 @@ mod gates;
 mod opening;
 mod rule;
 
+pub use buffers::Buffer;
 pub use ends::{LinkRx, LinkTx};
 pub use gates::{FreeGate, Gate, Note};
 pub use opening::link;

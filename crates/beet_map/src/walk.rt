@@ -95,9 +95,10 @@ pub(crate) fn map_numbers<S: Script>(
     let mut numbers = drawn.copy(alloc)?;
     let mut here = Stage::begin(alloc, first.inputs.as_slice())?;
     let mut there = Stage::begin(alloc, second.inputs.as_slice())?;
+    let mut place = script.begin();
     let mut batch = Batch::end();
     for t in 0..rounds {
-        script.refill(t, here.opened.as_slice(), &mut batch);
+        script.refill(t, here.opened.as_slice(), &mut place, &mut batch);
         here.add_lets(&batch)?;
         there.add_lets(&batch)?;
         move_batch(me, &batch.act, first, &here, second, &there, &mut numbers);

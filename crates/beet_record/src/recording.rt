@@ -8,7 +8,7 @@ ghost use Rattle.beet_load.specs.Wholes.{CanStart};
 ghost use Rattle.beet_kept.specs.BookRuns.{HasRun};
 ghost use Rattle.beet_record.specs.Records.{file_for, record_job, recorded_answer};
 
-use beet_auction_threads::run_in_threads;
+use beet_auction_threads::run_servers;
 use beet_bids::Book;
 use beet_errand::{NewFile, Reply, Stop};
 use beet_field::{Point, Trio};
@@ -63,9 +63,8 @@ fn transcript_files(
     Ok(vec![in alloc; one, two, three]?)
 }
 
-/// Runs the auction of a book among three servers, which begin with these words, to its end, each in a thread of its own and
-/// under the gate. Want of memory is the only error, and comes before the first round.
-fn run_whole_in_threads<R: Threads + Wait + Sync, G: Gate>(
+/// Runs the auction of a book among three servers, which begin with these words, to its end, as `run_servers` does. Want of memory is the only error, and comes before the first round.
+fn run_whole<R: Threads + Wait + Sync, G: Gate>(
     rt: &R,
     alloc: Global,
     book: &Book,
@@ -78,7 +77,7 @@ fn run_whole_in_threads<R: Threads + Wait + Sync, G: Gate>(
 {
     let begun = make_ready(rt, alloc, None, book, words)?;
     let grid = begun.grid;
-    let cores = run_in_threads(rt, alloc, &grid, begun.inputs, begun.tapes, gate)?;
+    let cores = run_servers(rt, alloc, &grid, begun.inputs, begun.tapes, gate)?;
     let finish = finish_at(&cores.one);
     let rounds = cores.one.round();
     Ok(Ran::of(grid, begun.seen, cores, finish, rounds))
@@ -95,7 +94,7 @@ fn reply_for<R: Threads + Wait + Sync, G: Gate>(
     ensures memory { IfErr result (λ stop. stop ≡ Stop.OutOfMemory) }
     ensures reply { IfOk result (λ reply. reply ≡ recorded_answer out.now (loaded_of whole)) }
 {
-    let ran = run_whole_in_threads(rt, alloc, &whole.book, &whole.words, gate)?;
+    let ran = run_whole(rt, alloc, &whole.book, &whole.words, gate)?;
     drop(whole);
     let reply = outcome_reply(alloc, ran.grid(), ran.finish(), ran.rounds())?;
     let transcripts = ran.into_transcripts(rt, alloc)?;
@@ -107,8 +106,8 @@ fn reply_for<R: Threads + Wait + Sync, G: Gate>(
     })
 }
 
-/// Runs the auction of a book among three servers, each in a thread of its own and under the gate. What each server has seen is put into the file of the name `out`, a dot
-/// and the server's number; the text is that of the job `clear`.
+/// Runs the auction of a book among three servers, in threads and under the gate where `run_servers` says so. What each server
+/// has seen is put into the file of the name `out`, a dot and the server's number; the text is that of the job `clear`.
 pub fn record<S: Shelf, R: Threads + Wait + Sync, G: Gate>(
     rt: &R,
     alloc: Global,

@@ -1,5 +1,5 @@
 -- The messages that a server has received of its round and of the next.
-use Rattle.std.specs.Prelude.{◌≡◌, ◌≢◌, ℕ, ◌+◌, ◌<◌, ◌≤◌, List, [], ◌∷◌, Option, Some, None, is_some, IfSome, true, false, ◌⊎◌, ◌==◌, if◌then◌else◌}
+use Rattle.std.specs.Prelude.{◌≡◌, ◌≢◌, ℕ, ◌+◌, ◌<◌, ◌≤◌, List, [], Option, Some, None, is_some, IfSome, true, false, ◌⊎◌, ◌==◌, if◌then◌else◌}
 use Rattle.arrayvec.specs.ArrayVec.{array_vec_len}
 use Rattle.beet_field.specs.declared.point.Point.{Point}
 use Rattle.beet_round.specs.declared.sides.Side.{Side}
@@ -129,9 +129,3 @@ turned old want = record {
 pub record IsWanted (box : Mailbox) (s : Side) (m : RoundMessage) : Type 0 where
   pub from : IsFrom box.me box.round s m
   pub length : array_vec_len m.numbers ≡ box.want
-
--- these are the two messages of the box's round, the lower server's first
-abbrev pub AreHandedOut : Mailbox → List RoundMessage → Type 0
-AreHandedOut box out =
-    (low high : RoundMessage) → box.now.low ≡ Some low → box.now.high ≡ Some high →
-    (out ≡ low ∷ high ∷ []) × IsWanted box Low low × IsWanted box High high

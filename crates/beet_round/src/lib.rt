@@ -8,5 +8,5 @@ mod places;
 mod sides;
 
 pub use mailbox::{RoundBox, Verdict};
-pub use message::RoundMessage;
+pub use message::{RoundMessage, ToPeers};
 pub use sides::Side;

@@ -1,8 +1,8 @@
 //! The box, and what it says of a message.
 
-ghost use Rattle.std.specs.Prelude.{◌≡◌, ◌↔◌, ◌<◌, ◌≤◌, ◌-◌, ◌^◌, length, IsTrue};
+ghost use Rattle.std.specs.Prelude.{◌≡◌, Some, ◌↔◌, ◌<◌, ◌≤◌, ◌-◌, ◌^◌, length, IsTrue};
 ghost use Rattle.beet_round.specs.Sides.{peer};
-ghost use Rattle.beet_round.specs.Boxes.{fresh_box, HasBoth, numbers_at, Judged, JudgedFrom, IsDue, turned, AreHandedOut};
+ghost use Rattle.beet_round.specs.Boxes.{fresh_box, HasBoth, numbers_at, Judged, JudgedFrom, IsDue, IsWanted, place_at, turned};
 
 use crate::message::RoundMessage;
 use crate::places::{Places, advance};
@@ -60,14 +60,14 @@ impl RoundBox {
             me,
             round: 0,
             want,
-            current: Places::none(),
-            early: Places::none(),
+            current: Places::none(me),
+            early: Places::none(me),
         }
     }
 
-    /// Puts the message in its place, or says why not; it is dropped then. A message of the next round may have any length.
-    pub fn offer(&mut self, m: RoundMessage) -> Verdict
-        ensures { Judged self.old self.new m result }
+    /// Puts a copy of the message in its place, or says why not. A message of the next round may have any length.
+    pub fn offer(&mut self, m: &RoundMessage) -> Verdict
+        ensures { Judged self.old self.new m.now result }
     {
         if m.to != self.me {
             return Verdict::Stranger;
@@ -78,10 +78,10 @@ impl RoundBox {
         }
     }
 
-    fn offer_from(&mut self, side: Side, m: RoundMessage) -> Verdict
-        requires to { m.to ≡ self.old.me }
-        requires from { m.from ≡ peer self.old.me side }
-        ensures { JudgedFrom self.old self.new side m result }
+    fn offer_from(&mut self, side: Side, m: &RoundMessage) -> Verdict
+        requires to { m.now.to ≡ self.old.me }
+        requires from { m.now.from ≡ peer self.old.me side }
+        ensures { JudgedFrom self.old self.new side m.now result }
     {
         if m.round < self.round {
             return Verdict::Old;
@@ -99,11 +99,11 @@ impl RoundBox {
         Verdict::Stored
     }
 
-    fn offer_now(&mut self, side: Side, m: RoundMessage) -> Verdict
-        requires to { m.to ≡ self.old.me }
-        requires from { m.from ≡ peer self.old.me side }
-        requires round { m.round ≡ self.old.round }
-        ensures { JudgedFrom self.old self.new side m result }
+    fn offer_now(&mut self, side: Side, m: &RoundMessage) -> Verdict
+        requires to { m.now.to ≡ self.old.me }
+        requires from { m.now.from ≡ peer self.old.me side }
+        requires round { m.now.round ≡ self.old.round }
+        ensures { JudgedFrom self.old self.new side m.now result }
     {
         if self.current.is_filled(side) {
             return Verdict::Repeat;
@@ -127,19 +127,25 @@ impl RoundBox {
         self.current.are_filled()
     }
 
-    /// The numbers of the round's message from the server of this side. Both messages of the round are in.
+    /// The round's message from the server of this side. Both messages of the round are in.
+    pub fn message(&self, side: Side) -> &RoundMessage
+        requires { HasBoth self.now.now }
+        ensures message { Some result.now ≡ place_at self.now.now side }
+        ensures wanted { IsWanted self.now side result.now }
+    {
+        match side {
+            Side::Low => self.current.low.message(),
+            Side::High => self.current.high.message(),
+        }
+    }
+
+    /// The numbers of that message.
     pub fn numbers(&self, side: Side) -> &[Fe]
         requires { HasBoth self.now.now }
         ensures numbers { result.now ≡ numbers_at self.now.now side }
         ensures length { length result.now ≡ self.now.want }
     {
-        let (Some(low), Some(high)) = (&self.current.low, &self.current.high) else {
-            unreachable!()
-        };
-        match side {
-            Side::Low => low.numbers.as_slice(),
-            Side::High => high.numbers.as_slice(),
-        }
+        self.message(side).numbers.as_slice()
     }
 
     /// The round, from 0.
@@ -149,25 +155,17 @@ impl RoundBox {
         self.round
     }
 
-    /// Hands out both messages of the round, the lower server's first, and moves to the next round, which wants messages
-    /// of `want` numbers. An early message of another length is dropped.
-    pub fn turn(&mut self, want: u32) -> [RoundMessage; 2]
+    /// Drops both messages of the round, and moves to the next one, which wants messages of `want` numbers. An early message
+    /// of another length is dropped.
+    pub fn turn(&mut self, want: u32)
         requires both { HasBoth self.old.now }
         requires wanted { want ≤ 64 }
         requires room { self.old.round < 2 ^ 32 - 1 }
-        ensures moved { self.new ≡ turned self.old want }
-        ensures out { AreHandedOut self.old result }
+        ensures { self.new ≡ turned self.old want }
     {
-        let Some(low) = self.current.low.take() else {
-            unreachable!()
-        };
-        let Some(high) = self.current.high.take() else {
-            unreachable!()
-        };
         advance(&mut self.early.low, &mut self.current.low, want);
         advance(&mut self.early.high, &mut self.current.high, want);
         self.want = want;
         self.round += 1;
-        [low, high]
     }
 }

@@ -8,9 +8,8 @@ use beet_round::Verdict;
 use beet_search::AuctionScript;
 use beet_server::ServerCore;
 use beet_words::{FeList, Tape};
-use std::alloc::{AllocError, Global};
+use std::alloc::Global;
 use std::process::Abort;
-use std::test::Fail;
 
 /// A server of the auction.
 type Core = ServerCore<AuctionScript>;
@@ -24,33 +23,32 @@ const ROUNDS: u32 = 255;
 const ROUND: u32 = 3;
 
 /// The points of a server on lines of the sums.
-fn points(alloc: Global, me: Point) -> Result<FeList, AllocError> {
+fn points(rt: &impl Abort, alloc: Global, me: Point) -> FeList {
     let mut points = Vec::new(alloc);
     for sum in SUMS {
-        points.push(Fe::reduce(sum as u128 + 7 * me.number() as u128))?;
+        let point = Fe::reduce(sum as u128 + 7 * me.number() as u128);
+        points.push(point).expect(rt, "memory");
     }
-    Ok(FeList::of(points))
+    FeList::of(points)
 }
 
 /// A server that begins with its points and the words of a seed.
-fn server(rt: &impl Abort, alloc: Global, me: Point, seed: &[u8; 32]) -> Result<Core, Fail> {
-    let Some(script) = AuctionScript::new(4, Gates::Chain) else {
-        return Err("no script".into());
-    };
-    let inputs = points(alloc, me)?;
+fn server(rt: &impl Abort, alloc: Global, me: Point, seed: &[u8; 32]) -> Core {
+    let script = AuctionScript::new(4, Gates::Chain).expect(rt, "a script");
+    let inputs = points(rt, alloc, me);
     assert!(rt; inputs.as_slice().len() == script.inputs() as usize);
-    let masks = Tape::of_seed(alloc, seed, 1, script.masks())?;
-    let coefficients = Tape::of_seed(alloc, seed, 0, script.coefficients())?;
-    Ok(ServerCore::start(alloc, me, script, inputs, masks, coefficients)?)
+    let masks = Tape::of_seed(alloc, seed, 1, script.masks()).expect(rt, "memory");
+    let coefficients = Tape::of_seed(alloc, seed, 0, script.coefficients()).expect(rt, "memory");
+    ServerCore::start(alloc, me, script, inputs, masks, coefficients).expect(rt, "a server")
 }
 
 /// The three servers.
-fn servers(rt: &impl Abort, alloc: Global) -> Result<Trio<Core>, Fail> {
-    Ok(Trio {
-        one: server(rt, alloc, Point::One, &[1; 32])?,
-        two: server(rt, alloc, Point::Two, &[2; 32])?,
-        three: server(rt, alloc, Point::Three, &[3; 32])?,
-    })
+fn servers(rt: &impl Abort, alloc: Global) -> Trio<Core> {
+    Trio {
+        one: server(rt, alloc, Point::One, &[1; 32]),
+        two: server(rt, alloc, Point::Two, &[2; 32]),
+        three: server(rt, alloc, Point::Three, &[3; 32]),
+    }
 }
 
 /// The sender and the receiver of a message, its round and how many numbers it has, and what server 1 says of it in round 3.
@@ -75,13 +73,13 @@ fn expect_offers(rt: &impl Abort, core: &mut Core, offers: &[Offer]) {
 /// Passes so many rounds.
 fn pass_rounds(rt: &impl Abort, cores: &mut Trio<Core>, rounds: u32) {
     for _ in 0..rounds {
-        assert!(rt; pass_round(cores) == Some(true));
+        pass_round(rt, cores);
     }
 }
 
 /// Passes a round in which the messages are offered to server 1 before its own are given to it.
 fn pass_with_offers(rt: &impl Abort, cores: &mut Trio<Core>) {
-    let sent = send_all(cores).expect(rt, "none has handed its messages out");
+    let sent = send_all(rt, cores);
     expect_offers(rt, &mut cores.one, &OFFERS);
     assert_eq!(rt; cores.one.round(), ROUND);
     assert!(rt; give_all(cores, sent));
@@ -104,8 +102,8 @@ fn expect_auction(rt: &impl Abort, cores: &mut Trio<Core>) {
 }
 
 #[test]
-fn what_is_offered_in_the_middle_changes_nothing(rt: HostRuntime) -> Result<(), Fail> {
-    let mut cores = servers(&rt, rt.alloc())?;
+fn what_is_offered_in_the_middle_changes_nothing(rt: HostRuntime) {
+    let mut cores = servers(&rt, rt.alloc());
     expect_auction(&rt, &mut cores);
-    Ok(())
+    drop(cores);
 }

@@ -1,14 +1,14 @@
 use crate::samples::{are, lists};
 use beet_field::Fe;
 use beet_gates::{ClearRun, Product, clear_run};
-use std::alloc::{AllocError, Global};
+use std::alloc::Global;
 use std::process::Abort;
-use std::test::Fail;
 
 /// The run in which 3 and 4 are multiplied.
-fn three_by_four(alloc: Global) -> Result<ClearRun, AllocError> {
-    let masks = lists(alloc, [&[], &[], &[]])?;
-    clear_run(alloc, &Product, &[Fe::reduce(3), Fe::reduce(4)], &masks)
+fn three_by_four(rt: &impl Abort, alloc: Global) -> ClearRun {
+    let masks = lists(rt, alloc, [&[], &[], &[]]);
+    let factors = [Fe::reduce(3), Fe::reduce(4)];
+    clear_run(alloc, &Product, &factors, &masks).expect(rt, "memory")
 }
 
 /// Compares the wires, the opened number and the rounds of the run.
@@ -19,8 +19,6 @@ fn expect_twelve(rt: &impl Abort, run: &ClearRun) {
 }
 
 #[test]
-fn product_of_three_and_four(rt: HostRuntime) -> Result<(), Fail> {
-    let run = three_by_four(rt.alloc())?;
-    expect_twelve(&rt, &run);
-    Ok(())
+fn product_of_three_and_four(rt: HostRuntime) {
+    expect_twelve(&rt, &three_by_four(&rt, rt.alloc()));
 }

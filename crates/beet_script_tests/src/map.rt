@@ -10,7 +10,7 @@ use beet_gates::{Act, Batch, Product, Script};
 use beet_map::{GateFault, Secrets, gate_map};
 use beet_shamir::Line;
 use beet_words::{WordList, count_accepted};
-use std::alloc::{AllocError, Global};
+use std::alloc::Global;
 use std::process::Abort;
 
 /// A half in the field.
@@ -21,9 +21,11 @@ const HALF: u64 = 1_152_921_504_606_846_976;
 struct OneDeal;
 
 impl Script for OneDeal {
-    ghost use Rattle.std.specs.Prelude.{◌==◌, if◌then◌else◌};
+    ghost use Rattle.std.specs.Prelude.{◌==◌, if◌then◌else◌, ⊤};
     ghost use Rattle.std.proofs.Common.{rules};
     ghost use Rattle.beet_gates.specs.Batches.{deal_batch, end_batch};
+
+    type Place = ();
 
     ghost inputs_of = { λ _. 0 };
 
@@ -36,6 +38,10 @@ impl Script for OneDeal {
     ghost wires_of = { λ _. 183 };
 
     ghost batch_of = { λ _ done _. if done == 0 then deal_batch else end_batch };
+
+    ghost is_at = { λ _ _ _ _. ⊤ };
+
+    ghost goes_on = { λ _ _ _ _ _ _ there _. there };
 
     ghost lawful = { Prim.search rules };
 
@@ -65,6 +71,8 @@ impl Script for OneDeal {
             act: if done == 0 { Act::Deal } else { Act::End },
         }
     }
+
+    fn begin(&self) {}
 }
 
 /// The line of this value and slope.
@@ -76,10 +84,11 @@ fn line((value, slope): (u64, u64)) -> Line {
 }
 
 /// A world with two inputs and no words to deal.
-fn world(alloc: Global, first: (u64, u64), second: (u64, u64)) -> Result<Secrets, AllocError> {
-    let inputs = vec![in alloc; line(first), line(second)]?;
-    let masks = lists(alloc, [&[], &[], &[]])?;
-    Ok(Secrets { inputs, masks })
+fn world(rt: &impl Abort, alloc: Global, first: (u64, u64), second: (u64, u64)) -> Secrets {
+    Secrets {
+        inputs: vec![in alloc; line(first), line(second)].expect(rt, "memory"),
+        masks: lists(rt, alloc, [&[], &[], &[]]),
+    }
 }
 
 /// Whether each list has so many words.
@@ -107,59 +116,44 @@ fn has_secrets<S: Script>(script: &S, secrets: &Secrets) -> bool
     secrets.inputs.len() == script.inputs() as usize && have_words(&secrets.masks, script.masks())
 }
 
-/// The map for server 2, or `OutOfMemory` where the script asks for more.
+/// The map for server 2.
 fn map<S: Script>(
+    rt: &impl Abort,
     alloc: Global,
     script: &S,
     first: &Secrets,
     second: &Secrets,
     words: &Trio<WordList>,
 ) -> Result<Trio<WordList>, GateFault> {
-    if !has_secrets(script, first) || !has_secrets(script, second) {
-        return Err(GateFault::OutOfMemory);
-    }
-    if !have_numbers(words, script.coefficients()) {
-        return Err(GateFault::OutOfMemory);
-    }
+    assert!(rt; has_secrets(script, first));
+    assert!(rt; has_secrets(script, second));
+    assert!(rt; have_numbers(words, script.coefficients()));
     gate_map(alloc, Point::Two, script, first, second, words)
 }
 
-/// The map between two worlds of a script for server 2, with these words for the servers.
-fn map_with<S: Script>(
-    alloc: Global,
-    script: &S,
-    first: &Secrets,
-    second: &Secrets,
-    words: [&[u64]; 3],
-) -> Result<Trio<WordList>, GateFault> {
-    let drawn = lists(alloc, words)?;
-    map(alloc, script, first, second, &drawn)
-}
-
-/// The map of the product's script from a world to that of these inputs, with the words 1; 2; 4.
-fn product_map_from(
-    alloc: Global,
-    here: &Secrets,
-    first: (u64, u64),
-    second: (u64, u64),
-) -> Result<Trio<WordList>, GateFault> {
-    let there = world(alloc, first, second)?;
-    map_with(alloc, &Product, here, &there, [&[1], &[2], &[4]])
-}
-
-/// The same from the inputs (3, 5), (4, 2).
+/// The map of the product's script from the inputs (3, 5) and (4, 2) to these, with the words 1; 2; 4.
 fn product_map(
+    rt: &impl Abort,
     alloc: Global,
     first: (u64, u64),
     second: (u64, u64),
 ) -> Result<Trio<WordList>, GateFault> {
-    let here = world(alloc, (3, 5), (4, 2))?;
-    product_map_from(alloc, &here, first, second)
+    let here = world(rt, alloc, (3, 5), (4, 2));
+    let there = world(rt, alloc, first, second);
+    let words = lists(rt, alloc, [&[1], &[2], &[4]]);
+    let mapped = map(rt, alloc, &Product, &here, &there, &words);
+    drop((here, there, words));
+    mapped
 }
 
 /// Why there is no map to these inputs.
-fn product_fault(alloc: Global, first: (u64, u64), second: (u64, u64)) -> Option<GateFault> {
-    product_map(alloc, first, second).err()
+fn product_fault(
+    rt: &impl Abort,
+    alloc: Global,
+    first: (u64, u64),
+    second: (u64, u64),
+) -> Option<GateFault> {
+    product_map(rt, alloc, first, second).err()
 }
 
 /// The word at a place of a list, if there is one.
@@ -186,10 +180,8 @@ fn expect_words(
     mapped: Result<Trio<WordList>, GateFault>,
     expected: &[(Point, usize, Option<u64>)],
 ) {
-    match mapped {
-        Ok(words) => assert!(rt; hold(&words, expected)),
-        Err(_) => assert!(rt; false, "there is no map"),
-    }
+    let words = mapped.expect(rt, "a map");
+    assert!(rt; hold(&words, expected));
 }
 
 /// Words of the product's other world: the messages to server 2 are 50 and 188 in both worlds, and 12 is opened.
@@ -202,7 +194,8 @@ const OTHER_FACTORS: [(Point, usize, Option<u64>); 4] = [
 
 #[test]
 fn product_of_other_factors(rt: HostRuntime) {
-    expect_words(&rt, product_map(rt.alloc(), SIX, (2, 3)), &OTHER_FACTORS);
+    let mapped = product_map(&rt, rt.alloc(), SIX, (2, 3));
+    expect_words(&rt, mapped, &OTHER_FACTORS);
 }
 
 #[test]
@@ -212,53 +205,50 @@ fn other_product(rt: HostRuntime) {
         first: Some(Fe::reduce(12)),
         second: Some(Fe::reduce(24)),
     };
-    assert!(rt; product_fault(rt.alloc(), SIX, (4, 2)) == Some(expected));
+    assert!(rt; product_fault(&rt, rt.alloc(), SIX, (4, 2)) == Some(expected));
 }
 
 #[test]
 fn other_points(rt: HostRuntime) {
-    let second = product_fault(rt.alloc(), SIX, (2, 2));
+    let second = product_fault(&rt, rt.alloc(), SIX, (2, 2));
     assert!(rt; second == Some(GateFault::InputsDiffer(1)));
-    let both = product_fault(rt.alloc(), (6, 5), (2, 2));
+    let both = product_fault(&rt, rt.alloc(), (6, 5), (2, 2));
     assert!(rt; both == Some(GateFault::InputsDiffer(0)));
 }
 
 /// A world with no inputs, in which these words are dealt.
-fn dealers(alloc: Global, one: u64, two: u64, three: u64) -> Result<Secrets, AllocError> {
-    let masks = lists(alloc, [&[one], &[two], &[three]])?;
-    let inputs = Vec::new(alloc);
-    Ok(Secrets { inputs, masks })
+fn dealers(rt: &impl Abort, alloc: Global, one: u64, two: u64, three: u64) -> Secrets {
+    Secrets {
+        inputs: Vec::new(alloc),
+        masks: lists(rt, alloc, [&[one], &[two], &[three]]),
+    }
 }
 
-/// The map of the dealing script from a world to that in which these words are dealt. Each server draws a word of ones, and
-/// then 61 times the word 5.
-fn deal_map_from(
+/// The words that each server draws: one of ones, and then 61 times the word 5.
+fn ones_and_fives(rt: &impl Abort, alloc: Global) -> Trio<WordList> {
+    let mut numbers = [5; 62];
+    numbers[0] = ONES;
+    lists(rt, alloc, [&numbers, &numbers, &numbers])
+}
+
+/// The map of the dealing script from the world in which 1, 2 and 3 are dealt to that in which these words and 3 are.
+fn deal_map(
+    rt: &impl Abort,
     alloc: Global,
-    here: &Secrets,
     one: u64,
     two: u64,
 ) -> Result<Trio<WordList>, GateFault> {
-    let there = dealers(alloc, one, two, 3)?;
-    let mut numbers = [5; 62];
-    numbers[0] = ONES;
-    map_with(
-        alloc,
-        &OneDeal,
-        here,
-        &there,
-        [&numbers, &numbers, &numbers],
-    )
-}
-
-/// The same from the world in which 1, 2 and 3 are dealt.
-fn deal_map(alloc: Global, one: u64, two: u64) -> Result<Trio<WordList>, GateFault> {
-    let here = dealers(alloc, 1, 2, 3)?;
-    deal_map_from(alloc, &here, one, two)
+    let here = dealers(rt, alloc, 1, 2, 3);
+    let there = dealers(rt, alloc, one, two, 3);
+    let words = ones_and_fives(rt, alloc);
+    let mapped = map(rt, alloc, &OneDeal, &here, &there, &words);
+    drop((here, there, words));
+    mapped
 }
 
 #[test]
 fn other_word_of_the_server(rt: HostRuntime) {
-    let fault = deal_map(rt.alloc(), 1, 6).err();
+    let fault = deal_map(&rt, rt.alloc(), 1, 6).err();
     assert!(rt; fault == Some(GateFault::OwnMaskDiffers(0)));
 }
 
@@ -275,5 +265,5 @@ const OTHER_BIT: [(Point, usize, Option<u64>); 6] = [
 
 #[test]
 fn other_bit_of_another_server(rt: HostRuntime) {
-    expect_words(&rt, deal_map(rt.alloc(), 0, 2), &OTHER_BIT);
+    expect_words(&rt, deal_map(&rt, rt.alloc(), 0, 2), &OTHER_BIT);
 }

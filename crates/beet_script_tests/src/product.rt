@@ -10,34 +10,34 @@ use beet_gates::Product;
 use beet_server::{ServerCore, StartFault};
 use beet_words::{FeList, Tape, WordList};
 use std::alloc::Global;
+use std::process::Abort;
 
 /// A server with its points of the two inputs and one coefficient word.
 pub fn product(
+    rt: &impl Abort,
     alloc: Global,
     me: Point,
-    script: Product,
     points: (u128, u128),
     word: u64,
 ) -> Result<ServerCore<Product>, StartFault>
     ensures me { IfOk result (λ c. c.me ≡ me) }
-    ensures script { IfOk result (λ c. c.script ≡ script) }
     ensures fresh { IfOk result (IsFresh (λ _ done _. product_batch done) (λ _. 2)) }
 {
     let (first, second) = points;
-    let inputs = Vec::from_slice(alloc, &[Fe::reduce(first), Fe::reduce(second)])?;
-    let coefficients = tape(alloc, word)?;
-    let masks = Tape::of_words(WordList::of(Vec::new(alloc)));
-    ServerCore::start(alloc, me, script, FeList::of(inputs), masks, coefficients)
+    let inputs = Vec::from_slice(alloc, &[Fe::reduce(first), Fe::reduce(second)]);
+    let inputs = FeList::of(inputs.expect(rt, "memory"));
+    let coefficients = tape(rt, alloc, word);
+    let masks = Tape::of_words(WordList::new(alloc));
+    ServerCore::start(alloc, me, Product, inputs, masks, coefficients)
 }
 
 /// The servers of the lines (3, 5) and (4, 2), which draw 1, 2 and 4.
-pub fn three_and_four(alloc: Global) -> Result<Trio<ServerCore<Product>>, StartFault>
-    ensures { IfOk result (AreFresh (λ _ done _. product_batch done) (λ _. 2)) }
+pub fn three_and_four(rt: &impl Abort, alloc: Global) -> Trio<ServerCore<Product>>
+    ensures { AreFresh (λ _ done _. product_batch done) (λ _. 2) result }
 {
-    let script = Product;
-    Ok(Trio {
-        one: product(alloc, Point::One, script, (8, 6), 1)?,
-        two: product(alloc, Point::Two, script, (13, 8), 2)?,
-        three: product(alloc, Point::Three, script, (18, 10), 4)?,
-    })
+    Trio {
+        one: product(rt, alloc, Point::One, (8, 6), 1).expect(rt, "server 1"),
+        two: product(rt, alloc, Point::Two, (13, 8), 2).expect(rt, "server 2"),
+        three: product(rt, alloc, Point::Three, (18, 10), 4).expect(rt, "server 3"),
+    }
 }

@@ -28,10 +28,20 @@ fn is_so(m: &RoundMessage, from: Point, round: u32, first: u64, count: usize) ->
             .is_some_and(|number| number.value() == first)
 }
 
-/// Both messages of the round, if they are in.
-fn turn(mailbox: &mut RoundBox, want: u32) -> Option<[RoundMessage; 2]> {
+/// Passes the round, if both of its messages are in; answers whether they are.
+fn turn(mailbox: &mut RoundBox, want: u32) -> bool {
     if want <= 64 && mailbox.ready() && mailbox.round() < 1_000 {
-        Some(mailbox.turn(want))
+        mailbox.turn(want);
+        true
+    } else {
+        false
+    }
+}
+
+/// The message of this side, if both of the round are in.
+fn message_in(mailbox: &RoundBox, side: Side) -> Option<&RoundMessage> {
+    if mailbox.ready() {
+        Some(mailbox.message(side))
     } else {
         None
     }
@@ -41,8 +51,8 @@ fn turn(mailbox: &mut RoundBox, want: u32) -> Option<[RoundMessage; 2]> {
 fn at_round_three() -> RoundBox {
     let mut mailbox = RoundBox::new(Point::One, 61);
     for round in 0..3 {
-        mailbox.offer(message(Point::Three, Point::One, round, 1, 61));
-        mailbox.offer(message(Point::Two, Point::One, round, 1, 61));
+        mailbox.offer(&message(Point::Three, Point::One, round, 1, 61));
+        mailbox.offer(&message(Point::Two, Point::One, round, 1, 61));
         turn(&mut mailbox, 61);
     }
     mailbox
@@ -54,20 +64,21 @@ type Offer = (Point, Point, u32, u64, u64, Verdict);
 /// Offers the messages one after another, and compares the verdicts.
 fn expect_verdicts(rt: &impl Abort, mailbox: &mut RoundBox, offers: &[Offer]) {
     for (from, to, round, first, count, wanted) in offers {
-        let found = mailbox.offer(message(*from, *to, *round, *first, *count));
+        let found = mailbox.offer(&message(*from, *to, *round, *first, *count));
         assert!(rt; found == *wanted, "from {first} on");
     }
 }
 
-/// Compares the sender of a message and its first number, its round and how many numbers it has.
+/// Compares the sender of the message of this side and its first number, its round and how many numbers it has.
 fn expect_message(
     rt: &impl Abort,
-    message: &RoundMessage,
+    mailbox: &RoundBox,
+    side: Side,
     (from, first): (Point, u64),
-    round: u32,
     count: usize,
 ) {
-    assert!(rt; is_so(message, from, round, first, count));
+    let message = message_in(mailbox, side).expect(rt, "both are in");
+    assert!(rt; is_so(message, from, mailbox.round(), first, count));
 }
 
 /// Compares the round of a box, and whether both of its messages are in.
@@ -76,7 +87,7 @@ fn expect_stand(rt: &impl Abort, mailbox: &RoundBox, round: u32, ready: bool) {
     assert!(rt; mailbox.ready() == ready);
 }
 
-/// Passes the round, and compares where both of its messages begin, which have so many numbers.
+/// Compares where both messages of the round begin, which have so many numbers, and passes it.
 fn expect_turn(
     rt: &impl Abort,
     mailbox: &mut RoundBox,
@@ -85,10 +96,9 @@ fn expect_turn(
     high: (Point, u64),
     count: usize,
 ) {
-    let round = mailbox.round();
-    let [first, second] = &turn(mailbox, want).expect(rt, "both are in");
-    expect_message(rt, first, low, round, count);
-    expect_message(rt, second, high, round, count);
+    expect_message(rt, mailbox, Side::Low, low, count);
+    expect_message(rt, mailbox, Side::High, high, count);
+    assert!(rt; turn(mailbox, want));
 }
 
 /// Messages to server 1 at round 3, which leave a place empty.
@@ -126,9 +136,9 @@ fn each_verdict(rt: HostRuntime) {
 /// The box of server 2 at round 1, which wants so many numbers, where an early message from server 1 had 2.
 fn after_an_early_message(want: u32) -> RoundBox {
     let mut mailbox = RoundBox::new(Point::Two, 1);
-    mailbox.offer(message(Point::One, Point::Two, 1, 7, 2));
-    mailbox.offer(message(Point::One, Point::Two, 0, 8, 1));
-    mailbox.offer(message(Point::Three, Point::Two, 0, 9, 1));
+    mailbox.offer(&message(Point::One, Point::Two, 1, 7, 2));
+    mailbox.offer(&message(Point::One, Point::Two, 0, 8, 1));
+    mailbox.offer(&message(Point::Three, Point::Two, 0, 9, 1));
     turn(&mut mailbox, want);
     mailbox
 }

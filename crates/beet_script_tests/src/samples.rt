@@ -1,10 +1,11 @@
 //! What the tests of several crates share.
 
-ghost use Rattle.std.specs.Prelude.{◌≡◌, IfOk};
+ghost use Rattle.std.specs.Prelude.{◌≡◌};
 
 use beet_field::{Fe, P, Trio};
 use beet_words::{Tape, Word, WordList};
-use std::alloc::{AllocError, Global};
+use std::alloc::Global;
+use std::process::Abort;
 
 /// The word whose bits are all set.
 pub const ONES: u64 = P;
@@ -18,35 +19,34 @@ pub fn are(numbers: &[Fe], wanted: &[u64]) -> bool {
 }
 
 /// The list of these words.
-pub fn list(alloc: Global, numbers: &[u64]) -> Result<WordList, AllocError> {
+pub fn list(rt: &impl Abort, alloc: Global, numbers: &[u64]) -> WordList {
     let mut words = Vec::new(alloc);
     for number in numbers {
-        if let Some(word) = Word::of(*number) {
-            words.push(word)?;
-        }
+        let word = Word::of(*number).expect(rt, "a word");
+        words.push(word).expect(rt, "memory");
     }
-    Ok(WordList::of(words))
+    WordList::of(words)
 }
 
 /// A list of these words for each server.
-pub fn lists(alloc: Global, [one, two, three]: [&[u64]; 3]) -> Result<Trio<WordList>, AllocError> {
-    Ok(Trio {
-        one: list(alloc, one)?,
-        two: list(alloc, two)?,
-        three: list(alloc, three)?,
-    })
+pub fn lists(rt: &impl Abort, alloc: Global, [one, two, three]: [&[u64]; 3]) -> Trio<WordList> {
+    Trio {
+        one: list(rt, alloc, one),
+        two: list(rt, alloc, two),
+        three: list(rt, alloc, three),
+    }
 }
 
 /// A number that is no word.
 pub const NO_WORD: u64 = u64::MAX;
 
 /// The tape of one word, or of none where the number is no word.
-pub fn tape(alloc: Global, number: u64) -> Result<Tape, AllocError>
-    ensures { IfOk result (λ tape. tape.passed ≡ 0) }
+pub fn tape(rt: &impl Abort, alloc: Global, number: u64) -> Tape
+    ensures { result.passed ≡ 0 }
 {
-    let words = match Word::of(number) {
-        Some(word) => Vec::from_slice(alloc, &[word])?,
-        None => Vec::new(alloc),
-    };
-    Ok(Tape::of_words(WordList::of(words)))
+    let mut words = WordList::new(alloc);
+    if let Some(word) = Word::of(number) {
+        words.push(word).expect(rt, "memory");
+    }
+    Tape::of_words(words)
 }

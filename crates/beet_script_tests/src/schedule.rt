@@ -1,9 +1,8 @@
 use beet_field::Point;
 use beet_forms::{Place, ReadFault};
 use beet_world::{Delivery, read_schedule};
-use std::alloc::{AllocError, Global};
+use std::alloc::Global;
 use std::process::Abort;
-use std::test::Fail;
 
 /// The row of a schedule that is no delivery.
 const BAD_ROWS: [&str; 10] = [
@@ -41,40 +40,42 @@ fn expect_bad(rt: &impl Abort, alloc: Global, text: &str, number: u32, reason: u
 }
 
 /// A row that is no delivery stands at the head of a schedule, and behind two deliveries.
-fn expect_bad_row(rt: &impl Abort, alloc: Global, row: &str) -> Result<(), AllocError> {
-    let first = format!(in alloc; "beet-schedule,1\n{row}")?;
+fn expect_bad_row(rt: &impl Abort, alloc: Global, row: &str) {
+    let first = format!(in alloc; "beet-schedule,1\n{row}").expect(rt, "memory");
     expect_bad(rt, alloc, first.as_str(), 2, 1);
-    let third = format!(in alloc; "beet-schedule,1\n3,1,7\n2,3,0\n{row}{row}")?;
-    expect_bad(rt, alloc, third.as_str(), 4, 1);
-    Ok(())
+    let third = format!(in alloc; "beet-schedule,1\n3,1,7\n2,3,0\n{row}{row}");
+    expect_bad(rt, alloc, third.expect(rt, "memory").as_str(), 4, 1);
+}
+
+/// Reads schedules with the row of each case.
+fn expect_bad_rows(rt: &impl Abort, alloc: Global, rows: &[&str]) {
+    for row in rows {
+        expect_bad_row(rt, alloc, row);
+    }
 }
 
 #[test]
-fn refused_rows(rt: HostRuntime) -> Result<(), Fail> {
-    for row in BAD_ROWS {
-        expect_bad_row(&rt, rt.alloc(), row)?;
+fn refused_rows(rt: HostRuntime) {
+    expect_bad_rows(&rt, rt.alloc(), &BAD_ROWS);
+}
+
+/// Reads the schedule of each case.
+fn expect_bad_headers(rt: &impl Abort, alloc: Global, texts: &[&str]) {
+    for text in texts {
+        expect_bad(rt, alloc, text, 1, 1);
     }
-    Ok(())
 }
 
 #[test]
 fn refused_headers(rt: HostRuntime) {
-    for text in BAD_HEADERS {
-        expect_bad(&rt, rt.alloc(), text, 1, 1);
-    }
+    expect_bad_headers(&rt, rt.alloc(), &BAD_HEADERS);
 }
 
 /// Compares the deliveries of a schedule.
-fn expect_deliveries(
-    rt: &impl Abort,
-    alloc: Global,
-    text: &[u8],
-    deliveries: &[Delivery],
-) -> Result<(), Fail> {
+fn expect_deliveries(rt: &impl Abort, alloc: Global, text: &[u8], deliveries: &[Delivery]) {
     assert!(rt; text.len() <= 4_096);
-    let read = read_schedule(alloc, text)?;
+    let read = read_schedule(alloc, text).expect(rt, "a schedule");
     assert!(rt; read.as_slice() == deliveries);
-    Ok(())
 }
 
 /// The first and the last delivery of a schedule, and the one between.
@@ -90,39 +91,35 @@ const SECOND: Delivery = Delivery {
     round: 999_999,
 };
 
+/// A schedule of three deliveries.
+const THREE: &[u8] = b"beet-schedule,1\n1,2,0\n3,1,999999\n1,2,0\n";
+
 #[test]
-fn deliveries_in_order(rt: HostRuntime) -> Result<(), Fail> {
-    expect_deliveries(&rt, rt.alloc(), b"beet-schedule,1\n", &[])?;
-    expect_deliveries(
-        &rt,
-        rt.alloc(),
-        b"beet-schedule,1\n1,2,0\n3,1,999999\n1,2,0\n",
-        &[FIRST, SECOND, FIRST],
-    )
+fn deliveries_in_order(rt: HostRuntime) {
+    expect_deliveries(&rt, rt.alloc(), b"beet-schedule,1\n", &[]);
+    expect_deliveries(&rt, rt.alloc(), THREE, &[FIRST, SECOND, FIRST]);
 }
 
 /// A schedule with as many deliveries as it may have.
-fn longest(alloc: Global) -> Result<String, AllocError> {
-    let mut text = String::from_str(alloc, "beet-schedule,1\n")?;
+fn longest(rt: &impl Abort, alloc: Global) -> String {
+    let mut text = String::from_str(alloc, "beet-schedule,1\n").expect(rt, "memory");
     for _ in 0..MOST {
-        text.push_str("2,1,0\n")?;
+        text.push_str("2,1,0\n").expect(rt, "memory");
     }
-    Ok(text)
+    text
 }
 
 /// Compares how many deliveries a schedule has.
-fn expect_count(rt: &impl Abort, alloc: Global, text: &str, count: u32) -> Result<(), Fail> {
+fn expect_count(rt: &impl Abort, alloc: Global, text: &str, count: u32) {
     assert!(rt; text.len() <= 16_777_216);
-    let read = read_schedule(alloc, text.as_bytes())?;
-    assert_eq!(rt; read.len(), count as usize);
-    Ok(())
+    let read = read_schedule(alloc, text.as_bytes()).expect(rt, "a schedule");
+    assert!(rt; read.len() == count as usize);
 }
 
 #[test]
-fn one_row_too_many(rt: HostRuntime) -> Result<(), Fail> {
-    let mut text = longest(rt.alloc())?;
-    expect_count(&rt, rt.alloc(), text.as_str(), MOST)?;
-    text.push_str("x\n")?;
+fn one_row_too_many(rt: HostRuntime) {
+    let mut text = longest(&rt, rt.alloc());
+    expect_count(&rt, rt.alloc(), text.as_str(), MOST);
+    text.push_str("x\n").expect(&rt, "memory");
     expect_bad(&rt, rt.alloc(), text.as_str(), MOST + 2, 2);
-    Ok(())
 }

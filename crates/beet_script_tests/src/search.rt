@@ -4,10 +4,9 @@ use beet_field::{Fe, Trio};
 use beet_gates::{ClearRun, Gates, Script, clear_run};
 use beet_search::{AuctionScript, Finish};
 use beet_words::WordList;
-use std::alloc::{AllocError, Global};
+use std::alloc::Global;
 use std::array;
 use std::process::Abort;
-use std::test::Fail;
 
 /// So many times the first word, and then the other, sixteen in all.
 fn words(rejected: usize, first: u64, other: u64) -> [u64; 16] {
@@ -15,20 +14,20 @@ fn words(rejected: usize, first: u64, other: u64) -> [u64; 16] {
 }
 
 /// The words of three servers, of which so many masks are all ones and all others are 100.
-fn masks(alloc: Global, rejected: usize) -> Result<Trio<WordList>, AllocError> {
+fn masks(rt: &impl Abort, alloc: Global, rejected: usize) -> Trio<WordList> {
     let one = words(rejected, ONES, 100 ^ 7 ^ 9);
     let two = words(rejected, 0, 7);
     let three = words(rejected, 0, 9);
-    lists(alloc, [&one, &two, &three])
+    lists(rt, alloc, [&one, &two, &three])
 }
 
 /// The numbers of these sums.
-fn numbers(alloc: Global, sums: &[u64]) -> Result<Vec<Fe>, AllocError> {
+fn numbers(rt: &impl Abort, alloc: Global, sums: &[u64]) -> Vec<Fe> {
     let mut numbers = Vec::new(alloc);
     for sum in sums {
-        numbers.push(Fe::reduce(*sum as u128))?;
+        numbers.push(Fe::reduce(*sum as u128)).expect(rt, "memory");
     }
-    Ok(numbers)
+    numbers
 }
 
 /// The run of the script on inputs of its number, with masks that are enough.
@@ -38,13 +37,13 @@ fn run(
     script: &AuctionScript,
     inputs: &[Fe],
     masks: &Trio<WordList>,
-) -> Result<ClearRun, AllocError> {
+) -> ClearRun {
     let wanted = script.masks() as usize;
     assert!(rt; masks.one.len() >= wanted);
     assert!(rt; masks.two.len() >= wanted);
     assert!(rt; masks.three.len() >= wanted);
     assert!(rt; inputs.len() == script.inputs() as usize);
-    clear_run(alloc, script, inputs, masks)
+    clear_run(alloc, script, inputs, masks).expect(rt, "memory")
 }
 
 /// How a run is to end: with a price at a place and what is opened there of the demand and of the supply, or else.
@@ -90,21 +89,24 @@ fn expect_end(
     assert_eq!(rt; run.rounds, rounds);
 }
 
-/// Runs a book whose sums are these, supply first, where so many masks are rejected, and compares how it ends and its rounds.
-fn expect_run(
+/// The run of the script on these sums, supply first, where so many masks are rejected.
+fn run_on(
     rt: &impl Abort,
     alloc: Global,
     script: &AuctionScript,
     sums: &[u64],
     rejected: usize,
-    ending: Ending,
-    rounds: u32,
-) -> Result<ClearRun, AllocError> {
-    let masks = masks(alloc, rejected)?;
-    let inputs = numbers(alloc, sums)?;
-    let run = run(rt, alloc, script, &inputs, &masks)?;
-    expect_end(rt, script, &run, ending, rounds);
-    Ok(run)
+) -> ClearRun {
+    let masks = masks(rt, alloc, rejected);
+    let inputs = numbers(rt, alloc, sums);
+    run(rt, alloc, script, &inputs, &masks)
+}
+
+/// The script of a number of prices, which opens what the policy says.
+fn script_of(rt: &impl Abort, prices: u32, gates: Gates, policy: Policy) -> AuctionScript {
+    AuctionScript::new(prices, gates)
+        .expect(rt, "a script")
+        .with_policy(policy)
 }
 
 /// What a policy opens beside the price, sums at one price, how many masks are rejected, the numbers that are opened, the end and the rounds.
@@ -169,30 +171,23 @@ const OPENINGS: [Opening; 6] = [
 ];
 
 /// Runs the book of each case with this kind of gates.
-fn expect_openings(
-    rt: &impl Abort,
-    alloc: Global,
-    gates: Gates,
-    cases: &[Opening],
-) -> Result<(), Fail> {
-    let volume = AuctionScript::new(1, gates).ok_or("no script")?;
+fn expect_openings(rt: &impl Abort, alloc: Global, gates: Gates, cases: &[Opening]) {
     for (policy, sums, rejected, wanted, ending, rounds) in cases {
-        let script = volume.with_policy(*policy);
-        let rounds = rounds_with(gates, *rounds);
-        let run = expect_run(rt, alloc, &script, sums, *rejected, *ending, rounds)?;
+        let script = script_of(rt, 1, gates, *policy);
+        let run = run_on(rt, alloc, &script, sums, *rejected);
+        expect_end(rt, &script, &run, *ending, rounds_with(gates, *rounds));
         assert!(rt; are(run.opened.as_slice(), wanted));
     }
-    Ok(())
 }
 
 #[test]
-fn opened_numbers_of_one_price(rt: HostRuntime) -> Result<(), Fail> {
-    expect_openings(&rt, rt.alloc(), Gates::Chain, &OPENINGS)
+fn opened_numbers_of_one_price(rt: HostRuntime) {
+    expect_openings(&rt, rt.alloc(), Gates::Chain, &OPENINGS);
 }
 
 #[test]
-fn opened_numbers_of_one_price_with_trees(rt: HostRuntime) -> Result<(), Fail> {
-    expect_openings(&rt, rt.alloc(), Gates::Tree, &OPENINGS)
+fn opened_numbers_of_one_price_with_trees(rt: HostRuntime) {
+    expect_openings(&rt, rt.alloc(), Gates::Tree, &OPENINGS);
 }
 
 /// The most that all bidders can buy at a price.
@@ -314,45 +309,37 @@ const BOOKS: [Worked; 15] = [
 ];
 
 /// Runs the book of each case with this kind of gates.
-fn expect_books(
-    rt: &impl Abort,
-    alloc: Global,
-    gates: Gates,
-    cases: &[Worked],
-) -> Result<(), Fail> {
+fn expect_books(rt: &impl Abort, alloc: Global, gates: Gates, cases: &[Worked]) {
     for (prices, policy, sums, rejected, ending, rounds) in cases {
-        let script = AuctionScript::new(*prices, gates).ok_or("no script")?;
-        let script = script.with_policy(*policy);
-        let rounds = rounds_with(gates, *rounds);
-        expect_run(rt, alloc, &script, sums, *rejected, *ending, rounds)?;
+        let script = script_of(rt, *prices, gates, *policy);
+        let run = run_on(rt, alloc, &script, sums, *rejected);
+        expect_end(rt, &script, &run, *ending, rounds_with(gates, *rounds));
     }
-    Ok(())
 }
 
 #[test]
-fn worked_books(rt: HostRuntime) -> Result<(), Fail> {
-    expect_books(&rt, rt.alloc(), Gates::Chain, &BOOKS)
+fn worked_books(rt: HostRuntime) {
+    expect_books(&rt, rt.alloc(), Gates::Chain, &BOOKS);
 }
 
 #[test]
-fn worked_books_with_trees(rt: HostRuntime) -> Result<(), Fail> {
-    expect_books(&rt, rt.alloc(), Gates::Tree, &BOOKS)
+fn worked_books_with_trees(rt: HostRuntime) {
+    expect_books(&rt, rt.alloc(), Gates::Tree, &BOOKS);
 }
 
 /// Makes the script of the most prices with this kind of gates, and none beyond the limits. Compares its bounds.
-fn expect_limits(rt: &impl Abort, gates: Gates, rounds: u32) -> Result<(), Fail> {
+fn expect_limits(rt: &impl Abort, gates: Gates, rounds: u32) {
     assert!(rt; AuctionScript::new(0, gates).is_none());
     assert!(rt; AuctionScript::new(4_097, gates).is_none());
-    let script = AuctionScript::new(4_096, gates).ok_or("no script")?;
-    assert_eq!(rt; script.rounds(), rounds);
-    assert_eq!(rt; script.masks(), 15);
-    assert_eq!(rt; script.coefficients(), 7_680);
-    assert_eq!(rt; script.wires(), 20_255);
-    Ok(())
+    let script = AuctionScript::new(4_096, gates).expect(rt, "a script");
+    assert!(rt; script.rounds() == rounds);
+    assert!(rt; script.masks() == 15);
+    assert!(rt; script.coefficients() == 7_680);
+    assert!(rt; script.wires() == 20_255);
 }
 
 #[test]
-fn limits_of_the_prices(rt: HostRuntime) -> Result<(), Fail> {
-    expect_limits(&rt, Gates::Chain, 1_780)?;
-    expect_limits(&rt, Gates::Tree, 268)
+fn limits_of_the_prices(rt: HostRuntime) {
+    expect_limits(&rt, Gates::Chain, 1_780);
+    expect_limits(&rt, Gates::Tree, 268);
 }

@@ -8,15 +8,17 @@ use beet_server::{ServerCore, StartFault};
 use beet_words::{FeList, Tape};
 use std::alloc::Global;
 use std::process::Abort;
-use std::test::Fail;
 
 /// Each server deals a word, and the lowest bits of the three words are opened.
 #[derive(Clone, Copy)]
 struct LowestBits;
 
 impl Script for LowestBits {
+    ghost use Rattle.std.specs.Prelude.{⊤};
     ghost use Rattle.std.proofs.Common.{rules, ◌==◌, if◌then◌else◌, [], ◌∷◌};
     ghost use Rattle.beet_gates.specs.Batches.{deal_batch, reveal_batch, end_batch};
+
+    type Place = ();
 
     ghost inputs_of = { λ _. 0 };
 
@@ -30,6 +32,10 @@ impl Script for LowestBits {
 
     ghost batch_of = { λ _ done _. if done == 0 then deal_batch else
         (if done == 1 then reveal_batch [] (0 ∷ 61 ∷ 122 ∷ []) else end_batch) };
+
+    ghost is_at = { λ _ _ _ _. ⊤ };
+
+    ghost goes_on = { λ _ _ _ _ _ _ there _. there };
 
     ghost lawful = { Prim.search rules };
 
@@ -70,34 +76,37 @@ impl Script for LowestBits {
             act,
         }
     }
+
+    fn begin(&self) {}
 }
 
 /// A server of the script that opens three bits, with the word that it may deal and so many coefficient words.
 fn lowest_bits(
+    rt: &impl Abort,
     alloc: Global,
     me: Point,
     word: u64,
     count: u32,
 ) -> Result<ServerCore<LowestBits>, StartFault> {
-    let masks = tape(alloc, word)?;
-    let coefficients = Tape::of_seed(alloc, &[7; 32], me.number(), count)?;
+    let masks = tape(rt, alloc, word);
+    let coefficients = Tape::of_seed(alloc, &[7; 32], me.number(), count).expect(rt, "memory");
     let inputs = FeList::of(Vec::new(alloc));
     ServerCore::start(alloc, me, LowestBits, inputs, masks, coefficients)
 }
 
 /// Three such servers, which deal 1, 2 and 5.
-fn one_two_five(alloc: Global) -> Result<Trio<ServerCore<LowestBits>>, StartFault> {
-    Ok(Trio {
-        one: lowest_bits(alloc, Point::One, 1, 70)?,
-        two: lowest_bits(alloc, Point::Two, 2, 70)?,
-        three: lowest_bits(alloc, Point::Three, 5, 70)?,
-    })
+fn one_two_five(rt: &impl Abort, alloc: Global) -> Trio<ServerCore<LowestBits>> {
+    Trio {
+        one: lowest_bits(rt, alloc, Point::One, 1, 70).expect(rt, "server 1"),
+        two: lowest_bits(rt, alloc, Point::Two, 2, 70).expect(rt, "server 2"),
+        three: lowest_bits(rt, alloc, Point::Three, 5, 70).expect(rt, "server 3"),
+    }
 }
 
 /// What the server says of the message, or `None` where its own are not handed out.
 fn give<S: Script>(core: &mut ServerCore<S>, m: RoundMessage) -> Option<Verdict> {
     if core.sent() {
-        Some(core.deliver(m))
+        Some(core.deliver(&m))
     } else {
         None
     }
@@ -109,21 +118,21 @@ pub fn says<S: Script>(core: &mut ServerCore<S>, m: RoundMessage, verdict: Verdi
 }
 
 /// The two messages that the server hands out.
-fn send<S: Script>(core: &mut ServerCore<S>) -> Option<(RoundMessage, RoundMessage)> {
-    let [low, high] = core.out()?;
-    Some((low, high))
+fn send<S: Script>(rt: &impl Abort, core: &mut ServerCore<S>) -> (RoundMessage, RoundMessage) {
+    let [low, high] = core.out().expect(rt, "two messages");
+    (low, high)
 }
 
 /// The two messages that each server hands out.
 type Sent = Trio<(RoundMessage, RoundMessage)>;
 
 /// The messages that the servers hand out.
-pub fn send_all<S: Script>(cores: &mut Trio<ServerCore<S>>) -> Option<Sent> {
-    Some(Trio {
-        one: send(&mut cores.one)?,
-        two: send(&mut cores.two)?,
-        three: send(&mut cores.three)?,
-    })
+pub fn send_all<S: Script>(rt: &impl Abort, cores: &mut Trio<ServerCore<S>>) -> Sent {
+    Trio {
+        one: send(rt, &mut cores.one),
+        two: send(rt, &mut cores.two),
+        three: send(rt, &mut cores.three),
+    }
 }
 
 /// Gives each server its two messages; answers whether all verdicts are as they should be.
@@ -140,10 +149,10 @@ pub fn give_all<S: Script>(cores: &mut Trio<ServerCore<S>>, sent: Sent) -> bool 
     stored && ready
 }
 
-/// Passes a round at each server; answers whether all verdicts are as they should be.
-pub fn pass_round<S: Script>(cores: &mut Trio<ServerCore<S>>) -> Option<bool> {
-    let sent = send_all(cores)?;
-    Some(give_all(cores, sent))
+/// Passes a round at each server, and expects that all verdicts are as they should be.
+pub fn pass_round<S: Script>(rt: &impl Abort, cores: &mut Trio<ServerCore<S>>) {
+    let sent = send_all(rt, cores);
+    assert!(rt; give_all(cores, sent));
 }
 
 /// Whether the server has received these numbers in the round from its lower and its higher peer.
@@ -175,9 +184,9 @@ fn have_opened<S: Script>(cores: &Trio<ServerCore<S>>, numbers: &[Fe]) -> bool {
 fn expect_product(rt: &impl Abort, cores: &mut Trio<ServerCore<Product>>) {
     assert!(rt; !cores.one.sent());
     assert!(rt; cores.one.received(0, Point::Two).is_none());
-    assert!(rt; pass_round(cores) == Some(true));
+    pass_round(rt, cores);
     assert!(rt; have_received(cores, 0, [(106, 184), (50, 188), (51, 110)]));
-    assert!(rt; pass_round(cores) == Some(true));
+    pass_round(rt, cores);
     assert!(rt; have_received(cores, 1, [(14, 15), (13, 15), (13, 14)]));
     assert!(rt; cores.one.ended());
     assert!(rt; have_opened(cores, &[Fe::reduce(12)]));
@@ -185,54 +194,55 @@ fn expect_product(rt: &impl Abort, cores: &mut Trio<ServerCore<Product>>) {
 
 /// Passes the first round at servers 1 and 2. The messages to server 3 are the answer.
 fn pass_without_three(
+    rt: &impl Abort,
     cores: &mut Trio<ServerCore<Product>>,
-) -> Option<(RoundMessage, RoundMessage)> {
-    let (one_two, one_three) = send(&mut cores.one)?;
-    let (two_one, two_three) = send(&mut cores.two)?;
-    let (three_one, three_two) = send(&mut cores.three)?;
+) -> (RoundMessage, RoundMessage) {
+    let (one_two, one_three) = send(rt, &mut cores.one);
+    let (two_one, two_three) = send(rt, &mut cores.two);
+    let (three_one, three_two) = send(rt, &mut cores.three);
     give(&mut cores.one, two_one);
     give(&mut cores.one, three_one);
     give(&mut cores.two, one_two);
     give(&mut cores.two, three_two);
-    Some((one_three, two_three))
+    (one_three, two_three)
+}
+
+/// Gives a server the message, after its own are handed out.
+fn expect_taken(rt: &impl Abort, core: &mut ServerCore<Product>, m: RoundMessage) {
+    give(core, m).expect(rt, "its own messages are handed out");
 }
 
 /// Gives server 3 what another server sends to it now.
-fn give_three(from: &mut ServerCore<Product>, three: &mut ServerCore<Product>) -> Option<Verdict> {
-    let (_, early) = send(from)?;
-    give(three, early)
+fn give_three(rt: &impl Abort, from: &mut ServerCore<Product>, three: &mut ServerCore<Product>) {
+    let (_, early) = send(rt, from);
+    expect_taken(rt, three, early);
 }
 
 /// Server 3 gets both messages of the second round before the last of the first, and passes the second round as it hands
 /// out its own messages. The answer is how many rounds it has passed before and after.
-fn pass_early(cores: &mut Trio<ServerCore<Product>>) -> Option<(u32, u32)> {
-    let (one_three, two_three) = pass_without_three(cores)?;
-    let early = [
-        give_three(&mut cores.one, &mut cores.three),
-        give_three(&mut cores.two, &mut cores.three),
-    ];
-    let late = [
-        give(&mut cores.three, one_three),
-        give(&mut cores.three, two_three),
-    ];
-    if early.contains(&None) || late.contains(&None) {
-        return None;
-    }
+fn pass_early(rt: &impl Abort, cores: &mut Trio<ServerCore<Product>>) -> (u32, u32) {
+    let (one_three, two_three) = pass_without_three(rt, cores);
+    give_three(rt, &mut cores.one, &mut cores.three);
+    give_three(rt, &mut cores.two, &mut cores.three);
+    expect_taken(rt, &mut cores.three, one_three);
+    expect_taken(rt, &mut cores.three, two_three);
     let before = cores.three.round();
-    send(&mut cores.three)?;
-    Some((before, cores.three.round()))
+    send(rt, &mut cores.three);
+    (before, cores.three.round())
 }
 
 /// The run of the product where messages to server 3 are early.
 fn expect_early(rt: &impl Abort, cores: &mut Trio<ServerCore<Product>>) {
-    assert!(rt; pass_early(cores) == Some((1, 2)));
+    assert!(rt; pass_early(rt, cores) == (1, 2));
     assert!(rt; cores.three.ended());
     assert!(rt; cores.three.opened() == [Fe::reduce(12)].as_slice());
     assert!(rt; cores.three.out().is_none());
 }
 
-/// Messages of no number, by sender, receiver and round, and what server 1 says of each after its last round.
-const LATE: [(Point, Point, u32, Verdict); 4] = [
+/// A message of no number, by sender, receiver and round, and what server 1 says of it after its last round.
+type Late = (Point, Point, u32, Verdict);
+
+const LATE: [Late; 4] = [
     (Point::Two, Point::One, 1, Verdict::Old),
     (Point::Two, Point::One, 2, Verdict::TooEarly(2)),
     (Point::One, Point::One, 2, Verdict::Stranger),
@@ -255,13 +265,18 @@ fn give_empty(
     give(core, message)
 }
 
+/// Gives the server the message of each case.
+fn expect_verdicts(rt: &impl Abort, core: &mut ServerCore<Product>, cases: &[Late]) {
+    for (from, to, round, verdict) in cases {
+        assert!(rt; give_empty(core, *from, *to, *round) == Some(*verdict));
+    }
+}
+
 /// The run of the product, and messages after it.
 fn expect_late(rt: &impl Abort, cores: &mut Trio<ServerCore<Product>>) {
-    assert!(rt; pass_round(cores) == Some(true));
-    assert!(rt; pass_round(cores) == Some(true));
-    for (from, to, round, verdict) in LATE {
-        assert!(rt; give_empty(&mut cores.one, from, to, round) == Some(verdict));
-    }
+    pass_round(rt, cores);
+    pass_round(rt, cores);
+    expect_verdicts(rt, &mut cores.one, &LATE);
 }
 
 /// What is done with the three servers of the product.
@@ -282,62 +297,59 @@ fn follow(rt: &impl Abort, cores: &mut Trio<ServerCore<Product>>, course: Course
 }
 
 /// Starts the three servers, and does it with them.
-fn expect_course(rt: &impl Abort, alloc: Global, course: Course) -> Result<(), StartFault> {
-    let mut cores = three_and_four(alloc)?;
+fn expect_course(rt: &impl Abort, alloc: Global, course: Course) {
+    let mut cores = three_and_four(rt, alloc);
     follow(rt, &mut cores, course);
-    Ok(())
+    drop(cores);
 }
 
 #[test]
-fn product_of_three_and_four(rt: HostRuntime) -> Result<(), Fail> {
-    expect_course(&rt, rt.alloc(), Course::InOrder)?;
-    Ok(())
+fn product_of_three_and_four(rt: HostRuntime) {
+    expect_course(&rt, rt.alloc(), Course::InOrder);
 }
 
 #[test]
-fn both_messages_are_early(rt: HostRuntime) -> Result<(), Fail> {
-    expect_course(&rt, rt.alloc(), Course::Early)?;
-    Ok(())
+fn both_messages_are_early(rt: HostRuntime) {
+    expect_course(&rt, rt.alloc(), Course::Early);
 }
 
 #[test]
-fn an_ended_server_changes_nothing(rt: HostRuntime) -> Result<(), Fail> {
-    expect_course(&rt, rt.alloc(), Course::Late)?;
-    Ok(())
+fn an_ended_server_changes_nothing(rt: HostRuntime) {
+    expect_course(&rt, rt.alloc(), Course::Late);
 }
 
 /// The run in which the words 1, 2 and 5 are dealt.
 fn expect_bits(rt: &impl Abort, cores: &mut Trio<ServerCore<LowestBits>>) {
-    assert!(rt; pass_round(cores) == Some(true));
+    pass_round(rt, cores);
     assert_eq!(rt; cores.one.masks().masks_left(), 0);
     assert_eq!(rt; cores.one.coefficients().accepted_left(), 9);
-    assert!(rt; pass_round(cores) == Some(true));
+    pass_round(rt, cores);
     assert!(rt; cores.two.ended());
     assert!(rt; have_opened(cores, &[Fe::reduce(1), Fe::reduce(0), Fe::reduce(1)]));
 }
 
 #[test]
-fn bits_of_each_server(rt: HostRuntime) -> Result<(), Fail> {
-    let mut cores = one_two_five(rt.alloc())?;
+fn bits_of_each_server(rt: HostRuntime) {
+    let mut cores = one_two_five(&rt, rt.alloc());
     expect_bits(&rt, &mut cores);
-    Ok(())
+    drop(cores);
 }
 
 /// Why server 1 of the product does not start with this coefficient word.
-fn product_fault(alloc: Global, word: u64) -> Option<StartFault> {
-    product(alloc, Point::One, Product, (8, 6), word).err()
+fn product_fault(rt: &impl Abort, alloc: Global, word: u64) -> Option<StartFault> {
+    product(rt, alloc, Point::One, (8, 6), word).err()
 }
 
 /// Why server 2 of the three bits does not start with no word to deal and so many coefficient words.
-fn bits_fault(alloc: Global, count: u32) -> Option<StartFault> {
-    lowest_bits(alloc, Point::Two, NO_WORD, count).err()
+fn bits_fault(rt: &impl Abort, alloc: Global, count: u32) -> Option<StartFault> {
+    lowest_bits(rt, alloc, Point::Two, NO_WORD, count).err()
 }
 
 #[test]
 fn too_few(rt: HostRuntime) {
     let alloc = rt.alloc();
-    assert!(rt; product_fault(alloc, NO_WORD) == Some(StartFault::TooFewWords(0)));
-    assert!(rt; product_fault(alloc, ONES) == Some(StartFault::TooFewWords(0)));
-    assert!(rt; bits_fault(alloc, 60) == Some(StartFault::TooFewWords(60)));
-    assert!(rt; bits_fault(alloc, 61) == Some(StartFault::TooFewMasks(0)));
+    assert!(rt; product_fault(&rt, alloc, NO_WORD) == Some(StartFault::TooFewWords(0)));
+    assert!(rt; product_fault(&rt, alloc, ONES) == Some(StartFault::TooFewWords(0)));
+    assert!(rt; bits_fault(&rt, alloc, 60) == Some(StartFault::TooFewWords(60)));
+    assert!(rt; bits_fault(&rt, alloc, 61) == Some(StartFault::TooFewMasks(0)));
 }

@@ -5,23 +5,15 @@ use beet_gates::{Gates, Product};
 use beet_server::ServerCore;
 use beet_view::{View, view_of};
 use beet_world::lockstep;
-use std::alloc::{AllocError, Global};
+use std::alloc::Global;
 use std::process::Abort;
-use std::test::Fail;
 
-/// The view of the server, without bidders, or `None` where it has not ended.
-fn view_without_bidders(
-    alloc: Global,
-    core: &ServerCore<Product>,
-) -> Result<Option<View>, AllocError> {
-    if !core.ended() {
-        return Ok(None);
-    }
-    let Some(grid) = Grid::new(100, 5, 2, Gates::Tree) else {
-        return Ok(None);
-    };
+/// The view of a server that has ended, without bidders.
+fn view_without_bidders(rt: &impl Abort, alloc: Global, core: &ServerCore<Product>) -> View {
+    assert!(rt; core.ended());
+    let grid = Grid::new(100, 5, 2, Gates::Tree).expect(rt, "a grid");
     let grid = grid.with_policy(Policy::Full);
-    Ok(Some(view_of(alloc, core, &grid, Vec::new(alloc))?))
+    view_of(alloc, core, &grid, Vec::new(alloc)).expect(rt, "memory")
 }
 
 /// The first number of a message, if there is one.
@@ -33,20 +25,29 @@ fn first_number(view: &View, round: u32, sender: Point) -> Option<u64> {
 fn expect_product(rt: &impl Abort, view: &View) {
     assert!(rt; view.server() == Point::Two);
     assert!(rt; view.grid().policy() == Policy::Full);
-    assert_eq!(rt; view.coefficients().len(), 1);
-    assert_eq!(rt; view.rounds(), 2);
+    assert!(rt; view.coefficients().len() == 1);
+    assert!(rt; view.rounds() == 2);
+}
+
+/// The messages that it saw.
+fn expect_messages(rt: &impl Abort, view: &View) {
     assert!(rt; first_number(view, 0, Point::One) == Some(50));
     assert!(rt; first_number(view, 0, Point::Three) == Some(188));
     assert!(rt; first_number(view, 1, Point::One) == Some(13));
     assert!(rt; first_number(view, 1, Point::Three) == Some(15));
 }
 
+/// The view of server 2 after the product.
+fn view_of_two(rt: &impl Abort, alloc: Global) -> View {
+    let cores = lockstep(three_and_four(rt, alloc));
+    let view = view_without_bidders(rt, alloc, &cores.two);
+    drop(cores);
+    view
+}
+
 #[test]
-fn view_of_a_product(rt: HostRuntime) -> Result<(), Fail> {
-    let cores = lockstep(three_and_four(rt.alloc())?);
-    let Some(view) = view_without_bidders(rt.alloc(), &cores.two)? else {
-        return Err(Fail::new("it has not ended"));
-    };
+fn view_of_a_product(rt: HostRuntime) {
+    let view = view_of_two(&rt, rt.alloc());
     expect_product(&rt, &view);
-    Ok(())
+    expect_messages(&rt, &view);
 }

@@ -2,11 +2,10 @@ use crate::product::three_and_four;
 use beet_field::{Fe, Point, Trio};
 use beet_gates::Product;
 use beet_round::Verdict;
-use beet_server::{ServerCore, StartFault};
+use beet_server::ServerCore;
 use beet_world::{Event, World, lockstep, read_schedule};
 use std::alloc::Global;
 use std::process::Abort;
-use std::test::Fail;
 
 /// How the servers stand, and how many messages are undelivered.
 #[derive(Clone, Copy)]
@@ -97,9 +96,8 @@ const HOLDING: &[u8] = b"beet-schedule,1
 2,1,0\n3,1,0\n3,2,0\n1,3,0\n2,3,0\n3,1,1\n3,2,1\n1,3,1\n";
 
 /// A world of the servers of 3 and 4.
-fn world(alloc: Global) -> Result<World<Product>, StartFault> {
-    let cores = three_and_four(alloc)?;
-    Ok(World::of(alloc, cores)?)
+fn world(rt: &impl Abort, alloc: Global) -> World<Product> {
+    World::of(alloc, three_and_four(rt, alloc)).expect(rt, "memory")
 }
 
 /// Whether the server has ended after two rounds, with 12 opened.
@@ -130,32 +128,34 @@ fn expect_played(
     world: &mut World<Product>,
     text: &[u8],
     stand: Stand,
-) -> Result<(), Fail> {
+) {
     assert!(rt; text.len() <= 4_096);
-    let schedule = read_schedule(alloc, text)?;
+    let schedule = read_schedule(alloc, text).expect(rt, "a schedule");
     world.play(schedule.as_slice());
     expect_stand(rt, world, stand);
-    Ok(())
 }
+
+/// A schedule, and how the world stands after it.
+type Played = (&'static [u8], Stand);
 
 /// Plays schedules one after another, and compares how the world stands after each.
 fn expect_all_played(
     rt: &impl Abort,
     alloc: Global,
     world: &mut World<Product>,
-    schedules: &[(&[u8], Stand)],
-) -> Result<(), Fail> {
+    schedules: &[Played],
+) {
     expect_stand(rt, world, AT_THE_BEGINNING);
     for (text, stand) in schedules {
-        expect_played(rt, alloc, world, text, *stand)?;
+        expect_played(rt, alloc, world, text, *stand);
     }
-    Ok(())
 }
 
 /// Plays schedules in a new world.
-fn expect_plays(rt: &impl Abort, alloc: Global, schedules: &[(&[u8], Stand)]) -> Result<(), Fail> {
-    let mut world = world(alloc)?;
-    expect_all_played(rt, alloc, &mut world, schedules)
+fn expect_plays(rt: &impl Abort, alloc: Global, schedules: &[Played]) {
+    let mut world = world(rt, alloc);
+    expect_all_played(rt, alloc, &mut world, schedules);
+    drop(world);
 }
 
 /// Messages that come one by one, by sender, receiver and round, and what becomes of each.
@@ -170,11 +170,11 @@ fn expect_events(rt: &impl Abort, world: &mut World<Product>, events: &[Told]) {
 }
 
 /// Delivers messages one by one in a new world.
-fn expect_deliveries(rt: &impl Abort, alloc: Global, events: &[Told]) -> Result<(), Fail> {
-    let mut world = world(alloc)?;
+fn expect_deliveries(rt: &impl Abort, alloc: Global, events: &[Told]) {
+    let mut world = world(rt, alloc);
     expect_stand(rt, &world, AT_THE_BEGINNING);
     expect_events(rt, &mut world, events);
-    Ok(())
+    drop(world);
 }
 
 /// Compares how three servers stand that have run in lockstep.
@@ -185,14 +185,21 @@ fn expect_twelve(rt: &impl Abort, cores: &Trio<ServerCore<Product>>) {
 }
 
 #[test]
-fn round_by_round(rt: HostRuntime) -> Result<(), Fail> {
-    let cores = three_and_four(rt.alloc())?;
+fn round_by_round(rt: HostRuntime) {
+    let cores = three_and_four(&rt, rt.alloc());
     assert!(rt; !cores.one.ended());
-    expect_twelve(&rt, &lockstep(cores));
-    Ok(())
+    let ended = lockstep(cores);
+    expect_twelve(&rt, &ended);
+    drop(ended);
 }
 
 const STORED: Event = Event::Delivered(Verdict::Stored);
+
+const READY: Event = Event::Delivered(Verdict::Ready);
+
+const OLD: Event = Event::Delivered(Verdict::Old);
+
+const REPEAT: Event = Event::Delivered(Verdict::Repeat);
 
 /// Where one message of the first round was delivered.
 const AFTER_ONE: Stand = Stand {
@@ -200,36 +207,33 @@ const AFTER_ONE: Stand = Stand {
     ..AT_THE_BEGINNING
 };
 
-#[test]
-fn a_message_comes_twice(rt: HostRuntime) -> Result<(), Fail> {
-    let repeat = Event::Delivered(Verdict::Repeat);
-    expect_deliveries(
-        &rt,
-        rt.alloc(),
-        &[
-            (Point::One, Point::Two, 0, STORED, AFTER_ONE),
-            (Point::One, Point::Two, 0, repeat, AFTER_ONE),
-        ],
-    )
-}
+/// A message comes twice.
+const TWICE: [Told; 2] = [
+    (Point::One, Point::Two, 0, STORED, AFTER_ONE),
+    (Point::One, Point::Two, 0, REPEAT, AFTER_ONE),
+];
 
 #[test]
-fn messages_that_are_not_sent(rt: HostRuntime) -> Result<(), Fail> {
-    expect_deliveries(
-        &rt,
-        rt.alloc(),
-        &[
-            (Point::One, Point::Two, 1, Event::NotSent, AT_THE_BEGINNING),
-            (Point::One, Point::One, 0, Event::NotSent, AT_THE_BEGINNING),
-            (
-                Point::Three,
-                Point::Three,
-                1,
-                Event::NotSent,
-                AT_THE_BEGINNING,
-            ),
-        ],
-    )
+fn a_message_comes_twice(rt: HostRuntime) {
+    expect_deliveries(&rt, rt.alloc(), &TWICE);
+}
+
+/// Messages that are not sent: of the next round, and of a server to itself.
+const NOT_SENT: [Told; 3] = [
+    (Point::One, Point::Two, 1, Event::NotSent, AT_THE_BEGINNING),
+    (Point::One, Point::One, 0, Event::NotSent, AT_THE_BEGINNING),
+    (
+        Point::Three,
+        Point::Three,
+        1,
+        Event::NotSent,
+        AT_THE_BEGINNING,
+    ),
+];
+
+#[test]
+fn messages_that_are_not_sent(rt: HostRuntime) {
+    expect_deliveries(&rt, rt.alloc(), &NOT_SENT);
 }
 
 /// Where server 2 has passed the first round, and the others have got nothing.
@@ -239,60 +243,55 @@ const TWO_PASSED: Stand = Stand {
     undelivered: 6,
 };
 
+/// A server passes its round, and its last message comes again.
+const PASSED: [Told; 3] = [
+    (Point::One, Point::Two, 0, STORED, AFTER_ONE),
+    (Point::Three, Point::Two, 0, READY, TWO_PASSED),
+    (Point::Three, Point::Two, 0, OLD, TWO_PASSED),
+];
+
 #[test]
-fn a_server_passes_its_round(rt: HostRuntime) -> Result<(), Fail> {
-    let ready = Event::Delivered(Verdict::Ready);
-    let old = Event::Delivered(Verdict::Old);
-    expect_deliveries(
-        &rt,
-        rt.alloc(),
-        &[
-            (Point::One, Point::Two, 0, STORED, AFTER_ONE),
-            (Point::Three, Point::Two, 0, ready, TWO_PASSED),
-            (Point::Three, Point::Two, 0, old, TWO_PASSED),
-        ],
-    )
+fn a_server_passes_its_round(rt: HostRuntime) {
+    expect_deliveries(&rt, rt.alloc(), &PASSED);
 }
 
 #[test]
-fn messages_in_order(rt: HostRuntime) -> Result<(), Fail> {
-    expect_plays(&rt, rt.alloc(), &[(PLAIN, AT_THE_END)])
+fn messages_in_order(rt: HostRuntime) {
+    expect_plays(&rt, rt.alloc(), &[(PLAIN, AT_THE_END)]);
+}
+
+/// Of messages in the order of their senders, backwards, those of the first round are delivered first.
+const TWICE_BACKWARDS: [Played; 2] = [(BACKWARDS, AFTER_A_ROUND), (BACKWARDS, AT_THE_END)];
+
+#[test]
+fn messages_backwards(rt: HostRuntime) {
+    expect_plays(&rt, rt.alloc(), &TWICE_BACKWARDS);
 }
 
 #[test]
-fn messages_backwards(rt: HostRuntime) -> Result<(), Fail> {
-    expect_plays(
-        &rt,
-        rt.alloc(),
-        &[(BACKWARDS, AFTER_A_ROUND), (BACKWARDS, AT_THE_END)],
-    )
+fn rounds_backwards(rt: HostRuntime) {
+    expect_plays(&rt, rt.alloc(), &[(ROUNDS_BACKWARDS, AT_THE_END)]);
 }
 
 #[test]
-fn rounds_backwards(rt: HostRuntime) -> Result<(), Fail> {
-    expect_plays(&rt, rt.alloc(), &[(ROUNDS_BACKWARDS, AT_THE_END)])
+fn a_link_is_a_round_late(rt: HostRuntime) {
+    expect_plays(&rt, rt.alloc(), &[(A_ROUND_LATE, AT_THE_END)]);
 }
 
 #[test]
-fn a_link_is_a_round_late(rt: HostRuntime) -> Result<(), Fail> {
-    expect_plays(&rt, rt.alloc(), &[(A_ROUND_LATE, AT_THE_END)])
+fn messages_three_times(rt: HostRuntime) {
+    expect_plays(&rt, rt.alloc(), &[(THRICE, AT_THE_END)]);
+}
+
+/// A server gets nothing, then all, and then the others do.
+const STARVED_AND_FED: [Played; 3] = [(STARVING, STARVED), (FEEDING, FED), (PLAIN, AT_THE_END)];
+
+#[test]
+fn a_server_is_starved(rt: HostRuntime) {
+    expect_plays(&rt, rt.alloc(), &STARVED_AND_FED);
 }
 
 #[test]
-fn messages_three_times(rt: HostRuntime) -> Result<(), Fail> {
-    expect_plays(&rt, rt.alloc(), &[(THRICE, AT_THE_END)])
-}
-
-#[test]
-fn a_server_is_starved(rt: HostRuntime) -> Result<(), Fail> {
-    expect_plays(
-        &rt,
-        rt.alloc(),
-        &[(STARVING, STARVED), (FEEDING, FED), (PLAIN, AT_THE_END)],
-    )
-}
-
-#[test]
-fn a_link_is_held_back(rt: HostRuntime) -> Result<(), Fail> {
-    expect_plays(&rt, rt.alloc(), &[(HOLDING, HELD), (PLAIN, AT_THE_END)])
+fn a_link_is_held_back(rt: HostRuntime) {
+    expect_plays(&rt, rt.alloc(), &[(HOLDING, HELD), (PLAIN, AT_THE_END)]);
 }

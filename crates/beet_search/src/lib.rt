@@ -7,4 +7,4 @@ mod walk;
 
 pub use beet_plan::Finish;
 pub use laws::{auction_law, book_law};
-pub use script::AuctionScript;
+pub use script::{AuctionScript, Place};

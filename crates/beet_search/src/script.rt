@@ -36,6 +36,16 @@ impl Model for AuctionScript {
     ghost inverse = { λ v. record { prices = v.prices; gates = v.gates; policy = v.policy } };
 }
 
+/// How far a run has come in the script.
+#[derive(Clone, Copy)]
+pub struct Place {
+    walk: Walk,
+    /// How many batches come before the block of the walk.
+    before: u32,
+    /// How many opened numbers led there.
+    read: usize,
+}
+
 /// How many comparisons a search among so many places makes at most.
 fn comparisons(prices: u32) -> u32
     requires { prices ≤ MOST_PRICES }
@@ -124,6 +134,9 @@ impl Script for AuctionScript {
     ghost use Rattle.std.specs.Prelude.{◌*◌};
     ghost use Rattle.beet_plan.specs.Auction.{auction_batch, most_rounds, most_masks, most_coefficients, most_wires};
     ghost use Rattle.beet_plan.proofs.AuctionLaw.{auction-law};
+    ghost use Rattle.beet_search.specs.Places.{IsAt, goes-on};
+
+    type Place = Place;
 
     ghost inputs_of = { λ s. 2 * s.prices };
 
@@ -136,6 +149,10 @@ impl Script for AuctionScript {
     ghost wires_of = { most_wires };
 
     ghost batch_of = { auction_batch };
+
+    ghost is_at = { IsAt };
+
+    ghost goes_on = { goes-on };
 
     ghost lawful = { auction-law };
 
@@ -164,23 +181,32 @@ impl Script for AuctionScript {
     }
 
     fn next(&self, done: u32, opened: &[Fe]) -> Batch {
+        let mut place = self.begin();
         let mut batch = Batch::end();
-        self.refill(done, opened, &mut batch);
+        self.refill(done, opened, &mut place, &mut batch);
         batch
     }
 
-    fn refill(&self, done: u32, opened: &[Fe], batch: &mut Batch) {
-        let mut walk = self.start();
-        let mut step = done;
-        for number in opened {
-            let length = walk.length();
+    fn begin(&self) -> Place {
+        Place {
+            walk: self.start(),
+            before: 0,
+            read: 0,
+        }
+    }
+
+    fn refill(&self, done: u32, opened: &[Fe], place: &mut Place, batch: &mut Batch) {
+        while place.read < opened.len() {
+            let length = place.walk.length();
+            let step = done - place.before;
             if step < length {
-                walk.refill(step, batch);
+                place.walk.refill(step, batch);
                 return;
             }
-            step -= length;
-            walk = walk.after(*number);
+            place.before += length;
+            place.walk = place.walk.after(opened[place.read]);
+            place.read += 1;
         }
-        walk.refill(step, batch);
+        place.walk.refill(done - place.before, batch);
     }
 }

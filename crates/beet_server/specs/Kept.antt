@@ -2,7 +2,6 @@
 use Rattle.std.specs.Prelude.{◌≡◌, ◌≤◌, ◌*◌, ◌+◌, ℕ, List, [], ◌∷◌, length, Option, option_map, option_and_then, slice_get}
 use Rattle.beet_field.specs.declared.point.Point.{Point}
 use Rattle.beet_gates.specs.declared.TheConstants.{MOST_NUMBERS}
-use Rattle.beet_round.specs.Boxes.{IsFrom}
 use Rattle.beet_round.specs.Sides.{peer}
 use Rattle.beet_round.specs.declared.message.RoundMessage.{RoundMessage}
 use Rattle.beet_round.specs.declared.sides.Side.{Side}
@@ -45,8 +44,3 @@ pub record IsKept (low high : Rows) : Type 0 where
   pub high_fit : MOST_NUMBERS * low.ends_room ≤ high.items_room
   pub low_short : AreShort low.rows
   pub high_short : AreShort high.rows
-
--- these are the messages of a round to a server, the lower peer's first
-abbrev pub ArePeers : Point → ℕ → List RoundMessage → Type 0
-ArePeers me round messages =
-    (low : RoundMessage) × (high : RoundMessage) × (messages ≡ low ∷ high ∷ []) × IsFrom me round Low low × IsFrom me round High high

@@ -17,7 +17,7 @@ use beet_words::Tape;
 use std::alloc::{AllocError, Global};
 use std::marker::Model;
 
-/// What computes in a server. `batch` is the one that comes; its lets are among the wires.
+/// What computes in a server. `batch` is the one that comes, from `place` in the script; its lets are among the wires.
 #[derive(Drop)]
 pub struct Engine<S: Script> {
     me: Point,
@@ -29,6 +29,7 @@ pub struct Engine<S: Script> {
     opened: Vec<Fe>,
     own: Numbers,
     handed: bool,
+    place: S::Place,
     batch: Batch,
 }
 
@@ -56,7 +57,8 @@ impl<S: Script> Model for Engine<S> {
         (bounds_of (S.wires_of e.script) (S.masks_of e.script) (S.coefficients_of e.script))
         (S.rounds_of e.script)
         e.batch e.round e.wires.items e.opened.items e.own.items e.masks e.coefficients e.handed
-        (vec_capacity e.wires) (vec_capacity e.opened) };
+        (vec_capacity e.wires) (vec_capacity e.opened)
+        × S.is_at e.script e.round e.opened.items e.place };
 }
 
 impl<S: Script> Engine<S> {
@@ -88,6 +90,7 @@ impl<S: Script> Engine<S> {
     {
         let opened = Vec::with_capacity(alloc, MOST_NUMBERS * script.rounds() as usize)?;
         let mut wires = Vec::with_capacity(alloc, script.wires() as usize)?;
+        let place = script.begin();
         let batch = script.next(0, &[]);
         append_all(&mut wires, inputs);
         append_lets(&mut wires, batch.lets.as_slice());
@@ -101,6 +104,7 @@ impl<S: Script> Engine<S> {
             opened,
             own: Numbers::new(),
             handed: false,
+            place,
             batch,
         })
     }
@@ -153,8 +157,12 @@ impl<S: Script> Engine<S> {
         self.own.clear();
         self.handed = false;
         self.round += 1;
-        self.script
-            .refill(self.round, self.opened.as_slice(), &mut self.batch);
+        self.script.refill(
+            self.round,
+            self.opened.as_slice(),
+            &mut self.place,
+            &mut self.batch,
+        );
         append_lets(&mut self.wires, self.batch.lets.as_slice());
     }
 

@@ -1,6 +1,6 @@
 //! One server of three.
 
-ghost use Rattle.std.specs.Prelude.{◌≡◌, ◌≢◌, ◌↔◌, ◌⊎◌, ◌<◌, ◌≤◌, ◌+◌, ◌-◌, ◌++◌, ◌∷◌, [], ℕ, List, length, IfOk, IsNone, IfNone, IfSome, IsErrOf, option_map, true, false};
+ghost use Rattle.std.specs.Prelude.{◌≡◌, ◌≢◌, ◌↔◌, ◌⊎◌, ◌<◌, ◌≤◌, ◌+◌, ◌-◌, ◌∷◌, [], ℕ, List, length, IfOk, IsNone, IfNone, IfSome, IsErrOf, option_map, true, false};
 ghost use Rattle.beet_words.specs.Tapes.{left_of};
 ghost use Rattle.beet_gates.specs.Scripts.{size_of};
 ghost use Rattle.beet_gates.specs.declared.TheConstants.{MOST_NUMBERS};
@@ -10,15 +10,14 @@ ghost use Rattle.beet_round.specs.declared.sides.Side.{Side as SideOf};
 ghost use Rattle.beet_sharing.specs.Runs.{Setup};
 ghost use Rattle.beet_delivery.specs.Events.{Delivered, nothing, with_triple};
 ghost use Rattle.beet_server.specs.Cores.{has_ended, is_quiet, fresh, IsFresh};
-ghost use Rattle.beet_server.specs.Kept.{ArePeers};
 ghost use Rattle.beet_server.specs.Fits.{Fits, OpensAt, IsRound, message_of, messages_from};
+ghost use Rattle.beet_server.specs.Lockstep.{AreSent};
 ghost use Rattle.beet_server.specs.Steps.{messages_out, moved_on, received_from};
 ghost use Rattle.beet_server.specs.Answers.{HandsOut, Keeps, Moves, IsLateVerdict, Answers, verdict_on};
 ghost use Rattle.beet_server.specs.declared.server.StartFault.TheVariants.{TooFewWords, TooFewMasks};
 
 use crate::engine::Engine;
 use crate::kept::Kept;
-use crate::parts::Numbers;
 use beet_field::{Fe, Point};
 use beet_gates::Script;
 use beet_round::{RoundBox, RoundMessage, Side, Verdict};
@@ -52,16 +51,13 @@ impl From<AllocError> for StartFault {
     }
 }
 
-/// Keeps the messages of the next round.
-fn keep(kept: &mut Kept, messages: [RoundMessage; 2])
-    requires room { length kept.old.messages < kept.old.room }
-    requires both { ArePeers kept.old.me (length kept.old.messages) messages }
-    ensures me { kept.new.me ≡ kept.old.me }
-    ensures room { kept.new.room ≡ kept.old.room }
-    ensures messages { kept.new.messages ≡ kept.old.messages ++ messages ∷ [] }
+/// Names the server and the round of a message to the peer of this side.
+fn address(message: &mut RoundMessage, me: Point, side: Side, round: u32)
+    ensures { message.new ≡ record message.old { from = me; to = peer me side; round = round } }
 {
-    let [low, high] = messages;
-    kept.push(&low, &high);
+    message.from = me;
+    message.to = side.peer(me);
+    message.round = round;
 }
 
 /// A server that runs a script with two others.
@@ -149,29 +145,36 @@ impl<S: Script> ServerCore<S> {
         if self.sent() {
             return None;
         }
-        let from = self.engine.me();
+        let me = self.engine.me();
+        let mut low = RoundMessage::blank(me, me);
+        let mut high = RoundMessage::blank(me, me);
+        self.hand_out(&mut low, &mut high);
+        Some([low, high])
+    }
+
+    /// Hands out the two messages of the round as `out` does, to the lower peer first, in the place of
+    /// two others. They were not handed out before, and the script has not ended.
+    pub fn hand_out(&mut self, low: &mut RoundMessage, high: &mut RoundMessage)
+        requires { is_quiet S.batch_of self.old ≡ false }
+        ensures keeps { Keeps self.old self.new }
+        ensures moves { Moves self.old self.new }
+        ensures within { self.old.round < S.rounds_of self.old.script }
+        ensures hands { low.new ∷ high.new ∷ [] ≡ messages_out S.batch_of self.old }
+        ensures leaves { HandsOut S.batch_of self.old self.new }
+        ensures fits { (o : Setup) (x : Delivered) → Fits S.batch_of o x self.old
+            → Fits S.batch_of o x self.new }
+        ensures messages { (o : Setup) (x : Delivered) → Fits S.batch_of o x self.old
+            → AreSent o self.old.me self.old.round low.new high.new }
+    {
+        let me = self.engine.me();
         let round = self.engine.round();
-        let mut low = Numbers::new();
-        let mut high = Numbers::new();
-        self.engine.hand_out(&mut low, &mut high);
+        self.engine.hand_out(&mut low.numbers, &mut high.numbers);
+        address(low, me, Side::Low, round);
+        address(high, me, Side::High, round);
         let ready = self.mail.ready();
         if ready {
             self.turn();
         }
-        Some([
-            RoundMessage {
-                from,
-                to: Side::Low.peer(from),
-                round,
-                numbers: low,
-            },
-            RoundMessage {
-                from,
-                to: Side::High.peer(from),
-                round,
-                numbers: high,
-            },
-        ])
     }
 
     /// Whether `out` would answer `None`.
@@ -182,27 +185,27 @@ impl<S: Script> ServerCore<S> {
     }
 
     /// Gives the server a message. At `Ready` it passes the round. An ended server changes nothing.
-    pub fn deliver(&mut self, m: RoundMessage) -> Verdict
+    pub fn deliver(&mut self, m: &RoundMessage) -> Verdict
         requires sent { is_quiet S.batch_of self.old ≡ true }
         ensures keeps { Keeps self.old self.new }
         ensures masks { self.new.masks ≡ self.old.masks }
         ensures coefficients { self.new.coefficients ≡ self.old.coefficients }
         ensures ended { has_ended S.batch_of self.old ≡ true
-            → (self.new ≡ self.old) × IsLateVerdict self.old m result }
+            → (self.new ≡ self.old) × IsLateVerdict self.old m.now result }
         ensures verdict { has_ended S.batch_of self.old ≡ false
-            → Answers S.batch_of self.old self.new m result }
+            → Answers S.batch_of self.old self.new m.now result }
         ensures fits { (o : Setup) (x : Delivered) (s : SideOf) (t : ℕ) → Fits S.batch_of o x self.old
-            → m ≡ message_of o (peer self.old.me s) self.old.me t → IsRound o t
+            → m.now ≡ message_of o (peer self.old.me s) self.old.me t → IsRound o t
             → t ≤ self.old.round + 1 → Fits S.batch_of o
             (with_triple x (record { from = peer self.old.me s; to = self.old.me; round = t }))
             self.new }
         ensures told { (o : Setup) (x : Delivered) (s : SideOf) (t : ℕ) → Fits S.batch_of o x self.old
-            → m ≡ message_of o (peer self.old.me s) self.old.me t → IsRound o t
+            → m.now ≡ message_of o (peer self.old.me s) self.old.me t → IsRound o t
             → t ≤ self.old.round + 1
             → result ≡ verdict_on x self.old.me self.old.round s t }
     {
         if self.engine.ended() {
-            return self.late_verdict(&m);
+            return self.late_verdict(m);
         }
         let verdict = self.mail.offer(m);
         if let Verdict::Ready = verdict {
@@ -234,9 +237,9 @@ impl<S: Script> ServerCore<S> {
         ensures { self.new ≡ moved_on S.batch_of self.old }
     {
         self.engine.pass(self.mail.numbers(Side::Low), self.mail.numbers(Side::High));
+        self.received.push(self.mail.message(Side::Low), self.mail.message(Side::High));
         let size = self.engine.size();
-        let messages = self.mail.turn(size);
-        keep(&mut self.received, messages);
+        self.mail.turn(size);
     }
 
     /// Whether the script has ended.

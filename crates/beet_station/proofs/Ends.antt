@@ -19,7 +19,7 @@ use Rattle.beet_station.specs.Stations.{AreEnded, BeginAlike, IsTied}
 
 module _ {S : Type 0} (next : S → ℕ → List ℕ → Batch) (inputs most : S → ℕ) where
   -- a fresh server with ends that have moved nothing
-  pub begins : (start : Trio (Core S)) → AreFresh next inputs start → (s : Point) (x : Station S) → x.core ≡ member start s →
+  pub begins : {Place : Type 0} (start : Trio (Core S)) → AreFresh next inputs start → (s : Point) (x : Station S Place) → x.core ≡ member start s →
       x.to_low ≡ end_at (stream_of next inputs most start s (peer s Low)) 0 → x.to_high ≡ end_at (stream_of next inputs most start s (peer s High)) 0 →
       x.from_low ≡ end_at (stream_of next inputs most start (peer s Low) s) 0 → x.from_high ≡ end_at (stream_of next inputs most start (peer s High) s) 0 →
       IsTied next inputs most start s x

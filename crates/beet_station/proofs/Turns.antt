@@ -58,7 +58,7 @@ module _ {S : Type 0} (next : S → ℕ → List ℕ → Batch) (inputs most : S
         absurd (both_ways (has_ended next c) going ((ended_at next run x c rounds has-rounds f).1 last))
   ]
 
-  module _ (s : Point) (x : Station S) (tied : IsTied next inputs most start s x) (going : has_ended next x.core ≡ false) where
+  module _ {Place : Type 0} (s : Point) (x : Station S Place) (tied : IsTied next inputs most start s x) (going : has_ended next x.core ≡ false) where
     abbrev t : ℕ
     t = x.core.round
 
@@ -99,7 +99,7 @@ module _ {S : Type 0} (next : S → ℕ → List ℕ → Batch) (inputs most : S
         quiet-still = quiet-then next run t (with_low s t) s d after-low
 
         -- with both messages the server stands at the next round
-        pub steps : (y : Station S) (w : Verdict) → HasHeard next d y.core x.from_high w → Keeps d y.core →
+        pub steps : (y : Station S Place) (w : Verdict) → HasHeard next d y.core x.from_high w → Keeps d y.core →
             y.to_low ≡ one_on x.to_low → y.to_high ≡ one_on x.to_high → y.from_low ≡ one_on x.from_low → y.from_high ≡ one_on x.from_high →
             IsTied next inputs most start s y
         steps y w heard_high keeps_high to_low to_high from_low from_high =
@@ -116,7 +116,7 @@ module _ {S : Type 0} (next : S → ℕ → List ℕ → Batch) (inputs most : S
             }
 
   -- a server that has ended has passed all rounds
-  pub all-passed : (s : Point) (x : Station S) → IsTied next inputs most start s x → has_ended next x.core ≡ true → IsEnded next inputs most start s x.core
+  pub all-passed : {Place : Type 0} (s : Point) (x : Station S Place) → IsTied next inputs most start s x → has_ended next x.core ≡ true → IsEnded next inputs most start s x.core
   all-passed s x tied over = record {
     stands =
         subst (λ r. IsAtRound next run r s x.core) ((ended_at next run (all_delivered x.core.round) x.core rounds has-rounds tied.stands.fits).0 over) tied.stands;

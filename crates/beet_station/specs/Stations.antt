@@ -32,7 +32,7 @@ module _ {S : Type 0} (next : S → ℕ → List ℕ → Batch) where
 module _ {S : Type 0} (next : S → ℕ → List ℕ → Batch) (inputs most : S → ℕ) where
   -- a server of the run of three fresh cores, at a round that it has to hand out: the messages of all rounds before are delivered to it
   -- and no others, and on each of its links it has put or taken as many
-  pub record IsTied (start : Trio (Core S)) (s : Point) (x : Station S) : Type 0 where
+  pub record IsTied {Place : Type 0} (start : Trio (Core S)) (s : Point) (x : Station S Place) : Type 0 where
     pub stands : IsAtRound next (setup_of next inputs start) x.core.round s x.core
     pub keeps : Keeps (member start s) x.core
     pub to_low : x.to_low ≡ end_at (stream_of next inputs most start s (peer s Low)) x.core.round
@@ -41,7 +41,7 @@ module _ {S : Type 0} (next : S → ℕ → List ℕ → Batch) (inputs most : S
     pub from_high : x.from_high ≡ end_at (stream_of next inputs most start (peer s High) s) x.core.round
 
   -- so stand all three
-  pub record AreTied (start : Trio (Core S)) (stations : Trio (Station S)) : Type 0 where
+  pub record AreTied {Place : Type 0} (start : Trio (Core S)) (stations : Trio (Station S Place)) : Type 0 where
     pub one : IsTied start One stations.one
     pub two : IsTied start Two stations.two
     pub three : IsTied start Three stations.three

@@ -14,8 +14,8 @@ ghost use Rattle.beet_station.specs.Stations.{HasHeard, IsEnded, IsTied};
 
 use beet_field::{Point, Trio};
 use beet_gates::Script;
-use beet_link::{Gate, LinkRx, LinkTx, Note};
-use beet_round::{RoundMessage, Verdict};
+use beet_link::{Buffer, Gate, LinkRx, LinkTx, Note};
+use beet_round::{ToPeers, Verdict};
 use beet_server::ServerCore;
 use std::hint::spin_loop;
 use std::snapshot::Snapshot;
@@ -36,16 +36,16 @@ pub struct Station<S: Script> {
     pub from_high: LinkRx,
 }
 
-/// The next message of a link, once it is there, or `None` where the flag was raised. A server that
-/// has tried [`SPINS`] times gives up its turn after each further try.
-fn wait_for<R: Wait>(rt: &R, stop: &AtomicBool, from: &mut LinkRx) -> Option<RoundMessage>
+/// The next message of a link in its buffer, once it is there, or `None` where the flag was raised. A
+/// server that has tried [`SPINS`] times gives up its turn after each further try.
+fn wait_for<R: Wait>(rt: &R, stop: &AtomicBool, from: &mut LinkRx) -> Option<Buffer>
     ensures { MatchOption result (from.new ≡ from.old)
         (λ m. IsNext from.old m × (from.new ≡ one_on from.old)) }
 {
     let mut spins = 0;
     for _ in rt.forever() {
-        if let Some(message) = from.take(rt) {
-            return Some(message);
+        if let Some(buffer) = from.take(rt) {
+            return Some(buffer);
         }
         if stop.load(Ordering::SeqCst) {
             return None;
@@ -83,12 +83,14 @@ fn hear<S: Script, R: Wait>(
           round = from.old.moved;
         })) core.new) }
 {
-    let message = wait_for(rt, stop, from)?;
-    Some(core.deliver(message))
+    let buffer = wait_for(rt, stop, from)?;
+    let verdict = core.deliver(buffer.message());
+    from.give_back(buffer);
+    Some(verdict)
 }
 
-/// One round: the server meets the gate, puts its messages, and takes those of its peers. `None`: the
-/// flag was raised.
+/// One round: the server meets the gate, hands out its messages in the place of others, puts them, and
+/// takes those of its peers. `None`: the flag was raised.
 fn round<S: Script, R: Wait, G: Gate>(
     rt: &R,
     gate: &G,
@@ -96,6 +98,7 @@ fn round<S: Script, R: Wait, G: Gate>(
     stop: &AtomicBool,
     me: Point,
     station: &mut Station<S>,
+    sent: &mut ToPeers,
     run: &Snapshot<Trio<ServerCore<S>>>,
 ) -> Option<()>
     requires tied { IsTied S.batch_of S.inputs_of S.rounds_of run.now.value me station.old }
@@ -108,11 +111,9 @@ fn round<S: Script, R: Wait, G: Gate>(
         round: station.core.round(),
     };
     gate.meet(seat, note);
-    let Some([low, high]) = station.core.out() else {
-        unreachable!()
-    };
-    station.to_low.put(rt, low);
-    station.to_high.put(rt, high);
+    station.core.hand_out(&mut sent.low, &mut sent.high);
+    station.to_low.put(rt, &sent.low);
+    station.to_high.put(rt, &sent.high);
     hear(rt, stop, &mut station.core, &mut station.from_low)?;
     hear(rt, stop, &mut station.core, &mut station.from_high)?;
     Some(())
@@ -131,12 +132,13 @@ pub fn serve<S: Script, R: Wait, G: Gate>(
     ensures { IfSome result (IsEnded S.batch_of S.inputs_of S.rounds_of run.now.value me) }
 {
     let mut station = station;
+    let mut sent = ToPeers::blank(me);
     let mut seat = gate.seat(me);
     for _ in rt.forever() {
         if station.core.ended() {
             return Some(station.core);
         }
-        round(rt, gate, &mut seat, stop, me, &mut station, run)?;
+        round(rt, gate, &mut seat, stop, me, &mut station, &mut sent, run)?;
     }
     unreachable!()
 }

@@ -5,6 +5,6 @@ use Rattle.beet_gates.specs.declared.Script.{Ghosts}
 use Rattle.beet_station.proofs.station.Station.TheSendSync as Station
 use Rattle.beet_threads.specs.contracts.serving.Serving as Serving
 
--- a server that is to run may where its script may
-pub Serving-send : (S : RattleType) (g : Ghosts S.Denot) → IsSend S → IsSend (Serving.the_row S g)
-Serving-send S g s = let station = Station.the_field_send S g s in search sendable depth 20
+-- a server that is to run may where its script and the place there may
+pub Serving-send : (S P : RattleType) (g : Ghosts S.Denot P.Denot) → IsSend S → IsSend P → IsSend (Serving.the_row S P g)
+Serving-send S P g s p = let station = Station.the_field_send S P g s p in search sendable depth 20

@@ -6,7 +6,7 @@ ghost use Rattle.beet_server.specs.Cores.{AreFresh};
 ghost use Rattle.beet_station.specs.Stations.{BeginAlike, IsEnded, IsTied};
 ghost use Rattle.beet_server.specs.Lockstep.{HaveEnded};
 
-use crate::serving::{Serving, give_up, run, start};
+use crate::serving::{Serving, give_up, meet, run, start};
 use beet_field::{Point, Trio};
 use beet_gates::Script;
 use beet_link::Gate;
@@ -15,19 +15,21 @@ use beet_station::{Station, stations};
 use beet_world::lockstep;
 use std::alloc::Global;
 use std::snapshot::Snapshot;
-use std::sync::Wait;
 use std::sync::atomic::{AtomicBool, Ordering};
+use std::sync::{Barrier, Wait};
 use std::thread;
 use std::thread::Threads;
 
-/// Runs the first server in this thread and the two others in workers. `None`: a worker could not be
-/// started, or a server was stopped. Where a worker could not be started the flag is raised, the first
-/// server is not run, and the other worker is joined.
+/// Runs the first server in this thread and the two others in workers, which it meets before the first
+/// round. `None`: a worker could not be started, or a server was stopped. Where a worker could not be
+/// started the flag is raised, no server is run, and the other worker is joined.
 fn in_threads<S: Script + Send, R: Threads + Wait + Sync, G: Gate>(
     rt: &R,
     gate: &G,
     servings: Trio<Serving<S>>,
 ) -> Option<Trio<ServerCore<S>>>
+where
+    S::Place: Send,
     ensures one { IfSome result (λ cores.
         IsEnded S.batch_of S.inputs_of S.rounds_of servings.one.run.value servings.one.me cores.one) }
     ensures two { IfSome result (λ cores.
@@ -37,6 +39,8 @@ fn in_threads<S: Script + Send, R: Threads + Wait + Sync, G: Gate>(
 {
     let stop = AtomicBool::new(false);
     let stop = &stop;
+    let (with_two, with_three) = (Barrier::new(2), Barrier::new(2));
+    let (with_two, with_three) = (&with_two, &with_three);
     let Trio { one, two, three } = servings;
     thread::scope(
         thread::scope_env(),
@@ -49,8 +53,13 @@ fn in_threads<S: Script + Send, R: Threads + Wait + Sync, G: Gate>(
             ensures three { IfSome result (λ cores.
                 IsEnded S.batch_of S.inputs_of S.rounds_of three.run.value three.me cores.three) }
         {
-            let two = start(scope, rt, gate, stop, two);
-            let three = start(scope, rt, gate, stop, three);
+            let two = start(scope, rt, gate, stop, with_two, two);
+            let three = start(scope, rt, gate, stop, with_three, three);
+            if two.is_none() || three.is_none() {
+                stop.store(true, Ordering::SeqCst);
+            }
+            meet(rt, &three, with_three);
+            meet(rt, &two, with_two);
             match (two, three) {
                 (Some(two), Some(three)) => {
                     let one = run(rt, gate, stop, one);
@@ -63,7 +72,6 @@ fn in_threads<S: Script + Send, R: Threads + Wait + Sync, G: Gate>(
                     })
                 }
                 (two, three) => {
-                    stop.store(true, Ordering::SeqCst);
                     give_up(rt, two);
                     give_up(rt, three);
                     None
@@ -125,6 +133,8 @@ pub fn run_three<S: Script + Send, R: Threads + Wait + Sync, G: Gate>(
     spares: Trio<ServerCore<S>>,
     gate: &G,
 ) -> Trio<ServerCore<S>>
+where
+    S::Place: Send,
     requires cores { AreFresh S.batch_of S.inputs_of cores }
     requires spares { AreFresh S.batch_of S.inputs_of spares }
     requires alike { BeginAlike S.batch_of S.inputs_of cores spares }

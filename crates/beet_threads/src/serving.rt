@@ -9,8 +9,8 @@ use beet_link::Gate;
 use beet_server::ServerCore;
 use beet_station::{Station, serve};
 use std::snapshot::Snapshot;
-use std::sync::Wait;
-use std::sync::atomic::AtomicBool;
+use std::sync::atomic::{AtomicBool, Ordering};
+use std::sync::{Barrier, Wait};
 use std::thread::{Promise, PromisedHandle, Scope, Threads};
 
 /// A server that is to run, with its ends, and the three servers as the run began.
@@ -49,17 +49,38 @@ pub fn run<S: Script, R: Wait, G: Gate>(
     serve(rt, gate, stop, me, station, &run)
 }
 
+/// Runs the server to its end, once the caller of its worker is at the barrier. `None`: the flag was raised before.
+fn run_once_met<S: Script, R: Wait, G: Gate>(
+    rt: &R,
+    gate: &G,
+    stop: &AtomicBool,
+    barrier: &Barrier,
+    serving: Serving<S>,
+) -> Option<ServerCore<S>>
+    ensures { IfSome result (IsEnded S.batch_of S.inputs_of S.rounds_of serving.run.value serving.me) }
+{
+    barrier.wait(rt);
+    if stop.load(Ordering::SeqCst) {
+        return None;
+    }
+    run(rt, gate, stop, serving)
+}
+
 /// A worker that runs a server.
 pub type Worker<S> = PromisedHandle<Option<ServerCore<S>>, Ends<S>>;
 
-/// Starts a worker that runs the server. `None`: no thread can be made, and the server is dropped.
+/// Starts a worker that meets the caller at the barrier, and then runs the server. `None`: no thread can be made, and the server is
+/// dropped.
 pub fn start<'s, E, S: Script + Send + 's, R: Wait + Sync, G: Gate>(
     scope: &Scope<'s, E>,
     rt: &'s R,
     gate: &'s G,
     stop: &'s AtomicBool,
+    barrier: &'s Barrier,
     serving: Serving<S>,
 ) -> Option<Worker<S>>
+where
+    S::Place: Send,
     ensures { IfSome result (λ worker. worker.promise.serving.value ≡ serving) }
 {
     let ends = Ends {
@@ -70,9 +91,17 @@ pub fn start<'s, E, S: Script + Send + 's, R: Wait + Sync, G: Gate>(
             ends,
             move || -> Option<ServerCore<S>>
                 ensures { IfSome result (IsEnded S.batch_of S.inputs_of S.rounds_of serving.run.value serving.me) }
-            { run(rt, gate, stop, serving) },
+            { run_once_met(rt, gate, stop, barrier, serving) },
         )
         .ok()
+}
+
+/// Meets a worker at its barrier, if it was started. A new thread is often put where the one that made it runs, and stays there while
+/// neither sleeps: to wait here lets the system give each a processor of its own before the first round.
+pub fn meet<S: Script, R: Wait>(rt: &R, worker: &Option<Worker<S>>, barrier: &Barrier) {
+    if worker.is_some() {
+        barrier.wait(rt);
+    }
 }
 
 /// Ends a worker of which nothing is wanted.

@@ -1,15 +1,15 @@
 //! The servers of an auction over four prices: demand 50, 50, 35, 10 and supply 0, 20, 40, 60.
 
-ghost use Rattle.std.specs.Prelude.{◌≡◌, ◌*◌, IfOk, IfSome, length, true};
+ghost use Rattle.std.specs.Prelude.{◌≡◌, ◌*◌, length, true};
 ghost use Rattle.beet_field.specs.Trio.{member};
 ghost use Rattle.beet_field.specs.declared.point.Point.{Point as Server};
+ghost use Rattle.beet_bids.specs.Curves.{IsOfGrid};
 ghost use Rattle.beet_bids.specs.Grids.{IsGrid};
 ghost use Rattle.beet_run.specs.Runs.{Starts};
 ghost use Rattle.beet_threads_tests.specs.Words.{words_from};
 
 use beet_bids::{Curve, Grid};
 use beet_book::Totals;
-use beet_errand::Stop;
 use beet_field::Trio;
 use beet_gates::Gates;
 use beet_load::{ServerWords, check_three, seed_words, words_kept};
@@ -17,8 +17,8 @@ use beet_run::start_servers;
 use beet_search::AuctionScript;
 use beet_server::ServerCore;
 use beet_words::{FeList, Tape};
-use std::alloc::{AllocError, Global};
-use std::test::Fail;
+use std::alloc::Global;
+use std::process::Abort;
 
 /// What a bidder buys and sells at each price, and the seed of its words.
 struct Bidder {
@@ -48,44 +48,40 @@ const THIRD: Bidder = Bidder {
 /// The rounds of the auction.
 pub const ROUNDS: u32 = 255;
 
-/// The error of a call as a text.
-pub fn reason(stop: Stop) -> &'static str {
-    match stop {
-        Stop::Refused(..) => "refused",
-        Stop::OutOfMemory => "out of memory",
-    }
+/// The grid of the auction.
+pub fn grid(rt: &impl Abort) -> Grid
+    ensures { IsGrid result }
+{
+    Grid::new(100, 5, 4, Gates::Chain).expect(rt, "a grid")
 }
 
-/// The grid of the auction.
-pub fn grid() -> Option<Grid>
-    ensures { IfSome result IsGrid }
+/// The curve of a bidder.
+fn curve_of(rt: &impl Abort, alloc: Global, grid: &Grid, bidder: &Bidder) -> Curve
+    ensures { IsOfGrid grid.now result }
 {
-    Grid::new(100, 5, 4, Gates::Chain)
+    let buy = Vec::from_slice(alloc, &bidder.buy).expect(rt, "memory");
+    let sell = Vec::from_slice(alloc, &bidder.sell).expect(rt, "memory");
+    Curve::of(grid, buy, sell).expect(rt, "a curve")
 }
 
 /// Adds the points of a bidder.
-fn add(alloc: Global, grid: &Grid, bidder: &Bidder, totals: &mut Totals) -> Result<(), Fail>
+fn add(rt: &impl Abort, alloc: Global, grid: &Grid, bidder: &Bidder, totals: &mut Totals)
     requires { totals.old.prices ≡ grid.now.prices }
-    ensures { IfOk result (λ done. totals.new.prices ≡ grid.now.prices) }
+    ensures { totals.new.prices ≡ grid.now.prices }
 {
-    let buy = Vec::from_slice(alloc, &bidder.buy)?;
-    let sell = Vec::from_slice(alloc, &bidder.sell)?;
-    let curve = Curve::of(grid, buy, sell).ok_or("no curve")?;
-    let mut tape = Tape::of_seed(alloc, &bidder.seed, 0, words_kept(grid))?;
-    if tape.accepted_left() < 2 * grid.prices() {
-        return Err("too few words".into());
-    }
+    let curve = curve_of(rt, alloc, grid, bidder);
+    let mut tape = Tape::of_seed(alloc, &bidder.seed, 0, words_kept(grid)).expect(rt, "memory");
+    assert!(rt; tape.accepted_left() >= 2 * grid.prices());
     totals.deal(&curve, &mut tape);
-    Ok(())
 }
 
 /// The points of the servers.
-pub fn points(alloc: Global, grid: &Grid) -> Result<Trio<FeList>, Fail> {
-    let mut totals = Totals::new(alloc, grid)?;
-    add(alloc, grid, &FIRST, &mut totals)?;
-    add(alloc, grid, &SECOND, &mut totals)?;
-    add(alloc, grid, &THIRD, &mut totals)?;
-    Ok(totals.inputs())
+pub fn points(rt: &impl Abort, alloc: Global, grid: &Grid) -> Trio<FeList> {
+    let mut totals = Totals::new(alloc, grid).expect(rt, "memory");
+    add(rt, alloc, grid, &FIRST, &mut totals);
+    add(rt, alloc, grid, &SECOND, &mut totals);
+    add(rt, alloc, grid, &THIRD, &mut totals);
+    totals.inputs()
 }
 
 /// Whether each server has two points at each price.
@@ -99,16 +95,6 @@ fn are_whole(grid: &Grid, points: &Trio<FeList>) -> bool
     one && two && three
 }
 
-/// Refuses points of another number.
-fn check_points(grid: &Grid, points: &Trio<FeList>) -> Result<(), Fail>
-    ensures { IfOk result (λ done. (i : Server) → length (member points.now i) ≡ 2 * grid.now.prices) }
-{
-    if are_whole(grid, points) {
-        return Ok(());
-    }
-    Err("another number of points".into())
-}
-
 /// The seeds of the servers.
 pub const SEEDS: Trio<[u8; 32]> = Trio {
     one: [1; 32],
@@ -117,48 +103,42 @@ pub const SEEDS: Trio<[u8; 32]> = Trio {
 };
 
 /// The words of these seeds.
-fn words(
-    alloc: Global,
-    grid: &Grid,
-    seeds: &Trio<[u8; 32]>,
-) -> Result<Trio<ServerWords>, AllocError>
+fn words(rt: &impl Abort, alloc: Global, grid: &Grid, seeds: &Trio<[u8; 32]>) -> Trio<ServerWords>
     requires { IsGrid grid.now }
-    ensures { IfOk result (λ words. words ≡ words_from grid.now seeds.now) }
+    ensures { result ≡ words_from grid.now seeds.now }
 {
-    Ok(Trio {
-        one: seed_words(alloc, grid, &seeds.one)?,
-        two: seed_words(alloc, grid, &seeds.two)?,
-        three: seed_words(alloc, grid, &seeds.three)?,
-    })
+    Trio {
+        one: seed_words(alloc, grid, &seeds.one).expect(rt, "memory"),
+        two: seed_words(alloc, grid, &seeds.two).expect(rt, "memory"),
+        three: seed_words(alloc, grid, &seeds.three).expect(rt, "memory"),
+    }
 }
 
 /// The same points, in memory of their own.
-fn copied(alloc: Global, points: &Trio<FeList>) -> Result<Trio<FeList>, AllocError>
-    ensures { IfOk result (λ copy. copy ≡ points.now) }
+fn copied(rt: &impl Abort, alloc: Global, points: &Trio<FeList>) -> Trio<FeList>
+    ensures { result ≡ points.now }
 {
-    Ok(Trio {
-        one: points.one.copy(alloc)?,
-        two: points.two.copy(alloc)?,
-        three: points.three.copy(alloc)?,
-    })
+    Trio {
+        one: points.one.copy(alloc).expect(rt, "memory"),
+        two: points.two.copy(alloc).expect(rt, "memory"),
+        three: points.three.copy(alloc).expect(rt, "memory"),
+    }
 }
 
 /// The servers that begin with these points and the words of these seeds.
 pub fn servers(
+    rt: &impl Abort,
     alloc: Global,
     grid: &Grid,
     points: &Trio<FeList>,
     seeds: &Trio<[u8; 32]>,
-) -> Result<Trio<ServerCore<AuctionScript>>, Fail>
+) -> Trio<ServerCore<AuctionScript>>
     requires { IsGrid grid.now }
-    ensures { IfOk result (Starts grid.now points.now (words_from grid.now seeds.now)) }
+    ensures { Starts grid.now points.now (words_from grid.now seeds.now) result }
 {
-    check_points(grid, points)?;
-    let words = words(alloc, grid, seeds)?;
-    check_three(alloc, grid, &words).map_err(reason)?;
-    let inputs = copied(alloc, points)?;
-    match start_servers(alloc, grid, inputs, words) {
-        Ok(cores) => Ok(cores),
-        Err(stop) => Err(reason(stop).into()),
-    }
+    assert!(rt; are_whole(grid, points));
+    let words = words(rt, alloc, grid, seeds);
+    check_three(alloc, grid, &words).expect(rt, "enough words");
+    let inputs = copied(rt, alloc, points);
+    start_servers(alloc, grid, inputs, words).expect(rt, "three servers")
 }

@@ -12,7 +12,6 @@ use beet_world::lockstep;
 use std::alloc::Global;
 use std::process::Abort;
 use std::sync::Wait;
-use std::test::Fail;
 use std::thread::Threads;
 
 /// How often the auction is run.
@@ -45,38 +44,55 @@ fn expect_same(rt: &impl Abort, one: &Core, two: &Core) {
 }
 
 /// The ended servers of the auction on one thread.
-fn on_one_thread(alloc: Global, grid: &Grid, points: &Trio<FeList>) -> Result<Trio<Core>, Fail>
+fn on_one_thread(rt: &impl Abort, alloc: Global, grid: &Grid, points: &Trio<FeList>) -> Trio<Core>
     requires { IsGrid grid.now }
 {
-    Ok(lockstep(servers(alloc, grid, points, &SEEDS)?))
+    lockstep(servers(rt, alloc, grid, points, &SEEDS))
 }
 
 /// The ended servers of the auction in three threads.
-fn in_three<R: Threads + Wait + Sync>(
+fn in_three<R: Abort + Threads + Wait + Sync>(
     rt: &R,
     alloc: Global,
     grid: &Grid,
     points: &Trio<FeList>,
-) -> Result<Trio<Core>, Fail>
+) -> Trio<Core>
     requires { IsGrid grid.now }
 {
-    let cores = servers(alloc, grid, points, &SEEDS)?;
-    let spares = servers(alloc, grid, points, &SEEDS)?;
-    Ok(run_three(rt, alloc, cores, spares, &FreeGate))
+    let cores = servers(rt, alloc, grid, points, &SEEDS);
+    let spares = servers(rt, alloc, grid, points, &SEEDS);
+    run_three(rt, alloc, cores, spares, &FreeGate)
+}
+
+/// Compares the servers after the auction.
+fn expect_all_same(rt: &impl Abort, ended: &Trio<Core>, wanted: &Trio<Core>) {
+    expect_same(rt, &ended.one, &wanted.one);
+    expect_same(rt, &ended.two, &wanted.two);
+    expect_same(rt, &ended.three, &wanted.three);
+}
+
+/// Runs the auction in three threads, and compares the servers after it.
+fn expect_runs<R: Abort + Threads + Wait + Sync>(
+    rt: &R,
+    alloc: Global,
+    grid: &Grid,
+    points: &Trio<FeList>,
+    wanted: &Trio<Core>,
+)
+    requires { IsGrid grid.now }
+{
+    for _ in 0..RUNS {
+        let ended = in_three(rt, alloc, grid, points);
+        expect_all_same(rt, &ended, wanted);
+        drop(ended);
+    }
 }
 
 #[test]
-fn twenty_runs_end_as_lockstep(rt: HostRuntime) -> Result<(), Fail> {
-    let Some(grid) = grid() else {
-        return Err("no grid".into());
-    };
-    let points = points(rt.alloc(), &grid)?;
-    let wanted = on_one_thread(rt.alloc(), &grid, &points)?;
-    for _ in 0..RUNS {
-        let ended = in_three(&rt, rt.alloc(), &grid, &points)?;
-        expect_same(&rt, &ended.one, &wanted.one);
-        expect_same(&rt, &ended.two, &wanted.two);
-        expect_same(&rt, &ended.three, &wanted.three);
-    }
-    Ok(())
+fn twenty_runs_end_as_lockstep(rt: HostRuntime) {
+    let grid = grid(&rt);
+    let points = points(&rt, rt.alloc(), &grid);
+    let wanted = on_one_thread(&rt, rt.alloc(), &grid, &points);
+    expect_runs(&rt, rt.alloc(), &grid, &points, &wanted);
+    drop(wanted);
 }

@@ -8,40 +8,39 @@ use std::process::Abort;
 use std::snapshot::Snapshot;
 use std::sync::Wait;
 use std::sync::atomic::AtomicBool;
-use std::test::Fail;
 
 /// Servers 2 and 3 with their ends, after server 1 has put the two messages of round 0 and was stopped.
 fn after_one(
     rt: &(impl Wait + Abort),
     alloc: Global,
-) -> Result<(Station<AuctionScript>, Station<AuctionScript>), Fail> {
-    let Some(grid) = grid() else {
-        return Err("no grid".into());
-    };
-    let points = points(alloc, &grid)?;
-    let cores = servers(alloc, &grid, &points, &SEEDS)?;
+) -> (Station<AuctionScript>, Station<AuctionScript>) {
+    let grid = grid(rt);
+    let points = points(rt, alloc, &grid);
+    let cores = servers(rt, alloc, &grid, &points, &SEEDS);
     let run = Snapshot::of(&cores);
-    let Trio { one, two, three } = stations(alloc, cores)?;
+    let Trio { one, two, three } = stations(alloc, cores).expect(rt, "memory");
     let stop = AtomicBool::new(true);
     assert!(rt; serve(rt, &FreeGate, &stop, Point::One, one, &run).is_none());
-    Ok((two, three))
+    (two, three)
 }
 
 /// Takes the one message of a link.
 fn expect_one(rt: &(impl Wait + Abort), link: &mut LinkRx, receiver: Point) {
-    let message = link.take(rt).expect(rt, "a message");
+    let buffer = link.take(rt).expect(rt, "a message");
+    let message = buffer.message();
     assert_eq!(rt; message.from, Point::One);
     assert_eq!(rt; message.to, receiver);
     assert_eq!(rt; message.round, 0);
+    link.give_back(buffer);
     assert!(rt; link.take(rt).is_none());
 }
 
 #[test]
-fn what_is_put_is_taken(rt: HostRuntime) -> Result<(), Fail> {
-    let (mut two, mut three) = after_one(&rt, rt.alloc())?;
+fn what_is_put_is_taken(rt: HostRuntime) {
+    let (mut two, mut three) = after_one(&rt, rt.alloc());
     expect_one(&rt, &mut two.from_low, Point::Two);
     expect_one(&rt, &mut three.from_low, Point::Three);
     assert!(rt; two.from_high.take(&rt).is_none());
     assert!(rt; three.from_high.take(&rt).is_none());
-    Ok(())
+    drop((two, three));
 }

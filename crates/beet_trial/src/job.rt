@@ -50,7 +50,7 @@ fn sized_reply(
 }
 
 /// Makes a book of so many bidders over so many prices by rule, deals it bidder by bidder, and clears it among three
-/// servers, each in a thread of its own and under the gate. The same numbers give the same text. It fetches nothing.
+/// servers, in threads and under the gate where `run_servers` says so. The same numbers give the same text. It fetches nothing.
 pub fn trial<R: Threads + Wait + Sync, G: Gate>(
     rt: &R,
     alloc: Global,

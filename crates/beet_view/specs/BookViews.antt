@@ -6,6 +6,7 @@ use Rattle.beet_field.specs.declared.trio.Trio.{Trio}
 use Rattle.beet_gates.specs.Each.{each}
 use Rattle.beet_words.specs.Bundles.{Words}
 use Rattle.beet_bids.specs.Books.{Book}
+use Rattle.beet_bids.specs.Curves.{Curve}
 use Rattle.beet_bids.specs.Grids.{Grid}
 use Rattle.beet_plan.specs.Auction.{most_rounds, auction_over}
 use Rattle.beet_delivery.specs.Events.{same}
@@ -22,12 +23,16 @@ abbrev pub names : Option Point → Point → Bool
 names None s = false
 names (Some at) s = same at s
 
+-- the curve and the words of a bidder, as a server keeps them that knows it
+abbrev pub kept_if : Bool → Curve → List ℕ → Option (Curve × List ℕ)
+kept_if known curve words = if known then Some (curve, words) else None
+
 -- a bidder as a server sees it: its mark, its points at the server, and its curve and words where the server knows it
 abbrev pub seen_at : Grid → Point → Farmer → Seen
 seen_at grid s farmer = record {
   known = farmer.bidder.known;
   points = each (point_for farmer s) (2 * grid.prices);
-  own = if names farmer.bidder.known s then Some (farmer.bidder.curve, farmer.words) else None;
+  own = kept_if (names farmer.bidder.known s) farmer.bidder.curve farmer.words;
 }
 
 -- what a server sees of the auction of a book, with these mask words and coefficient words

@@ -1,14 +1,13 @@
 use crate::transcript::fault_of;
 use beet_errand::{Reply, Stop};
-use beet_field::{P, Point};
+use beet_field::Point;
 use beet_link::FreeGate;
 use beet_record::record;
 use beet_store::{Held, MemoryShelf};
 use beet_view::{View, read_view};
-use std::alloc::{AllocError, Global};
+use std::alloc::Global;
 use std::process::Abort;
 use std::sync::Wait;
-use std::test::Fail;
 use std::thread::Threads;
 
 /// An auction of four prices and three bidders.
@@ -33,97 +32,60 @@ const FILES: [(&str, &str); 6] = [
     ("carl.bid", "beet-bid,1\n100,5,0\n115,0,0\n"),
 ];
 
-fn held(alloc: Global, name: &str, text: &str) -> Result<Held, AllocError> {
-    Ok(Held {
-        name: String::from_str(alloc, name)?,
-        bytes: Vec::from_slice(alloc, text.as_bytes())?,
-    })
+/// Appends a file of this name and this text.
+fn push_held(rt: &impl Abort, alloc: Global, files: &mut Vec<Held>, name: &str, text: &str) {
+    let held = Held {
+        name: String::from_str(alloc, name).expect(rt, "memory"),
+        bytes: Vec::from_slice(alloc, text.as_bytes()).expect(rt, "memory"),
+    };
+    files.push(held).expect(rt, "memory");
+}
+
+/// Appends these files.
+fn push_all(rt: &impl Abort, alloc: Global, files: &mut Vec<Held>, texts: &[(&str, &str)]) {
+    for (name, text) in texts {
+        push_held(rt, alloc, files, name, text);
+    }
 }
 
 /// A shelf with these files, and those of the auction.
-fn shelf(alloc: Global, first: &[(&str, &str)]) -> Result<MemoryShelf, AllocError> {
+fn shelf(rt: &impl Abort, alloc: Global, first: &[(&str, &str)]) -> MemoryShelf {
     let mut files = Vec::new(alloc);
-    for (name, text) in first {
-        files.push(held(alloc, name, text)?)?;
-    }
-    for (name, text) in FILES {
-        files.push(held(alloc, name, text)?)?;
-    }
-    Ok(MemoryShelf::new(files, Vec::new(alloc)))
+    push_all(rt, alloc, &mut files, first);
+    push_all(rt, alloc, &mut files, &FILES);
+    MemoryShelf::new(files, Vec::new(alloc))
 }
 
 /// The reply of the job on the auction.
-fn recorded(rt: &(impl Threads + Wait + Sync), alloc: Global) -> Result<Reply, Fail> {
-    let mut shelf = shelf(alloc, &[])?;
-    match record(
-        rt, alloc, &mut shelf, "g.auc", "s.srv", "b.book", "o", &FreeGate,
-    ) {
-        Ok(reply) => Ok(reply),
-        Err(_) => Err(Fail::new("the job was refused")),
-    }
-}
-
-/// A copy of the second file of a reply.
-fn second_of(alloc: Global, reply: &Reply) -> Result<Vec<u8>, Fail> {
-    let Some(file) = reply.files.get(1) else {
-        return Err(Fail::new("there is no second file"));
-    };
-    Ok(Vec::from_slice(alloc, file.bytes.as_slice())?)
-}
-
-/// The transcript of server 2.
-fn second(rt: &(impl Threads + Wait + Sync), alloc: Global) -> Result<Vec<u8>, Fail> {
-    let reply = recorded(rt, alloc)?;
-    second_of(alloc, &reply)
+fn recorded(rt: &(impl Abort + Threads + Wait + Sync), alloc: Global) -> Reply {
+    let mut shelf = shelf(rt, alloc, &[]);
+    let (auction, servers, book) = ("g.auc", "s.srv", "b.book");
+    record(
+        rt, alloc, &mut shelf, auction, servers, book, "o", &FreeGate,
+    )
+    .expect(rt, "a reply")
 }
 
 /// What the view of server 2 tells of the run and of the bidders.
 fn expect_view(rt: &impl Abort, view: &View) {
-    assert_eq!(rt; view.server(), Point::Two);
-    assert_eq!(rt; view.rounds(), 255);
-    assert_eq!(rt; view.bidders().len(), 3);
+    assert!(rt; view.server() == Point::Two);
+    assert!(rt; view.rounds() == 255);
+    assert!(rt; view.bidders().len() == 3);
     for seen in view.bidders() {
-        assert_eq!(rt; seen.own.is_some(), seen.known == Some(Point::Two));
+        assert!(rt; seen.own.is_some() == (seen.known == Some(Point::Two)));
     }
 }
 
-#[test]
-fn transcript_is_read_again(rt: HostRuntime) -> Result<(), Fail> {
-    let bytes = second(&rt, rt.alloc())?;
+/// Reads the transcript of server 2.
+fn expect_second(rt: &impl Abort, alloc: Global, bytes: &[u8]) {
     assert!(rt; bytes.len() <= 100_000);
-    let view = read_view(rt.alloc(), bytes.as_slice())?;
-    expect_view(&rt, &view);
-    Ok(())
-}
-
-/// Compares the fault where the last number of the transcript is cut.
-fn expect_cut(rt: &impl Abort, alloc: Global, bytes: &[u8]) {
-    assert_eq!(rt; bytes.len(), 35_000);
-    let cut = bytes.len() - 1;
-    assert!(rt; fault_of(rt, alloc, &bytes[..cut]) == Some((34_992, 2)));
-}
-
-/// Compares the faults where the last number of the transcript is cut, followed by a byte, and too large.
-fn expect_last(rt: &impl Abort, alloc: Global, bytes: &mut Vec<u8>) -> Result<(), AllocError> {
-    expect_cut(rt, alloc, bytes.as_slice());
-    bytes.push(0)?;
-    assert!(rt; fault_of(rt, alloc, bytes.as_slice()) == Some((35_000, 4)));
-    bytes.truncate(34_992);
-    bytes.extend_from_slice(&P.to_be_bytes())?;
-    assert!(rt; fault_of(rt, alloc, bytes.as_slice()) == Some((34_992, 3)));
-    Ok(())
-}
-
-#[test]
-fn last_number(rt: HostRuntime) -> Result<(), Fail> {
-    let mut bytes = second(&rt, rt.alloc())?;
-    expect_last(&rt, rt.alloc(), &mut bytes)?;
-    Ok(())
+    let view = read_view(alloc, bytes).expect(rt, "a view");
+    expect_view(rt, &view);
 }
 
 /// Compares the faults of fronts of the transcript.
 fn expect_fronts(rt: &impl Abort, alloc: Global, bytes: &[u8]) {
-    assert_eq!(rt; bytes.len(), 35_000);
+    assert!(rt; bytes.len() == 35_000);
     for k in 1..360usize {
         let length = 97 * k;
         let at = length as u64 / 8 * 8;
@@ -135,53 +97,65 @@ fn expect_fronts(rt: &impl Abort, alloc: Global, bytes: &[u8]) {
     assert!(rt; fault_of(rt, alloc, &bytes[..7]) == Some((0, 1)));
 }
 
+/// Reads the second file of a reply, whole and cut off.
+fn expect_reply(rt: &impl Abort, alloc: Global, reply: &Reply) {
+    assert!(rt; reply.files.len() == 3);
+    let bytes = reply.files[1].bytes.as_slice();
+    expect_second(rt, alloc, bytes);
+    expect_fronts(rt, alloc, bytes);
+}
+
 #[test]
-fn front_of_a_transcript(rt: HostRuntime) -> Result<(), Fail> {
-    let bytes = second(&rt, rt.alloc())?;
-    expect_fronts(&rt, rt.alloc(), bytes.as_slice());
-    Ok(())
+fn transcript_is_read_whole_and_cut_off(rt: HostRuntime) {
+    let reply = recorded(&rt, rt.alloc());
+    expect_reply(&rt, rt.alloc(), &reply);
 }
 
 /// A book of 2,000 bidders, of whom there is no bid.
-fn book_of_many(alloc: Global) -> Result<String, AllocError> {
-    let mut book = String::from_str(alloc, "beet-book,1\n")?;
+fn book_of_many(rt: &impl Abort, alloc: Global) -> String {
+    let mut book = String::from_str(alloc, "beet-book,1\n").expect(rt, "memory");
     for i in 0..2_000u32 {
         let row = format!(in alloc;
             "b{i},0,none.bid,seed,0a0a0a0a0a0a0a0a0a0a0a0a0a0a0a0a0a0a0a0a0a0a0a0a0a0a0a0a0a0a0a0a\n"
-        )?;
-        book.push_str(row.as_str())?;
+        ).expect(rt, "memory");
+        book.push_str(row.as_str()).expect(rt, "memory");
     }
-    Ok(book)
+    book
 }
 
-/// The line that a book of 2,000 bidders without bids is refused by, at an auction of so many prices.
-fn line_of_many(
-    rt: &(impl Threads + Wait + Sync),
-    alloc: Global,
-    prices: u32,
-) -> Result<Vec<u8>, Fail> {
-    let book = book_of_many(alloc)?;
-    let auction = format!(in alloc;
-        "beet-auction,1\nbase,100\ntick,5\nprices,{prices}\ngates,chain\n"
-    )?;
-    let mut shelf = shelf(
-        alloc,
-        &[("big.auc", auction.as_str()), ("big.book", book.as_str())],
-    )?;
-    match record(
-        rt, alloc, &mut shelf, "big.auc", "s.srv", "big.book", "o", &FreeGate,
-    ) {
-        Err(Stop::Refused(_, line)) => Ok(line),
-        _ => Err(Fail::new("the job was not refused")),
+/// Auctions of 251 and of 250 prices.
+const TOO_MANY: &str = "beet-auction,1\nbase,100\ntick,5\nprices,251\ngates,chain\n";
+
+const MOST: &str = "beet-auction,1\nbase,100\ntick,5\nprices,250\ngates,chain\n";
+
+/// Whether a job is refused by this line.
+fn is_refused(end: Result<Reply, Stop>, wanted: &str) -> bool {
+    match end {
+        Err(Stop::Refused(_, line)) => line.as_slice() == wanted.as_bytes(),
+        _ => false,
     }
+}
+
+/// Compares the line that a book of 2,000 bidders without bids is refused by, at this auction.
+fn expect_line(
+    rt: &(impl Abort + Threads + Wait + Sync),
+    alloc: Global,
+    auction: &str,
+    book: &str,
+    wanted: &str,
+) {
+    let mut shelf = shelf(rt, alloc, &[("big.auc", auction), ("big.book", book)]);
+    let end = record(
+        rt, alloc, &mut shelf, "big.auc", "s.srv", "big.book", "o", &FreeGate,
+    );
+    assert!(rt; is_refused(end, wanted));
 }
 
 #[test]
-fn product_of_a_book(rt: HostRuntime) -> Result<(), Fail> {
+fn product_of_a_book(rt: HostRuntime) {
     let alloc = rt.alloc();
-    let refused = line_of_many(&rt, alloc, 251)?;
-    assert!(rt; refused.as_slice() == b"bad file: big.book row 0 reason 6\n".as_slice());
-    let taken = line_of_many(&rt, alloc, 250)?;
-    assert!(rt; taken.as_slice() == b"read fault: none.bid\n".as_slice());
-    Ok(())
+    let book = book_of_many(&rt, alloc);
+    let refused = "bad file: big.book row 0 reason 6\n";
+    expect_line(&rt, alloc, TOO_MANY, book.as_str(), refused);
+    expect_line(&rt, alloc, MOST, book.as_str(), "read fault: none.bid\n");
 }

@@ -2,9 +2,8 @@ use crate::transcript::fault_of;
 use beet_bids::Policy;
 use beet_field::{P, Point};
 use beet_view::{View, read_view, write_view};
-use std::alloc::{AllocError, Global};
+use std::alloc::Global;
 use std::process::Abort;
-use std::test::Fail;
 
 /// The numbers of a small transcript: the server 2, a grid of 2 prices, a bidder that no server knows, one that the
 /// server knows, a mask word, 2 coefficient words, and a round.
@@ -30,29 +29,25 @@ const PRICE: Form = (b"BEETVW02", &[0]);
 const FULL: Form = (b"BEETVW02", &[2]);
 
 /// Appends the fields of numbers.
-fn push_all(file: &mut Vec<u8>, numbers: &[u64]) -> Result<(), AllocError> {
+fn push_all(rt: &impl Abort, file: &mut Vec<u8>, numbers: &[u64]) {
     for number in numbers {
-        file.extend_from_slice(&number.to_be_bytes())?;
+        file.extend_from_slice(&number.to_be_bytes())
+            .expect(rt, "memory");
     }
-    Ok(())
 }
 
 /// The transcript of these numbers in a form.
-fn file_in(
-    alloc: Global,
-    (magic, policy): Form,
-    numbers: &[u64; 33],
-) -> Result<Vec<u8>, AllocError> {
-    let mut file = Vec::from_slice(alloc, magic)?;
-    push_all(&mut file, &numbers[..BIDDERS])?;
-    push_all(&mut file, policy)?;
-    push_all(&mut file, &numbers[BIDDERS..])?;
-    Ok(file)
+fn file_in(rt: &impl Abort, alloc: Global, (magic, policy): Form, numbers: &[u64; 33]) -> Vec<u8> {
+    let mut file = Vec::from_slice(alloc, magic).expect(rt, "memory");
+    push_all(rt, &mut file, &numbers[..BIDDERS]);
+    push_all(rt, &mut file, policy);
+    push_all(rt, &mut file, &numbers[BIDDERS..]);
+    file
 }
 
 /// The transcript of these numbers.
-fn file_of(alloc: Global, numbers: &[u64; 33]) -> Result<Vec<u8>, AllocError> {
-    file_in(alloc, PLAIN, numbers)
+fn file_of(rt: &impl Abort, alloc: Global, numbers: &[u64; 33]) -> Vec<u8> {
+    file_in(rt, alloc, PLAIN, numbers)
 }
 
 /// The numbers of the small transcript, of which one is another.
@@ -64,47 +59,34 @@ fn small_with(rt: &impl Abort, place: usize, number: u64) -> [u64; 33] {
 }
 
 /// Compares the offset and the reason that the transcript of these numbers is refused with.
-fn expect_fault(
-    rt: &impl Abort,
-    alloc: Global,
-    numbers: &[u64; 33],
-    fault: Option<(u64, u32)>,
-) -> Result<(), AllocError> {
-    let file = file_of(alloc, numbers)?;
+fn expect_fault(rt: &impl Abort, alloc: Global, numbers: &[u64; 33], fault: Option<(u64, u32)>) {
+    let file = file_of(rt, alloc, numbers);
     assert!(rt; fault_of(rt, alloc, file.as_slice()) == fault);
-    Ok(())
 }
 
 /// A place of the small transcript, another number there, and the offset and the reason that this is refused with.
 type Case = (usize, u64, Option<(u64, u32)>);
 
 /// Compares what becomes of the small transcript with other numbers.
-fn expect_faults(rt: &impl Abort, alloc: Global, cases: &[Case]) -> Result<(), Fail> {
+fn expect_faults(rt: &impl Abort, alloc: Global, cases: &[Case]) {
     for (place, number, fault) in cases {
-        expect_fault(rt, alloc, &small_with(rt, *place, *number), *fault)?;
+        expect_fault(rt, alloc, &small_with(rt, *place, *number), *fault);
     }
-    Ok(())
 }
 
 /// Compares the fault of the small transcript where it has 4,096 prices and so many bidders.
-fn expect_product(
-    rt: &impl Abort,
-    alloc: Global,
-    bidders: u64,
-    fault: (u64, u32),
-) -> Result<(), Fail> {
+fn expect_product(rt: &impl Abort, alloc: Global, bidders: u64, fault: (u64, u32)) {
     let mut numbers = SMALL;
     numbers[PRICES] = 4_096;
     numbers[BIDDERS] = bidders;
-    expect_fault(rt, alloc, &numbers, Some(fault))?;
-    Ok(())
+    expect_fault(rt, alloc, &numbers, Some(fault));
 }
 
 /// The view of the small transcript.
-fn small(rt: &impl Abort, alloc: Global) -> Result<View, Fail> {
-    let file = file_of(alloc, &SMALL)?;
+fn small(rt: &impl Abort, alloc: Global) -> View {
+    let file = file_of(rt, alloc, &SMALL);
     assert!(rt; file.len() <= 1_000);
-    Ok(read_view(alloc, file.as_slice())?)
+    read_view(alloc, file.as_slice()).expect(rt, "a view")
 }
 
 /// The first number of a message, if there is one.
@@ -115,22 +97,26 @@ fn first_number(view: &View, round: u32, sender: Point) -> Option<u64> {
 
 /// What the small view tells of its server and the run.
 fn expect_run(rt: &impl Abort, view: &View) {
-    assert_eq!(rt; view.server(), Point::Two);
-    assert_eq!(rt; view.grid().prices(), 2);
-    assert_eq!(rt; view.masks().len(), 1);
-    assert_eq!(rt; view.coefficients().len(), 2);
-    assert_eq!(rt; view.rounds(), 1);
-    assert_eq!(rt; first_number(view, 0, Point::One), Some(11));
-    assert_eq!(rt; first_number(view, 0, Point::Three), Some(12));
-    assert_eq!(rt; first_number(view, 0, Point::Two), None);
-    assert_eq!(rt; first_number(view, 1, Point::One), None);
+    assert!(rt; view.server() == Point::Two);
+    assert!(rt; view.grid().prices() == 2);
+    assert!(rt; view.masks().len() == 1);
+    assert!(rt; view.coefficients().len() == 2);
+    assert!(rt; view.rounds() == 1);
+}
+
+/// What it tells of the messages.
+fn expect_messages(rt: &impl Abort, view: &View) {
+    assert!(rt; first_number(view, 0, Point::One) == Some(11));
+    assert!(rt; first_number(view, 0, Point::Three) == Some(12));
+    assert!(rt; first_number(view, 0, Point::Two).is_none());
+    assert!(rt; first_number(view, 1, Point::One).is_none());
 }
 
 #[test]
-fn small_view(rt: HostRuntime) -> Result<(), Fail> {
-    let view = small(&rt, rt.alloc())?;
+fn small_view(rt: HostRuntime) {
+    let view = small(&rt, rt.alloc());
     expect_run(&rt, &view);
-    Ok(())
+    expect_messages(&rt, &view);
 }
 
 /// What the bidder of a place buys at the last price and the number of its words, where the server knows it.
@@ -145,31 +131,35 @@ fn bought_last(view: &View, place: usize) -> Option<(u64, usize)> {
 
 /// What the small view tells of its bidders.
 fn expect_bidders(rt: &impl Abort, view: &View) {
-    assert_eq!(rt; bought_last(view, 0), None);
-    assert_eq!(rt; bought_last(view, 1), Some((3, 1)));
-    assert_eq!(rt; bought_last(view, 2), None);
+    assert!(rt; bought_last(view, 0).is_none());
+    assert!(rt; bought_last(view, 1) == Some((3, 1)));
+    assert!(rt; bought_last(view, 2).is_none());
 }
 
 #[test]
-fn small_bidders(rt: HostRuntime) -> Result<(), Fail> {
-    let view = small(&rt, rt.alloc())?;
-    expect_bidders(&rt, &view);
-    Ok(())
+fn small_bidders(rt: HostRuntime) {
+    expect_bidders(&rt, &small(&rt, rt.alloc()));
+}
+
+/// Compares what is written of a view with the file.
+fn expect_written(rt: &impl Abort, alloc: Global, view: &View, file: &[u8]) {
+    let written = write_view(alloc, view).expect(rt, "memory");
+    assert!(rt; written.as_slice() == file);
+    assert!(rt; written.capacity() == file.len());
 }
 
 /// Compares the policy of a transcript, and what is written of its view with itself.
-fn expect_again(rt: &impl Abort, alloc: Global, file: &[u8], policy: Policy) -> Result<(), Fail> {
+fn expect_again(rt: &impl Abort, alloc: Global, file: &[u8], policy: Policy) {
     assert!(rt; file.len() <= 1_000);
-    let view = read_view(alloc, file)?;
-    assert_eq!(rt; view.grid().policy(), policy);
-    let written = write_view(alloc, &view)?;
-    assert!(rt; written.as_slice() == file);
-    assert_eq!(rt; written.capacity(), file.len());
-    Ok(())
+    let view = read_view(alloc, file).expect(rt, "a view");
+    assert!(rt; view.grid().policy() == policy);
+    expect_written(rt, alloc, &view, file);
 }
 
 /// The small transcript in each form and in others, with its policy, or the offset and the reason that it is refused with.
-const FORMS: [(Form, Result<Policy, (u64, u32)>); 11] = [
+type InForm = (Form, Result<Policy, (u64, u32)>);
+
+const FORMS: [InForm; 11] = [
     (PLAIN, Ok(Policy::Volume)),
     (PRICE, Ok(Policy::Price)),
     (FULL, Ok(Policy::Full)),
@@ -183,22 +173,30 @@ const FORMS: [(Form, Result<Policy, (u64, u32)>); 11] = [
     ((b"BEETWD01", &[]), Err((0, 1))),
 ];
 
-#[test]
-fn forms(rt: HostRuntime) -> Result<(), Fail> {
-    for (form, read) in FORMS {
-        let file = file_in(rt.alloc(), form, &SMALL)?;
-        match read {
-            Ok(policy) => expect_again(&rt, rt.alloc(), file.as_slice(), policy)?,
-            Err(fault) => {
-                assert!(rt; fault_of(&rt, rt.alloc(), file.as_slice()) == Some(fault));
-            }
-        }
+/// Compares how a transcript is read.
+fn expect_read(rt: &impl Abort, alloc: Global, file: &[u8], read: Result<Policy, (u64, u32)>) {
+    match read {
+        Ok(policy) => expect_again(rt, alloc, file, policy),
+        Err(fault) => assert!(rt; fault_of(rt, alloc, file) == Some(fault)),
     }
-    Ok(())
+}
+
+/// Reads the transcript of each case.
+fn expect_forms(rt: &impl Abort, alloc: Global, cases: &[InForm]) {
+    for (form, read) in cases {
+        expect_read(rt, alloc, &file_in(rt, alloc, *form, &SMALL), *read);
+    }
+}
+
+#[test]
+fn forms(rt: HostRuntime) {
+    expect_forms(&rt, rt.alloc(), &FORMS);
 }
 
 /// Lengths of fronts of the small transcript in a form, with the offset and the reason that they are refused with.
-const FRONTS: [(Form, usize, Option<(u64, u32)>); 11] = [
+type Front = (Form, usize, Option<(u64, u32)>);
+
+const FRONTS: [Front; 11] = [
     (PLAIN, 272, None),
     (PLAIN, 0, Some((0, 1))),
     (PLAIN, 7, Some((0, 1))),
@@ -212,26 +210,39 @@ const FRONTS: [(Form, usize, Option<(u64, u32)>); 11] = [
     (FULL, 279, Some((272, 2))),
 ];
 
-#[test]
-fn cut_off(rt: HostRuntime) -> Result<(), Fail> {
-    for (form, length, fault) in FRONTS {
-        let file = file_in(rt.alloc(), form, &SMALL)?;
-        let bytes = file.as_slice();
-        assert!(rt; length <= bytes.len());
-        assert!(rt;
-            fault_of(&rt, rt.alloc(), &bytes[..length]) == fault,
-            "of {length}"
-        );
+/// Compares the fault of so many bytes of a transcript.
+fn expect_front(
+    rt: &impl Abort,
+    alloc: Global,
+    file: &[u8],
+    length: usize,
+    fault: Option<(u64, u32)>,
+) {
+    assert!(rt; length <= file.len());
+    assert!(rt;
+        fault_of(rt, alloc, &file[..length]) == fault,
+        "of {length}"
+    );
+}
+
+/// Reads the front of each case.
+fn expect_fronts(rt: &impl Abort, alloc: Global, cases: &[Front]) {
+    for (form, length, fault) in cases {
+        let file = file_in(rt, alloc, *form, &SMALL);
+        expect_front(rt, alloc, &file, *length, *fault);
     }
-    Ok(())
 }
 
 #[test]
-fn longer(rt: HostRuntime) -> Result<(), Fail> {
-    let mut file = file_of(rt.alloc(), &SMALL)?;
-    file.push(0)?;
+fn cut_off(rt: HostRuntime) {
+    expect_fronts(&rt, rt.alloc(), &FRONTS);
+}
+
+#[test]
+fn longer(rt: HostRuntime) {
+    let mut file = file_of(&rt, rt.alloc(), &SMALL);
+    file.push(0).expect(&rt, "memory");
     assert!(rt; fault_of(&rt, rt.alloc(), file.as_slice()) == Some((272, 4)));
-    Ok(())
 }
 
 /// Numbers that a field may not hold.
@@ -246,8 +257,8 @@ const OUTSIDE: [Case; 7] = [
 ];
 
 #[test]
-fn fields_outside(rt: HostRuntime) -> Result<(), Fail> {
-    expect_faults(&rt, rt.alloc(), &OUTSIDE)
+fn fields_outside(rt: HostRuntime) {
+    expect_faults(&rt, rt.alloc(), &OUTSIDE);
 }
 
 /// Lengths that a list may not have.
@@ -259,10 +270,10 @@ const TOO_LONG: [Case; 4] = [
 ];
 
 #[test]
-fn lists_too_long(rt: HostRuntime) -> Result<(), Fail> {
-    expect_faults(&rt, rt.alloc(), &TOO_LONG)?;
-    expect_product(&rt, rt.alloc(), 123, (48, 3))?;
-    expect_product(&rt, rt.alloc(), 122, (272, 2))
+fn lists_too_long(rt: HostRuntime) {
+    expect_faults(&rt, rt.alloc(), &TOO_LONG);
+    expect_product(&rt, rt.alloc(), 123, (48, 3));
+    expect_product(&rt, rt.alloc(), 122, (272, 2));
 }
 
 /// Quantities that are too large or out of order, and one that is neither.
@@ -274,6 +285,6 @@ const QUANTITIES: [Case; 4] = [
 ];
 
 #[test]
-fn quantities_out_of_order(rt: HostRuntime) -> Result<(), Fail> {
-    expect_faults(&rt, rt.alloc(), &QUANTITIES)
+fn quantities_out_of_order(rt: HostRuntime) {
+    expect_faults(&rt, rt.alloc(), &QUANTITIES);
 }

@@ -7,7 +7,6 @@ use beet_worlds::{
 };
 use std::alloc::Global;
 use std::process::Abort;
-use std::test::Fail;
 
 /// The word of ones.
 const ONES: u64 = P;
@@ -62,26 +61,29 @@ fn price_and((volume, supply): Shown) -> Outcome {
 }
 
 /// A book of one bidder over a grid of one price with this policy.
-fn book_with(alloc: Global, policy: Policy, (known, sell, buy): Only) -> Result<Book, Fail> {
-    let grid = Grid::new(100, 5, 1, Gates::Chain).ok_or("no grid")?;
+fn book_with(rt: &impl Abort, alloc: Global, policy: Policy, (known, sell, buy): Only) -> Book {
+    let grid = Grid::new(100, 5, 1, Gates::Chain).expect(rt, "a grid");
     let grid = grid.with_policy(policy);
-    let curve = Curve::of(&grid, vec![in alloc; buy]?, vec![in alloc; sell]?).ok_or("no curve")?;
-    let bidders = vec![in alloc; Bidder { known, curve }]?;
-    Ok(Book::new(grid, bidders).ok_or("no book")?)
+    let buy = vec![in alloc; buy].expect(rt, "memory");
+    let sell = vec![in alloc; sell].expect(rt, "memory");
+    let curve = Curve::of(&grid, buy, sell).expect(rt, "a curve");
+    let bidders = vec![in alloc; Bidder { known, curve }].expect(rt, "memory");
+    Book::new(grid, bidders).expect(rt, "a book")
 }
 
 /// The same with the policy that opens the price and the volume.
-fn book(alloc: Global, only: Only) -> Result<Book, Fail> {
-    book_with(alloc, Policy::Volume, only)
+fn book(rt: &impl Abort, alloc: Global, only: Only) -> Book {
+    book_with(rt, alloc, Policy::Volume, only)
 }
 
 /// The list of these words.
-fn words(alloc: Global, numbers: &[u64]) -> Result<WordList, Fail> {
+fn words(rt: &impl Abort, alloc: Global, numbers: &[u64]) -> WordList {
     let mut words = Vec::new(alloc);
     for number in numbers {
-        words.push(Word::of(*number).ok_or("no word")?)?;
+        let word = Word::of(*number).expect(rt, "a word");
+        words.push(word).expect(rt, "memory");
     }
-    Ok(WordList::of(words))
+    WordList::of(words)
 }
 
 /// Whether the list holds these words.
@@ -99,57 +101,59 @@ fn holds(list: &WordList, numbers: &[u64]) -> bool {
 }
 
 /// A list of these words for each server.
-fn lists(alloc: Global, [one, two, three]: [&[u64]; 3]) -> Result<Trio<WordList>, Fail> {
-    Ok(Trio {
-        one: words(alloc, one)?,
-        two: words(alloc, two)?,
-        three: words(alloc, three)?,
-    })
-}
-
-/// Four words for server `at`; the other two servers' words are 0.
-fn masks_of(alloc: Global, at: Point, numbers: &[u64]) -> Result<Trio<WordList>, Fail> {
-    let zeros = [0; 4];
-    match at {
-        Point::One => lists(alloc, [numbers, &zeros, &zeros]),
-        Point::Two => lists(alloc, [&zeros, numbers, &zeros]),
-        Point::Three => lists(alloc, [&zeros, &zeros, numbers]),
+fn lists(rt: &impl Abort, alloc: Global, [one, two, three]: [&[u64]; 3]) -> Trio<WordList> {
+    Trio {
+        one: words(rt, alloc, one),
+        two: words(rt, alloc, two),
+        three: words(rt, alloc, three),
     }
 }
 
-/// The mapped masks for server `me`, or `None` where the grids differ.
+/// Four words for server `at`; the other two servers' words are 0.
+fn masks_of(rt: &impl Abort, alloc: Global, at: Point, numbers: &[u64]) -> Trio<WordList> {
+    let zeros = [0; 4];
+    match at {
+        Point::One => lists(rt, alloc, [numbers, &zeros, &zeros]),
+        Point::Two => lists(rt, alloc, [&zeros, numbers, &zeros]),
+        Point::Three => lists(rt, alloc, [&zeros, &zeros, numbers]),
+    }
+}
+
+/// The mapped masks for server `me`.
 fn mapped_masks(
+    rt: &impl Abort,
     alloc: Global,
     me: Point,
     first: &Book,
     second: &Book,
     masks: &Trio<WordList>,
-) -> Result<Option<Trio<WordList>>, Fail> {
-    if first.grid().prices() != second.grid().prices() {
-        return Ok(None);
-    }
-    Ok(Some(map_masks(alloc, me, first, second, masks)?))
+) -> Trio<WordList> {
+    assert!(rt; first.grid().prices() == second.grid().prices());
+    map_masks(alloc, me, first, second, masks).expect(rt, "memory")
 }
 
 /// Whether the words of server `at` become these for server `me`, where supply is one more in the second world.
 fn becomes(
+    rt: &impl Abort,
     alloc: Global,
     me: Point,
     at: Point,
     before: &[u64],
     after: &[u64],
-) -> Result<bool, Fail> {
-    let first = book(alloc, UNKNOWN)?;
-    let second = book(alloc, SELLS_MORE)?;
-    let masks = masks_of(alloc, at, before)?;
-    match mapped_masks(alloc, me, &first, &second, &masks)? {
-        Some(mapped) => Ok(holds(mapped.get(at), after)),
-        None => Ok(false),
-    }
+) -> bool {
+    let first = book(rt, alloc, UNKNOWN);
+    let second = book(rt, alloc, SELLS_MORE);
+    let masks = masks_of(rt, alloc, at, before);
+    let mapped = mapped_masks(rt, alloc, me, &first, &second, &masks);
+    let becomes = holds(mapped.get(at), after);
+    drop((first, second, masks, mapped));
+    becomes
 }
 
 /// For a server the words of another, and what becomes of them.
-const MASKS: [(Point, Point, [u64; 4], [u64; 4]); 5] = [
+type Masked = (Point, Point, [u64; 4], [u64; 4]);
+
+const MASKS: [Masked; 5] = [
     (Point::Three, Point::One, [7, 9, 11, 13], [5, 9, 11, 13]),
     (Point::One, Point::Two, [7, 9, 11, 13], [5, 9, 11, 13]),
     (Point::One, Point::Three, [7, 9, 11, 13], [7, 9, 11, 13]),
@@ -162,30 +166,34 @@ const MASKS: [(Point, Point, [u64; 4], [u64; 4]); 5] = [
     ),
 ];
 
-#[test]
-fn masks_of_the_second_world(rt: HostRuntime) -> Result<(), Fail> {
-    for (me, at, before, after) in MASKS {
-        assert!(rt; becomes(rt.alloc(), me, at, &before, &after)?);
+/// Maps the words of each case.
+fn expect_masks(rt: &impl Abort, alloc: Global, cases: &[Masked]) {
+    for (me, at, before, after) in cases {
+        assert!(rt; becomes(rt, alloc, *me, *at, before, after));
     }
-    Ok(())
+}
+
+#[test]
+fn masks_of_the_second_world(rt: HostRuntime) {
+    expect_masks(&rt, rt.alloc(), &MASKS);
 }
 
 /// What tells the books of two bidders apart for server 2, by itself and where words are to be mapped.
 fn differences(
+    rt: &impl Abort,
     alloc: Global,
     policy: Policy,
     first: Only,
     second: Only,
-) -> Result<[Option<MapFault>; 2], Fail> {
-    let first = book_with(alloc, policy, first)?;
-    let second = book_with(alloc, policy, second)?;
-    if first.grid() != second.grid() {
-        return Err(Fail::new("two grids"));
-    }
+) -> [Option<MapFault>; 2] {
+    let first = book_with(rt, alloc, policy, first);
+    let second = book_with(rt, alloc, policy, second);
+    assert!(rt; first.grid() == second.grid());
     let alone = agreement(Point::Two, &first, &second).err();
-    let words = words_of_one(alloc)?;
-    let mapped = mapped_words(alloc, &first, &second, &words)?;
-    Ok([alone, mapped.err()])
+    let words = words_of_one(rt, alloc);
+    let mapped = mapped_words(rt, alloc, &first, &second, &words).err();
+    drop((first, second, words));
+    [alone, mapped]
 }
 
 /// The outcome of the first bidder's book.
@@ -197,7 +205,9 @@ const PRICE: Outcome = Outcome::Price {
 };
 
 /// Two books, and what tells them apart.
-const BOOKS: [(Only, Only, Option<MapFault>); 5] = [
+type Differing = (Only, Only, Option<MapFault>);
+
+const BOOKS: [Differing; 5] = [
     (UNKNOWN, SELLS_MORE, None),
     (KNOWN, KNOWN, None),
     (KNOWN, UNKNOWN, Some(MapFault::ShapeDiffers(1))),
@@ -209,17 +219,35 @@ const BOOKS: [(Only, Only, Option<MapFault>); 5] = [
     ),
 ];
 
-#[test]
-fn differences_of_books(rt: HostRuntime) -> Result<(), Fail> {
-    for (first, second, fault) in BOOKS {
-        assert!(rt; differences(rt.alloc(), Policy::Volume, first, second)? == [fault, fault]);
+/// Compares what tells two books apart.
+fn expect_differences(
+    rt: &impl Abort,
+    alloc: Global,
+    policy: Policy,
+    first: Only,
+    second: Only,
+    fault: Option<MapFault>,
+) {
+    assert!(rt; differences(rt, alloc, policy, first, second) == [fault, fault]);
+}
+
+/// Compares the books of each case.
+fn expect_books(rt: &impl Abort, alloc: Global, cases: &[Differing]) {
+    for (first, second, fault) in cases {
+        expect_differences(rt, alloc, Policy::Volume, *first, *second, *fault);
     }
-    Ok(())
+}
+
+#[test]
+fn differences_of_books(rt: HostRuntime) {
+    expect_books(&rt, rt.alloc(), &BOOKS);
 }
 
 /// A policy and a second book with the same price, and where that tells them apart, what is opened of the first bidder's book and of
 /// the second.
-const OPENED: [(Policy, Only, Option<(Shown, Shown)>); 6] = [
+type Opened = (Policy, Only, Option<(Shown, Shown)>);
+
+const OPENED: [Opened; 6] = [
     (Policy::Price, BUYS_LESS, None),
     (
         Policy::Volume,
@@ -246,134 +274,154 @@ fn other_outcomes(shown: Option<(Shown, Shown)>) -> Option<MapFault> {
     Some(MapFault::OutcomesDiffer(price_and(one), price_and(other)))
 }
 
-#[test]
-fn differences_that_are_opened(rt: HostRuntime) -> Result<(), Fail> {
-    for (policy, second, shown) in OPENED {
-        let fault = other_outcomes(shown);
-        assert!(rt; differences(rt.alloc(), policy, UNKNOWN, second)? == [fault, fault]);
+/// Compares the first bidder's book with that of each case.
+fn expect_opened(rt: &impl Abort, alloc: Global, cases: &[Opened]) {
+    for (policy, second, shown) in cases {
+        expect_differences(rt, alloc, *policy, UNKNOWN, *second, other_outcomes(*shown));
     }
-    Ok(())
+}
+
+#[test]
+fn differences_that_are_opened(rt: HostRuntime) {
+    expect_opened(&rt, rt.alloc(), &OPENED);
 }
 
 /// The mapped words of the one bidder of two books, for server `me`.
 fn mapped_bidders(
+    rt: &impl Abort,
     alloc: Global,
     me: Point,
     first: &Book,
     second: &Book,
     lists: &[WordList],
-) -> Result<Vec<WordList>, Fail> {
-    if first.grid() != second.grid() || first.grid().prices() != 1 {
-        return Err(Fail::new("two grids"));
-    }
+) -> Vec<WordList> {
+    assert!(rt; first.grid() == second.grid());
+    assert!(rt; first.grid().prices() == 1);
     if let Err(MapFault::ShapeDiffers(_)) = agreement(me, first, second) {
-        return Err(Fail::new("two shapes"));
+        panic!(rt; "two shapes");
     }
-    if lists.len() != 1 || lists.len() != first.bidders().len() {
-        return Err(Fail::new("not one bidder"));
-    }
-    if count_accepted(lists[0].as_slice()) < 2 {
-        return Err(Fail::new("too few words"));
-    }
-    Ok(map_bidders(alloc, me, first, second, lists)?)
+    assert!(rt; lists.len() == 1);
+    assert!(rt; lists.len() == first.bidders().len());
+    assert!(rt; count_accepted(lists[0].as_slice()) >= 2);
+    map_bidders(alloc, me, first, second, lists).expect(rt, "memory")
 }
 
 /// Whether these words of a bidder become those, for server `me`, where the bidder has another mark and curve in the second world.
 fn curve_becomes(
+    rt: &impl Abort,
     alloc: Global,
     me: Point,
     (first, second): (Only, Only),
     before: &[u64],
     after: &[u64],
-) -> Result<bool, Fail> {
-    let first = book(alloc, first)?;
-    let second = book(alloc, second)?;
-    let lists = vec![in alloc; words(alloc, before)?]?;
-    let mapped = mapped_bidders(alloc, me, &first, &second, lists.as_slice())?;
-    Ok(mapped.len() == 1 && holds(&mapped[0], after))
+) -> bool {
+    let first = book(rt, alloc, first);
+    let second = book(rt, alloc, second);
+    let lists = vec![in alloc; words(rt, alloc, before)].expect(rt, "memory");
+    let mapped = mapped_bidders(rt, alloc, me, &first, &second, &lists);
+    mapped.len() == 1 && holds(&mapped[0], after)
 }
 
 /// The same, where the bidder buys and sells one more in the second world.
 fn bidder_becomes(
+    rt: &impl Abort,
     alloc: Global,
     me: Point,
     known: Option<Point>,
     before: &[u64],
     after: &[u64],
-) -> Result<bool, Fail> {
-    curve_becomes(alloc, me, ((known, 40, 35), (known, 41, 36)), before, after)
+) -> bool {
+    let bidders = ((known, 40, 35), (known, 41, 36));
+    curve_becomes(rt, alloc, me, bidders, before, after)
 }
 
 /// The slope 1 of 45 becomes 1 + 45/2 for server 2, with which 0 has the same point, 47.
 #[test]
-fn slope_of_another_quantity(rt: HostRuntime) -> Result<(), Fail> {
+fn slope_of_another_quantity(rt: HostRuntime) {
     let bidders = ((None, 60, 45), (None, 60, 0));
-    assert!(rt; curve_becomes(rt.alloc(), Point::Two, bidders, &[1, 9], &[HALF + 23, 9])?);
-    Ok(())
+    assert!(rt;
+        curve_becomes(
+            &rt,
+            rt.alloc(),
+            Point::Two,
+            bidders,
+            &[1, 9],
+            &[HALF + 23, 9]
+        )
+    );
 }
 
-#[test]
-fn bidders_of_the_second_world(rt: HostRuntime) -> Result<(), Fail> {
-    let alloc = rt.alloc();
-    let (one, two) = (Point::One, Point::Two);
-    let before = [0, ONES, 4, ONES, 5];
-    let after = [ONES - 1, ONES, 3, ONES, 5];
-    assert!(rt; bidder_becomes(alloc, one, None, &[3, 4, 5], &[2, 3, 5])?);
-    assert!(rt; bidder_becomes(alloc, one, Some(two), &before, &after)?);
-    assert!(rt; bidder_becomes(alloc, two, None, &[3, 4], &[HALF + 2, HALF + 3])?);
-    assert!(rt; bidder_becomes(alloc, two, Some(two), &[3, 4], &[3, 4])?);
-    Ok(())
-}
+/// For a server and the server that knows the bidder the words of the bidder, and what becomes of them.
+type Moved = (Point, Option<Point>, &'static [u64], &'static [u64]);
 
-/// The values and slopes of the two lines of a book of one bidder with these words.
-fn lines_of(alloc: Global, book: &Book, lists: &[WordList]) -> Result<[(u64, u64); 2], Fail> {
-    if lists.len() != book.bidders().len() {
-        return Err(Fail::new("not one bidder"));
+const BIDDERS: [Moved; 4] = [
+    (Point::One, None, &[3, 4, 5], &[2, 3, 5]),
+    (
+        Point::One,
+        Some(Point::Two),
+        &[0, ONES, 4, ONES, 5],
+        &[ONES - 1, ONES, 3, ONES, 5],
+    ),
+    (Point::Two, None, &[3, 4], &[HALF + 2, HALF + 3]),
+    (Point::Two, Some(Point::Two), &[3, 4], &[3, 4]),
+];
+
+/// Maps the words of the bidder of each case.
+fn expect_moved(rt: &impl Abort, alloc: Global, cases: &[Moved]) {
+    for (me, known, before, after) in cases {
+        assert!(rt; bidder_becomes(rt, alloc, *me, *known, before, after));
     }
-    let lines = input_lines(alloc, book, lists)?;
-    let [supply, demand] = lines.as_slice() else {
-        return Err(Fail::new("not two lines"));
-    };
-    Ok([
-        (supply.value.value(), supply.slope.value()),
-        (demand.value.value(), demand.slope.value()),
-    ])
 }
 
 #[test]
-fn lines_of_the_inputs(rt: HostRuntime) -> Result<(), Fail> {
-    let book = book(rt.alloc(), UNKNOWN)?;
-    let lists = vec![in rt.alloc(); words(rt.alloc(), &[ONES, 3, 4, 5])?]?;
-    let lines = lines_of(rt.alloc(), &book, lists.as_slice())?;
-    assert!(rt; lines == [(40, 4), (35, 3)]);
-    Ok(())
+fn bidders_of_the_second_world(rt: HostRuntime) {
+    expect_moved(&rt, rt.alloc(), &BIDDERS);
+}
+
+/// Compares the two lines of a book of one bidder with these words.
+fn expect_lines(rt: &impl Abort, alloc: Global, book: &Book, lists: &[WordList]) {
+    assert!(rt; lists.len() == book.bidders().len());
+    let lines = input_lines(alloc, book, lists).expect(rt, "memory");
+    assert!(rt; lines.len() == 2);
+    assert!(rt; lines[0].value.value() == 40 && lines[0].slope.value() == 4);
+    assert!(rt; lines[1].value.value() == 35 && lines[1].slope.value() == 3);
+}
+
+#[test]
+fn lines_of_the_inputs(rt: HostRuntime) {
+    let book = book(&rt, rt.alloc(), UNKNOWN);
+    let words = words(&rt, rt.alloc(), &[ONES, 3, 4, 5]);
+    let lists = vec![in rt.alloc(); words].expect(&rt, "memory");
+    expect_lines(&rt, rt.alloc(), &book, &lists);
+}
+
+/// Appends a word so many times.
+fn push_many(rt: &impl Abort, words: &mut WordList, number: u64, count: usize) {
+    let word = Word::of(number).expect(rt, "a word");
+    for _ in 0..count {
+        words.push(word).expect(rt, "memory");
+    }
 }
 
 /// So many all-ones words, and then so many others.
-fn many(alloc: Global, rejected: usize, other: usize) -> Result<WordList, Fail> {
-    let (Some(ones), Some(one)) = (Word::of(ONES), Word::of(1)) else {
-        return Err(Fail::new("no word"));
-    };
-    let mut words = Vec::new(alloc);
-    for _word in 0..rejected {
-        words.push(ones)?;
-    }
-    for _word in 0..other {
-        words.push(one)?;
-    }
-    Ok(WordList::of(words))
+fn many(rt: &impl Abort, alloc: Global, (rejected, other): (usize, usize)) -> WordList {
+    let mut words = WordList::new(alloc);
+    push_many(rt, &mut words, ONES, rejected);
+    push_many(rt, &mut words, 1, other);
+    words
 }
 
 /// Lists for the three servers, of so many all-ones words and so many others.
 fn many_each(
+    rt: &impl Abort,
     alloc: Global,
     [one, two, three]: [(usize, usize); 3],
-) -> Result<Trio<WordList>, Fail> {
-    Ok(Trio {
-        one: many(alloc, one.0, one.1)?,
-        two: many(alloc, two.0, two.1)?,
-        three: many(alloc, three.0, three.1)?,
-    })
+) -> Trio<WordList> {
+    Trio {
+        one: many(rt, alloc, one),
+        two: many(rt, alloc, two),
+        three: many(rt, alloc, three),
+    }
 }
 
 /// How many words there are: masks of server 1, coefficients of server 2 that are all ones and others, and words of the one bidder.
@@ -381,24 +429,28 @@ type Counts = (usize, usize, usize, usize);
 
 /// Words of these numbers; there are more than enough of the others.
 fn words_of_counts(
+    rt: &impl Abort,
     alloc: Global,
     (masks, rejected, coefficients, bidder): Counts,
-) -> Result<Words, Fail> {
-    let bidders = vec![in alloc; many(alloc, 0, bidder)?]?;
-    let masks = many_each(alloc, [(0, masks), (3, 0), (0, 9)])?;
-    let coefficients = many_each(alloc, [(0, 1_536), (rejected, coefficients), (0, 2_000)])?;
-    Ok(Words {
-        masks,
-        coefficients,
-        bidders,
-    })
+) -> Words {
+    Words {
+        masks: many_each(rt, alloc, [(0, masks), (3, 0), (0, 9)]),
+        coefficients: many_each(
+            rt,
+            alloc,
+            [(0, 1_536), (rejected, coefficients), (0, 2_000)],
+        ),
+        bidders: vec![in alloc; many(rt, alloc, (0, bidder))].expect(rt, "memory"),
+    }
 }
 
 /// Whether so many words are enough for a book of one price.
-fn are_enough(alloc: Global, counts: Counts) -> Result<bool, Fail> {
-    let book = book(alloc, UNKNOWN)?;
-    let words = words_of_counts(alloc, counts)?;
-    Ok(enough(&book, &words))
+fn are_enough(rt: &impl Abort, alloc: Global, counts: Counts) -> bool {
+    let book = book(rt, alloc, UNKNOWN);
+    let words = words_of_counts(rt, alloc, counts);
+    let enough = enough(&book, &words);
+    drop((book, words));
+    enough
 }
 
 /// Numbers of words, and whether they are enough.
@@ -411,77 +463,87 @@ const COUNTS: [(Counts, bool); 6] = [
     ((3, 0, 1_536, 1), false),
 ];
 
-#[test]
-fn words_that_are_enough(rt: HostRuntime) -> Result<(), Fail> {
-    for (counts, expected) in COUNTS {
-        assert!(rt; are_enough(rt.alloc(), counts)? == expected);
+/// Compares whether the words of each case are enough.
+fn expect_counts(rt: &impl Abort, alloc: Global, cases: &[(Counts, bool)]) {
+    for (counts, expected) in cases {
+        assert!(rt; are_enough(rt, alloc, *counts) == *expected);
     }
-    Ok(())
+}
+
+#[test]
+fn words_that_are_enough(rt: HostRuntime) {
+    expect_counts(&rt, rt.alloc(), &COUNTS);
 }
 
 /// Words for a book of one price and one bidder: masks 7, 9, 11 of server 1, and the bidder's words 3 and 4.
-fn words_of_one(alloc: Global) -> Result<Words, Fail> {
-    let bidders = vec![in alloc; words(alloc, &[3, 4])?]?;
-    let masks = lists(alloc, [&[7, 9, 11], &[0, 0, 0], &[0, 0, 0]])?;
-    let coefficients = many_each(alloc, [(2, 1_536), (0, 1_536), (1, 1_540)])?;
-    Ok(Words {
-        masks,
-        coefficients,
-        bidders,
-    })
+fn words_of_one(rt: &impl Abort, alloc: Global) -> Words {
+    Words {
+        masks: lists(rt, alloc, [&[7, 9, 11], &[0, 0, 0], &[0, 0, 0]]),
+        coefficients: many_each(rt, alloc, [(2, 1_536), (0, 1_536), (1, 1_540)]),
+        bidders: vec![in alloc; words(rt, alloc, &[3, 4])].expect(rt, "memory"),
+    }
 }
 
 /// The words for server 2 in the second world of two books.
 fn mapped_words(
+    rt: &impl Abort,
     alloc: Global,
     first: &Book,
     second: &Book,
     words: &Words,
-) -> Result<Result<Words, MapFault>, Fail> {
-    if first.grid() != second.grid() {
-        return Err(Fail::new("two grids"));
-    }
-    if !enough(first, words) {
-        return Err(Fail::new("too few words"));
-    }
-    Ok(world_map(alloc, Point::Two, first, second, words))
+) -> Result<Words, MapFault> {
+    assert!(rt; first.grid() == second.grid());
+    assert!(rt; enough(first, words));
+    world_map(alloc, Point::Two, first, second, words)
 }
 
 /// The same of the books of the first bidder and of this one.
-fn mapped(alloc: Global, policy: Policy, second: Only) -> Result<Result<Words, MapFault>, Fail> {
-    let first = book_with(alloc, policy, UNKNOWN)?;
-    let second = book_with(alloc, policy, second)?;
-    let words = words_of_one(alloc)?;
-    mapped_words(alloc, &first, &second, &words)
+fn mapped(rt: &impl Abort, alloc: Global, policy: Policy, second: Only) -> Words {
+    let first = book_with(rt, alloc, policy, UNKNOWN);
+    let second = book_with(rt, alloc, policy, second);
+    let words = words_of_one(rt, alloc);
+    let mapped = mapped_words(rt, alloc, &first, &second, &words);
+    drop((first, second, words));
+    mapped.expect(rt, "a map")
 }
 
-/// The mapped words where the one bidder's become these, and supply exceeds demand by one more in the second world.
-fn expect_mapped(rt: &impl Abort, mapped: &Words, bidder: &[u64]) {
+/// Compares the masks of a mapped world, and the one bidder's words.
+fn expect_moved_words(rt: &impl Abort, mapped: &Words, bidder: &[u64]) {
     assert!(rt; holds(&mapped.masks.one, &[5, 9, 11]));
     assert!(rt; holds(&mapped.masks.two, &[0, 0, 0]));
     assert!(rt; mapped.bidders.len() == 1);
     assert!(rt; holds(&mapped.bidders[0], bidder));
-    assert_eq!(rt; mapped.coefficients.one.as_slice().len(), 1_538);
-    let mut own = mapped.coefficients.two.as_slice().iter();
+}
+
+/// Compares the coefficients of a mapped world, where supply exceeds demand by one more than in the first.
+fn expect_moved_coefficients(rt: &impl Abort, mapped: &Trio<WordList>) {
+    assert_eq!(rt; mapped.one.as_slice().len(), 1_538);
+    let mut own = mapped.two.as_slice().iter();
     assert!(rt; own.all(|word| word.value() == 1));
-    let mut moved = mapped.coefficients.three.as_slice().iter();
+    let mut moved = mapped.three.as_slice().iter();
     assert!(rt; !moved.all(|word| word.value() == 1 || word.is_ones()));
 }
 
 /// What is opened, the second book, and the one bidder's words in the second world.
-const MAPPED: [(Policy, Only, [u64; 2]); 3] = [
+type Mapped = (Policy, Only, [u64; 2]);
+
+const MAPPED: [Mapped; 3] = [
     (Policy::Price, SELLS_MORE, [3, HALF + 3]),
     (Policy::Price, BUYS_LESS, [HALF + 3, 4]),
     (Policy::Volume, SELLS_MORE, [3, HALF + 3]),
 ];
 
-#[test]
-fn words_of_the_second_world(rt: HostRuntime) -> Result<(), Fail> {
-    for (policy, second, bidder) in MAPPED {
-        let Ok(mapped) = mapped(rt.alloc(), policy, second)? else {
-            return Err(Fail::new("no map"));
-        };
-        expect_mapped(&rt, &mapped, &bidder);
+/// Maps the world of each case.
+fn expect_mapped(rt: &impl Abort, alloc: Global, cases: &[Mapped]) {
+    for (policy, second, bidder) in cases {
+        let mapped = mapped(rt, alloc, *policy, *second);
+        expect_moved_words(rt, &mapped, bidder);
+        expect_moved_coefficients(rt, &mapped.coefficients);
+        drop(mapped);
     }
-    Ok(())
+}
+
+#[test]
+fn words_of_the_second_world(rt: HostRuntime) {
+    expect_mapped(&rt, rt.alloc(), &MAPPED);
 }

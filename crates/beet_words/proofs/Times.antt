@@ -1,10 +1,11 @@
 -- Reading parts one after another, as a loop does.
-use Rattle.std.proofs.Common.{◌≡◌, ℕ, zero, suc, ◌+◌, ◌-◌, ◌<◌, ◌≤◌, List, [], ◌∷◌, ◌++◌, length, Ok, Err, IfOk, refl, sym, ap, ◌∙◌, append_assoc, arith}
+use Rattle.std.proofs.Common.{◌≡◌, ℕ, zero, suc, ◌+◌, ◌-◌, ◌<◌, ◌≤◌, ◌||◌, nat_lt, if◌then◌else◌, Bool, true, false, List, [], ◌∷◌, ◌++◌, length, Ok, Err, IfOk, refl, sym, ap, ◌∙◌, append_assoc, arith}
 use Rattle.std.proofs.lemmas.List.{append-nil}
 use Rattle.beet_forms.specs.declared.faults.ReadFault.{ReadFault}
 use Rattle.beet_forms.specs.declared.faults.ReadFault.TheVariants.{Bad, OutOfMemory}
 use Rattle.beet_forms.specs.Faults.{Reading, Answers}
-use Rattle.beet_words.specs.Fields.{◌>>=◌, Part, times}
+use Rattle.beet_words.specs.declared.fields.Allowed.{Allowed}
+use Rattle.beet_words.specs.Fields.{◌>>=◌, Part, at_offset, eight_bytes_at, number_at, times}
 
 -- what was read before, and what is still read
 abbrev pub onto : {A : Type 0} → List A → Reading (List A × ℕ) → Reading (List A × ℕ)
@@ -67,8 +68,12 @@ length-times {A} part (suc n) at = first (part at) (length-times part n) where
   first (Ok one) e = others one.0 (times n part one.1) (e one.1)
   first (Err fault) e = tt
 
--- a fault is told of what a file reads as, however its value is shown
-pub same-fault : {A T U : Type 0} (reading : Reading A) (seen : T → A) (view : U → A) (fault : ReadFault) →
-    Answers seen reading (Err fault) → Answers view reading (Err fault)
-same-fault reading seen view (Bad place reason) is = is
-same-fault reading seen view OutOfMemory is = tt
+-- a number takes eight bytes
+pub number_at-after : (bytes : List ℕ) (allowed : Allowed) (at : ℕ) (read : ℕ × ℕ) → number_at bytes allowed at ≡ Ok read → read.1 ≡ at + 8
+number_at-after bytes allowed at read e =
+    by (nat_lt (length bytes) (at + 8)) (nat_lt (eight_bytes_at bytes at) allowed.low || nat_lt allowed.high (eight_bytes_at bytes at)) e where
+      by : (a b : Bool) → (if a then Err (at_offset at allowed.truncated) else if b then Err (at_offset at allowed.outside) else Ok (eight_bytes_at bytes at, at + 8)) ≡ Ok read →
+          read.1 ≡ at + 8
+      by true b e = cc e
+      by false true e = cc e
+      by false false e = let same : (eight_bytes_at bytes at, at + 8) ≡ read = cc e in sym (ap (λ (r : ℕ × ℕ). r.1) same)

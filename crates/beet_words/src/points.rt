@@ -5,8 +5,7 @@ ghost use Rattle.beet_field.specs.Field.{p};
 ghost use Rattle.beet_forms.specs.Faults.{Answers};
 ghost use Rattle.beet_words.specs.Fields.{number_at, times};
 
-use crate::fields::{Allowed, read_number};
-use crate::many::read_many;
+use crate::fields::{Allowed, read_number, room};
 use crate::word::FeList;
 use beet_field::Fe;
 use beet_forms::ReadFault;
@@ -26,7 +25,8 @@ pub fn read_point(bytes: &[u8], allowed: Allowed, at: usize) -> Result<(Fe, usiz
     Ok((point, at))
 }
 
-/// So many numbers of the field, and the offset after the last.
+/// So many numbers of the field, and the offset after the last. Room is taken for all that the file can hold at once, so
+/// that none is tested for where a number is put.
 pub fn read_points(
     alloc: Global,
     bytes: &[u8],
@@ -40,8 +40,12 @@ pub fn read_points(
     ensures count { IfOk result (λ read. length read.0 ≡ count) }
     ensures within { IfOk result (λ read. read.1 ≤ length bytes.now) }
 {
-    let (points, at) = read_many(alloc, bytes, count, at, |from| {
-        read_point(bytes, allowed, from)
-    })?;
-    Ok((FeList::of(points), at))
+    let mut points = Vec::with_capacity(alloc, room(bytes, at, count))?;
+    let mut next = at;
+    for _k in 0..count {
+        let (point, after) = read_point(bytes, allowed, next)?;
+        points.push_reserved(point);
+        next = after;
+    }
+    Ok((FeList::of(points), next))
 }

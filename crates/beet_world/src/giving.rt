@@ -49,7 +49,7 @@ pub(crate) fn hand_out<S: Script>(core: &mut ServerCore<S>, sent: &mut Vec<[Roun
 pub(crate) fn give<S: Script>(
     core: &mut ServerCore<S>,
     sent: &mut Vec<[RoundMessage; 2]>,
-    message: RoundMessage,
+    message: &RoundMessage,
 ) -> Verdict
     requires quiet { is_quiet S.batch_of core.old ≡ true }
     requires room { S.rounds_of core.old.script ≤ vec_capacity sent.old }
@@ -61,7 +61,7 @@ pub(crate) fn give<S: Script>(
     ensures counted { length sent.new.items ≡ taken core.new.round core.new.handed }
     ensures within { length sent.new.items ≤ S.rounds_of core.old.script }
     ensures given { (o : Setup) (x : Delivered) (rounds : ℕ) (s : SideOf) (t : ℕ)
-        → MayGive S.batch_of o x rounds s t core.old sent.old.items message
+        → MayGive S.batch_of o x rounds s t core.old sent.old.items message.now
         → IsGiven S.batch_of o x rounds s t core.old core.new sent.new.items result }
 {
     let verdict = core.deliver(message);

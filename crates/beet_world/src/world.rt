@@ -93,7 +93,7 @@ fn give_to<S: Script>(
     cores: &mut Trio<ServerCore<S>>,
     sent: &mut Trio<Vec<[RoundMessage; 2]>>,
     to: Point,
-    message: RoundMessage,
+    message: &RoundMessage,
 ) -> Verdict
     requires { MayTakeMessages S.batch_of (S.rounds_of (member cores.old to).script)
         (member cores.old to) (member sent.old to) }
@@ -103,7 +103,7 @@ fn give_to<S: Script>(
     ensures keeps { Keeps (member cores.old to) (member cores.new to) }
     ensures quiet { is_quiet S.batch_of (member cores.new to) ≡ true }
     ensures given { (o : Setup) (x : Delivered) (rounds : ℕ) (s : SideOf) (t : ℕ)
-        → MayGive S.batch_of o x rounds s t (member cores.old to) (member sent.old to).items message
+        → MayGive S.batch_of o x rounds s t (member cores.old to) (member sent.old to).items message.now
         → IsGiven S.batch_of o x rounds s t (member cores.old to) (member cores.new to)
         (member sent.new to).items result }
 {
@@ -199,10 +199,26 @@ impl<S: Script> World<S> {
         if let Some(again) = self.repeated(from, to, side, round) {
             return Event::Delivered(again);
         }
+        self.give_copy(from, to, side, round)
+    }
+
+    /// Delivers a copy of the message of a server to its peer of a side, as `event` says. The copy is
+    /// large, so an event that repeats another has none.
+    fn give_copy(&mut self, from: Point, to: Point, side: Side, round: u32) -> Event
+        requires { to ≡ peer from side }
+        ensures delivered { delivered_in self.new
+            ≡ deliver (rounds_in S.batch_of S.inputs_of S.rounds_of self.old) (delivered_in self.old)
+            (record { from = from; to = to; round = round }) }
+        ensures start { self.new.start ≡ self.old.start }
+        ensures event { result
+            ≡ event_of (rounds_in S.batch_of S.inputs_of S.rounds_of self.old) (delivered_in self.old)
+            (record { from = from; to = to; round = round }) }
+        ensures unchanged { result ≡ NotSent → self.new ≡ self.old }
+    {
         let Some(message) = sent_message(&self.sent, from, side, round) else {
             return Event::NotSent;
         };
-        let verdict = give_to(&mut self.cores, &mut self.sent, to, message);
+        let verdict = give_to(&mut self.cores, &mut self.sent, to, &message);
         self.marks[mark_place(from, side, round as usize)] = true;
         Event::Delivered(verdict)
     }

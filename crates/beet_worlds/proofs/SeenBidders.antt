@@ -1,16 +1,16 @@
 -- A server sees the same bidders in both worlds.
-use Rattle.std.proofs.Common.{◌≡◌, ◌≢◌, ◌+◌, ◌*◌, ℕ, suc, inl, inr, Bool, false, List, [], ◌∷◌, map, take, slice_get, Option, Some, None, refl, sym, ap, ◌∙◌, arith}
-use Rattle.std.specs.Prelude.{All, if◌then◌else◌}
+use Rattle.std.proofs.Common.{◌≡◌, ◌≢◌, ◌+◌, ◌*◌, ℕ, suc, inl, inr, false, List, [], ◌∷◌, map, take, slice_get, Option, Some, None, refl, sym, ap, ◌∙◌, arith}
+use Rattle.std.specs.Prelude.{All}
 use Rattle.std.proofs.lemmas.List.Elements.{All-head, All-tail}
 use Rattle.beet_field.specs.declared.point.Point.{Point}
 use Rattle.beet_field.specs.declared.point.Point.TheVariants.{One, Two, Three}
 use Rattle.beet_gates.specs.Each.{each}
 use Rattle.beet_gates.proofs.EachFacts.{each-same}
-use Rattle.beet_bids.specs.Curves.{Curve, IsCurve}
+use Rattle.beet_bids.specs.Curves.{IsCurve}
 use Rattle.beet_bids.specs.Grids.{Grid}
 use Rattle.beet_plan.specs.declared.TheConstants.{SPARE_WORDS}
 use Rattle.beet_book.specs.Farmers.{Farmer, point_for}
-use Rattle.beet_view.specs.BookViews.{names, seen_at}
+use Rattle.beet_view.specs.BookViews.{kept_if, names, seen_at}
 use Rattle.beet_worlds.specs.Enough.{HasAccepted}
 use Rattle.beet_worlds.specs.MappedBidders.{BiddersMapped, FarmerMapped}
 use Rattle.beet_worlds.proofs.BidderFacts.{first-mapped, known-or, point-same, rest-mapped}
@@ -28,27 +28,23 @@ names-not (Some Three) One ne = refl
 names-not (Some Three) Two ne = refl
 names-not (Some Three) Three ne = absurd (ne refl)
 
-shown : Bool → Curve → List ℕ → Option (Curve × List ℕ)
-shown b curve words = if b then Some (curve, words) else None
-
 module _ (s : Point) (grid : Grid) where
   seen-same : (one other : Farmer) → IsCurve other.bidder.curve → (one.bidder.known ≡ Some s → other.bidder.curve ≡ one.bidder.curve) →
       FarmerMapped s (2 * grid.prices) one other → HasAccepted (2 * grid.prices) one.words → HasAccepted (2 * grid.prices) other.words →
       seen_at grid s (cut (2 * grid.prices) other) ≡ seen_at grid s (cut (2 * grid.prices) one)
-  unfolding shown
   seen-same one other c own m h h' =
       let wanted = 2 * grid.prices in
       let points : each (point_for (cut wanted other) s) wanted ≡ each (point_for (cut wanted one) s) wanted =
       each-same (point_for (cut wanted other) s) (point_for (cut wanted one) s) wanted
       (λ n lt. point-cut wanted other h' s n lt ∙ point-same s wanted one other c own m n lt ∙ sym (point-cut wanted one h s n lt)) in
-      let secret : shown (names other.bidder.known s) other.bidder.curve (take (wanted + SPARE_WORDS) other.words)
-      ≡ shown (names one.bidder.known s) one.bidder.curve (take (wanted + SPARE_WORDS) one.words) =
+      let secret : kept_if (names other.bidder.known s) other.bidder.curve (take (wanted + SPARE_WORDS) other.words)
+      ≡ kept_if (names one.bidder.known s) one.bidder.curve (take (wanted + SPARE_WORDS) one.words) =
       elim (known-or one.bidder.known s) [
-        | inl known ↦ λ x. shown (names (m.known x) s) (own known x) (take (wanted + SPARE_WORDS) (m.own known x))
+        | inl known ↦ λ x. kept_if (names (m.known x) s) (own known x) (take (wanted + SPARE_WORDS) (m.own known x))
         | inr unknown ↦
             let no : names one.bidder.known s ≡ false = names-not one.bidder.known s unknown in
-            (λ x. shown ((ap (λ k. names k s) m.known ∙ no) x) other.bidder.curve (take (wanted + SPARE_WORDS) other.words))
-            ∙ sym (λ x. shown (no x) one.bidder.curve (take (wanted + SPARE_WORDS) one.words))
+            (λ x. kept_if ((ap (λ k. names k s) m.known ∙ no) x) other.bidder.curve (take (wanted + SPARE_WORDS) other.words))
+            ∙ sym (λ x. kept_if (no x) one.bidder.curve (take (wanted + SPARE_WORDS) one.words))
       ] in
       λ x. record { known = m.known x; points = points x; own = secret x }
 

@@ -32,14 +32,17 @@ loop-i-preserved c =
           (λ place low high. ap (λ (line : Line). line.sell) (held place low high)));
     }
 
-pub unreachable-requires : goal.unreachable-requires
-unreachable-requires c =
+pub known-requires : goal.known-requires
+known-requires c =
     let end = begin_past c.args.grid.now c.args.lines.now c.loop-i.i c.loop-i-test.false in
-    c.in-None.ensures
-    (rw (c.loop-i.invariant.buy, c.loop-i.invariant.sell, end)
-    (curve_in-of_grid c.args.grid.now c.args.lines.now, curve_in-is c.args.grid.now c.args.lines.now c.requires))
+    rw (c.loop-i.invariant.buy, c.loop-i.invariant.sell, end) (curve_in-is c.args.grid.now c.args.lines.now c.requires)
 
 pub returns-clause-value : goal.returns-clause-value
 returns-clause-value c =
     let end = begin_past c.args.grid.now c.args.lines.now c.loop-i.i c.loop-i-test.false in
-    c.in-Some.ensures.1 ∙ rw (c.loop-i.invariant.buy, c.loop-i.invariant.sell, end) refl
+    c.known.ensures ∙ rw (c.loop-i.invariant.buy, c.loop-i.invariant.sell, end) refl
+
+pub returns-clause-of_grid : goal.returns-clause-of_grid
+returns-clause-of_grid c =
+    let end = begin_past c.args.grid.now c.args.lines.now c.loop-i.i c.loop-i-test.false in
+    rw (c.known.ensures, c.loop-i.invariant.buy, c.loop-i.invariant.sell, end) (curve_in-of_grid c.args.grid.now c.args.lines.now)

@@ -2,4 +2,4 @@ use Rattle.std.proofs.Common.{◌≡◌}
 use Rattle.beet_books_tests.proofs.parts.added_each.Given as goal
 
 abbrev pub invariant-loop-bidder : goal.invariant-loop-bidder
-invariant-loop-bidder l = l.totals.prices ≡ l.grid.prices
+invariant-loop-bidder g l = l.totals.prices ≡ l.grid.prices

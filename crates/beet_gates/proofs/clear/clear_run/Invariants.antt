@@ -11,4 +11,5 @@ invariant-loop-done g l =
       underway : Underway (script.batch_of l.script) l.masks
           (bounds_of (script.wires_of l.script) (script.masks_of l.script) (script.coefficients_of l.script))
           l.inputs (l.rounds - l.done) l.done l.run;
+      placed : script.is_at l.script l.done l.run.opened l.place;
     }

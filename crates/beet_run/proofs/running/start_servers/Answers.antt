@@ -15,6 +15,11 @@ start-requires-2-clause-inputs c = inputs-wanted _ c.args.grid.now _ c.over-scri
 pub start-requires-3-clause-inputs : goal.start-requires-3-clause-inputs
 start-requires-3-clause-inputs c = inputs-wanted _ c.args.grid.now _ c.over-script.ensures (c.requires.inputs Three)
 
+pub returns-in_err-two-clause-memory : goal.returns-in_err-two-clause-memory
+returns-in_err-two-clause-memory c =
+    let p = err_from_is_err_and c.from_residual-in_err-two.result c.from_residual-in_err-two.ensures.1 in
+    rw (p.1, p.2) c.in_err-two.ensures.memory
+
 pub returns-in_err-three-clause-memory : goal.returns-in_err-three-clause-memory
 returns-in_err-three-clause-memory c =
     let p = err_from_is_err_and c.from_residual-in_err-three.result c.from_residual-in_err-three.ensures.1 in

@@ -1,14 +1,24 @@
+use Rattle.std.proofs.Common.{sym, subst}
+use Rattle.beet_link.specs.Ends.{IsNext}
 use Rattle.beet_station.specs.Stations.{HasHeard}
 use Rattle.beet_station.proofs.Hearing.{fits-heard}
+use Rattle.beet_station.proofs.station.hear.Given.{Over}
+use Rattle.beet_station.proofs.station.hear.Goals.{After-give_back}
 use Rattle.beet_station.proofs.station.hear.Goals as goal
+
+-- the core has heard the message of the buffer
+heard : (g : Over) (c : After-give_back g) → HasHeard g.S.Script.batch_of c.args.core.now c.deliver-verdict.new.self c.args.from.now c.deliver-verdict.result
+heard g c = record {
+  message = c.message.result.now;
+  is_next = subst (IsNext c.args.from.now) (sym c.message.ensures) c.in_ok-buffer.ensures.0;
+  answers = c.deliver-verdict.ensures.verdict;
+  fits = c.deliver-verdict.ensures.fits;
+}
+
+pub returns-clause-heard : goal.returns-clause-heard
+returns-clause-heard g c = heard g (goal.at.returns-clause-heard g c).After-give_back
 
 pub returns-clause-fits : goal.returns-clause-fits
 returns-clause-fits g c =
-    let next = g.S.Script.batch_of in
-    let heard : HasHeard next c.args.core.now c.deliver.new.self c.args.from.now c.deliver.result = record {
-      message = c.in_ok-message.message;
-      is_next = c.in_ok-message.ensures.0;
-      answers = c.deliver.ensures.verdict;
-      fits = c.deliver.ensures.fits;
-    } in
-    fits-heard next c.args.core.now c.deliver.new.self c.args.from.now c.deliver.result heard
+    fits-heard g.S.Script.batch_of c.args.core.now c.deliver-verdict.new.self c.args.from.now c.deliver-verdict.result
+    (heard g (goal.at.returns-clause-fits g c).After-give_back)

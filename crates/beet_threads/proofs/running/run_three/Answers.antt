@@ -17,3 +17,8 @@ pub returns-in-None : goal.returns-in-None
 returns-in-None g c =
     let script = g.S.Script in
     spares-ended script.batch_of script.inputs_of script.rounds_of c.args.cores c.args.spares c.lockstep-in-None.result c.requires.alike c.lockstep-in-None.ensures
+
+pub returns-in_default : goal.returns-in_default
+returns-in_default g c =
+    let script = g.S.Script in
+    spares-ended script.batch_of script.inputs_of script.rounds_of c.args.cores c.args.spares c.lockstep.result c.requires.alike c.lockstep.ensures

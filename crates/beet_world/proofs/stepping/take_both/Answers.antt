@@ -7,7 +7,7 @@ deliver-requires-2 g c =
     let d = c.deliver.ensures in
     record {
       sent = quiet-then g.S.Script.batch_of r.o r.t (with_low r.s r.t) r.s c.deliver.new.self
-          (low-taken g.S.Script.batch_of r.o r.t r.s c.args.core.now c.deliver.new.self c.args.low c.deliver.result r.waits r.is_round d.verdict d.fits d.keeps.me r.is_low);
+          (low-taken g.S.Script.batch_of r.o r.t r.s c.args.core.now c.deliver.new.self c.args.low.now c.deliver.result r.waits r.is_round d.verdict d.fits d.keeps.me r.is_low);
     }
 
 pub returns-clause-passed : goal.returns-clause-passed
@@ -15,6 +15,6 @@ returns-clause-passed g c = λ o t s is waits low high.
     let next = g.S.Script.batch_of in
     let d = c.deliver.ensures in
     let e = c.deliver-2.ensures in
-    high-taken next o t s c.deliver.new.self c.deliver-2.new.self c.args.high c.deliver-2.result
-    (low-taken next o t s c.args.core.now c.deliver.new.self c.args.low c.deliver.result waits is d.verdict d.fits d.keeps.me low)
+    high-taken next o t s c.deliver.new.self c.deliver-2.new.self c.args.high.now c.deliver-2.result
+    (low-taken next o t s c.args.core.now c.deliver.new.self c.args.low.now c.deliver.result waits is d.verdict d.fits d.keeps.me low)
     is e.verdict e.fits e.keeps.me high

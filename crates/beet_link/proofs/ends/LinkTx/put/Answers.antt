@@ -11,5 +11,5 @@ push_as-requires-clause-rule g c =
 
 pub unreachable-requires : goal.unreachable-requires
 unreachable-requires g c =
-    let P : LinkEnd → Type 0 = λ e. IsNext e c.args.message in
+    let P : LinkEnd → Type 0 = λ e. IsNext e c.args.message.now in
     never_full _ _ _ _ (subst P (sym c.self.view_is) c.requires) c.self.invariant.3 (rw c.deref.ensures at c.in-Err.ensures.rule.2)

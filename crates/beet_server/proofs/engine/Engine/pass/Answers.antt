@@ -1,4 +1,4 @@
-use Rattle.std.proofs.Common.{◌≡◌, ◌+◌, ℕ, List, length, length-append, ap, ◌∙◌, arith, true, false}
+use Rattle.std.proofs.Common.{◌≡◌, ◌+◌, ℕ, List, length, length-append, sym, ap, subst, ◌∙◌, arith, true, false}
 use Rattle.beet_gates.specs.Clear.{with_lets, is_end}
 use Rattle.beet_gates.specs.Scripts.{revealed}
 use Rattle.beet_gates.specs.declared.Batch.{Batch}
@@ -16,7 +16,7 @@ module _ (g : Over) (c : After-absorb g) where
 
   goes-on : is_end c.self.inside.batch.act ≡ false
   goes-on =
-      ap (λ (b : Batch). is_end b.act) c.self.invariant.coming ∙ ap (λ (w : Work g.row.S.Denot). is_end (batch_of g.S.Script.batch_of w).act) c.self.view_is
+      ap (λ (b : Batch). is_end b.act) c.self.invariant.0.coming ∙ ap (λ (w : Work g.row.S.Denot). is_end (batch_of g.S.Script.batch_of w).act) c.self.view_is
       ∙ c.requires.goes
 
   abbrev new_numbers : List ℕ
@@ -26,28 +26,38 @@ module _ (g : Over) (c : After-absorb g) where
   count =
       omega (arith, ap length c.absorb.ensures.opened, length-append c.self.inside.opened.items new_numbers, c.absorb.ensures.opened_count)
 
+pub refill-requires : goal.refill-requires
+refill-requires g c =
+    let after = (goal.at.refill-requires g c).After-absorb in
+    subst (λ opened. g.S.Script.is_at c.self.inside.script (c.self.inside.round + 1) opened c.self.inside.place)
+    (sym (c.as_slice.ensures.value ∙ c.absorb.ensures.opened))
+    (g.met.S.Script.goes_on c.self.inside.script c.self.inside.round (c.self.inside.round + 1) c.self.inside.opened.items (new_numbers g after)
+    c.self.inside.place c.self.invariant.1 (omega arith))
+
 pub append_lets-requires-clause-below : goal.append_lets-requires-clause-below
 append_lets-requires-clause-below g c =
     let after = (goal.at.append_lets-requires-clause-below g c).After-absorb in
-    let batch_is = c.refill.ensures ∙ ap (λ l. g.S.Script.batch_of c.self.inside.script (c.self.inside.round + 1) l) c.as_slice.ensures.value in
+    let batch_is = c.refill.ensures.batch ∙ ap (λ l. g.S.Script.batch_of c.self.inside.script (c.self.inside.round + 1) l) c.as_slice.ensures.value in
     let lets_are = c.as_slice-2.ensures.value ∙ ap (λ (b : Batch). b.lets.items) batch_is in
-    rw lets_are (next-lets _ _ _ _ _ _ _ _ _ _ _ _ _ c.self.invariant (is-handed g after) (goes-on g after) _ _ (new_numbers g after) c.absorb.ensures.wires_count
+    rw lets_are (next-lets _ _ _ _ _ _ _ _ _ _ _ _ _ c.self.invariant.0 (is-handed g after) (goes-on g after) _ _ (new_numbers g after) c.absorb.ensures.wires_count
     c.absorb.ensures.opened (count g after))
 
 pub append_lets-requires-clause-room : goal.append_lets-requires-clause-room
 append_lets-requires-clause-room g c =
     let after = (goal.at.append_lets-requires-clause-room g c).After-absorb in
-    let batch_is = c.refill.ensures ∙ ap (λ l. g.S.Script.batch_of c.self.inside.script (c.self.inside.round + 1) l) c.as_slice.ensures.value in
+    let batch_is = c.refill.ensures.batch ∙ ap (λ l. g.S.Script.batch_of c.self.inside.script (c.self.inside.round + 1) l) c.as_slice.ensures.value in
     let lets_are = c.as_slice-2.ensures.value ∙ ap (λ (b : Batch). b.lets.items) batch_is in
     rw (lets_are, c.absorb.ensures.wires_capacity)
-    (next-room _ _ _ _ _ _ _ _ _ _ _ _ _ c.self.invariant (is-handed g after) (goes-on g after) _ _ (new_numbers g after) c.absorb.ensures.wires_count
+    (next-room _ _ _ _ _ _ _ _ _ _ _ _ _ c.self.invariant.0 (is-handed g after) (goes-on g after) _ _ (new_numbers g after) c.absorb.ensures.wires_count
     c.absorb.ensures.opened (count g after))
 
 pub invariant_of-self : goal.invariant_of-self
 invariant_of-self g c =
     let after = (goal.at.invariant_of-self g c).After-absorb in
-    let batch_is = c.refill.ensures ∙ ap (λ l. g.S.Script.batch_of c.self.inside.script (c.self.inside.round + 1) l) c.as_slice.ensures.value in
-    rw (c.append_lets.ensures.capacity, c.absorb.ensures.wires_capacity, c.absorb.ensures.opened_capacity)
-    (passes-sound _ _ _ _ _ _ _ _ _ _ _ _ _ c.self.invariant (is-handed g after) (goes-on g after) _ _ (new_numbers g after) c.absorb.ensures.wires_count
-    c.absorb.ensures.opened (count g after)
-    _ _ _ batch_is (c.append_lets.ensures.wires ∙ ap (λ l. with_lets c.absorb.new.wires.items l) c.as_slice-2.ensures.value) c.clear.ensures)
+    let batch_is = c.refill.ensures.batch ∙ ap (λ l. g.S.Script.batch_of c.self.inside.script (c.self.inside.round + 1) l) c.as_slice.ensures.value in (
+      rw (c.append_lets.ensures.capacity, c.absorb.ensures.wires_capacity, c.absorb.ensures.opened_capacity)
+          (passes-sound _ _ _ _ _ _ _ _ _ _ _ _ _ c.self.invariant.0 (is-handed g after) (goes-on g after) _ _ (new_numbers g after) c.absorb.ensures.wires_count
+          c.absorb.ensures.opened (count g after)
+          _ _ _ batch_is (c.append_lets.ensures.wires ∙ ap (λ l. with_lets c.absorb.new.wires.items l) c.as_slice-2.ensures.value) c.clear.ensures),
+      rw c.as_slice.ensures.value at c.refill.ensures.place,
+    )

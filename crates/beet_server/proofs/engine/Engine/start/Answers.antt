@@ -35,11 +35,13 @@ invariant_of-result g c =
     omega (arith, c.append_lets.ensures.capacity, c.append_all.ensures.capacity, c.in_ok-wires.ensures.exact, c.wires.ensures) in
     let opened_fit : MOST_NUMBERS * g.S.Script.rounds_of c.args.script ≤ vec_capacity c.in_ok-opened.opened =
     omega (arith, c.in_ok-opened.ensures.exact, c.rounds.ensures) in
-    let small : g.S.Script.rounds_of c.args.script < 2 ^ 32 = omega (arith, c.rounds.type_inv, c.rounds.ensures) in
-    first-sound (g.S.Script.batch_of c.args.script)
-    (bounds_of (g.S.Script.wires_of c.args.script) (g.S.Script.masks_of c.args.script) (g.S.Script.coefficients_of c.args.script))
-    (g.S.Script.rounds_of c.args.script) (g.S.Script.inputs_of c.args.script) (g.met.S.Script.lawful c.args.script)
-    _ c.args.inputs.now _ _ _ _ _ _ _ c.next-batch.ensures c.requires.inputs
-    (c.append_lets.ensures.wires ∙ ap (λ l. with_lets c.append_all.new.list.items l) lets_are
-    ∙ ap (λ l. with_lets l c.next-batch.result.lets.items) (c.append_all.ensures.items ∙ ap (λ l. l ++ c.args.inputs.now) c.in_ok-wires.ensures.items))
-    c.in_ok-opened.ensures.items c.new.ensures c.requires.masks_start c.requires.words c.requires.numbers wires_fit opened_fit small
+    let small : g.S.Script.rounds_of c.args.script < 2 ^ 32 = omega (arith, c.rounds.type_inv, c.rounds.ensures) in (
+      first-sound (g.S.Script.batch_of c.args.script)
+          (bounds_of (g.S.Script.wires_of c.args.script) (g.S.Script.masks_of c.args.script) (g.S.Script.coefficients_of c.args.script))
+          (g.S.Script.rounds_of c.args.script) (g.S.Script.inputs_of c.args.script) (g.met.S.Script.lawful c.args.script)
+          _ c.args.inputs.now _ _ _ _ _ _ _ c.next-batch.ensures c.requires.inputs
+          (c.append_lets.ensures.wires ∙ ap (λ l. with_lets c.append_all.new.list.items l) lets_are
+          ∙ ap (λ l. with_lets l c.next-batch.result.lets.items) (c.append_all.ensures.items ∙ ap (λ l. l ++ c.args.inputs.now) c.in_ok-wires.ensures.items))
+          c.in_ok-opened.ensures.items c.new.ensures c.requires.masks_start c.requires.words c.requires.numbers wires_fit opened_fit small,
+      rw c.in_ok-opened.ensures.items c.begin-place.ensures,
+    )

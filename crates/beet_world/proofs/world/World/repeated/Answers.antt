@@ -1,6 +1,5 @@
-use Rattle.std.proofs.Common.{◌≡◌, ◌∙◌, true, false, sym, ap, subst, get_or, arith, rules}
+use Rattle.std.proofs.Common.{◌≡◌, true, false, subst, rules}
 use Rattle.std.specs.Prelude.{slice_index_or}
-use Rattle.beet_delivery.specs.Events.{Triple}
 use Rattle.beet_gates.specs.Scripts.{bounds_of}
 use Rattle.beet_world.specs.Happens.{event_of}
 use Rattle.beet_world.specs.Marks.{mark_at}

@@ -1,7 +1,7 @@
 use Rattle.std.proofs.Common.{◌*◌}
 use Rattle.std.proofs.lemmas.Result.{err_from_is_err_and}
 use Rattle.beet_auction_threads.proofs.Spares.{begin-alike, spare-inputs}
-use Rattle.beet_auction_threads.proofs.run_in_threads.Goals as goal
+use Rattle.beet_auction_threads.proofs.run_servers.Goals as goal
 
 pub start_servers-requires-2-clause-inputs : goal.start_servers-requires-2-clause-inputs
 start_servers-requires-2-clause-inputs g c =

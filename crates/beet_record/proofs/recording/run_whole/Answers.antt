@@ -2,15 +2,15 @@ use Rattle.std.proofs.Common.{refl, subst, sym}
 use Rattle.beet_kept.specs.BookRuns.{HasRun}
 use Rattle.beet_kept.proofs.HasRuns.{can-show, inputs-enough, ran-whole, tapes-enough}
 use Rattle.beet_run.proofs.Ending.{has-ended-run}
-use Rattle.beet_record.proofs.recording.run_whole_in_threads.Goals as goal
+use Rattle.beet_record.proofs.recording.run_whole.Goals as goal
 
-pub run_in_threads-requires-clause-enough : goal.run_in_threads-requires-clause-enough
-run_in_threads-requires-clause-enough g c = λ lifetimes outlive.
+pub run_servers-requires-clause-enough : goal.run_servers-requires-clause-enough
+run_servers-requires-clause-enough g c = λ lifetimes outlive.
     let h = c.in_ok-begun.ensures in
     tapes-enough c.args.book.now c.args.words.now h.book c.requires _ h.grid _ refl _ h.inputs _ h.tapes
 
-pub run_in_threads-requires-clause-inputs : goal.run_in_threads-requires-clause-inputs
-run_in_threads-requires-clause-inputs g c = λ lifetimes outlive.
+pub run_servers-requires-clause-inputs : goal.run_servers-requires-clause-inputs
+run_servers-requires-clause-inputs g c = λ lifetimes outlive.
     let h = c.in_ok-begun.ensures in
     inputs-enough c.args.book.now c.args.words.now h.book c.requires _ h.grid _ refl _ h.inputs _ h.tapes
 
