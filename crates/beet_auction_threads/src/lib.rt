@@ -1,4 +1,4 @@
-//! The run of an auction among three servers, each in a thread of its own where that is faster.
+//! The run of an auction among three servers, each in a thread of its own where the auction has many prices.
 #![tactic(auto)]
 
 ghost use Rattle.std.specs.Prelude.{◌≡◌, ◌*◌, IfErr, IfOk, length};
@@ -26,7 +26,7 @@ use std::thread::Threads;
 /// The servers of a run. In threads each wants a processor of its own: two on one processor take turns in every round.
 const SERVERS: usize = 3;
 
-/// The fewest prices of an auction that threads make faster: below, to start two of them takes longer than they save.
+/// The fewest prices of an auction whose servers run in threads. To start these for a shorter search takes longer than the search.
 const FEWEST_PRICES: u32 = 2048;
 
 /// Whether the servers run in threads: the gate must be met, or there are as many prices and a processor for each server.
