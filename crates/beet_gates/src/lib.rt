@@ -72,8 +72,8 @@ pub struct Batch {
 
 /// A program of batches, each of which may depend on the numbers opened before it.
 pub trait Script: Copy {
-    /// How far a run has come in the script. It is no part of what the run does: with it a batch costs a look at the numbers
-    /// opened since the one before, and not at all of them.
+    /// How far a run has come in the script. It is no part of what the run does: with it a batch reads only the numbers that
+    /// were opened since the one before.
     type Place: Copy;
 
     ghost inputs_of: { Self → ℕ };
