@@ -40,11 +40,10 @@ use std::thread::Threads;
 /// transcripts are not those of one run; 9 for a bidder or a server whose tape holds too few words. At 2, 3, 5, 7, 8 and 9
 /// the line that tells the cause is said, and no file is put. The text is said after all files were put.
 ///
-/// In `clear`, `record`, `open` and `trial` three servers run at the same time, the first on the caller's thread and two in
-/// workers, where the auction has many prices and each server a processor, or where the gate must be met; each meets it once
-/// in each round, before it puts its messages of the round. So `run` may wait, and what is promised holds if it returns. Else
-/// the servers run on the caller's thread. Where a worker cannot be started or a link finds no memory, spare servers run in their place
-/// on the caller's thread, without the gate.
+/// In `clear`, `record`, `open` and `trial` three servers run on the caller's thread, or, where the gate must be met, at the same time,
+/// the first on the caller's thread and two in workers. Then each meets the gate once in each round, before it puts its messages of the
+/// round. So `run` may wait, and what is promised holds if it returns. Where a worker cannot be started or a link finds no memory, spare
+/// servers run in their place on the caller's thread, without the gate.
 pub fn run<S: Shelf, K: Desk, R: Threads + Wait + Sync, G: Gate>(
     rt: &R,
     alloc: Global,

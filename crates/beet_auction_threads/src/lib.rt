@@ -1,14 +1,13 @@
-//! The run of an auction among three servers, each in a thread of its own where the auction has many prices.
+//! The run of an auction among three servers, each in a thread of its own where a gate must be met.
 #![tactic(auto)]
 
-ghost use Rattle.std.specs.Prelude.{◌≡◌, ◌*◌, IfErr, IfOk, length};
+ghost use Rattle.std.specs.Prelude.{◌≡◌, ◌*◌, ◌⊎◌, Err, IfErr, IfOk, MatchResult, Ok, length};
 ghost use Rattle.beet_field.specs.Trio.{member};
 ghost use Rattle.beet_field.specs.declared.point.Point.{Point as Server};
 ghost use Rattle.beet_load.specs.Servers.{HaveEnough};
-ghost use Rattle.beet_run.specs.Runs.{EndsAuction, HaveRunToEnd};
+ghost use Rattle.beet_run.specs.Runs.{EndsAuction, HaveRunToEnd, Starts};
 
 use beet_bids::Grid;
-use beet_book::workers;
 use beet_errand::Stop;
 use beet_field::Trio;
 use beet_link::Gate;
@@ -23,16 +22,8 @@ use std::alloc::{AllocError, Global};
 use std::sync::Wait;
 use std::thread::Threads;
 
-/// The servers of a run. In threads each wants a processor of its own: two on one processor take turns in every round.
-const SERVERS: usize = 3;
-
-/// The fewest prices of an auction whose servers run in threads. To start these for a shorter search takes longer than the search.
-const FEWEST_PRICES: u32 = 2048;
-
-/// Whether the servers run in threads: the gate must be met, or there are as many prices and a processor for each server.
-fn are_in_threads<R: Threads, G: Gate>(rt: &R, grid: &Grid, gate: &G) -> bool {
-    gate.must_be_met() || grid.prices() >= FEWEST_PRICES && workers(rt) >= SERVERS
-}
+/// The three servers of an auction.
+type Servers = Trio<ServerCore<AuctionScript>>;
 
 /// The same points, in memory of their own.
 fn copy_points(alloc: Global, points: &Trio<FeList>) -> Result<Trio<FeList>, AllocError>
@@ -66,11 +57,36 @@ fn copy_words(alloc: Global, words: &Trio<ServerWords>) -> Result<Trio<ServerWor
     })
 }
 
-/// Starts the three servers of an auction with these points of the inputs and these words, and runs them to the end, each in a
-/// thread of its own. Each meets the gate once in each round, before it puts its messages. Spare servers with the same points
-/// and words are started before the run; they run in lockstep, without the gate, where no thread or no memory can be had for
-/// it. An auction of few prices, or on fewer processors than servers, runs on the caller's thread, unless the gate must be
-/// met. Want of memory is the only error, and comes before the first round.
+/// Starts three servers with copies of these points and words.
+fn start_spares(
+    alloc: Global,
+    grid: &Grid,
+    inputs: &Trio<FeList>,
+    words: &Trio<ServerWords>,
+) -> Result<Servers, Stop>
+    requires enough { HaveEnough grid.now words.now }
+    requires inputs { (i : Server) → length (member inputs.now i) ≡ 2 * grid.now.prices }
+    ensures memory { IfErr result (λ stop. stop ≡ Stop.OutOfMemory) }
+    ensures starts { IfOk result (Starts grid.now inputs.now words.now) }
+{
+    let spare_inputs = copy_points(alloc, inputs)?;
+    let spare_words = copy_words(alloc, words)?;
+    start_servers(alloc, grid, spare_inputs, spare_words)
+}
+
+/// Both servers and spares, or the error of one.
+fn both<A: Drop, B: Drop, E: Drop>(one: Result<A, E>, other: Result<B, E>) -> Result<(A, B), E>
+    ensures { MatchResult result (λ both. (one ≡ Ok both.0) × (other ≡ Ok both.1))
+        (λ error. (one ≡ Err error) ⊎ (other ≡ Err error)) }
+{
+    Ok((one?, other?))
+}
+
+/// Starts the three servers of an auction with these points of the inputs and these words, and runs them to the end. Where the gate
+/// must be met, each runs in a thread of its own and meets it once in each round, before it puts its messages. Spare servers with the
+/// same points and words are started before the run; they run in lockstep, without the gate, where no thread or no memory can be had for
+/// it. Where the gate need not be met, the servers run in lockstep on the caller's thread, which is faster. Want of memory is the only
+/// error, and comes before the first round.
 pub fn run_servers<R: Threads + Wait + Sync, G: Gate>(
     rt: &R,
     alloc: Global,
@@ -78,19 +94,18 @@ pub fn run_servers<R: Threads + Wait + Sync, G: Gate>(
     inputs: Trio<FeList>,
     words: Trio<ServerWords>,
     gate: &G,
-) -> Result<Trio<ServerCore<AuctionScript>>, Stop>
+) -> Result<Servers, Stop>
     requires enough { HaveEnough grid.now words }
     requires inputs { (i : Server) → length (member inputs i) ≡ 2 * grid.now.prices }
     ensures memory { IfErr result (λ stop. stop ≡ Stop.OutOfMemory) }
     ensures ended { IfOk result (HaveRunToEnd grid.now inputs words) }
 {
-    if !are_in_threads(rt, grid, gate) {
+    if !gate.must_be_met() {
         return run_on_one_thread(alloc, grid, inputs, words);
     }
-    let spare_inputs = copy_points(alloc, &inputs)?;
-    let spare_words = copy_words(alloc, &words)?;
-    let cores = start_servers(alloc, grid, inputs, words)?;
-    let spares = start_servers(alloc, grid, spare_inputs, spare_words)?;
+    let spares = start_spares(alloc, grid, &inputs, &words);
+    let cores = start_servers(alloc, grid, inputs, words);
+    let (cores, spares) = both(cores, spares)?;
     Ok(run_three(rt, alloc, cores, spares, gate))
 }
 

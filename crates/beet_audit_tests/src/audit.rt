@@ -6,10 +6,9 @@ use beet_plan::Finish;
 use beet_record::record;
 use beet_store::{Held, MemoryShelf};
 use beet_view::{View, read_view};
-use std::alloc::{AllocError, Global};
+use std::alloc::Global;
 use std::process::Abort;
 use std::sync::Wait;
-use std::test::Fail;
 use std::thread::Threads;
 
 /// An auction of four prices and three bidders, of which server 2 knows the third.
@@ -34,77 +33,76 @@ const FILES: [(&str, &str); 6] = [
     ("carl.bid", "beet-bid,1\n100,5,0\n115,0,0\n"),
 ];
 
-fn held(alloc: Global, name: &str, text: &str) -> Result<Held, AllocError> {
-    Ok(Held {
-        name: String::from_str(alloc, name)?,
-        bytes: Vec::from_slice(alloc, text.as_bytes())?,
-    })
+/// Appends a file of this name and this text.
+fn push_held(rt: &impl Abort, alloc: Global, files: &mut Vec<Held>, name: &str, text: &str) {
+    let held = Held {
+        name: String::from_str(alloc, name).expect(rt, "memory"),
+        bytes: Vec::from_slice(alloc, text.as_bytes()).expect(rt, "memory"),
+    };
+    files.push(held).expect(rt, "memory");
 }
 
-fn shelf(alloc: Global, texts: &[(&str, &str)]) -> Result<MemoryShelf, AllocError> {
+/// A shelf with these files.
+fn shelf(rt: &impl Abort, alloc: Global, texts: &[(&str, &str)]) -> MemoryShelf {
     let mut files = Vec::new(alloc);
     for (name, text) in texts {
-        files.push(held(alloc, name, text)?)?;
+        push_held(rt, alloc, &mut files, name, text);
     }
-    Ok(MemoryShelf::new(files, Vec::new(alloc)))
+    MemoryShelf::new(files, Vec::new(alloc))
 }
 
 /// The transcripts of the three servers.
-fn recorded(rt: &(impl Threads + Wait + Sync), alloc: Global) -> Result<Reply, Fail> {
-    let mut shelf = shelf(alloc, &FILES)?;
-    match record(
-        rt, alloc, &mut shelf, "g.auc", "s.srv", "b.book", "o", &FreeGate,
-    ) {
-        Ok(reply) => Ok(reply),
-        Err(_) => Err(Fail::new("the job was refused")),
-    }
+fn recorded(rt: &(impl Abort + Threads + Wait + Sync), alloc: Global) -> Reply {
+    let mut shelf = shelf(rt, alloc, &FILES);
+    let (auction, servers, book) = ("g.auc", "s.srv", "b.book");
+    record(
+        rt, alloc, &mut shelf, auction, servers, book, "o", &FreeGate,
+    )
+    .expect(rt, "a reply")
 }
 
 /// The view of the transcript in this place.
-fn view(alloc: Global, reply: &Reply, place: usize) -> Result<View, Fail> {
-    let Some(file) = reply.files.get(place) else {
-        return Err(Fail::new("a transcript is missing"));
-    };
-    let bytes = file.bytes.as_slice();
-    if bytes.len() > 100_000 {
-        return Err(Fail::new("a transcript is too long"));
-    }
-    Ok(read_view(alloc, bytes)?)
+fn view(rt: &impl Abort, alloc: Global, reply: &Reply, place: usize) -> View {
+    assert!(rt; place < reply.files.len());
+    let bytes = reply.files[place].bytes.as_slice();
+    assert!(rt; bytes.len() <= 100_000);
+    read_view(alloc, bytes).expect(rt, "a view")
 }
 
 /// The views of the three servers.
-fn views(rt: &(impl Threads + Wait + Sync), alloc: Global) -> Result<Trio<View>, Fail> {
-    let reply = recorded(rt, alloc)?;
-    let one = view(alloc, &reply, 0)?;
-    let two = view(alloc, &reply, 1)?;
-    let three = view(alloc, &reply, 2)?;
-    Ok(Trio { one, two, three })
+fn views(rt: &impl Abort, alloc: Global, reply: &Reply) -> Trio<View> {
+    Trio {
+        one: view(rt, alloc, reply, 0),
+        two: view(rt, alloc, reply, 1),
+        three: view(rt, alloc, reply, 2),
+    }
 }
 
 /// What the audit answers of them.
-fn answer(
-    rt: &(impl Threads + Wait + Sync),
-    alloc: Global,
-) -> Result<Result<Audited, AuditFault>, Fail> {
-    let views = views(rt, alloc)?;
-    let grid = *views.two.grid();
-    Ok(audit(alloc, &grid, &views))
+fn audited(alloc: Global, views: &Trio<View>) -> Result<Audited, AuditFault> {
+    audit(alloc, views.two.grid(), views)
 }
 
-#[test]
-fn one_run(rt: HostRuntime) -> Result<(), Fail> {
-    let audited = answer(&rt, rt.alloc())?;
-    let finish = Finish::Price {
+/// The finish of the auction.
+fn finish() -> Finish {
+    Finish::Price {
         place: 2,
         volume: Some(Fe::reduce(35)),
         supply: None,
+    }
+}
+
+/// Compares what the audit answers of the views with the finish and the number of rounds.
+fn expect_audited(rt: &impl Abort, alloc: Global, views: &Trio<View>) {
+    let wanted = Audited {
+        finish: finish(),
+        rounds: 255,
     };
-    assert!(rt;
-        audited
-            == Ok(Audited {
-                finish,
-                rounds: 255
-            })
-    );
-    Ok(())
+    assert!(rt; audited(alloc, views) == Ok(wanted));
+}
+
+#[test]
+fn one_run(rt: HostRuntime) {
+    let reply = recorded(&rt, rt.alloc());
+    expect_audited(&rt, rt.alloc(), &views(&rt, rt.alloc(), &reply));
 }

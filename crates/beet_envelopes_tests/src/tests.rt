@@ -2,10 +2,9 @@ use beet_envelopes::{SourceWord, open_envelopes, read_source_word, seal_bid};
 use beet_errand::{NewFile, Reply, Status, Stop};
 use beet_link::FreeGate;
 use beet_store::{Held, MemoryShelf};
-use std::alloc::{AllocError, Global};
+use std::alloc::Global;
 use std::process::Abort;
 use std::sync::Wait;
-use std::test::Fail;
 use std::thread::Threads;
 
 /// An auction of four prices, its servers and three bids.
@@ -57,42 +56,51 @@ const ONES: &str = "1fffffffffffffff\n";
 
 const ZERO: &str = "0000000000000000\n";
 
-fn held(alloc: Global, name: &str, text: &str) -> Result<Held, AllocError> {
-    Ok(Held {
-        name: String::from_str(alloc, name)?,
-        bytes: Vec::from_slice(alloc, text.as_bytes())?,
-    })
+/// A file of this name and this text.
+fn held(rt: &impl Abort, alloc: Global, name: &str, text: &str) -> Held {
+    Held {
+        name: String::from_str(alloc, name).expect(rt, "memory"),
+        bytes: Vec::from_slice(alloc, text.as_bytes()).expect(rt, "memory"),
+    }
 }
 
-/// A shelf with these files, of which those that are given come first, and those that were sealed.
+/// Appends these files.
+fn push_all(rt: &impl Abort, alloc: Global, files: &mut Vec<Held>, texts: &[(&str, &str)]) {
+    for (name, text) in texts {
+        let file = held(rt, alloc, name, text);
+        files.push(file).expect(rt, "memory");
+    }
+}
+
+/// Appends files that were sealed.
+fn push_sealed(rt: &impl Abort, files: &mut Vec<Held>, sealed: Vec<NewFile>) {
+    for NewFile { name, bytes } in sealed {
+        files.push(Held { name, bytes }).expect(rt, "memory");
+    }
+}
+
+/// A shelf with these files, of which those that are given come first, and those that were sealed. This fetch fails, or none
+/// where it is 0.
 fn shelf(
+    rt: &impl Abort,
     alloc: Global,
     first: &[(&str, &str)],
     sealed: Vec<NewFile>,
-    failing: Vec<u64>,
-) -> Result<MemoryShelf, AllocError> {
+    fetch: u64,
+) -> MemoryShelf {
     let mut files = Vec::new(alloc);
-    for (name, text) in first {
-        files.push(held(alloc, name, text)?)?;
-    }
-    for (name, text) in FILES {
-        files.push(held(alloc, name, text)?)?;
-    }
-    for file in sealed {
-        files.push(Held {
-            name: file.name,
-            bytes: file.bytes,
-        })?;
-    }
-    Ok(MemoryShelf::new(files, failing))
+    push_all(rt, alloc, &mut files, first);
+    push_all(rt, alloc, &mut files, &FILES);
+    push_sealed(rt, &mut files, sealed);
+    MemoryShelf::new(files, vec![in alloc; fetch].expect(rt, "memory"))
 }
 
-/// What a job ends with: its status, its text and its files.
-fn end_of(alloc: Global, end: Result<Reply, Stop>) -> Result<Reply, Fail> {
+/// What a job ends with: its status, its text and its files, unless memory ran out.
+fn end_of(alloc: Global, end: Result<Reply, Stop>) -> Option<Reply> {
     match end {
-        Ok(reply) => Ok(reply),
-        Err(Stop::Refused(status, line)) => Ok(Reply::of_text(alloc, status, line)),
-        Err(Stop::OutOfMemory) => Err(Fail::new("out of memory")),
+        Ok(reply) => Some(reply),
+        Err(Stop::Refused(status, line)) => Some(Reply::of_text(alloc, status, line)),
+        Err(Stop::OutOfMemory) => None,
     }
 }
 
@@ -102,61 +110,78 @@ fn expect_end(rt: &impl Abort, end: &Reply, status: Status, text: &str) {
     assert!(rt; end.status == status, "at {text}");
 }
 
-/// Seals a bid with the words of a source.
-fn seal_with(
-    alloc: Global,
-    first: &[(&str, &str)],
-    bid: &str,
-    source: &str,
-    out: &str,
-) -> Result<Reply, Fail> {
-    seal_failing(alloc, first, Vec::new(alloc), bid, source, out)
+/// Compares the status and the text of an end that is not needed after it.
+fn expect_reply(rt: &impl Abort, end: Reply, status: Status, text: &str) {
+    expect_end(rt, &end, status, text);
 }
 
-/// Seals a bid over a shelf of which these fetches fail.
-fn seal_failing(
+/// Seals a bid with the words of a source, where this fetch fails.
+fn seal_with(
+    rt: &impl Abort,
     alloc: Global,
     first: &[(&str, &str)],
-    failing: Vec<u64>,
+    fetch: u64,
     bid: &str,
     source: &str,
     out: &str,
-) -> Result<Reply, Fail> {
-    let Some(source) = read_source_word(source) else {
-        return Err(Fail::new("no source"));
-    };
-    let mut shelf = shelf(alloc, first, Vec::new(alloc), failing)?;
-    end_of(
-        alloc,
-        seal_bid(alloc, &mut shelf, "g.auc", bid, source, out),
-    )
+) -> Reply {
+    let source = read_source_word(source).expect(rt, "a source");
+    let mut shelf = shelf(rt, alloc, first, Vec::new(alloc), fetch);
+    let end = seal_bid(alloc, &mut shelf, "g.auc", bid, source, out);
+    end_of(alloc, end).expect(rt, "memory")
+}
+
+/// Appends files that were sealed to others.
+fn append(rt: &impl Abort, files: &mut Vec<NewFile>, more: Vec<NewFile>) {
+    for file in more {
+        files.push(file).expect(rt, "memory");
+    }
+}
+
+/// Appends the envelopes of these bids.
+fn push_envelopes(
+    rt: &impl Abort,
+    alloc: Global,
+    files: &mut Vec<NewFile>,
+    farmers: &[(&str, &str, &str)],
+) {
+    for (bid, source, out) in farmers {
+        let reply = seal_with(rt, alloc, &[], 0, bid, source, out);
+        append(rt, files, reply.files);
+    }
 }
 
 /// The envelopes of all three bids.
-fn all_sealed(alloc: Global) -> Result<Vec<NewFile>, Fail> {
+fn all_sealed(rt: &impl Abort, alloc: Global) -> Vec<NewFile> {
     let mut files = Vec::new(alloc);
-    for (bid, source, out) in FARMERS {
-        let reply = seal_with(alloc, &[], bid, source, out)?;
-        for file in reply.files {
-            files.push(file)?;
-        }
-    }
-    Ok(files)
+    push_envelopes(rt, alloc, &mut files, &FARMERS);
+    files
 }
 
-/// Opens envelopes.
+/// Opens these envelopes, where this fetch fails.
 fn open_sealed(
-    rt: &(impl Threads + Wait + Sync),
+    rt: &(impl Abort + Threads + Wait + Sync),
     alloc: Global,
     first: &[(&str, &str)],
     sealed: Vec<NewFile>,
-    failing: Vec<u64>,
-) -> Result<Reply, Fail> {
-    let mut shelf = shelf(alloc, first, sealed, failing)?;
-    end_of(
-        alloc,
-        open_envelopes(rt, alloc, &mut shelf, "g.auc", "s.srv", "l.lst", &FreeGate),
-    )
+    fetch: u64,
+) -> Reply {
+    let mut shelf = shelf(rt, alloc, first, sealed, fetch);
+    let end = open_envelopes(rt, alloc, &mut shelf, "g.auc", "s.srv", "l.lst", &FreeGate);
+    end_of(alloc, end).expect(rt, "memory")
+}
+
+/// Opens the three bids over these files, where this fetch fails, and compares the status and the text.
+fn expect_open_failing(
+    rt: &(impl Abort + Threads + Wait + Sync),
+    alloc: Global,
+    first: &[(&str, &str)],
+    fetch: u64,
+    status: Status,
+    text: &str,
+) {
+    let end = open_sealed(rt, alloc, first, all_sealed(rt, alloc), fetch);
+    expect_reply(rt, end, status, text);
 }
 
 /// Opens the three bids over these files, and compares the status and the text.
@@ -166,10 +191,20 @@ fn expect_open(
     first: &[(&str, &str)],
     status: Status,
     text: &str,
-) -> Result<(), Fail> {
-    let end = open_sealed(rt, alloc, first, all_sealed(alloc)?, Vec::new(alloc))?;
-    expect_end(rt, &end, status, text);
-    Ok(())
+) {
+    expect_open_failing(rt, alloc, first, 0, status, text);
+}
+
+/// Opens these envelopes, and compares the status and the text.
+fn expect_opened(
+    rt: &(impl Abort + Threads + Wait + Sync),
+    alloc: Global,
+    files: Vec<NewFile>,
+    status: Status,
+    text: &str,
+) {
+    let end = open_sealed(rt, alloc, &[], files, 0);
+    expect_reply(rt, end, status, text);
 }
 
 /// Writes bytes over those of a file.
@@ -196,12 +231,10 @@ fn expect_changed(
     bytes: &[u8],
     status: Status,
     text: &str,
-) -> Result<(), Fail> {
-    let mut files = all_sealed(alloc)?;
+) {
+    let mut files = all_sealed(rt, alloc);
     overwrite(&mut files, name, at, bytes);
-    let end = open_sealed(rt, alloc, &[], files, Vec::new(alloc))?;
-    expect_end(rt, &end, status, text);
-    Ok(())
+    expect_opened(rt, alloc, files, status, text);
 }
 
 /// The bytes of a seed word.
@@ -273,18 +306,19 @@ const ENVELOPES: [(&str, [u64; 12]); 3] = [
 ];
 
 /// An envelope of these words.
-fn envelope(alloc: Global, words: &[u64]) -> Result<Vec<u8>, AllocError> {
-    let mut bytes = Vec::from_slice(alloc, b"BEETENV1")?;
+fn envelope(rt: &impl Abort, alloc: Global, words: &[u64]) -> Vec<u8> {
+    let mut bytes = Vec::from_slice(alloc, b"BEETENV1").expect(rt, "memory");
     for word in words {
-        bytes.extend_from_slice(&word.to_be_bytes())?;
+        bytes
+            .extend_from_slice(&word.to_be_bytes())
+            .expect(rt, "memory");
     }
-    Ok(bytes)
+    bytes
 }
 
-/// Compares a file with this name and these bytes.
-fn expect_file(rt: &impl Abort, file: &NewFile, name: &str, bytes: &[u8]) {
-    assert!(rt; file.name.as_str() == name, "not {name}");
-    assert!(rt; file.bytes.as_slice() == bytes, "in {name}");
+/// Whether a file has this name and these bytes.
+fn is_file(file: &NewFile, name: &str, bytes: &[u8]) -> bool {
+    file.name.as_str() == name && file.bytes.as_slice() == bytes
 }
 
 /// Compares files with the envelopes of these words.
@@ -293,100 +327,99 @@ fn expect_envelopes(
     alloc: Global,
     files: &[NewFile],
     wanted: &[(&str, [u64; 12])],
-) -> Result<(), Fail> {
+) {
     assert_eq!(rt; files.len(), wanted.len());
     for (file, (name, words)) in files.iter().zip(wanted) {
-        expect_file(rt, file, name, envelope(alloc, words)?.as_slice());
+        let bytes = envelope(rt, alloc, words);
+        assert!(rt; is_file(file, name, &bytes), "in {name}");
     }
-    Ok(())
 }
 
 #[test]
-fn sealing(rt: HostRuntime) -> Result<(), Fail> {
+fn sealing(rt: HostRuntime) {
     let alloc = rt.alloc();
-    let end = seal_with(alloc, &[("t8", TAPE)], "anna.bid", "tape:t8", "e")?;
+    let first = [("t8", TAPE)];
+    let end = seal_with(&rt, alloc, &first, 0, "anna.bid", "tape:t8", "e");
     expect_end(&rt, &end, Status::Done, "sealed 4\n");
-    expect_envelopes(&rt, alloc, end.files.as_slice(), &ENVELOPES)
+    expect_envelopes(&rt, alloc, end.files.as_slice(), &ENVELOPES);
 }
 
 /// Expects that a tape holds one word too few.
-fn expect_short(rt: &impl Abort, alloc: Global, tape: &str) -> Result<(), Fail> {
-    let end = seal_with(alloc, &[("t8", tape)], "anna.bid", "tape:t8", "e")?;
+fn expect_short(rt: &impl Abort, alloc: Global, tape: &str) {
+    let end = seal_with(rt, alloc, &[("t8", tape)], 0, "anna.bid", "tape:t8", "e");
     let text = "too few words: bidder 1 7 of 8\n";
     expect_end(rt, &end, Status::TooFewWords, text);
     assert!(rt; end.files.is_empty());
-    Ok(())
 }
 
 /// So many rows of one word, and then a text.
-fn rows(alloc: Global, word: &str, count: usize, then: &str) -> Result<String, AllocError> {
-    let mut text = word.repeat(alloc, count)?;
-    text.push_str(then)?;
-    Ok(text)
+fn rows(rt: &impl Abort, alloc: Global, word: &str, count: usize, then: &str) -> String {
+    let mut text = word.repeat(alloc, count).expect(rt, "memory");
+    text.push_str(then).expect(rt, "memory");
+    text
 }
 
 #[test]
-fn one_word_too_few(rt: HostRuntime) -> Result<(), Fail> {
-    expect_short(&rt, rt.alloc(), SHORT_TAPE)?;
+fn one_word_too_few(rt: HostRuntime) {
+    expect_short(&rt, rt.alloc(), SHORT_TAPE);
     // Of the second tape the first sixteen words are kept.
-    expect_short(&rt, rt.alloc(), rows(rt.alloc(), ONES, 9, TAPE)?.as_str())
+    let long = rows(&rt, rt.alloc(), ONES, 9, TAPE);
+    expect_short(&rt, rt.alloc(), long.as_str());
 }
 
-/// The number of the one call that fails.
-fn only(alloc: Global, call: u64) -> Result<Vec<u64>, AllocError> {
-    Vec::from_slice(alloc, &[call])
-}
-
-/// Compares an end with that of a fetch that failed.
-fn expect_fault(rt: &impl Abort, alloc: Global, end: &Reply, name: &str) -> Result<(), Fail> {
-    let text = format!(in alloc; "read fault: {name}\n")?;
-    expect_end(rt, end, Status::ReadFault, text.as_str());
-    Ok(())
+/// The line that tells that a fetch failed.
+fn fault(rt: &impl Abort, alloc: Global, name: &str) -> String {
+    format!(in alloc; "read fault: {name}\n").expect(rt, "memory")
 }
 
 /// Seals Anna's bid where a fetch fails, which is that of the file.
-fn expect_seal_fault(rt: &impl Abort, alloc: Global, call: u64, name: &str) -> Result<(), Fail> {
+fn expect_seal_fault(rt: &impl Abort, alloc: Global, fetch: u64, name: &str) {
     let first = [("t8", TAPE)];
-    let end = seal_failing(
-        alloc,
-        &first,
-        only(alloc, call)?,
-        "anna.bid",
-        "tape:t8",
-        "e",
-    )?;
-    expect_fault(rt, alloc, &end, name)
+    let end = seal_with(rt, alloc, &first, fetch, "anna.bid", "tape:t8", "e");
+    let text = fault(rt, alloc, name);
+    expect_reply(rt, end, Status::ReadFault, text.as_str());
 }
 
 #[test]
-fn each_fetch_of_a_seal_fails(rt: HostRuntime) -> Result<(), Fail> {
-    let alloc = rt.alloc();
-    expect_seal_fault(&rt, alloc, 1, "g.auc")?;
-    expect_seal_fault(&rt, alloc, 2, "anna.bid")?;
-    expect_seal_fault(&rt, alloc, 3, "t8")
+fn each_fetch_of_a_seal_fails(rt: HostRuntime) {
+    expect_seal_fault(&rt, rt.alloc(), 1, "g.auc");
+    expect_seal_fault(&rt, rt.alloc(), 2, "anna.bid");
+    expect_seal_fault(&rt, rt.alloc(), 3, "t8");
+}
+
+/// Seals a bid with a tape that no file holds, and compares the status and the text.
+fn expect_no_tape(
+    rt: &impl Abort,
+    alloc: Global,
+    first: &[(&str, &str)],
+    bid: &str,
+    status: Status,
+    text: &str,
+) {
+    let end = seal_with(rt, alloc, first, 0, bid, "tape:none", "e");
+    expect_reply(rt, end, status, text);
 }
 
 #[test]
-fn bid_comes_before_words(rt: HostRuntime) -> Result<(), Fail> {
+fn bid_comes_before_words(rt: HostRuntime) {
     let alloc = rt.alloc();
-    let end = seal_with(alloc, &[("x.bid", "")], "x.bid", "tape:none", "e")?;
+    let first = [("x.bid", "")];
     let text = "bad file: x.bid row 1 reason 1\n";
-    expect_end(&rt, &end, Status::BadFile, text);
-    let end = seal_with(alloc, &[], "bo.bid", "tape:none", "e")?;
-    expect_end(&rt, &end, Status::ReadFault, "read fault: none\n");
-    Ok(())
+    expect_no_tape(&rt, alloc, &first, "x.bid", Status::BadFile, text);
+    let text = "read fault: none\n";
+    expect_no_tape(&rt, alloc, &[], "bo.bid", Status::ReadFault, text);
 }
 
 #[test]
-fn opening(rt: HostRuntime) -> Result<(), Fail> {
-    expect_open(&rt, rt.alloc(), &[], Status::Done, OUTCOME)
+fn opening(rt: HostRuntime) {
+    expect_open(&rt, rt.alloc(), &[], Status::Done, OUTCOME);
 }
 
 #[test]
-fn three_masks_are_rejected(rt: HostRuntime) -> Result<(), Fail> {
+fn three_masks_are_rejected(rt: HostRuntime) {
     let alloc = rt.alloc();
-    let masks = rows(alloc, ONES, 3, "0000000000000000\n0000000000000000\n")?;
-    let zeros = ZERO.repeat(alloc, 2_560)?;
+    let masks = rows(&rt, alloc, ONES, 3, "0000000000000000\n0000000000000000\n");
+    let zeros = rows(&rt, alloc, ZERO, 2_560, "");
     let first = [
         (
             "s.srv",
@@ -396,54 +429,54 @@ fn three_masks_are_rejected(rt: HostRuntime) -> Result<(), Fail> {
         ("m", masks.as_str()),
     ];
     let text = "masks spent\nrounds 192\n";
-    expect_open(&rt, alloc, &first, Status::MasksSpent, text)
+    expect_open(&rt, alloc, &first, Status::MasksSpent, text);
 }
 
 #[test]
-fn nobody_bids(rt: HostRuntime) -> Result<(), Fail> {
+fn nobody_bids(rt: HostRuntime) {
     let list = ("l.lst", "beet-list,1\n");
     let text = "price 100\nvolume 0\nrounds 382\n";
-    expect_open(&rt, rt.alloc(), &[list], Status::Done, text)
+    expect_open(&rt, rt.alloc(), &[list], Status::Done, text);
 }
 
 #[test]
-fn point_on_no_line(rt: HostRuntime) -> Result<(), Fail> {
+fn point_on_no_line(rt: HostRuntime) {
     let alloc = rt.alloc();
     let high = 7u64.to_be_bytes();
-    expect_changed(&rt, alloc, "a.3", 40, &high, Status::Done, OUTCOME)
+    expect_changed(&rt, alloc, "a.3", 40, &high, Status::Done, OUTCOME);
 }
 
 #[test]
-fn another_quantity_is_opened(rt: HostRuntime) -> Result<(), Fail> {
+fn another_quantity_is_opened(rt: HostRuntime) {
     let alloc = rt.alloc();
-    let mut files = all_sealed(alloc)?;
+    let mut files = all_sealed(&rt, alloc);
     // The demand at the price 110 is that of these points: twice 32, less 33.
     overwrite(&mut files, "a.1", 56, &32u64.to_be_bytes());
     overwrite(&mut files, "a.2", 56, &33u64.to_be_bytes());
     let text = "price 110\nvolume 36\nrounds 255\n";
-    expect_opened(&rt, alloc, files, Status::Done, text)
+    expect_opened(&rt, alloc, files, Status::Done, text);
 }
 
 #[test]
-fn envelope_of_another_server(rt: HostRuntime) -> Result<(), Fail> {
+fn envelope_of_another_server(rt: HostRuntime) {
     let list = ("l.lst", "beet-list,1\nanna,a.1,b.1,a.3\n");
     let text = "bad file: b.1 at 8 reason 6\n";
-    expect_open(&rt, rt.alloc(), &[list], Status::BadFile, text)
+    expect_open(&rt, rt.alloc(), &[list], Status::BadFile, text);
 }
 
 #[test]
-fn envelope_of_another_tick(rt: HostRuntime) -> Result<(), Fail> {
+fn envelope_of_another_tick(rt: HostRuntime) {
     let alloc = rt.alloc();
     let text = "bad file: b.2 at 24 reason 2\n";
-    expect_changed(&rt, alloc, "b.2", 31, &[6], Status::BadFile, text)
+    expect_changed(&rt, alloc, "b.2", 31, &[6], Status::BadFile, text);
 }
 
 #[test]
-fn point_above_the_field(rt: HostRuntime) -> Result<(), Fail> {
+fn point_above_the_field(rt: HostRuntime) {
     let alloc = rt.alloc();
     let p = 2_305_843_009_213_693_951u64.to_be_bytes();
     let text = "bad file: c.3 at 40 reason 4\n";
-    expect_changed(&rt, alloc, "c.3", 40, &p, Status::BadFile, text)
+    expect_changed(&rt, alloc, "c.3", 40, &p, Status::BadFile, text);
 }
 
 /// Takes the last byte of a file away.
@@ -456,109 +489,105 @@ fn shorten(files: &mut [NewFile], name: &str) {
 }
 
 /// Gives a file one byte more.
-fn lengthen(files: &mut [NewFile], name: &str) -> Result<(), AllocError> {
+fn lengthen(rt: &impl Abort, files: &mut [NewFile], name: &str) {
     for file in files.iter_mut() {
         if file.name.as_str() == name {
-            file.bytes.push(0)?;
+            file.bytes.push(0).expect(rt, "memory");
         }
     }
-    Ok(())
-}
-
-/// Opens these envelopes, and compares the status and the text.
-fn expect_opened(
-    rt: &(impl Abort + Threads + Wait + Sync),
-    alloc: Global,
-    files: Vec<NewFile>,
-    status: Status,
-    text: &str,
-) -> Result<(), Fail> {
-    let end = open_sealed(rt, alloc, &[], files, Vec::new(alloc))?;
-    expect_end(rt, &end, status, text);
-    Ok(())
 }
 
 #[test]
-fn shorter_envelope(rt: HostRuntime) -> Result<(), Fail> {
-    let mut files = all_sealed(rt.alloc())?;
+fn shorter_envelope(rt: HostRuntime) {
+    let mut files = all_sealed(&rt, rt.alloc());
     shorten(&mut files, "b.1");
     let text = "bad file: b.1 at 96 reason 3\n";
-    expect_opened(&rt, rt.alloc(), files, Status::BadFile, text)
+    expect_opened(&rt, rt.alloc(), files, Status::BadFile, text);
 }
 
 #[test]
-fn longer_envelope(rt: HostRuntime) -> Result<(), Fail> {
-    let mut files = all_sealed(rt.alloc())?;
-    lengthen(&mut files, "b.1")?;
+fn longer_envelope(rt: HostRuntime) {
+    let mut files = all_sealed(&rt, rt.alloc());
+    lengthen(&rt, &mut files, "b.1");
     let text = "bad file: b.1 at 104 reason 5\n";
-    expect_opened(&rt, rt.alloc(), files, Status::BadFile, text)
+    expect_opened(&rt, rt.alloc(), files, Status::BadFile, text);
 }
 
 #[test]
-fn row_of_three_fields(rt: HostRuntime) -> Result<(), Fail> {
+fn row_of_three_fields(rt: HostRuntime) {
     let list = ("l.lst", "beet-list,1\nanna,a.1,a.2\n");
     let text = "bad file: l.lst row 2 reason 2\n";
-    expect_open(&rt, rt.alloc(), &[list], Status::BadFile, text)
+    expect_open(&rt, rt.alloc(), &[list], Status::BadFile, text);
+}
+
+/// Opens the three bids with the words of a bundle, and compares the status and the text.
+fn expect_bundle(
+    rt: &(impl Abort + Threads + Wait + Sync),
+    alloc: Global,
+    bundle: &str,
+    status: Status,
+    text: &str,
+) {
+    let servers = ("s.srv", "beet-servers,1\nbundle,w.words\n");
+    expect_open(rt, alloc, &[servers, ("w.words", bundle)], status, text);
+}
+
+/// A word of eight zero bytes.
+const ZEROS: &str = "\0\0\0\0\0\0\0\0";
+
+/// Appends a text and then so many zero words.
+fn push_words(rt: &impl Abort, alloc: Global, bundle: &mut String, text: &str, count: usize) {
+    bundle.push_str(text).expect(rt, "memory");
+    let zeros = ZEROS.repeat(alloc, count).expect(rt, "memory");
+    bundle.push_str(zeros.as_str()).expect(rt, "memory");
 }
 
 #[test]
-fn bundle_of_no_bidder(rt: HostRuntime) -> Result<(), Fail> {
+fn bundle_of_no_bidder(rt: HostRuntime) {
     let alloc = rt.alloc();
-    let mut bundle = String::from_str(alloc, "BEETWD01")?;
-    for _ in 0..7 * 8 {
-        bundle.push('\0')?;
-    }
-    let servers = ("s.srv", "beet-servers,1\nbundle,w.words\n");
-    let words = ("w.words", bundle.as_str());
+    let mut bundle = String::new(alloc);
+    push_words(&rt, alloc, &mut bundle, "BEETWD01", 7);
     let text = "too few words: server 1 coefficients 0 of 2560\n";
-    expect_open(&rt, alloc, &[servers, words], Status::TooFewWords, text)
+    expect_bundle(&rt, alloc, bundle.as_str(), Status::TooFewWords, text);
 }
 
 /// A bundle of two bidders without words, where each server has enough words, all zero.
-fn bundle_of_two(alloc: Global) -> Result<String, AllocError> {
-    let zero = "\0\0\0\0\0\0\0\0";
-    let masks = zero.repeat(alloc, 5)?;
-    let numbers = zero.repeat(alloc, 2_560)?;
-    let mut bundle = String::from_str(alloc, "BEETWD01\0\0\0\0\0\0\0\x02")?;
+fn bundle_of_two(rt: &impl Abort, alloc: Global) -> String {
+    let mut bundle = String::new(alloc);
+    push_words(rt, alloc, &mut bundle, "BEETWD01\0\0\0\0\0\0\0\x02", 0);
     for _ in 0..3 {
-        bundle.push_str("\0\0\0\0\0\0\0\x05")?;
-        bundle.push_str(masks.as_str())?;
-        bundle.push_str("\0\0\0\0\0\0\x0a\0")?;
-        bundle.push_str(numbers.as_str())?;
+        push_words(rt, alloc, &mut bundle, "\0\0\0\0\0\0\0\x05", 5);
+        push_words(rt, alloc, &mut bundle, "\0\0\0\0\0\0\x0a\0", 2_560);
     }
-    bundle.push_str(zero)?;
-    bundle.push_str(zero)?;
-    Ok(bundle)
+    push_words(rt, alloc, &mut bundle, "", 2);
+    bundle
 }
 
 #[test]
-fn bundle_of_two_bidders(rt: HostRuntime) -> Result<(), Fail> {
-    let alloc = rt.alloc();
-    let bundle = bundle_of_two(alloc)?;
-    let servers = ("s.srv", "beet-servers,1\nbundle,w.words\n");
-    let words = ("w.words", bundle.as_str());
-    expect_open(&rt, alloc, &[servers, words], Status::Done, OUTCOME)
+fn bundle_of_two_bidders(rt: HostRuntime) {
+    let bundle = bundle_of_two(&rt, rt.alloc());
+    expect_bundle(&rt, rt.alloc(), bundle.as_str(), Status::Done, OUTCOME);
 }
 
 /// Opens the three bids where a fetch fails, which is that of the file.
 fn expect_open_fault(
     rt: &(impl Abort + Threads + Wait + Sync),
     alloc: Global,
-    call: u64,
+    fetch: u64,
     name: &str,
-) -> Result<(), Fail> {
-    let end = open_sealed(rt, alloc, &[], all_sealed(alloc)?, only(alloc, call)?)?;
-    expect_fault(rt, alloc, &end, name)
+) {
+    let text = fault(rt, alloc, name);
+    expect_open_failing(rt, alloc, &[], fetch, Status::ReadFault, text.as_str());
 }
 
 #[test]
-fn each_fetch_fails(rt: HostRuntime) -> Result<(), Fail> {
+fn each_fetch_fails(rt: HostRuntime) {
     let alloc = rt.alloc();
-    expect_open_fault(&rt, alloc, 1, "g.auc")?;
-    expect_open_fault(&rt, alloc, 2, "s.srv")?;
-    expect_open_fault(&rt, alloc, 3, "l.lst")?;
-    expect_open_fault(&rt, alloc, 4, "a.1")?;
-    expect_open_fault(&rt, alloc, 5, "a.2")?;
-    expect_open_fault(&rt, alloc, 6, "a.3")?;
-    expect_open_fault(&rt, alloc, 7, "b.1")
+    expect_open_fault(&rt, alloc, 1, "g.auc");
+    expect_open_fault(&rt, alloc, 2, "s.srv");
+    expect_open_fault(&rt, alloc, 3, "l.lst");
+    expect_open_fault(&rt, alloc, 4, "a.1");
+    expect_open_fault(&rt, alloc, 5, "a.2");
+    expect_open_fault(&rt, alloc, 6, "a.3");
+    expect_open_fault(&rt, alloc, 7, "b.1");
 }

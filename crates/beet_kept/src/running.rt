@@ -123,8 +123,9 @@ fn transcript_of(
     ensures { IfOk result (λ file. Writes core.now grid.now bidders.items file.items) }
 {
     let view = view_of(alloc, core, grid, bidders)?;
-    let file = write_view(alloc, &view)?;
-    Ok(file)
+    let file = write_view(alloc, &view);
+    drop(view);
+    file
 }
 
 /// The transcripts of two servers that have ended, each written by a thread of its own.
@@ -260,12 +261,11 @@ pub fn see_whole<R: Threads + Sync>(
     let cores = run_on_one_thread(alloc, &grid, begun.inputs, begun.tapes)?;
     let finish = finish_at(&cores.one);
     let rounds = cores.one.round();
-    let Ok(transcript) = transcript_of(alloc, cores.get(at), &grid, begun.seen.into_one(at)) else {
-        return Err(Stop::OutOfMemory);
-    };
+    let transcript = transcript_of(alloc, cores.get(at), &grid, begun.seen.into_one(at));
+    drop(cores);
     Ok(SeenRun {
         finish,
         rounds,
-        transcript,
+        transcript: transcript?,
     })
 }

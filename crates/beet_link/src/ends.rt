@@ -1,9 +1,9 @@
 //! The two ends of a link.
 
-ghost use Rattle.std.specs.Prelude.{◌≡◌, MatchOption};
+ghost use Rattle.std.specs.Prelude.{◌≡◌, IsFalse, IsTrue};
 ghost use Rattle.beet_link.specs.Ends.{IsNext, one_on};
 
-use crate::buffers::{Buffer, Free, Read, free_buffer, give_back};
+use crate::parcel::{Free, Parcel, Read};
 use crate::rule::{Puts, Queue, QueuePass, Takes};
 use beet_round::RoundMessage;
 use std::alloc::Global;
@@ -60,15 +60,14 @@ impl Model for LinkRx {
 }
 
 impl LinkTx {
-    /// Puts the next message of the run. It is never refused, and takes no memory. Where the buffers of
-    /// both messages before it are still to be given back, it waits.
+    /// Puts the next message of the run. It is never refused, and takes no memory. Where it has many numbers, and the buffers of both such
+    /// messages before it are still to be read, it waits.
     pub fn put<R: Wait>(&mut self, rt: &R, message: &RoundMessage)
         requires { IsNext self.old message.now }
         ensures { self.new ≡ one_on self.old }
     {
-        let mut buffer = free_buffer(rt, &mut self.free);
-        buffer.fill(message);
-        match self.queue.push_as::<Puts, R>(rt, &mut self.pass, buffer) {
+        let parcel = Parcel::pack(rt, &mut self.free, message);
+        match self.queue.push_as::<Puts, R>(rt, &mut self.pass, parcel) {
             Ok(()) => (),
             Err(_) => unreachable!(),
         }
@@ -76,20 +75,18 @@ impl LinkTx {
 }
 
 impl LinkRx {
-    /// Takes the front of the link, in a buffer that is to be given back. The answer is `None` only
-    /// where the link was empty at a moment of the call, and then nothing changes. No memory is taken.
-    pub fn take<R: Wait>(&mut self, rt: &R) -> Option<Buffer>
-        ensures { MatchOption result (self.new ≡ self.old)
-            (λ m. IsNext self.old m × (self.new ≡ one_on self.old)) }
+    /// Takes the front of the link, and makes the message equal to it. The answer is false only where the link was empty at a moment of
+    /// the call, and then nothing changes. No memory is taken.
+    pub fn take<R: Wait>(&mut self, rt: &R, message: &mut RoundMessage) -> bool
+        ensures taken { IsTrue result → IsNext self.old message.new × (self.new ≡ one_on self.old) }
+        ensures empty { IsFalse result → (self.new ≡ self.old) × (message.new ≡ message.old) }
     {
-        let buffer = self.queue.pop_as::<Takes, R>(rt, &mut self.pass)?;
-        Some(buffer)
-    }
-
-    /// Gives back a buffer whose message was read. For one that is kept a later `put` may wait forever.
-    pub fn give_back(&mut self, buffer: Buffer)
-        ensures { self.new ≡ self.old }
-    {
-        give_back(&mut self.read, buffer);
+        match self.queue.pop_as::<Takes, R>(rt, &mut self.pass) {
+            Some(parcel) => {
+                parcel.unpack(&mut self.read, message);
+                true
+            }
+            None => false,
+        }
     }
 }

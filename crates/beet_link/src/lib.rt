@@ -2,13 +2,12 @@
 //! server meets before it puts its messages.
 #![tactic(auto)]
 
-mod buffers;
 mod ends;
 mod gates;
 mod opening;
+mod parcel;
 mod rule;
 
-pub use buffers::Buffer;
 pub use ends::{LinkRx, LinkTx};
-pub use gates::{FreeGate, Gate, Note};
+pub use gates::{FreeGate, Gate, MetGate, Note};
 pub use opening::link;

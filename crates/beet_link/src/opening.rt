@@ -5,8 +5,8 @@ ghost use Rattle.beet_server.specs.Cores.{AreFresh};
 ghost use Rattle.beet_link.specs.Ends.{end_at};
 ghost use Rattle.beet_link.specs.Streams.{stream_of};
 
-use crate::buffers::buffers;
 use crate::ends::{LinkRx, LinkTx};
+use crate::parcel::buffers;
 use crate::rule::{Known, Queue};
 use beet_field::{Point, Trio};
 use beet_gates::Script;

@@ -1,6 +1,6 @@
 //! The rule of a link's queue: what it holds, and what each end knows of it.
 
-use crate::buffers::Buffer;
+use crate::parcel::Parcel;
 use beet_round::RoundMessage;
 use crossbeam_queue::protocol::{Lesson, Outcome, Protocol};
 use crossbeam_queue::{Pass, RuledArrayQueue};
@@ -17,7 +17,7 @@ pub struct Known {
 /// The queue holds the messages in the order in which they were named.
 pub struct InOrder;
 
-impl Protocol<Buffer, Known> for InOrder {
+impl Protocol<Parcel, Known> for InOrder {
     ghost use Rattle.beet_link.specs.Rule.{Carries, first_known};
 
     ghost holds = { Carries };
@@ -28,14 +28,14 @@ impl Protocol<Buffer, Known> for InOrder {
 /// A message is put.
 pub struct Puts;
 
-impl Outcome<Buffer, Known> for Puts {
+impl Outcome<Parcel, Known> for Puts {
     ghost use Rattle.std.specs.Prelude.{◌≡◌};
     ghost use Rattle.beet_link.specs.Rule.{one_more};
 
     ghost then = { λ v x w. w ≡ one_more v };
 }
 
-impl Lesson<Buffer, Known> for Puts {
+impl Lesson<Parcel, Known> for Puts {
     ghost use Rattle.std.specs.Prelude.{◌≤◌, length};
 
     ghost fact = { λ v items. length items ≤ v.moved };
@@ -44,19 +44,19 @@ impl Lesson<Buffer, Known> for Puts {
 /// A message is taken.
 pub struct Takes;
 
-impl Outcome<Buffer, Known> for Takes {
+impl Outcome<Parcel, Known> for Takes {
     ghost use Rattle.std.specs.Prelude.{◌≡◌, Some, slice_get};
     ghost use Rattle.beet_link.specs.Rule.{one_more};
 
     ghost then = { λ v x w. (w ≡ one_more v) × (slice_get v.stream v.moved ≡ Some x) };
 }
 
-impl Lesson<Buffer, Known> for Takes {
+impl Lesson<Parcel, Known> for Takes {
     ghost use Rattle.std.specs.Prelude.{⊤};
 
     ghost fact = { λ v items. ⊤ };
 }
 
-pub type Queue = RuledArrayQueue<Buffer, Known, InOrder>;
+pub type Queue = RuledArrayQueue<Parcel, Known, InOrder>;
 
-pub type QueuePass = Pass<Buffer, Known>;
+pub type QueuePass = Pass<Parcel, Known>;

@@ -5,10 +5,11 @@ ghost use Rattle.beet_errand.specs.Errands.{reads};
 ghost use Rattle.beet_errand.specs.Fetches.{IsDone, Reads};
 ghost use Rattle.beet_field.specs.Trio.{member};
 ghost use Rattle.beet_field.specs.declared.point.Point.{Point as Server};
+ghost use Rattle.beet_load.specs.Loading.{IsKeptOf, Loaded as Read};
 ghost use Rattle.beet_load.specs.Servers.{HaveEnough};
 ghost use Rattle.beet_world.specs.Schedules.{schedule_of};
 ghost use Rattle.beet_world.specs.Worlds.{named_in};
-ghost use Rattle.beet_rehearse.specs.Rehearse.{rehearse_job};
+ghost use Rattle.beet_rehearse.specs.Rehearse.{rehearse_job, rehearsed};
 ghost use Rattle.beet_rehearse.specs.Rehearsing.{Rehearses};
 ghost use Rattle.beet_world.specs.declared.schedule.TheConstants.{SCHEDULE_LIMIT};
 
@@ -17,7 +18,7 @@ use crate::telling::rehearsal_reply;
 use beet_bids::Grid;
 use beet_errand::{Reply, Stop, fetch_file, judge};
 use beet_field::{Point, Trio};
-use beet_load::{ServerWords, load};
+use beet_load::{Loaded, ServerWords, load};
 use beet_run::start_servers;
 use beet_store::Shelf;
 use beet_words::FeList;
@@ -59,10 +60,28 @@ fn play(
         two: standing_in(&world, Point::Two),
         three: standing_in(&world, Point::Three),
     };
+    let undelivered = world.undelivered();
+    drop(world);
     Ok(Rehearsal {
         servers,
-        undelivered: world.undelivered(),
+        undelivered,
     })
+}
+
+/// What the job answers once its files are read.
+fn answer(alloc: Global, loaded: Loaded, schedule: &[Delivery]) -> Result<Reply, Stop>
+    requires { (i : Server) → length (member loaded.inputs i) ≡ 2 * loaded.grid.prices }
+    ensures memory { IfErr result (λ stop. stop ≡ Stop.OutOfMemory) }
+    ensures done { IfOk result (λ reply. IsDone reply.status) }
+    ensures tells { (read : Read) → IsKeptOf loaded read → IfOk result (λ reply. reply ≡ rehearsed read schedule.now) }
+{
+    let Loaded {
+        grid,
+        servers,
+        inputs,
+    } = loaded;
+    let rehearsal = play(alloc, &grid, inputs, servers, schedule)?;
+    Ok(rehearsal_reply(alloc, &grid, &rehearsal)?)
 }
 
 /// How three servers stand in the auction of a book after the deliveries of a schedule, in order: `rehearse AUCTION SERVERS
@@ -80,14 +99,12 @@ pub fn rehearse<S: Shelf>(
         (rehearse_job auction.now servers.now book.now schedule.now) result }
 {
     let loaded = load(alloc, shelf, auction, servers, book)?;
-    let deliveries = read_deliveries(alloc, shelf, schedule)?;
-    let grid = loaded.grid;
-    let rehearsal = play(
-        alloc,
-        &grid,
-        loaded.inputs,
-        loaded.servers,
-        deliveries.as_slice(),
-    )?;
-    Ok(rehearsal_reply(alloc, &grid, &rehearsal)?)
+    let deliveries = read_deliveries(alloc, shelf, schedule);
+    match deliveries {
+        Ok(deliveries) => answer(alloc, loaded, deliveries.as_slice()),
+        Err(stop) => {
+            drop(loaded);
+            Err(stop)
+        }
+    }
 }

@@ -19,20 +19,23 @@ use Rattle.beet_station.specs.Stations.{AreEnded, BeginAlike, IsTied}
 
 module _ {S : Type 0} (next : S → ℕ → List ℕ → Batch) (inputs most : S → ℕ) where
   -- a fresh server with ends that have moved nothing
-  pub begins : {Place : Type 0} (start : Trio (Core S)) → AreFresh next inputs start → (s : Point) (x : Station S Place) → x.core ≡ member start s →
-      x.to_low ≡ end_at (stream_of next inputs most start s (peer s Low)) 0 → x.to_high ≡ end_at (stream_of next inputs most start s (peer s High)) 0 →
-      x.from_low ≡ end_at (stream_of next inputs most start (peer s Low) s) 0 → x.from_high ≡ end_at (stream_of next inputs most start (peer s High) s) 0 →
+  pub begins : {Place : Type 0} (start : Trio (Core S)) → AreFresh next inputs start → (s : Point) (x : Station S Place)
+      {core : Core S} {to_low to_high from_low from_high : LinkEnd} →
+      x ≡ record { core = core; to_low = to_low; to_high = to_high; from_low = from_low; from_high = from_high } → core ≡ member start s →
+      to_low ≡ end_at (stream_of next inputs most start s (peer s Low)) 0 → to_high ≡ end_at (stream_of next inputs most start s (peer s High)) 0 →
+      from_low ≡ end_at (stream_of next inputs most start (peer s Low) s) 0 → from_high ≡ end_at (stream_of next inputs most start (peer s High) s) 0 →
       IsTied next inputs most start s x
-  begins start fresh s x is to_low to_high from_low from_high =
+  begins start fresh s x made fresh_one to_low to_high from_low from_high =
       let stand = fresh-stand next inputs most start fresh s in
+      let is : x.core ≡ member start s = ap (λ y. y.core) made ∙ fresh_one in
       let none : 0 ≡ x.core.round = sym (ap (λ c. c.round) is ∙ stand.round) in
       record {
         stands = subst (λ r. IsAtRound next (setup_of next inputs start) r s x.core) none (subst (λ (c : Core S). IsAtRound next (setup_of next inputs start) 0 s c) (sym is) stand);
         keeps = record { me = ap (λ c. c.me) is; script = ap (λ c. c.script) is; masks = ap (λ c. c.masks.words) is; coefficients = ap (λ c. c.coefficients.words) is };
-        to_low = to_low ∙ ap (end_at (stream_of next inputs most start s (peer s Low))) none;
-        to_high = to_high ∙ ap (end_at (stream_of next inputs most start s (peer s High))) none;
-        from_low = from_low ∙ ap (end_at (stream_of next inputs most start (peer s Low) s)) none;
-        from_high = from_high ∙ ap (end_at (stream_of next inputs most start (peer s High) s)) none;
+        to_low = ap (λ y. y.to_low) made ∙ to_low ∙ ap (end_at (stream_of next inputs most start s (peer s Low))) none;
+        to_high = ap (λ y. y.to_high) made ∙ to_high ∙ ap (end_at (stream_of next inputs most start s (peer s High))) none;
+        from_low = ap (λ y. y.from_low) made ∙ from_low ∙ ap (end_at (stream_of next inputs most start (peer s Low) s)) none;
+        from_high = ap (λ y. y.from_high) made ∙ from_high ∙ ap (end_at (stream_of next inputs most start (peer s High) s)) none;
       }
 
   -- three servers that have ended in threads are as after lockstep

@@ -2,8 +2,7 @@
 
 ghost use Rattle.std.specs.Prelude.{◌≡◌, ◌≢◌, IfOk};
 ghost use Rattle.beet_server.specs.Cores.{AreFresh};
-ghost use Rattle.beet_link.specs.Ends.{end_at};
-ghost use Rattle.beet_link.specs.Streams.{stream_of};
+ghost use Rattle.beet_station.specs.Links.{AreBetween, AreLinked};
 ghost use Rattle.beet_station.specs.Stations.{AreTied};
 
 use crate::station::Station;
@@ -15,9 +14,9 @@ use std::alloc::{AllocError, Global};
 
 /// What a server has of the links with one peer: the end to it, and the end from it.
 #[derive(Drop)]
-struct Ends {
-    to: LinkTx,
-    from: LinkRx,
+pub struct Ends {
+    pub to: LinkTx,
+    pub from: LinkRx,
 }
 
 /// Both links between two servers: the ends of the first, and those of the second.
@@ -30,12 +29,7 @@ fn pair<S: Script>(
     requires fresh { AreFresh S.batch_of S.inputs_of cores.now }
     requires apart { first ≢ second }
     requires back { second ≢ first }
-    ensures there { IfOk result (λ ends. (ends.0.to
-        ≡ end_at (stream_of S.batch_of S.inputs_of S.rounds_of cores.now first second) 0) × (ends.1.from
-        ≡ end_at (stream_of S.batch_of S.inputs_of S.rounds_of cores.now first second) 0)) }
-    ensures back { IfOk result (λ ends. (ends.1.to
-        ≡ end_at (stream_of S.batch_of S.inputs_of S.rounds_of cores.now second first) 0) × (ends.0.from
-        ≡ end_at (stream_of S.batch_of S.inputs_of S.rounds_of cores.now second first) 0)) }
+    ensures { IfOk result (AreBetween S.batch_of S.inputs_of S.rounds_of cores.now first second) }
 {
     let (there, from_first) = link(alloc, cores, first, second)?;
     let (back, from_second) = link(alloc, cores, second, first)?;
@@ -49,6 +43,29 @@ fn pair<S: Script>(
             from: from_first,
         },
     ))
+}
+
+/// The links between three servers: for each two of them the ends of the lower and those of the higher.
+#[derive(Drop)]
+pub struct Links {
+    pub one_two: (Ends, Ends),
+    pub one_three: (Ends, Ends),
+    pub two_three: (Ends, Ends),
+}
+
+/// All six links of three fresh servers.
+fn all_links<S: Script>(alloc: Global, cores: &Trio<ServerCore<S>>) -> Result<Links, AllocError>
+    requires { AreFresh S.batch_of S.inputs_of cores.now }
+    ensures { IfOk result (AreLinked S.batch_of S.inputs_of S.rounds_of cores.now) }
+{
+    let one_two = pair(alloc, cores, Point::One, Point::Two)?;
+    let one_three = pair(alloc, cores, Point::One, Point::Three)?;
+    let two_three = pair(alloc, cores, Point::Two, Point::Three)?;
+    Ok(Links {
+        one_two,
+        one_three,
+        two_three,
+    })
 }
 
 /// A server with its ends.
@@ -78,9 +95,10 @@ pub fn stations<S: Script>(
     requires { AreFresh S.batch_of S.inputs_of cores }
     ensures { IfOk result (AreTied S.batch_of S.inputs_of S.rounds_of cores) }
 {
-    let (one_with_two, two_with_one) = pair(alloc, &cores, Point::One, Point::Two)?;
-    let (one_with_three, three_with_one) = pair(alloc, &cores, Point::One, Point::Three)?;
-    let (two_with_three, three_with_two) = pair(alloc, &cores, Point::Two, Point::Three)?;
+    let links = all_links(alloc, &cores)?;
+    let (one_with_two, two_with_one) = links.one_two;
+    let (one_with_three, three_with_one) = links.one_three;
+    let (two_with_three, three_with_two) = links.two_three;
     Ok(Trio {
         one: station(cores.one, one_with_two, one_with_three),
         two: station(cores.two, two_with_one, two_with_three),

@@ -14,8 +14,8 @@ ghost use Rattle.beet_station.specs.Stations.{HasHeard, IsEnded, IsTied};
 
 use beet_field::{Point, Trio};
 use beet_gates::Script;
-use beet_link::{Buffer, Gate, LinkRx, LinkTx, Note};
-use beet_round::{ToPeers, Verdict};
+use beet_link::{Gate, LinkRx, LinkTx, Note};
+use beet_round::{RoundMessage, ToPeers, Verdict};
 use beet_server::ServerCore;
 use std::hint::spin_loop;
 use std::snapshot::Snapshot;
@@ -36,16 +36,21 @@ pub struct Station<S: Script> {
     pub from_high: LinkRx,
 }
 
-/// The next message of a link in its buffer, once it is there, or `None` where the flag was raised. A
-/// server that has tried [`SPINS`] times gives up its turn after each further try.
-fn wait_for<R: Wait>(rt: &R, stop: &AtomicBool, from: &mut LinkRx) -> Option<Buffer>
+/// Takes the next message of a link, once it is there. `None`: the flag was raised, and nothing was taken.
+/// A server that has tried [`SPINS`] times gives up its turn after each further try.
+fn wait_for<R: Wait>(
+    rt: &R,
+    stop: &AtomicBool,
+    from: &mut LinkRx,
+    message: &mut RoundMessage,
+) -> Option<()>
     ensures { MatchOption result (from.new ≡ from.old)
-        (λ m. IsNext from.old m × (from.new ≡ one_on from.old)) }
+        (λ _. IsNext from.old message.new × (from.new ≡ one_on from.old)) }
 {
     let mut spins = 0;
     for _ in rt.forever() {
-        if let Some(buffer) = from.take(rt) {
-            return Some(buffer);
+        if from.take(rt, message) {
+            return Some(());
         }
         if stop.load(Ordering::SeqCst) {
             return None;
@@ -61,12 +66,13 @@ fn wait_for<R: Wait>(rt: &R, stop: &AtomicBool, from: &mut LinkRx) -> Option<Buf
 }
 
 /// Takes the next message of a link, once it is there, and gives it to the server. `None`: the flag
-/// was raised, and nothing changed.
+/// was raised, and neither changed.
 fn hear<S: Script, R: Wait>(
     rt: &R,
     stop: &AtomicBool,
     core: &mut ServerCore<S>,
     from: &mut LinkRx,
+    message: &mut RoundMessage,
 ) -> Option<Verdict>
     requires { is_quiet S.batch_of core.old ≡ true }
     ensures stopped { IfNone result ((core.new ≡ core.old) × (from.new ≡ from.old)) }
@@ -83,14 +89,18 @@ fn hear<S: Script, R: Wait>(
           round = from.old.moved;
         })) core.new) }
 {
-    let buffer = wait_for(rt, stop, from)?;
-    let verdict = core.deliver(buffer.message());
-    from.give_back(buffer);
-    Some(verdict)
+    wait_for(rt, stop, from, message)?;
+    Some(core.deliver(message))
 }
 
-/// One round: the server meets the gate, hands out its messages in the place of others, puts them, and
-/// takes those of its peers. `None`: the flag was raised.
+/// The messages that a server moves in a round, in the memory of those of the round before.
+#[derive(Drop)]
+struct Mail {
+    sent: ToPeers,
+    heard: RoundMessage,
+}
+
+/// One round: the server meets the gate, hands out its messages, puts them, and takes those of its peers. `None`: the flag was raised.
 fn round<S: Script, R: Wait, G: Gate>(
     rt: &R,
     gate: &G,
@@ -98,7 +108,7 @@ fn round<S: Script, R: Wait, G: Gate>(
     stop: &AtomicBool,
     me: Point,
     station: &mut Station<S>,
-    sent: &mut ToPeers,
+    mail: &mut Mail,
     run: &Snapshot<Trio<ServerCore<S>>>,
 ) -> Option<()>
     requires tied { IsTied S.batch_of S.inputs_of S.rounds_of run.now.value me station.old }
@@ -111,11 +121,12 @@ fn round<S: Script, R: Wait, G: Gate>(
         round: station.core.round(),
     };
     gate.meet(seat, note);
+    let Mail { sent, heard } = mail;
     station.core.hand_out(&mut sent.low, &mut sent.high);
     station.to_low.put(rt, &sent.low);
     station.to_high.put(rt, &sent.high);
-    hear(rt, stop, &mut station.core, &mut station.from_low)?;
-    hear(rt, stop, &mut station.core, &mut station.from_high)?;
+    hear(rt, stop, &mut station.core, &mut station.from_low, heard)?;
+    hear(rt, stop, &mut station.core, &mut station.from_high, heard)?;
     Some(())
 }
 
@@ -132,13 +143,16 @@ pub fn serve<S: Script, R: Wait, G: Gate>(
     ensures { IfSome result (IsEnded S.batch_of S.inputs_of S.rounds_of run.now.value me) }
 {
     let mut station = station;
-    let mut sent = ToPeers::blank(me);
+    let mut mail = Mail {
+        sent: ToPeers::blank(me),
+        heard: RoundMessage::blank(me, me),
+    };
     let mut seat = gate.seat(me);
     for _ in rt.forever() {
         if station.core.ended() {
             return Some(station.core);
         }
-        round(rt, gate, &mut seat, stop, me, &mut station, &mut sent, run)?;
+        round(rt, gate, &mut seat, stop, me, &mut station, &mut mail, run)?;
     }
     unreachable!()
 }

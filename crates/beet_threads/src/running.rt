@@ -1,12 +1,12 @@
 //! Three servers run to the end, each in a thread of its own.
 
-ghost use Rattle.std.specs.Prelude.{◌≡◌, IfSome};
+ghost use Rattle.std.specs.Prelude.{◌≡◌, IfSome, Some};
 ghost use Rattle.beet_field.specs.declared.point.Point.TheVariants.{One, Two, Three};
 ghost use Rattle.beet_server.specs.Cores.{AreFresh};
 ghost use Rattle.beet_station.specs.Stations.{BeginAlike, IsEnded, IsTied};
 ghost use Rattle.beet_server.specs.Lockstep.{HaveEnded};
 
-use crate::serving::{Serving, give_up, meet, run, start};
+use crate::serving::{Serving, end, meet, run, start};
 use beet_field::{Point, Trio};
 use beet_gates::Script;
 use beet_link::Gate;
@@ -19,6 +19,17 @@ use std::sync::atomic::{AtomicBool, Ordering};
 use std::sync::{Barrier, Wait};
 use std::thread;
 use std::thread::Threads;
+
+/// All three, or `None` where one is wanting.
+fn all<T: Drop>(some: Trio<Option<T>>) -> Option<Trio<T>>
+    ensures { IfSome result (λ all. (some.one ≡ Some all.one) × (some.two ≡ Some all.two) × (some.three ≡ Some all.three)) }
+{
+    Some(Trio {
+        one: some.one?,
+        two: some.two?,
+        three: some.three?,
+    })
+}
 
 /// Runs the first server in this thread and the two others in workers, which it meets before the first
 /// round. `None`: a worker could not be started, or a server was stopped. Where a worker could not be
@@ -60,23 +71,10 @@ where
             }
             meet(rt, &three, with_three);
             meet(rt, &two, with_two);
-            match (two, three) {
-                (Some(two), Some(three)) => {
-                    let one = run(rt, gate, stop, one);
-                    let two = two.join(rt);
-                    let three = three.join(rt);
-                    Some(Trio {
-                        one: one?,
-                        two: two?,
-                        three: three?,
-                    })
-                }
-                (two, three) => {
-                    give_up(rt, two);
-                    give_up(rt, three);
-                    None
-                }
-            }
+            let one = run(rt, gate, stop, one);
+            let two = end(rt, two);
+            let three = end(rt, three);
+            all(Trio { one, two, three })
         },
     )
 }

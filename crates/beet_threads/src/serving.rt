@@ -1,6 +1,6 @@
 //! One server that is to run to its end, and the worker that runs it.
 
-ghost use Rattle.std.specs.Prelude.{◌≡◌, IfSome};
+ghost use Rattle.std.specs.Prelude.{◌≡◌, IfSome, IsSomeAnd};
 ghost use Rattle.beet_station.specs.Stations.{IsEnded, IsTied};
 
 use beet_field::{Point, Trio};
@@ -36,7 +36,7 @@ impl<S: Script> Promise<Option<ServerCore<S>>> for Ends<S> {
         (IsEnded S.batch_of S.inputs_of S.rounds_of p.serving.value.run.value p.serving.value.me) };
 }
 
-/// Runs the server to its end. `None`: the flag was raised before.
+/// Runs the server to its end. `None`: the flag was raised before, and where it was up at once the server meets no gate.
 pub fn run<S: Script, R: Wait, G: Gate>(
     rt: &R,
     gate: &G,
@@ -45,6 +45,9 @@ pub fn run<S: Script, R: Wait, G: Gate>(
 ) -> Option<ServerCore<S>>
     ensures { IfSome result (IsEnded S.batch_of S.inputs_of S.rounds_of serving.run.value serving.me) }
 {
+    if stop.load(Ordering::SeqCst) {
+        return None;
+    }
     let Serving { me, station, run } = serving;
     serve(rt, gate, stop, me, station, &run)
 }
@@ -60,9 +63,6 @@ fn run_once_met<S: Script, R: Wait, G: Gate>(
     ensures { IfSome result (IsEnded S.batch_of S.inputs_of S.rounds_of serving.run.value serving.me) }
 {
     barrier.wait(rt);
-    if stop.load(Ordering::SeqCst) {
-        return None;
-    }
     run(rt, gate, stop, serving)
 }
 
@@ -104,9 +104,10 @@ pub fn meet<S: Script, R: Wait>(rt: &R, worker: &Option<Worker<S>>, barrier: &Ba
     }
 }
 
-/// Ends a worker of which nothing is wanted.
-pub fn give_up<S: Script, R: Threads>(rt: &R, worker: Option<Worker<S>>) {
-    if let Some(worker) = worker {
-        worker.join(rt);
-    }
+/// The server of a worker, once that has ended. `None`: it was not started, or the flag was raised.
+pub fn end<S: Script, R: Threads>(rt: &R, worker: Option<Worker<S>>) -> Option<ServerCore<S>>
+    ensures { IfSome result (λ core. IsSomeAnd worker (λ started.
+        IsEnded S.batch_of S.inputs_of S.rounds_of started.promise.serving.value.run.value started.promise.serving.value.me core)) }
+{
+    worker?.join(rt)
 }

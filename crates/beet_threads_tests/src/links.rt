@@ -1,6 +1,7 @@
 use crate::auction::{SEEDS, grid, points, servers};
 use beet_field::{Point, Trio};
 use beet_link::{FreeGate, LinkRx};
+use beet_round::RoundMessage;
 use beet_search::AuctionScript;
 use beet_station::{Station, serve, stations};
 use std::alloc::Global;
@@ -26,13 +27,18 @@ fn after_one(
 
 /// Takes the one message of a link.
 fn expect_one(rt: &(impl Wait + Abort), link: &mut LinkRx, receiver: Point) {
-    let buffer = link.take(rt).expect(rt, "a message");
-    let message = buffer.message();
+    let mut message = RoundMessage::blank(Point::Three, Point::Three);
+    assert!(rt; link.take(rt, &mut message));
     assert_eq!(rt; message.from, Point::One);
     assert_eq!(rt; message.to, receiver);
     assert_eq!(rt; message.round, 0);
-    link.give_back(buffer);
-    assert!(rt; link.take(rt).is_none());
+    expect_none(rt, link);
+}
+
+/// Expects that a link is empty.
+fn expect_none(rt: &(impl Wait + Abort), link: &mut LinkRx) {
+    let mut message = RoundMessage::blank(Point::Three, Point::Three);
+    assert!(rt; !link.take(rt, &mut message));
 }
 
 #[test]
@@ -40,7 +46,7 @@ fn what_is_put_is_taken(rt: HostRuntime) {
     let (mut two, mut three) = after_one(&rt, rt.alloc());
     expect_one(&rt, &mut two.from_low, Point::Two);
     expect_one(&rt, &mut three.from_low, Point::Three);
-    assert!(rt; two.from_high.take(&rt).is_none());
-    assert!(rt; three.from_high.take(&rt).is_none());
+    expect_none(&rt, &mut two.from_high);
+    expect_none(&rt, &mut three.from_high);
     drop((two, three));
 }

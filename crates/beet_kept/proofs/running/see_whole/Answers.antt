@@ -26,8 +26,8 @@ finish_at-finish-requires g c =
     let ran = c.in_ok-cores.ensures.ended in
     has-ended-run _ _ _ _ ran.starts c.in_ok-cores.cores ran.ended
 
-pub transcript_of-requires : goal.transcript_of-requires
-transcript_of-requires g c =
+pub transcript_of-transcript-requires : goal.transcript_of-transcript-requires
+transcript_of-transcript-requires g c =
     let h = c.in_ok-begun.ensures in
     let ran = c.in_ok-cores.ensures.ended in
     let has = ran-shown c.args.book.now c.args.words.now h.book c.requires _ h.grid _ refl _ h.inputs _ h.tapes
@@ -43,8 +43,8 @@ returns-clause-transcript g c =
     _ _ _ _ ran.starts ran.ended c.finish_at-finish.ensures c.round-rounds.ensures in
     transcript-shown c.args.book.now c.args.words.now _ c.args.at _ _ has
     (c.into_one.ensures ∙ h.seen c.args.at (same_self c.args.at) ∙ sym (member-trio (λ (s : Point). map (seen_at c.args.book.now.grid s) (farmers_of c.args.book.now.bidders c.args.words.now.bidders)) c.args.at))
-    (subst (λ (core : Core Auction). Writes core c.in_ok-begun.begun.grid c.into_one.result.items c.in-Ok.transcript.items) c.get.ensures
-    c.in-Ok.ensures)
+    (subst (λ (core : Core Auction). Writes core c.in_ok-begun.begun.grid c.into_one.result.items c.in_ok-transcript.field-0.items) c.get.ensures
+    c.in_ok-transcript.ensures)
 
 pub returns-clause-finish : goal.returns-clause-finish
 returns-clause-finish g c =

@@ -7,7 +7,7 @@ use Rattle.beet_link.proofs.ends.LinkTx.put.Goals as goal
 pub push_as-requires-clause-rule : goal.push_as-requires-clause-rule
 push_as-requires-clause-rule g c =
     let P : LinkEnd × RoundMessage → Type 0 = λ y. IsNext y.0 y.1 in
-    (puts _ _ _ _ c.self.invariant.1 c.self.invariant.2 (subst P (λ i. (sym c.self.view_is i, sym c.fill.ensures i)) c.requires), put_bounds _ _ c.self.invariant.1)
+    (puts _ _ _ _ c.self.invariant.1 c.self.invariant.2 (subst P (λ i. (sym c.self.view_is i, sym c.pack-parcel.ensures i)) c.requires), put_bounds _ _ c.self.invariant.1)
 
 pub unreachable-requires : goal.unreachable-requires
 unreachable-requires g c =
