@@ -33,8 +33,9 @@ use Rattle.beet_errand.specs.Errands.{Answer, Errand, Ends, Wants, Step, FetchAn
 use Rattle.beet_errand.specs.Fetches.{IsDone, Leads, LeadsBy, Went}
 use Rattle.beet_load.specs.Farmers.{enough_words, farmer_errand, farmers_errand, list_at, words_errand, words_wanted}
 use Rattle.beet_load.specs.Limits.{within_product}
-use Rattle.beet_load.specs.Loading.{loaded_errand}
+use Rattle.beet_load.specs.Loading.{loaded_errand, rest_errand}
 use Rattle.beet_load.specs.Servers.{ServerWords, all_words_errand, coefficients_wanted, counted, cut_servers, enough_held, enough_of, enough_of_all, masks_wanted, server_errand, source_errand, three_errand}
+use Rattle.beet_load.specs.Settings.{setting_errand}
 use Rattle.beet_load.specs.Wholes.{bids_errand, curves_errand, limited_errand}
 use Rattle.beet_load.specs.WordTexts.{server_short_text, too_few_text}
 use Rattle.beet_errand.specs.declared.answer.Status.TheVariants.{TooFewWords}
@@ -170,7 +171,7 @@ module _ (out : List ℕ) where
       either (nat_lt MOST_PRODUCT (count * grid.prices)) (bad_file book over_product) next (inr (record { name = book; fault = over_product; is = refl }, refl)) h
 
   pub loaded-well : (auction servers book : List ℕ) → StepsWell (loaded_errand auction servers book)
-  unfolding loaded_errand
+  unfolding loaded_errand setting_errand rest_errand
   loaded-well auction servers book next h =
       reads-well auction AUCTION_LIMIT auction_of _ (λ grid.
       reads-well servers SERVERS_LIMIT servers_of _ (λ sources.
@@ -179,7 +180,7 @@ module _ (out : List ℕ) where
       bidders-well grid words.bidders entries _ (λ farmers. h (record { grid = grid; servers = words.servers; farmers = farmers }))))))
 
   pub limited-well : (auction servers book : List ℕ) → StepsWell (limited_errand auction servers book)
-  unfolding limited_errand
+  unfolding limited_errand setting_errand rest_errand
   limited-well auction servers book next h =
       reads-well auction AUCTION_LIMIT auction_of _ (λ grid.
       reads-well servers SERVERS_LIMIT servers_of _ (λ sources.

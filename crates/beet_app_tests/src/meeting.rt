@@ -75,13 +75,20 @@ fn expect_first_notes(rt: &(impl Abort + Wait), notes: &Receiver<Note>) {
     assert!(rt; named == [1, 1, 1]);
 }
 
+/// What a gate has counted: who was there, who was let go, and the notes that were met of each server.
+fn counts_of<R: Wait + Sync + Drop>(gate: &Meeting<R>) -> [u64; 5] {
+    [
+        gate.here.load(Ordering::SeqCst),
+        gate.let_go.load(Ordering::SeqCst),
+        gate.met.one.load(Ordering::SeqCst),
+        gate.met.two.load(Ordering::SeqCst),
+        gate.met.three.load(Ordering::SeqCst),
+    ]
+}
+
 /// Compares what a gate has counted, with so many rounds of a run.
 fn expect_met<R: Wait + Sync + Drop>(rt: &impl Abort, gate: &Meeting<R>, rounds: u64) {
-    assert_eq!(rt; gate.here.load(Ordering::SeqCst), 3);
-    assert_eq!(rt; gate.let_go.load(Ordering::SeqCst), 0);
-    assert_eq!(rt; gate.met.one.load(Ordering::SeqCst), rounds);
-    assert_eq!(rt; gate.met.two.load(Ordering::SeqCst), rounds);
-    assert_eq!(rt; gate.met.three.load(Ordering::SeqCst), rounds);
+    assert!(rt; counts_of(gate) == [3, 0, rounds, rounds, rounds]);
 }
 
 /// A gate at which no server has come, with the queue that it sends first notes to.
@@ -99,32 +106,31 @@ fn gate_of<R: Abort + Wait + Sync + Drop>(rt: R, first: Sender<Note>) -> Meeting
     }
 }
 
-/// Does the job of a line over these files under a gate, and compares its text.
+/// Does the job of a line over the files and envelopes under a gate, and compares its text.
 fn expect_done<G: Gate>(
     rt: &(impl Abort + Threads + Wait + Sync),
     alloc: Global,
     line: &str,
-    files: Vec<Held>,
     gate: &G,
     text: &str,
 ) {
     let mut desk = MemoryDesk::new(Vec::new(alloc));
+    let files = sealed(rt, alloc);
     assert!(rt; run_over(rt, alloc, line, files, 0, &mut desk, gate) == 0);
     expect_said(rt, &desk, text);
 }
 
-/// Does the job of a line over these files under a new gate: the text, and that all three servers met in each of so many rounds.
+/// Does the job of a line under a new gate: the text, and that all three servers met in each of so many rounds.
 fn expect_meeting<R: Abort + Threads + Wait + Sync + Copy + Drop>(
     rt: R,
     alloc: Global,
     line: &str,
-    files: Vec<Held>,
     rounds: u64,
     text: &str,
 ) {
     let (first, notes) = crossbeam_channel::bounded(alloc, 3).expect(&rt, "memory");
     let gate = gate_of(rt, first);
-    expect_done(&rt, alloc, line, files, &gate, text);
+    expect_done(&rt, alloc, line, &gate, text);
     expect_met(&rt, &gate, rounds);
     expect_first_notes(&rt, &notes);
 }
@@ -194,12 +200,26 @@ const OUTCOME: &str = "price 110\nvolume 35\nrounds 255\n";
 
 const TRIAL: &str = "bidders 0 prices 1\nprice 1000\nvolume 0\nrounds 128\n";
 
+/// The jobs that run in threads, with their rounds and their texts.
+const MEETINGS: [(&str, u64, &str); 4] = [
+    (CLEAR, 255, OUTCOME),
+    (RECORD, 255, OUTCOME),
+    ("open g.auc s.srv made", 255, OUTCOME),
+    ("trial 0 1", 128, TRIAL),
+];
+
+/// Does the job of each case under a new gate.
+fn expect_meetings<R: Abort + Threads + Wait + Sync + Copy + Drop>(
+    rt: R,
+    alloc: Global,
+    cases: &[(&str, u64, &str)],
+) {
+    for (line, rounds, text) in cases {
+        expect_meeting(rt, alloc, line, *rounds, text);
+    }
+}
+
 #[test]
 fn servers_meet_in_every_round(rt: HostRuntime) {
-    let alloc = rt.alloc();
-    expect_meeting(rt, alloc, CLEAR, files(&rt, alloc, ""), 255, OUTCOME);
-    expect_meeting(rt, alloc, RECORD, files(&rt, alloc, ""), 255, OUTCOME);
-    let open = "open g.auc s.srv made";
-    expect_meeting(rt, alloc, open, sealed(&rt, alloc), 255, OUTCOME);
-    expect_meeting(rt, alloc, "trial 0 1", files(&rt, alloc, ""), 128, TRIAL);
+    expect_meetings(rt, rt.alloc(), &MEETINGS);
 }

@@ -172,35 +172,35 @@ fn expect_job(
     expect_said(rt, &desk, text);
 }
 
-/// How many of these files a desk was given.
-fn given_of(desk: &MemoryDesk, names: &[&str]) -> usize {
-    names
-        .iter()
-        .filter(|name| desk.file(name).is_some())
-        .count()
-}
-
-/// Does a job, and compares its status and how many of these files stand.
-fn expect_files(
-    rt: &(impl Abort + Threads + Wait + Sync),
-    alloc: Global,
-    line: &str,
-    names: &[&str],
-    desk: &mut MemoryDesk,
-    status: u8,
-    count: usize,
-) {
-    assert!(rt; done(rt, alloc, line, "", desk) == status);
-    assert!(rt; given_of(desk, names) == count);
-}
-
-/// The lengths of these files.
-fn expect_lengths(rt: &impl Abort, desk: &MemoryDesk, names: &[&str], lengths: &[usize]) {
+/// Compares the lengths of these files, which are none where a desk was not given them.
+fn expect_lengths(rt: &impl Abort, desk: &MemoryDesk, names: &[&str], lengths: &[Option<usize>]) {
     for (name, length) in names.iter().zip(lengths) {
         assert!(rt;
-            desk.file(name).map(|file| file.len()) == Some(*length),
+            desk.file(name).map(|file| file.len()) == *length,
             "of {name}"
         );
+    }
+}
+
+/// A job, the files that it may put, its status, and the lengths of those that stand.
+type Putting = (&'static str, [&'static str; 3], u8, [Option<usize>; 3]);
+
+/// Does a job, and compares its status and the files that then stand. Where the transcripts of two worlds do, they are the same.
+fn expect_files(rt: &(impl Abort + Threads + Wait + Sync), alloc: Global, case: &Putting) {
+    let (line, names, status, lengths) = case;
+    let mut desk = desk_of(rt, alloc, 0);
+    assert!(rt;
+        done(rt, alloc, line, "", &mut desk) == *status,
+        "of {line}"
+    );
+    expect_lengths(rt, &desk, names, lengths);
+    assert!(rt; desk.file("w.first") == desk.file("w.second"));
+}
+
+/// Does the job of each case.
+fn expect_puttings(rt: &(impl Abort + Threads + Wait + Sync), alloc: Global, cases: &[Putting]) {
+    for case in cases {
+        expect_files(rt, alloc, case);
     }
 }
 
@@ -209,25 +209,26 @@ fn the_usage_line_is_not_taken(rt: HostRuntime) {
     expect_job(&rt, rt.alloc(), "clear g.auc", "", 1, 4, "");
 }
 
-#[test]
-fn transcripts_are_put(rt: HostRuntime) {
-    let mut desk = desk_of(&rt, rt.alloc(), 0);
-    expect_files(&rt, rt.alloc(), RECORD, &TRANSCRIPTS, &mut desk, 0, 3);
-    expect_lengths(&rt, &desk, &TRANSCRIPTS, &[34_800, 35_000, 34_800]);
-}
+/// Transcripts, two worlds that look the same, and two that do not agree.
+const PUTTINGS: [Putting; 3] = [
+    (
+        RECORD,
+        TRANSCRIPTS,
+        0,
+        [Some(34_800), Some(35_000), Some(34_800)],
+    ),
+    (
+        WORLDS,
+        BOTH_WORLDS,
+        0,
+        [Some(35_000), Some(35_000), Some(62_224)],
+    ),
+    (DIFFERING, BOTH_WORLDS, 7, [None; 3]),
+];
 
 #[test]
-fn worlds_look_the_same(rt: HostRuntime) {
-    let mut desk = desk_of(&rt, rt.alloc(), 0);
-    expect_files(&rt, rt.alloc(), WORLDS, &BOTH_WORLDS, &mut desk, 0, 3);
-    expect_lengths(&rt, &desk, &BOTH_WORLDS, &[35_000, 35_000, 62_224]);
-    assert!(rt; desk.file("w.first") == desk.file("w.second"));
-}
-
-#[test]
-fn worlds_do_not_agree(rt: HostRuntime) {
-    let mut desk = desk_of(&rt, rt.alloc(), 0);
-    expect_files(&rt, rt.alloc(), DIFFERING, &BOTH_WORLDS, &mut desk, 7, 0);
+fn files_of_jobs(rt: HostRuntime) {
+    expect_puttings(&rt, rt.alloc(), &PUTTINGS);
 }
 
 /// A file of so many bytes.
@@ -244,11 +245,16 @@ fn expect_too_long(
     expect_job(rt, alloc, line, made.as_str(), 0, 5, text);
 }
 
+/// A book and a schedule that are a byte too long.
+fn expect_both_too_long(rt: &(impl Abort + Threads + Wait + Sync), alloc: Global) {
+    expect_too_long(rt, alloc, "clear g.auc s.srv made", 4_194_305);
+    let rehearse = "rehearse g.auc s.srv b.book made";
+    expect_too_long(rt, alloc, rehearse, 16_777_217);
+}
+
 #[test]
 fn files_are_too_long(rt: HostRuntime) {
-    expect_too_long(&rt, rt.alloc(), "clear g.auc s.srv made", 4_194_305);
-    let rehearse = "rehearse g.auc s.srv b.book made";
-    expect_too_long(&rt, rt.alloc(), rehearse, 16_777_217);
+    expect_both_too_long(&rt, rt.alloc());
 }
 
 /// The senders and receivers of a round, in falling order.

@@ -1,18 +1,12 @@
 -- How the job `audit` ends, once its files are read or cannot be read.
-use Rattle.std.proofs.Common.{◌≡◌, ◌≢◌, ℕ, List, Option, Some, None, Result, Ok, Err, IfOk, refl, sym, subst, ap, ◌∙◌}
-use Rattle.beet_field.specs.Trio.{of_each}
+use Rattle.std.proofs.Common.{◌≢◌, ℕ, List, Some, Result, Ok, Err, subst, ap}
 use Rattle.beet_store.specs.Files.{Seen}
-use Rattle.beet_auction.specs.Endings.{book_finish, book_rounds}
-use Rattle.beet_plan.specs.declared.Finish.{Finish}
-use Rattle.beet_errand.specs.Errands.{Answer, Errand, text_answer}
-use Rattle.beet_errand.specs.Fetches.{Causes, IsDone, Reads, Refuses, Went}
-use Rattle.beet_errand.specs.declared.answer.Status.{Status}
+use Rattle.beet_errand.specs.Errands.{Answer, text_answer}
+use Rattle.beet_errand.specs.Fetches.{Causes, Reads, Refuses, Went}
 use Rattle.beet_errand.specs.declared.answer.Status.TheVariants.{Done, OutOfMemory as NoMemory, Usage, ReadFault, WriteFault, BadFile, MasksSpent, WorldsRefused, AuditRefused, TooFewWords}
 use Rattle.beet_errand.specs.declared.answer.Stop.{Stop}
 use Rattle.beet_errand.specs.declared.answer.Stop.TheVariants.{Refused, OutOfMemory}
-use Rattle.beet_run.specs.Outcomes.{outcome_answer}
-use Rattle.beet_run.proofs.StatusFacts.{status-done}
-use Rattle.beet_audit.specs.Audits.{Finds, recombined_book}
+use Rattle.beet_audit.specs.Audits.{Finds}
 use Rattle.beet_audit.specs.OneRuns.{OneRun}
 use Rattle.beet_audit.specs.declared.fault.AuditFault.{AuditFault}
 use Rattle.beet_audit.specs.declared.fault.AuditFault.TheVariants.{OutOfMemory as Memory}

@@ -9,7 +9,7 @@ ghost use Rattle.beet_auditor.specs.Reading.{read_errand};
 use beet_bids::Grid;
 use beet_errand::{Stop, fetch_file, judge};
 use beet_field::Trio;
-use beet_forms::LONGEST_FILE;
+use beet_forms::{LONGEST_FILE, beside};
 use beet_load::read_grid;
 use beet_store::Shelf;
 use beet_view::{View, read_view};
@@ -45,8 +45,8 @@ pub(crate) fn read_views<S: Shelf>(
 {
     let grid = read_grid(alloc, shelf, auction)?;
     let one = read_transcript(alloc, shelf, one)?;
-    let two = read_transcript(alloc, shelf, two)?;
-    let three = read_transcript(alloc, shelf, three)?;
+    let (one, two) = beside(one, read_transcript(alloc, shelf, two))?;
+    let ((one, two), three) = beside((one, two), read_transcript(alloc, shelf, three))?;
     Ok(ReadViews {
         grid,
         views: Trio { one, two, three },

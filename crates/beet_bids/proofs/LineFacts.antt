@@ -263,14 +263,22 @@ row_read number None value read e = (refl, cc)
 row_read number (Some reason) value read e = absurd (cc)
 
 -- a row that is refused refuses the file
-pub row_refuses : {T : Type 0} (number : ℕ) (reason : Option ℕ) (row : Option Line) (rest : Option Fault) (lines : List Line) (view : T → List Line) (fault : ReadFault) →
-    Answers (λ (line : Line). Some line) (row_reading number reason row) (Err fault) →
-    Answers view (reading_of (option_or (option_map (at_row number) reason) rest) lines) (Err fault)
-row_refuses number None row rest lines view (Bad place reason) e = absurd (cc)
-row_refuses number (Some refused) row rest lines view (Bad place reason) e =
+pub row_refuses : {A B S T : Type 0} (number : ℕ) (reason : Option ℕ) (row : A) (rest : Option Fault) (whole : B) (seen : S → A) (view : T → B) (fault : ReadFault) →
+    Answers seen (row_reading number reason row) (Err fault) →
+    Answers view (reading_of (option_or (option_map (at_row number) reason) rest) whole) (Err fault)
+row_refuses number None row rest whole seen view (Bad place reason) e = absurd (cc)
+row_refuses number (Some refused) row rest whole seen view (Bad place reason) e =
     let same : at_row number refused ≡ record { place = place; reason = reason } = cc in
     ap Err same
-row_refuses number reason row rest lines view OutOfMemory e = tt
+row_refuses number reason row rest whole seen view OutOfMemory e = tt
+
+-- a row that was read leaves it to the rows after it what the file is refused for
+pub row_passes : {A B : Type 0} (number : ℕ) (reason : Option ℕ) (value read : A) (rest : Option Fault) (whole : B) (fault : ReadFault) →
+    row_reading number reason value ≡ Ok read →
+    Answers (λ (x : B). x) (reading_of rest whole) (Err fault) →
+    Answers (λ (x : B). x) (reading_of (option_or (option_map (at_row number) reason) rest) whole) (Err fault)
+row_passes number None value read rest whole fault e refused = refused
+row_passes number (Some reason) value read rest whole fault e refused = absurd (cc)
 
 -- ---- the file
 

@@ -3,7 +3,7 @@
 ghost use Rattle.std.specs.Prelude.{◌≤◌, IfOk, length};
 ghost use Rattle.beet_forms.specs.Faults.{Answers};
 ghost use Rattle.beet_bids.specs.Curves.{IsOfGrid};
-ghost use Rattle.beet_bids.specs.BidFiles.{bid_of};
+ghost use Rattle.beet_bids.specs.BidFiles.{bid_in, bid_of};
 
 use crate::curve::Curve;
 use crate::grid::Grid;
@@ -13,6 +13,24 @@ use std::alloc::Global;
 
 /// The most bytes of a bid file.
 pub const BID_LIMIT: u64 = 1_048_576;
+
+/// The curve of all rows.
+fn read_curve(
+    alloc: Global,
+    grid: &Grid,
+    rows: &mut RowReader,
+    row: &mut Row,
+) -> Result<Curve, ReadFault>
+    requires { length rows.old ≤ LONGEST_FILE }
+    ensures reads { Answers (λ curve. curve) (bid_in grid.now rows.old) result }
+    ensures of_grid { IfOk result (λ curve. IsOfGrid grid.now curve) }
+{
+    if !rows.begins_with(row, b"beet-bid", b"1")? {
+        return Err(ReadFault::at_row(1, BAD_HEADER));
+    }
+    let lines = read_lines(alloc, grid, rows, row)?;
+    Ok(curve_of(alloc, grid, &lines)?)
+}
 
 /// The curve of a bid file: the row `beet-bid,1`, and rows `PRICE,BUY,SELL` from the base on, in rising order. Between two
 /// rows the quantities of the earlier one hold. The first row that breaks this is named. Its reason is [`BAD_HEADER`] for
@@ -25,9 +43,5 @@ pub fn read_bid(alloc: Global, grid: &Grid, bytes: &[u8]) -> Result<Curve, ReadF
 {
     let mut rows = RowReader::new(alloc, bytes);
     let mut row = Row::new(alloc);
-    if !rows.begins_with(&mut row, b"beet-bid", b"1")? {
-        return Err(ReadFault::at_row(1, BAD_HEADER));
-    }
-    let lines = read_lines(alloc, grid, &mut rows, &mut row)?;
-    Ok(curve_of(alloc, grid, &lines)?)
+    read_curve(alloc, grid, &mut rows, &mut row)
 }

@@ -1,12 +1,12 @@
 //! The bidders of a book, and the rows that tell of them.
 
-ghost use Rattle.std.specs.Prelude.{◌≡◌, IfOk};
+ghost use Rattle.std.specs.Prelude.{◌≡◌, IfOk, Some};
 ghost use Rattle.beet_forms.specs.Faults.{Answers};
-ghost use Rattle.beet_book.specs.Entries.{entry_in, known_of, source_of};
+ghost use Rattle.beet_book.specs.Entries.{entry_in, entry_of, known_of, source_of};
 ghost use Rattle.beet_book.specs.NamedRows.{first_field, reading_at};
 
 use beet_field::Point;
-use beet_forms::{BAD_ROW, Name, ReadFault, Row, five_fields};
+use beet_forms::{BAD_ROW, Name, ReadFault, Row, beside, five_fields};
 use beet_words::read_seed;
 use std::alloc::{AllocError, Global};
 
@@ -60,6 +60,27 @@ fn read_source(alloc: Global, kind: &[u8], text: &[u8]) -> Result<Option<BidderS
     Ok(None)
 }
 
+/// The entry of the parts of a row, or the reason against them.
+fn entry_of(
+    name: Option<Name>,
+    known: Option<Option<Point>>,
+    bid: Option<Name>,
+    source: Option<BidderSource>,
+) -> Result<Entry, u32>
+    ensures entry { result ≡ entry_of name known bid source }
+    ensures name { IfOk result (λ entry. name ≡ Some entry.name) }
+{
+    let parts = name.zip(known).zip(bid).ok_or(BAD_ROW);
+    let (source, ((name, known), bid)) = beside(source, parts)?;
+    let ((name, known, bid), source) = beside((name, known, bid), source.ok_or(BAD_SOURCE))?;
+    Ok(Entry {
+        name,
+        known,
+        bid,
+        source,
+    })
+}
+
 /// The entry of a bidder's row.
 pub(crate) fn read_entry(alloc: Global, number: u32, row: &Row) -> Result<Entry, ReadFault>
     ensures entry { Answers (λ entry. entry) (reading_at number (entry_in row.now)) result }
@@ -68,17 +89,11 @@ pub(crate) fn read_entry(alloc: Global, number: u32, row: &Row) -> Result<Entry,
     let Some((name, known, bid, kind, text)) = five_fields(row) else {
         return Err(ReadFault::at_row(number, BAD_ROW));
     };
-    let (name, bid) = (Name::of(alloc, name)?, Name::of(alloc, bid)?);
-    let (Some(name), Some(known), Some(bid)) = (name, read_known(known), bid) else {
-        return Err(ReadFault::at_row(number, BAD_ROW));
-    };
-    let Some(source) = read_source(alloc, kind, text)? else {
-        return Err(ReadFault::at_row(number, BAD_SOURCE));
-    };
-    Ok(Entry {
-        name,
-        known,
-        bid,
-        source,
-    })
+    let name = Name::of(alloc, name)?;
+    let (name, bid) = beside(name, Name::of(alloc, bid))?;
+    let ((name, bid), source) = beside((name, bid), read_source(alloc, kind, text))?;
+    match entry_of(name, read_known(known), bid, source) {
+        Ok(entry) => Ok(entry),
+        Err(reason) => Err(ReadFault::at_row(number, reason)),
+    }
 }

@@ -82,6 +82,23 @@ fn read_rows<V: NamedRow>(
     Ok(values)
 }
 
+/// The values of all rows, the first of which is of this kind and `1`.
+fn read_all<V: NamedRow>(
+    alloc: Global,
+    kind: &[u8],
+    rows: &mut RowReader,
+    row: &mut Row,
+) -> Result<Vec<V>, ReadFault>
+    ensures reads { Answers (λ values. values.items)
+        (named_file V.value_in (kind.now ∷ codes "1" ∷ []) rows.old) result }
+    ensures few { IfOk result (λ values. length values.items ≤ MOST_BIDDERS) }
+{
+    if !rows.begins_with(row, kind, b"1")? {
+        return Err(ReadFault::at_row(1, BAD_HEADER));
+    }
+    read_rows(alloc, rows, row)
+}
+
 /// The values of a file of bidders: the row of this kind and `1`, and then at most 2,000 rows with names, no two of one
 /// name. The first row with a fault is named. Its reason is [`BAD_HEADER`] for row 1, and for a further row the first that
 /// stands against it of [`TOO_MANY`], those of its reader, and [`SAME_NAME`].
@@ -96,8 +113,5 @@ pub fn read_named<V: NamedRow>(
 {
     let mut rows = RowReader::new(alloc, bytes);
     let mut row = Row::new(alloc);
-    if !rows.begins_with(&mut row, kind, b"1")? {
-        return Err(ReadFault::at_row(1, BAD_HEADER));
-    }
-    read_rows(alloc, &mut rows, &mut row)
+    read_all(alloc, kind, &mut rows, &mut row)
 }

@@ -1,17 +1,19 @@
 //! The reader of servers files.
 
-ghost use Rattle.std.specs.Prelude.{◌≡◌, ◌≤◌, ◌∷◌, length, drop, slice_get, IfOk, OnOk, Ok, Some};
+ghost use Rattle.std.specs.Prelude.{◌≡◌, ◌≤◌, ◌∷◌, ◌⊎◌, length, drop, slice_get, IfOk, OnOk, MatchResult, Ok, None, Some};
 ghost use Rattle.beet_forms.specs.Faults.{Answers};
+ghost use Rattle.beet_forms.specs.declared.faults.Place.TheVariants.{Row as AtRow};
+ghost use Rattle.beet_forms.specs.declared.faults.ReadFault.TheVariants.{Bad, OutOfMemory};
 ghost use Rattle.beet_book.specs.NamedRows.{reading_at};
-ghost use Rattle.beet_book.specs.ServerFiles.{begins, bundle_in, last_before, servers_of, server_in, source_in, sources_in, three_in};
+ghost use Rattle.beet_book.specs.ServerFiles.{begins, bundle_in, last_before, servers_in, servers_of, server_in, source_in, sources_in, three_in};
 
 use crate::entries::BAD_SOURCE;
 use crate::named_file::TOO_MANY;
 use crate::sources::{ServerSource, Servers};
 use beet_field::Trio;
 use beet_forms::{
-    BAD_HEADER, BAD_ROW, LONGEST_FILE, Name, ReadFault, Row, RowReader, four_fields, three_fields,
-    two_fields,
+    BAD_HEADER, BAD_ROW, LONGEST_FILE, Name, ReadFault, Row, RowReader, beside, four_fields,
+    three_fields, two_fields,
 };
 use beet_words::read_seed;
 use std::alloc::{AllocError, Global};
@@ -43,8 +45,9 @@ fn read_source(alloc: Global, row: &Row) -> Result<Option<ServerSource>, AllocEr
         if kind != b"tape".as_slice() {
             return Ok(None);
         }
-        let (coefficients, masks) = (Name::of(alloc, coefficients)?, Name::of(alloc, masks)?);
-        if let (Some(coefficients), Some(masks)) = (coefficients, masks) {
+        let coefficients = Name::of(alloc, coefficients)?;
+        let (coefficients, masks) = beside(coefficients, Name::of(alloc, masks))?;
+        if let Some((coefficients, masks)) = coefficients.zip(masks) {
             return Ok(Some(ServerSource::Tapes {
                 coefficients,
                 masks,
@@ -97,8 +100,8 @@ fn read_three(alloc: Global, rows: &mut RowReader, row: &mut Row) -> Result<Serv
     ensures rest { OnOk result (rows.new ≡ drop 2 rows.old) }
 {
     let one = read_server(alloc, 2, row, b"1")?;
-    let two = next_server(alloc, 3, rows, row, b"2")?;
-    let three = next_server(alloc, 4, rows, row, b"3")?;
+    let (one, two) = beside(one, next_server(alloc, 3, rows, row, b"2"))?;
+    let ((one, two), three) = beside((one, two), next_server(alloc, 4, rows, row, b"3"))?;
     Ok(Servers::Three(Trio { one, two, three }))
 }
 
@@ -115,6 +118,17 @@ fn read_bundle(alloc: Global, row: &Row) -> Result<Servers, ReadFault>
     Ok(Servers::Bundle(name))
 }
 
+/// Refuses a row that is left, which has this number.
+fn no_more(rows: &mut RowReader, row: &mut Row, number: u32) -> Result<(), ReadFault>
+    ensures { MatchResult result (λ _. slice_get rows.old 0 ≡ None)
+        (λ fault. (fault ≡ OutOfMemory) ⊎ ((slice_get rows.old 0 ≡ Some row.new) × (fault ≡ Bad (AtRow number) TOO_MANY))) }
+{
+    if rows.next(row)? {
+        return Err(ReadFault::at_row(number, TOO_MANY));
+    }
+    Ok(())
+}
+
 /// The servers, unless a row is left, which has this number.
 fn without_more(
     rows: &mut RowReader,
@@ -125,9 +139,7 @@ fn without_more(
     ensures { Answers (λ servers. servers)
         (last_before number (slice_get rows.old 0) (Ok servers)) result }
 {
-    if rows.next(row)? {
-        return Err(ReadFault::at_row(number, TOO_MANY));
-    }
+    let (servers, ()) = beside(servers, no_more(rows, row, number))?;
     Ok(servers)
 }
 
@@ -146,6 +158,16 @@ fn read_sources(alloc: Global, rows: &mut RowReader, row: &mut Row) -> Result<Se
     without_more(rows, row, 5, servers)
 }
 
+/// What all rows say.
+fn read_rows(alloc: Global, rows: &mut RowReader, row: &mut Row) -> Result<Servers, ReadFault>
+    ensures { Answers (λ servers. servers) (servers_in rows.old) result }
+{
+    if !rows.begins_with(row, b"beet-servers", b"1")? {
+        return Err(ReadFault::at_row(1, BAD_HEADER));
+    }
+    read_sources(alloc, rows, row)
+}
+
 /// Where the words come from, of a servers file: the row `beet-servers,1` and then either the row `bundle,NAME`, or a row
 /// for each of the servers 1, 2 and 3 in order, `S,seed,HEX` or `S,tape,COEFFICIENTS,MASKS`.
 ///
@@ -157,8 +179,5 @@ pub fn read_servers(alloc: Global, bytes: &[u8]) -> Result<Servers, ReadFault>
 {
     let mut rows = RowReader::new(alloc, bytes);
     let mut row = Row::new(alloc);
-    if !rows.begins_with(&mut row, b"beet-servers", b"1")? {
-        return Err(ReadFault::at_row(1, BAD_HEADER));
-    }
-    read_sources(alloc, &mut rows, &mut row)
+    read_rows(alloc, &mut rows, &mut row)
 }

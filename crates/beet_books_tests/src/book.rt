@@ -54,21 +54,17 @@ fn expect_servers(rt: &impl Abort, alloc: Global, cases: &[(&str, Refusal)]) {
     }
 }
 
-/// What a servers file says that is read.
-fn servers_in(rt: &impl Abort, alloc: Global, text: &str) -> Servers {
-    servers_of(rt, alloc, text).expect(rt, "a servers file")
-}
-
 /// Whether a servers file names a bundle, or else the words of each server.
-fn names_bundle(servers: &Servers) -> bool {
-    matches!(servers, Servers::Bundle(_))
+fn names_bundle(rt: &impl Abort, alloc: Global, text: &str) -> bool {
+    let servers = servers_of(rt, alloc, text).expect(rt, "a servers file");
+    matches!(&servers, Servers::Bundle(_))
 }
 
 #[test]
 fn servers(rt: HostRuntime) {
     expect_servers(&rt, rt.alloc(), &SERVERS);
-    assert!(rt; !names_bundle(&servers_in(&rt, rt.alloc(), THREE)));
-    assert!(rt; names_bundle(&servers_in(&rt, rt.alloc(), BUNDLE)));
+    assert!(rt; !names_bundle(&rt, rt.alloc(), THREE));
+    assert!(rt; names_bundle(&rt, rt.alloc(), BUNDLE));
 }
 
 /// Books, and how they are refused.

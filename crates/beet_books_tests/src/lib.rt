@@ -1,4 +1,5 @@
-//! The tests of the books: of beet_bids, beet_book and beet_farmer, which are proved over their contracts alone.
+//! The tests of the field, of lines and of the books: of beet_field, beet_shamir, beet_bids, beet_book and beet_farmer, which are
+//! proved over their contracts alone.
 #![tactic(auto)]
 
 #[cfg(test)]
@@ -7,6 +8,8 @@ mod bids;
 mod book;
 #[cfg(test)]
 mod farmer;
+#[cfg(test)]
+mod field;
 #[cfg(test)]
 mod parts;
 #[cfg(test)]

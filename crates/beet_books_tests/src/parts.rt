@@ -62,9 +62,11 @@ fn tapes_of(rt: &impl Abort, alloc: Global, count: u32) -> Vec<Tape> {
     tapes
 }
 
-/// Whether two bidders have the same points at this server.
-fn agree(one: &Dealt, other: &Dealt, at: Point) -> bool {
-    one.points(at) == other.points(at)
+/// Whether two bidders have the same points at each server.
+fn agree(one: &Dealt, other: &Dealt) -> bool {
+    one.points(Point::One) == other.points(Point::One)
+        && one.points(Point::Two) == other.points(Point::Two)
+        && one.points(Point::Three) == other.points(Point::Three)
 }
 
 /// Compares the points of a bidder, and how far its tape is passed, with what it is dealt alone by a tape as it was before.
@@ -80,10 +82,9 @@ fn expect_alone(
     assert!(rt; curve.is_of(grid));
     assert!(rt; before.accepted_left() >= 2 * grid.prices());
     let alone = deal_bidder(alloc, grid, curve, before).expect(rt, "memory");
-    assert!(rt; agree(dealt, &alone, Point::One));
-    assert!(rt; agree(dealt, &alone, Point::Two));
-    assert!(rt; agree(dealt, &alone, Point::Three));
+    let agree = agree(dealt, &alone);
     drop(alone);
+    assert!(rt; agree);
     assert!(rt; tape.masks_left() == 2 && before.masks_left() == 2);
 }
 

@@ -3,7 +3,6 @@ use Rattle.std.specs.Prelude.{ℕ, List, [], ◌∷◌, ◌++◌}
 use Rattle.beet_field.specs.declared.point.Point.TheVariants.{One, Two, Three}
 use Rattle.beet_field.specs.declared.trio.Trio.{Trio}
 use Rattle.beet_store.specs.Files.{Seen}
-use Rattle.beet_gates.specs.Each.{each}
 use Rattle.beet_bids.specs.Grids.{Grid}
 use Rattle.beet_book.specs.Totals.{Totals}
 use Rattle.beet_book.specs.PointSums.{AddsUp}

@@ -47,8 +47,17 @@ fn open_entries<S: Shelf, R: Threads + Wait + Sync, G: Gate>(
         (entries_job grid.now sources.now entries.now) result }
 {
     let words = read_words(alloc, shelf, grid, sources, None)?;
-    let totals = add_bidders(alloc, shelf, grid, entries)?;
-    let (finish, rounds) = run_auction(rt, alloc, grid, totals.inputs(), words.servers, gate)?;
+    let totals = match add_bidders(alloc, shelf, grid, entries) {
+        Ok(totals) => totals,
+        Err(stop) => {
+            // One call lets them go: else the proof of this way out goes through each of their parts.
+            drop(words);
+            return Err(stop);
+        }
+    };
+    let servers = words.servers;
+    drop(words.bidders);
+    let (finish, rounds) = run_auction(rt, alloc, grid, totals.inputs(), servers, gate)?;
     Ok(outcome_reply(alloc, grid, finish, rounds)?)
 }
 
@@ -72,5 +81,9 @@ pub fn open_envelopes<S: Shelf, R: Threads + Wait + Sync, G: Gate>(
     let grid = read_grid(alloc, shelf, auction)?;
     let sources = read_sources(alloc, shelf, servers)?;
     let entries = read_entries(alloc, shelf, list)?;
-    open_entries(rt, alloc, shelf, &grid, &sources, entries.as_slice(), gate)
+    let opened = open_entries(rt, alloc, shelf, &grid, &sources, entries.as_slice(), gate);
+    // One call lets them go: else the proof of this way out goes through each of their parts.
+    drop(entries);
+    drop(sources);
+    opened
 }

@@ -120,10 +120,16 @@ pub fn seal_bid<S: Shelf>(
     let grid = read_grid(alloc, shelf, auction)?;
     let curve = read_curve(alloc, shelf, &grid, bid)?;
     let mut tape = read_words(alloc, shelf, &grid, source)?;
-    let envelopes = seal(alloc, &grid, &curve, &mut tape)?;
+    let envelopes = seal(alloc, &grid, &curve, &mut tape);
+    // One call each lets them go: else the proof of each way out goes through each of their parts.
+    drop(curve);
+    drop(tape);
+    let envelopes = envelopes?;
+    let files = envelope_files(alloc, &grid, out, &envelopes);
+    drop(envelopes);
     Ok(Reply {
         status: Status::Done,
-        files: envelope_files(alloc, &grid, out, &envelopes)?,
+        files: files?,
         text: sealed_line(alloc, grid.prices())?,
     })
 }

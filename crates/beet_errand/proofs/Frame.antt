@@ -95,6 +95,11 @@ module _ {B U : Type 0} {last : U → B → Type 0} where
   pub exits : {old now : Seen} {step : Step B} {stop : Stop} {result : Result U Stop} → IsErrAnd result (λ e. e ≡ stop) → ReadsFor last old now step (Err stop) → ReadsFor last old now step result
   exits {result = result} e r = let p = err_from_is_err_and result e in rw (p.1, p.2) r
 
+-- where what a call gave is equal to another result, that result reads the same
+pub handed : {A T : Type 0} {shows : T → A → Type 0} {old now : Seen} {step : Step A} {given result : Result T Stop} → given ≡ result →
+    ReadsFor shows old now step given → ReadsFor shows old now step result
+handed {shows = shows} {old = old} {now = now} {step = step} e r = subst (ReadsFor shows old now step) e r
+
 -- a file that cannot be fetched is a cause where the count of faults rose
 pub unread_cause : (before now : ℕ) (text : List ℕ) (stop : Stop) → Refuses Unread text stop → Rose before now → Causes before now stop
 unread_cause before now text (Refused status line) r rose = rw r.0 rose

@@ -1,6 +1,6 @@
 //! One value for each point.
 
-ghost use Rattle.std.specs.Prelude.{◌≡◌, Err, IfErr, IfOk, Ok};
+ghost use Rattle.std.specs.Prelude.{◌≡◌, ◌⊎◌, Err, IfErr, IfOk, MatchResult, Ok};
 ghost use Rattle.std.specs.Borrow.{sem};
 ghost use Rattle.beet_field.specs.Trio.{member};
 ghost use Rattle.beet_field.specs.declared.point.Point.{Point as Server};
@@ -82,6 +82,21 @@ impl<T: Drop> Trio<T> {
             one: f(Point::One)?,
             two: f(Point::Two)?,
             three: f(Point::Three)?,
+        })
+    }
+}
+
+impl<T: Drop, E: Drop> Trio<Result<T, E>> {
+    /// All three values, or the fault of one.
+    pub fn transpose(self) -> Result<Trio<T>, E>
+        ensures { MatchResult result
+            (λ all. (self.one ≡ Ok all.one) × (self.two ≡ Ok all.two) × (self.three ≡ Ok all.three))
+            (λ fault. (self.one ≡ Err fault) ⊎ (self.two ≡ Err fault) ⊎ (self.three ≡ Err fault)) }
+    {
+        Ok(Trio {
+            one: self.one?,
+            two: self.two?,
+            three: self.three?,
         })
     }
 }

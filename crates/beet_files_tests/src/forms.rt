@@ -6,7 +6,7 @@ use std::alloc::Global;
 use std::process::Abort;
 
 /// Digits, the largest number that is taken, and the answer.
-const NUMBERS: [(&str, u64, Result<u64, NumberFault>); 10] = [
+const NUMBERS: [(&str, u64, Result<u64, NumberFault>); 12] = [
     ("", 9, Err(NumberFault::Empty)),
     ("+1", 9, Err(NumberFault::NotDigit)),
     ("01", 9, Err(NumberFault::LeadingZero)),
@@ -20,6 +20,16 @@ const NUMBERS: [(&str, u64, Result<u64, NumberFault>); 10] = [
     (
         "281474976710656",
         281_474_976_710_655,
+        Err(NumberFault::TooLarge),
+    ),
+    (
+        "9999999999999999999",
+        9_999_999_999_999_999_999,
+        Ok(9_999_999_999_999_999_999),
+    ),
+    (
+        "9999999999999999999",
+        9_999_999_999_999_999_998,
         Err(NumberFault::TooLarge),
     ),
     ("18446744073709551615", u64::MAX, Ok(u64::MAX)),
@@ -185,7 +195,8 @@ fn empty_begins(rt: &impl Abort, alloc: Global) -> bool {
 
 #[test]
 fn rows_one_at_a_time(rt: HostRuntime) {
-    let mut rows = RowReader::new(rt.alloc(), THREE_ROWS);
-    expect_reading(&rt, &mut rows, &mut Row::new(rt.alloc()));
     assert!(rt; !empty_begins(&rt, rt.alloc()));
+    let (mut rows, mut row) = (RowReader::new(rt.alloc(), THREE_ROWS), Row::new(rt.alloc()));
+    expect_reading(&rt, &mut rows, &mut row);
+    drop((rows, row));
 }

@@ -17,6 +17,14 @@ fn held(rt: &impl Abort, alloc: Global, name: &str, bytes: &[u8]) -> Held {
     }
 }
 
+/// Whether a fetch answered these bytes, or this fault.
+fn is_answer(found: Result<Vec<u8>, FetchFault>, wanted: Result<&[u8], FetchFault>) -> bool {
+    match found {
+        Ok(bytes) => wanted == Ok(bytes.as_slice()),
+        Err(fault) => wanted == Err(fault),
+    }
+}
+
 /// Fetches, and compares the answer.
 fn expect_fetch<S: Shelf>(
     rt: &impl Abort,
@@ -26,10 +34,8 @@ fn expect_fetch<S: Shelf>(
     limit: u64,
     wanted: Result<&[u8], FetchFault>,
 ) {
-    match shelf.fetch(alloc, name, limit) {
-        Ok(bytes) => assert!(rt; wanted == Ok(bytes.as_slice()), "of {name}"),
-        Err(fault) => assert!(rt; wanted == Err(fault), "of {name}"),
-    }
+    let found = shelf.fetch(alloc, name, limit);
+    assert!(rt; is_answer(found, wanted), "of {name}");
 }
 
 /// Puts, and compares the answer.
@@ -83,31 +89,52 @@ fn memory_shelf_fails_where_listed(rt: HostRuntime) {
     assert!(rt; shelf.faults() == 2);
 }
 
-/// What follows is put, where the second call and the fifth fail.
-fn expect_files(rt: &impl Abort, alloc: Global, desk: &mut MemoryDesk) {
-    expect_put(rt, alloc, desk, "a", b"one", Ok(()));
-    expect_put(rt, alloc, desk, "a", b"two", Err(PutFault::Failed));
-    assert!(rt; desk.file("a") == Some(b"one".as_slice()));
-    expect_put(rt, alloc, desk, "a", b"three", Ok(()));
-    assert!(rt; desk.file("a") == Some(b"three".as_slice()));
-    assert!(rt; desk.file("b").is_none());
+/// Bytes that are put as the file `a`, what is answered, and what the file then is.
+type Put = (&'static [u8], Result<(), PutFault>, &'static [u8]);
+
+/// The first three calls of a desk whose second call and fifth fail.
+const PUTS: [Put; 3] = [
+    (b"one", Ok(()), b"one"),
+    (b"two", Err(PutFault::Failed), b"one"),
+    (b"three", Ok(()), b"three"),
+];
+
+/// Puts the bytes of each case.
+fn expect_puts(rt: &impl Abort, alloc: Global, desk: &mut MemoryDesk, cases: &[Put]) {
+    for (bytes, wanted, then) in cases {
+        expect_put(rt, alloc, desk, "a", bytes, *wanted);
+        assert!(rt; desk.file("a") == Some(*then));
+    }
 }
 
-/// And then this is said.
-fn expect_text(rt: &impl Abort, desk: &mut MemoryDesk) {
-    expect_say(rt, desk, "so", Ok(()));
-    expect_say(rt, desk, "not", Err(PutFault::Failed));
-    expect_say(rt, desk, " it is", Ok(()));
+/// What is said to it next, and what is answered.
+const SAYINGS: [(&str, Result<(), PutFault>); 3] = [
+    ("so", Ok(())),
+    ("not", Err(PutFault::Failed)),
+    (" it is", Ok(())),
+];
+
+/// Says the text of each case.
+fn expect_sayings(rt: &impl Abort, desk: &mut MemoryDesk, cases: &[(&str, Result<(), PutFault>)]) {
+    for (text, wanted) in cases {
+        expect_say(rt, desk, text, *wanted);
+    }
+}
+
+/// Compares what the desk has after these calls.
+fn expect_desk(rt: &impl Abort, desk: &MemoryDesk) {
+    assert!(rt; desk.file("b").is_none());
     assert!(rt; desk.said() == b"so it is".as_slice());
-    assert_eq!(rt; desk.faults(), 2);
+    assert!(rt; desk.faults() == 2);
 }
 
 #[test]
 fn memory_desk_fails_where_listed(rt: HostRuntime) {
     let calls = vec![in rt.alloc(); 2, 5].expect(&rt, "memory");
     let mut desk = MemoryDesk::new(calls);
-    expect_files(&rt, rt.alloc(), &mut desk);
-    expect_text(&rt, &mut desk);
+    expect_puts(&rt, rt.alloc(), &mut desk, &PUTS);
+    expect_sayings(&rt, &mut desk, &SAYINGS);
+    expect_desk(&rt, &desk);
 }
 
 /// Bytes of more than one piece, each unlike its neighbours.
@@ -163,6 +190,19 @@ fn expect_failures<S: Shelf, K: Desk>(
     expect_say(rt, desk, "", Ok(()));
 }
 
+/// Puts and fetches a file, which is removed, and then does what fails.
+fn expect_calls<R: Abort + Files, S: Shelf, K: Desk>(
+    rt: &R,
+    alloc: Global,
+    shelf: &mut S,
+    desk: &mut K,
+    name: &str,
+) {
+    expect_file(rt, alloc, shelf, desk, name);
+    fs::remove_file(rt, name).expect(rt, "the file is removed");
+    expect_failures(rt, alloc, shelf, desk, name);
+}
+
 /// A file that the tests write and remove.
 const FILE: &str = "beet_store_test.tmp";
 
@@ -175,9 +215,7 @@ fn expect_faults<R>(rt: &impl Abort, shelf: &HostShelf<R>, desk: &HostDesk<R>) {
 #[test]
 fn host_types_reach_real_files(rt: HostRuntime) {
     let (mut shelf, mut desk) = (HostShelf::new(&rt), HostDesk::new(&rt));
-    expect_file(&rt, rt.alloc(), &mut shelf, &mut desk, FILE);
-    fs::remove_file(&rt, FILE).expect(&rt, "the file is removed");
-    expect_failures(&rt, rt.alloc(), &mut shelf, &mut desk, FILE);
+    expect_calls(&rt, rt.alloc(), &mut shelf, &mut desk, FILE);
     expect_faults(&rt, &shelf, &desk);
 }
 
@@ -190,23 +228,22 @@ fn expect_text_file<R: Abort + Files>(rt: &R, alloc: Global, name: &str, text: &
     expect_fetch(rt, alloc, &mut shelf, name, 30_000, Ok(text));
 }
 
-/// Says a text to a desk that prints it to a file.
-fn expect_said<R: Abort + Files>(rt: &R, alloc: Global, text: &[u8]) {
-    let mut desk = HostDesk::new(Printing { rt, name: SAID });
-    assert!(rt; desk.say(text) == Ok(()));
-    expect_text_file(rt, alloc, SAID, text);
+/// What a desk that prints to a file of this name answers where this text is said.
+fn say_to<R: Files>(rt: &R, name: &'static str, text: &[u8]) -> Result<(), PutFault> {
+    HostDesk::new(Printing { rt, name }).say(text)
 }
 
-/// Says something to a desk that prints to a file of this name, which cannot be.
-fn expect_not_said<R: Abort + Files>(rt: &R, name: &'static str) {
-    let mut desk = HostDesk::new(Printing { rt, name });
-    expect_say(rt, &mut desk, "not", Err(PutFault::Failed));
+/// Says a text to a desk that prints it to a file, and to one whose file cannot be.
+fn expect_said<R: Abort + Files>(rt: &R, alloc: Global, text: &[u8]) {
+    assert!(rt; say_to(rt, SAID, text) == Ok(()));
+    expect_text_file(rt, alloc, SAID, text);
+    fs::remove_file(rt, SAID).expect(rt, "the file is removed");
+    let missing = "beet_store_missing/said";
+    assert!(rt; say_to(rt, missing, b"not") == Err(PutFault::Failed));
 }
 
 #[test]
 fn a_long_text_is_said_whole(rt: HostRuntime) {
     let text = long_bytes(&rt, rt.alloc());
     expect_said(&rt, rt.alloc(), &text);
-    fs::remove_file(&rt, SAID).expect(&rt, "the file is removed");
-    expect_not_said(&rt, "beet_store_missing/said");
 }

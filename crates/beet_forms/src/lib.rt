@@ -3,6 +3,7 @@
 
 mod decimals;
 mod faults;
+mod holding;
 mod names;
 mod reader;
 mod row;
@@ -10,6 +11,7 @@ mod shapes;
 
 pub use decimals::{NumberFault, number, push_decimal};
 pub use faults::{BAD_HEADER, BAD_ROW, LONGEST_FILE, Place, ReadFault, fault_line};
+pub use holding::beside;
 pub use names::{LONGEST_NAME, Name, is_name};
 pub use reader::RowReader;
 pub use row::{Row, rows};

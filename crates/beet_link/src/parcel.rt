@@ -36,22 +36,6 @@ impl Model for Few {
     ghost view = { λ m. record { from = m.from; to = m.to; round = m.round; numbers = record { items = m.numbers.items } } };
 }
 
-impl Few {
-    /// Makes the message equal to this one.
-    fn write_to(&self, message: &mut RoundMessage)
-        ensures { message.new ≡ self.now }
-    {
-        message.from = self.from;
-        message.to = self.to;
-        message.round = self.round;
-        message.numbers.clear();
-        let numbers = self.numbers.as_slice();
-        if message.numbers.try_extend_from_slice(numbers).is_err() {
-            unreachable!();
-        }
-    }
-}
-
 /// A message in memory of its own, which is used again. Contracts see the message.
 #[derive(Drop)]
 pub struct Buffer {
@@ -148,7 +132,7 @@ impl Parcel {
                 message.fill(&buffer.message);
                 give_back(read, buffer);
             }
-            None => few.write_to(message),
+            None => message.write(few.from, few.to, few.round, few.numbers.as_slice()),
         }
     }
 }

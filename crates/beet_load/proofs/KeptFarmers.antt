@@ -2,6 +2,7 @@
 use Rattle.std.proofs.Common.{◌≡◌, ◌≤◌, ◌<◌, ℕ, ◌+◌, List, [], ◌∷◌, ◌++◌, map, length, drop, get_or, Option, All, Ok, Err, arith, refl, sym, ap, ◌∙◌, subst, length-append, length-drop}
 use Rattle.std.proofs.lemmas.List.{length-map}
 use Rattle.std.proofs.lemmas.List.Elements.{All-append, All-map, All-nil, All-cons}
+use Rattle.beet_field.specs.declared.trio.Trio.{Trio}
 use Rattle.beet_store.specs.Files.{Seen}
 use Rattle.beet_words.specs.Bundles.{Words}
 use Rattle.beet_bids.specs.Books.{Book}
@@ -17,7 +18,7 @@ use Rattle.beet_errand.specs.declared.answer.Stop.{Stop}
 use Rattle.beet_errand.proofs.Frame.{reached_none, reached_more, reached_last, stopped}
 use Rattle.beet_load.specs.Farmers.{list_at, farmer_errand, farmers_errand}
 use Rattle.beet_load.specs.Loading.{Loaded}
-use Rattle.beet_load.specs.Servers.{AllWords, HaveEnough, AreCut}
+use Rattle.beet_load.specs.Servers.{ServerWords, HaveEnough, AreCut}
 use Rattle.beet_load.specs.Wholes.{AreKept, CanDeal, CanStart, IsFarmer, Keeps, KeepsBids, KeepsFarmer, all_words, bids_errand, by_server}
 use Rattle.beet_load.proofs.Summing.{next_entry, none_left}
 use Rattle.beet_bids.specs.declared.bid_file.TheConstants.{BID_LIMIT}
@@ -68,33 +69,30 @@ keeps_all {entries = entries} {kept = kept} i ge k =
     record { gives = (kept, record { same = refl; count = omega arith; each = h.each }, h.read.went); cause = tt; later = h.read.later }
 
 -- the book of bidders that are kept, and their words
-module _ (grid : Grid) (entries : List Entry) (kept farmers : List Farmer) (h : AreKept grid entries kept farmers) (bidders : List Bidder)
+module _ (grid : Grid) (kept : List Farmer) (each : All (IsFarmer grid) kept) (bidders : List Bidder)
     (is : bidders ≡ map (λ farmer. farmer.bidder) kept) where
-  pub kept-many : length bidders ≡ length entries
-  kept-many = ap length is ∙ length-map kept (λ farmer. farmer.bidder) ∙ h.count
+  pub kept-many : length bidders ≡ length kept
+  kept-many = ap length is ∙ length-map kept (λ farmer. farmer.bidder)
 
   pub kept-of-grid : All (λ bidder. IsOfGrid grid bidder.curve) bidders
   kept-of-grid =
       subst (All (λ bidder. IsOfGrid grid bidder.curve)) (sym is)
-      (All-map (λ bidder. IsOfGrid grid bidder.curve) (λ farmer. farmer.bidder) kept (λ i d lt. (h.each i d lt).of_grid))
+      (All-map (λ bidder. IsOfGrid grid bidder.curve) (λ farmer. farmer.bidder) kept (λ i d lt. (each i d lt).of_grid))
 
-  pub kept-runs : (words : AllWords) (all : List (List ℕ)) (book : Book) (made : Words) → all ≡ map (λ farmer. farmer.words) kept →
-      book ≡ record { grid = grid; bidders = bidders } → made ≡ all_words words.servers all →
-      HaveEnough grid words.servers → AreCut grid words.servers → CanStart book made
-  kept-runs words all book made these b m enough cut =
-      let many : length all ≡ length bidders = ap length these ∙ length-map kept (λ farmer. farmer.words) ∙ sym (ap length is ∙ length-map kept (λ farmer. farmer.bidder)) in
-      let each : All (CanDeal grid) all = subst (All (CanDeal grid)) (sym these) (All-map (CanDeal grid) (λ farmer. farmer.words) kept (λ i d lt. (h.each i d lt).words)) in
-      rw (b, m) (record { servers = enough; cut = cut; lists = many; bidders = each })
-
-abbrev loaded_with : Grid → AllWords → List Farmer → Loaded
-loaded_with grid words farmers = record { grid = grid; servers = words.servers; farmers = farmers }
+  pub kept-runs : (servers : Trio ServerWords) (all : List (List ℕ)) (book : Book) (made : Words) → all ≡ map (λ farmer. farmer.words) kept →
+      book ≡ record { grid = grid; bidders = bidders } → made ≡ all_words servers all →
+      HaveEnough grid servers → AreCut grid servers → CanStart book made
+  kept-runs servers all book made these b m enough cut =
+      let many : length all ≡ length bidders = ap length these ∙ length-map kept (λ farmer. farmer.words) ∙ sym kept-many in
+      let deal : All (CanDeal grid) all = subst (All (CanDeal grid)) (sym these) (All-map (CanDeal grid) (λ farmer. farmer.words) kept (λ i d lt. (each i d lt).words)) in
+      rw (b, m) (record { servers = enough; cut = cut; lists = many; bidders = deal })
 
 -- what is loaded, by what is kept of it
-pub kept-same : (grid : Grid) (words : AllWords) (farmers kept : List Farmer) (bidders : List Bidder) (all : List (List ℕ)) (book : Book) (made : Words) →
-    farmers ≡ kept → farmers_of bidders all ≡ kept → book ≡ record { grid = grid; bidders = bidders } → made ≡ all_words words.servers all →
-    loaded_with grid words farmers
-    ≡ record { grid = book.grid; servers = by_server made; farmers = farmers_of book.bidders made.bidders }
-kept-same grid words farmers kept bidders all book made same f b m = rw (same, b, m, f) refl
+pub kept-same : (grid : Grid) (servers : Trio ServerWords) (kept : List Farmer) (bidders : List Bidder) (all : List (List ℕ)) (book : Book) (made : Words) →
+    farmers_of bidders all ≡ kept → book ≡ record { grid = grid; bidders = bidders } → made ≡ all_words servers all → (loaded : Loaded) →
+    loaded ≡ record { grid = book.grid; servers = by_server made; farmers = farmers_of book.bidders made.bidders } →
+    loaded ≡ record { grid = grid; servers = servers; farmers = kept }
+kept-same grid servers kept bidders all book made f b m loaded l = l ∙ rw (b, m, f) refl
 
 -- no bid is read yet
 pub bids_none : (grid : Grid) (entries : List Entry) (seen : Seen) → KeepsBids grid entries entries seen seen []

@@ -3,6 +3,7 @@ pub mod Servers
 pub mod Farmers
 pub mod FarmerViews
 pub mod Collecting
+pub mod Settings
 pub mod Loading
 pub mod Limits
 pub mod Wholes

@@ -2,19 +2,14 @@
 use Rattle.std.specs.Prelude.{◌≡◌, ℕ, List, [], length, Some}
 use Rattle.beet_field.specs.declared.trio.Trio.{Trio}
 use Rattle.beet_bids.specs.Grids.{Grid}
-use Rattle.beet_bids.specs.AuctionFiles.{auction_of}
 use Rattle.beet_bids.specs.Books.{IsBook}
-use Rattle.beet_book.specs.BookFiles.{book_of}
-use Rattle.beet_book.specs.ServerFiles.{servers_of}
 use Rattle.beet_book.specs.Dealing.{AreShares}
 use Rattle.beet_bids.specs.Sums.{sums_of}
-use Rattle.beet_errand.specs.Errands.{Step, ◌>>=◌, gives, reads}
+use Rattle.beet_errand.specs.Errands.{Step, ◌>>=◌, gives}
 use Rattle.beet_book.specs.Farmers.{Farmer, book_with}
 use Rattle.beet_load.specs.Farmers.{farmers_errand}
 use Rattle.beet_load.specs.Servers.{ServerWords, all_words_errand}
-use Rattle.beet_bids.specs.declared.auction_file.TheConstants.{AUCTION_LIMIT}
-use Rattle.beet_book.specs.declared.server_file.TheConstants.{SERVERS_LIMIT}
-use Rattle.beet_book.specs.declared.book_file.TheConstants.{BOOK_LIMIT}
+use Rattle.beet_load.specs.Settings.{Setting, setting_errand}
 
 -- an auction that is read: its grid, the words of its servers, and the bidders of its book
 pub record Loaded : Type 0 where
@@ -22,15 +17,18 @@ pub record Loaded : Type 0 where
   pub servers : Trio ServerWords
   pub farmers : List Farmer
 
+-- what is read after the setting: the words of the servers, and then the bidders
+unfoldable pub rest_errand : Setting → Step Loaded
+rest_errand setting = do
+  words ← all_words_errand setting.grid (Some (length setting.entries)) setting.sources
+  farmers ← farmers_errand setting.grid words.bidders [] setting.entries
+  gives (record { grid = setting.grid; servers = words.servers; farmers = farmers })
+
 -- an auction, its servers and its book: the words of the servers come after the entries of the book, and the bidders after them
 unfoldable pub loaded_errand : List ℕ → List ℕ → List ℕ → Step Loaded
 loaded_errand auction servers book = do
-  grid ← reads auction AUCTION_LIMIT auction_of
-  sources ← reads servers SERVERS_LIMIT servers_of
-  entries ← reads book BOOK_LIMIT book_of
-  words ← all_words_errand grid (Some (length entries)) sources
-  farmers ← farmers_errand grid words.bidders [] entries
-  gives (record { grid = grid; servers = words.servers; farmers = farmers })
+  setting ← setting_errand auction servers book
+  rest_errand setting
 
 -- what the program keeps of an auction that is read: of the bidders it keeps the points of their sums alone
 pub record Kept : Type 0 where

@@ -1,17 +1,15 @@
 -- Reading an auction, its servers and its book, where the whole book is kept.
-use Rattle.std.specs.Prelude.{◌≡◌, ◌≤◌, ◌+◌, ℕ, List, [], ◌∷◌, ◌++◌, length, All, Option, Some}
+use Rattle.std.specs.Prelude.{◌≡◌, ◌≤◌, ◌+◌, ℕ, List, [], ◌∷◌, ◌++◌, length, All, Option}
 use Rattle.beet_field.specs.declared.trio.Trio.{Trio}
 use Rattle.beet_store.specs.Files.{Seen}
 use Rattle.beet_words.specs.Words.{accepted}
 use Rattle.beet_words.specs.Bundles.{Words}
 use Rattle.beet_bids.specs.Grids.{Grid}
-use Rattle.beet_bids.specs.AuctionFiles.{auction_of}
 use Rattle.beet_bids.specs.BidFiles.{bid_of}
 use Rattle.beet_bids.specs.Books.{Book}
 use Rattle.beet_bids.specs.Curves.{IsCurve, IsOfGrid}
 use Rattle.beet_bids.specs.declared.book.Bidder.{Bidder}
 use Rattle.beet_book.specs.BookFiles.{book_of}
-use Rattle.beet_book.specs.ServerFiles.{servers_of}
 use Rattle.beet_book.specs.declared.entries.Entry.{Entry}
 use Rattle.beet_book.specs.Farmers.{Farmer}
 use Rattle.beet_errand.specs.Errands.{Step, ◌>>=◌, ◌>>◌, gives, reads}
@@ -19,23 +17,21 @@ use Rattle.beet_errand.specs.Fetches.{Reached}
 use Rattle.beet_plan.specs.Kept.{words_kept}
 use Rattle.beet_load.specs.Farmers.{words_wanted, farmers_errand}
 use Rattle.beet_load.specs.Limits.{within_product}
-use Rattle.beet_load.specs.Loading.{Loaded}
-use Rattle.beet_load.specs.Servers.{ServerWords, HaveEnough, AreCut, all_words_errand, masks_of, coefficients_of}
-use Rattle.beet_bids.specs.declared.auction_file.TheConstants.{AUCTION_LIMIT}
-use Rattle.beet_book.specs.declared.server_file.TheConstants.{SERVERS_LIMIT}
+use Rattle.beet_load.specs.Loading.{Loaded, rest_errand}
+use Rattle.beet_load.specs.Servers.{ServerWords, HaveEnough, AreCut, masks_of, coefficients_of}
+use Rattle.beet_load.specs.Settings.{Setting, setting_errand}
 use Rattle.beet_book.specs.declared.book_file.TheConstants.{BOOK_LIMIT}
 use Rattle.beet_bids.specs.declared.bid_file.TheConstants.{BID_LIMIT}
+
+-- what is read after the setting, of which the limit is tested first
+abbrev pub limited_rest : List ℕ → Setting → Step Loaded
+limited_rest book setting = within_product book setting.grid (length setting.entries) >> rest_errand setting
 
 -- an auction, its servers and its book, of which the limit is tested right after it is read
 unfoldable pub limited_errand : List ℕ → List ℕ → List ℕ → Step Loaded
 limited_errand auction servers book = do
-  grid ← reads auction AUCTION_LIMIT auction_of
-  sources ← reads servers SERVERS_LIMIT servers_of
-  entries ← reads book BOOK_LIMIT book_of
-  within_product book grid (length entries)
-  words ← all_words_errand grid (Some (length entries)) sources
-  farmers ← farmers_errand grid words.bidders [] entries
-  gives (record { grid = grid; servers = words.servers; farmers = farmers })
+  setting ← setting_errand auction servers book
+  limited_rest book setting
 
 -- the bidders of entries in order, after those that are read: of each its bid alone
 abbrev pub bids_errand : Grid → List Bidder → List Entry → Step (List Bidder)

@@ -9,6 +9,7 @@ mod keeping;
 mod limits;
 mod loading;
 mod servers;
+mod setting;
 mod whole;
 mod whole_loading;
 

@@ -1,12 +1,15 @@
 //! Reading an auction, its servers and its book: what three servers begin with.
 
-ghost use Rattle.std.specs.Prelude.{◌≡◌, option_map};
+ghost use Rattle.std.specs.Prelude.{◌≡◌, ◌≤◌, length, option_map};
+ghost use Rattle.beet_bids.specs.Grids.{IsGrid};
 ghost use Rattle.beet_errand.specs.Fetches.{ReadsFor};
-ghost use Rattle.beet_load.specs.Loading.{IsKeptOf, loaded_errand};
+ghost use Rattle.beet_load.specs.Loading.{IsKeptOf, loaded_errand, rest_errand};
+ghost use Rattle.beet_load.specs.Settings.{setting_of};
+ghost use Rattle.beet_words.specs.declared.bundle.TheConstants.{MOST_BIDDERS};
 
-use crate::books::{read_entries, read_grid};
 use crate::collecting::add_farmers;
-use crate::servers::{AllWords, ServerWords, read_sources, read_words};
+use crate::servers::{AllWords, ServerWords, read_words};
+use crate::setting::{Setting, read_setting};
 use beet_bids::Grid;
 use beet_errand::Stop;
 use beet_field::Trio;
@@ -45,6 +48,31 @@ pub(crate) fn lists_in(words: &AllWords) -> Option<&[WordList]>
     }
 }
 
+/// Reads what stands after the setting: the words of the servers, and the bidders, whose points are added up.
+fn add_up<S: Shelf>(alloc: Global, shelf: &mut S, setting: &Setting) -> Result<Loaded, Stop>
+    requires is_grid { IsGrid setting.now.grid }
+    requires few { length setting.now.entries.items ≤ MOST_BIDDERS }
+    ensures { ReadsFor IsKeptOf (S.seen shelf.old) (S.seen shelf.new) (rest_errand (setting_of setting.now)) result }
+{
+    let Setting {
+        grid,
+        sources,
+        entries,
+    } = setting;
+    let words = read_words(alloc, shelf, grid, sources, Some(entries.len()))?;
+    match add_farmers(alloc, shelf, grid, lists_in(&words), entries.as_slice()) {
+        Ok(totals) => Ok(Loaded {
+            grid: *grid,
+            servers: words.into_servers(),
+            inputs: totals.inputs(),
+        }),
+        Err(stop) => {
+            drop(words);
+            Err(stop)
+        }
+    }
+}
+
 /// Reads an auction, its servers and its book.
 pub fn load<S: Shelf>(
     alloc: Global,
@@ -56,14 +84,6 @@ pub fn load<S: Shelf>(
     ensures { ReadsFor IsKeptOf (S.seen shelf.old) (S.seen shelf.new)
         (loaded_errand auction.now servers.now book.now) result }
 {
-    let grid = read_grid(alloc, shelf, auction)?;
-    let sources = read_sources(alloc, shelf, servers)?;
-    let entries = read_entries(alloc, shelf, book)?;
-    let words = read_words(alloc, shelf, &grid, &sources, Some(entries.len()))?;
-    let totals = add_farmers(alloc, shelf, &grid, lists_in(&words), entries.as_slice())?;
-    Ok(Loaded {
-        grid,
-        servers: words.servers,
-        inputs: totals.inputs(),
-    })
+    let setting = read_setting(alloc, shelf, auction, servers, book)?;
+    add_up(alloc, shelf, &setting)
 }

@@ -20,7 +20,7 @@ use beet_bids::Grid;
 use beet_book::{SERVERS_LIMIT, ServerSource, Servers, read_servers};
 use beet_errand::{Status, Stop, fetch_file, judge};
 use beet_field::Trio;
-use beet_forms::{Name, ReadFault};
+use beet_forms::{Name, ReadFault, beside};
 use beet_plan::{MASK_COEFFICIENTS, SPARE_MASKS, SPARE_WORDS};
 use beet_store::Shelf;
 use beet_words::{BUNDLE_LIMIT, Tape, WRONG_COUNT, WordList, Words, read_bundle};
@@ -45,6 +45,16 @@ impl Model for ServerWords {
     ghost invariant = { λ a. (a.masks.passed ≡ 0) × (a.coefficients.passed ≡ 0) };
 }
 
+impl ServerWords {
+    /// The words for masks and those for numbers, given away.
+    pub(crate) fn into_lists(self) -> (WordList, WordList)
+        ensures masks { result.0 ≡ self.masks }
+        ensures coefficients { result.1 ≡ self.coefficients }
+    {
+        (self.masks.into_words(), self.coefficients.into_words())
+    }
+}
+
 /// The words of the servers, and those of the bidders where a bundle has them.
 #[derive(Drop)]
 pub struct AllWords {
@@ -59,6 +69,15 @@ impl Model for AllWords {
     ghost Value = { Shown };
 
     ghost view = { λ a. record { servers = a.servers; bidders = option_map (λ lists. lists.items) a.bidders } };
+}
+
+impl AllWords {
+    /// The words of the servers, given away. Those of the bidders are let go.
+    pub(crate) fn into_servers(self) -> Trio<ServerWords>
+        ensures { result ≡ self.servers }
+    {
+        self.servers
+    }
 }
 
 /// How many mask words a server wants.
@@ -219,8 +238,11 @@ fn read_three<S: Shelf>(
         (three_errand grid.now sources.now) result }
 {
     let one = read_server(alloc, shelf, grid, 1, &sources.one)?;
-    let two = read_server(alloc, shelf, grid, 2, &sources.two)?;
-    let three = read_server(alloc, shelf, grid, 3, &sources.three)?;
+    let (one, two) = beside(one, read_server(alloc, shelf, grid, 2, &sources.two))?;
+    let ((one, two), three) = beside(
+        (one, two),
+        read_server(alloc, shelf, grid, 3, &sources.three),
+    )?;
     Ok(Trio { one, two, three })
 }
 
@@ -271,11 +293,7 @@ pub fn cut_three(alloc: Global, grid: &Grid, words: &Words) -> Result<Trio<Serve
     requires { IsGrid grid.now }
     ensures { IfOk result (λ servers. servers ≡ cut_servers grid.now words.now) }
 {
-    Ok(Trio {
-        one: cut(alloc, grid, &words.masks.one, &words.coefficients.one)?,
-        two: cut(alloc, grid, &words.masks.two, &words.coefficients.two)?,
-        three: cut(alloc, grid, &words.masks.three, &words.coefficients.three)?,
-    })
+    Trio::try_of(|at| { cut(alloc, grid, words.masks.get(at), words.coefficients.get(at)) })
 }
 
 /// Refuses the first server that has too few words.
@@ -290,17 +308,18 @@ pub fn check_three(alloc: Global, grid: &Grid, servers: &Trio<ServerWords>) -> R
 }
 
 /// The words of a bundle: those of the servers, cut as those of tape files are, and those of the bidders.
-fn cut_bundle(
-    alloc: Global,
-    grid: &Grid,
-    words: Words,
-) -> Result<(Trio<ServerWords>, Vec<WordList>), AllocError>
+fn cut_bundle(alloc: Global, grid: &Grid, words: Words) -> Result<AllWords, AllocError>
     requires { IsGrid grid.now }
-    ensures servers { IfOk result (λ cut. cut.0 ≡ cut_servers grid.now words) }
-    ensures bidders { IfOk result (λ cut. cut.1.items ≡ words.bidders) }
+    ensures { IfOk result (λ all. all ≡ record {
+      servers = cut_servers grid.now words;
+      bidders = Some words.bidders;
+    }) }
 {
     let servers = cut_three(alloc, grid, &words)?;
-    Ok((servers, words.bidders))
+    Ok(AllWords {
+        servers,
+        bidders: Some(words.bidders),
+    })
 }
 
 /// All words, from a bundle.
@@ -318,12 +337,10 @@ fn read_bundled<S: Shelf>(
         (all_words_errand grid.now count (Servers.Bundle name.now)) result }
 {
     let words = fetch_bundle(alloc, shelf, name.as_str(), count)?;
-    let (servers, bidders) = cut_bundle(alloc, grid, words)?;
-    check_three(alloc, grid, &servers)?;
-    Ok(AllWords {
-        servers,
-        bidders: Some(bidders),
-    })
+    let words = cut_bundle(alloc, grid, words)?;
+    let checked = check_three(alloc, grid, &words.servers);
+    let (words, ()) = beside(words, checked)?;
+    Ok(words)
 }
 
 /// All words, of the servers and of so many bidders where a bundle has them.

@@ -1,40 +1,102 @@
 //! Reading an auction, its servers and its book, and keeping the whole book.
 
-ghost use Rattle.std.specs.Prelude.{◌≡◌};
+ghost use Rattle.std.specs.Prelude.{◌≡◌, ◌≤◌, ◌*◌, All, length};
+ghost use Rattle.beet_bids.specs.Grids.{IsGrid};
 ghost use Rattle.beet_errand.specs.Fetches.{Reads};
-ghost use Rattle.beet_load.specs.Wholes.{all_words, limited_errand};
+ghost use Rattle.beet_load.specs.Servers.{AreCut, HaveEnough};
+ghost use Rattle.beet_load.specs.Settings.{setting_of};
+ghost use Rattle.beet_load.specs.Wholes.{IsFarmer, all_words, limited_errand, limited_rest};
 ghost use Rattle.beet_load.specs.WholeViews.{loaded_of};
+ghost use Rattle.beet_words.specs.declared.bundle.TheConstants.{MOST_BIDDERS};
+ghost use Rattle.beet_book.specs.declared.book_file.TheConstants.{MOST_PRODUCT};
 
-use crate::books::{read_entries, read_grid};
-use crate::keeping::read_farmers;
+use crate::keeping::{Farmers, read_farmers};
 use crate::limits::check_product;
 use crate::loading::lists_in;
-use crate::servers::{ServerWords, read_sources, read_words};
+use crate::servers::{ServerWords, read_words};
+use crate::setting::{Setting, read_setting};
 use crate::whole::Whole;
-use beet_bids::Book;
+use beet_bids::{Book, Grid};
 use beet_errand::Stop;
 use beet_field::Trio;
 use beet_store::Shelf;
 use beet_words::{WordList, Words};
 use std::alloc::Global;
 
+/// The first and the second of each pair.
+fn unzip<A, B>(pairs: Trio<(A, B)>) -> (Trio<A>, Trio<B>)
+    ensures firsts { result.0 ≡ record { one = pairs.one.0; two = pairs.two.0; three = pairs.three.0 } }
+    ensures seconds { result.1 ≡ record { one = pairs.one.1; two = pairs.two.1; three = pairs.three.1 } }
+{
+    let Trio { one, two, three } = pairs;
+    let firsts = Trio {
+        one: one.0,
+        two: two.0,
+        three: three.0,
+    };
+    let seconds = Trio {
+        one: one.1,
+        two: two.1,
+        three: three.1,
+    };
+    (firsts, seconds)
+}
+
 /// The words of the servers and of the bidders.
 fn words_with(servers: Trio<ServerWords>, bidders: Vec<WordList>) -> Words
     ensures { result ≡ all_words servers bidders.items }
 {
-    let Trio { one, two, three } = servers;
+    let (masks, coefficients) = unzip(servers.map(|_, words| words.into_lists()));
     Words {
-        masks: Trio {
-            one: one.masks.into_words(),
-            two: two.masks.into_words(),
-            three: three.masks.into_words(),
-        },
-        coefficients: Trio {
-            one: one.coefficients.into_words(),
-            two: two.coefficients.into_words(),
-            three: three.coefficients.into_words(),
-        },
+        masks,
+        coefficients,
         bidders,
+    }
+}
+
+/// The whole of an auction over the grid, of which the servers and the bidders are read.
+fn whole_of(grid: &Grid, servers: Trio<ServerWords>, farmers: Farmers) -> Whole
+    requires enough { HaveEnough grid.now servers }
+    requires cut { AreCut grid.now servers }
+    requires few { length farmers ≤ MOST_BIDDERS }
+    requires within { length farmers * grid.now.prices ≤ MOST_PRODUCT }
+    requires each { All (IsFarmer grid.now) farmers }
+    ensures { loaded_of result ≡ record { grid = grid.now; servers = servers; farmers = farmers } }
+{
+    let (bidders, lists) = farmers.into_parts();
+    let words = words_with(servers, lists);
+    match Book::new(*grid, bidders) {
+        Some(book) => Whole { book, words },
+        None => unreachable!(),
+    }
+}
+
+/// Tests the limit, and reads what stands after the setting: the words of the servers, and the bidders, which are kept.
+fn read_rest<S: Shelf>(
+    alloc: Global,
+    shelf: &mut S,
+    book: &str,
+    setting: &Setting,
+) -> Result<Whole, Stop>
+    requires is_grid { IsGrid setting.now.grid }
+    requires few { length setting.now.entries.items ≤ MOST_BIDDERS }
+    ensures { Reads loaded_of (S.seen shelf.old) (S.seen shelf.new)
+        (limited_rest book.now (setting_of setting.now)) result }
+{
+    let Setting {
+        grid,
+        sources,
+        entries,
+    } = setting;
+    let count = entries.len();
+    check_product(alloc, book, grid, count)?;
+    let words = read_words(alloc, shelf, grid, sources, Some(count))?;
+    match read_farmers(alloc, shelf, grid, lists_in(&words), entries.as_slice()) {
+        Ok(farmers) => Ok(whole_of(grid, words.into_servers(), farmers)),
+        Err(stop) => {
+            drop(words);
+            Err(stop)
+        }
     }
 }
 
@@ -50,16 +112,6 @@ pub fn load_whole<S: Shelf>(
     ensures { Reads loaded_of (S.seen shelf.old) (S.seen shelf.new)
         (limited_errand auction.now servers.now book.now) result }
 {
-    let grid = read_grid(alloc, shelf, auction)?;
-    let sources = read_sources(alloc, shelf, servers)?;
-    let entries = read_entries(alloc, shelf, book)?;
-    check_product(alloc, book, &grid, entries.len())?;
-    let words = read_words(alloc, shelf, &grid, &sources, Some(entries.len()))?;
-    let farmers = read_farmers(alloc, shelf, &grid, lists_in(&words), entries.as_slice())?;
-    let (bidders, lists) = farmers.into_parts();
-    let words = words_with(words.servers, lists);
-    match Book::new(grid, bidders) {
-        Some(book) => Ok(Whole { book, words }),
-        None => unreachable!(),
-    }
+    let setting = read_setting(alloc, shelf, auction, servers, book)?;
+    read_rest(alloc, shelf, book, &setting)
 }

@@ -1,11 +1,12 @@
 -- Words are known from their numbers and the places of the words that are all ones.
-use Rattle.std.proofs.Common.{◌≡◌, ◌≢◌, ◌<◌, ◌+◌, ℕ, zero, suc, Bool, true, false, not, cond, ◌==◌, List, [], ◌∷◌, ◌++◌, length, slice_index, take, drop, sym, refl, ap, ◌∙◌, arith, append-nil}
+use Rattle.std.proofs.Common.{◌≡◌, ◌≢◌, ◌<◌, ◌≤◌, ◌+◌, ℕ, zero, suc, Bool, true, false, not, cond, ◌==◌, List, [], ◌∷◌, ◌++◌, length, slice_index, get_or, take, drop, sym, refl, subst, ap, ◌∙◌, ⊎_elim, arith, append-nil, append_assoc}
 use Rattle.std.proofs.lemmas.Bool.Decides.{nat_tests}
-use Rattle.std.proofs.lemmas.List.{length-map, map-append}
+use Rattle.std.proofs.lemmas.List.{length-map, map-append, get_or_default, get_or_past}
 use Rattle.std.proofs.lemmas.List.Elements.{filter-append}
 use Rattle.beet_field.specs.Field.{p, IsElement}
 use Rattle.beet_words.specs.Words.{IsWord, accepted, ones}
 use Rattle.beet_map.specs.Mapped.{ones_in}
+use Rattle.beet_map.proofs.Unique.{split_at}
 
 abbrev pub is_ones : ℕ → Bool
 is_ones w = w == ones
@@ -45,6 +46,14 @@ ones-long xs ys e = sym (length-map ys is_ones) ∙ ap length e ∙ length-map x
 
 pub accepted-append : (xs ys : List ℕ) → accepted (xs ++ ys) ≡ accepted xs ++ accepted ys
 accepted-append xs ys = filter-append (λ w. not (w == ones)) xs ys
+
+-- the loop that takes the accepted words, at one word more
+pub accepted_more : (words numbers more : List ℕ) (i w : ℕ) → drop i words ≡ w ∷ drop (i + 1) words → numbers ++ accepted (drop i words) ≡ accepted words →
+    more ≡ numbers ++ accepted (w ∷ []) → more ++ accepted (drop (i + 1) words) ≡ accepted words
+accepted_more words numbers more i w behind rest kept =
+    let others : List ℕ = drop (i + 1) words in
+    (λ j. kept j ++ accepted others) ∙ append_assoc numbers (accepted (w ∷ [])) (accepted others)
+    ∙ (λ j. numbers ++ (sym (accepted-append (w ∷ []) others) ∙ ap accepted (sym behind)) j) ∙ rest
 
 -- accepted words are numbers of the field
 accept_small : (b : Bool) (w : ℕ) (ws : List ℕ) → is_ones w ≡ b → IsWord w → ((n : ℕ) → IsElement (slice_index ws n)) → (n : ℕ) → IsElement (slice_index (accept_if b w ws) n)
@@ -92,3 +101,19 @@ module _ (words numbers out : List ℕ) (i place : ℕ) (g : Back words numbers 
 
   pub has_room : w ≢ ones → place < length numbers
   has_room ne = let a = one_more ne in let b = g.left in omega arith
+
+-- one word more that was looked at
+pub words_more : (ws : List ℕ) (i w : ℕ) → i < length ws → w ≡ get_or ws i w → IsWord w → ((k : ℕ) → k < i → IsWord (slice_index ws k)) → (k : ℕ) → k < i + 1 → IsWord (slice_index ws k)
+words_more ws i w within is h few k lt = ⊎_elim
+    (λ (before : k < i). few k before)
+    (λ (last : i ≤ k).
+    let here : k ≡ i = omega arith in
+    subst (λ n. IsWord (slice_index ws n)) (sym here) (subst (λ x. IsWord x) (is ∙ get_or_default ws i w 0 within) h))
+    (split_at k i)
+
+-- all were looked at
+pub words_all : (ws : List ℕ) (i : ℕ) → length ws ≤ i → ((k : ℕ) → k < i → IsWord (slice_index ws k)) → (k : ℕ) → IsWord (slice_index ws k)
+words_all ws i le few k = ⊎_elim
+    (λ (before : k < i). few k before)
+    (λ (past : i ≤ k). subst (λ x. IsWord x) (sym (get_or_past ws k 0 (omega arith))) (omega arith))
+    (split_at k i)

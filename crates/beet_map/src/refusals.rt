@@ -2,9 +2,12 @@
 
 ghost use Rattle.std.specs.Prelude.{◌≡◌, ◌≤◌, ◌<◌, ℕ, IfErr, IfNone, IfOk, IfSome, OnOk, length, max, slice_get, slice_index, take};
 ghost use Rattle.beet_field.specs.Field.{IsElement};
+ghost use Rattle.beet_field.specs.Trio.{member};
+ghost use Rattle.beet_field.specs.declared.point.Point.{Point as Server};
 ghost use Rattle.beet_gates.specs.Clear.{rounds_run};
-ghost use Rattle.beet_map.specs.Refused.{DifferFirst, HasSecrets, LookSame, Refuses, opened_in};
-ghost use Rattle.beet_map.specs.Secrets.{values_of};
+ghost use Rattle.beet_gates.specs.Scripts.{HasWords};
+ghost use Rattle.beet_map.specs.Refused.{DifferFirst, HasSecrets, LookSame, Refuses, SameMasks, SameOpened, SameShares, opened_in};
+ghost use Rattle.beet_map.specs.Secrets.{shares_of, values_of};
 ghost use Rattle.beet_map.specs.declared.refusals.GateFault.TheVariants.{OutOfMemory};
 
 use crate::secrets::Secrets;
@@ -118,6 +121,73 @@ fn run_on_values<S: Script>(
     Ok(clear_run(alloc, script, inputs.as_slice(), &secrets.masks)?)
 }
 
+/// The first input at which the server's points differ.
+fn first_other_input(
+    alloc: Global,
+    me: Point,
+    first: &Secrets,
+    second: &Secrets,
+) -> Result<Option<usize>, AllocError>
+    ensures found { IfOk result (λ found. IfSome found
+        (DifferFirst (shares_of first.now.inputs me) (shares_of second.now.inputs me))) }
+    ensures within { IfOk result (λ found. IfSome found
+        (λ wire. wire < max (length first.now.inputs) (length second.now.inputs))) }
+    ensures none { IfOk result (λ found. IfNone found (SameShares me first.now second.now)) }
+{
+    let here = points(alloc, first.inputs.as_slice(), me)?;
+    let there = points(alloc, second.inputs.as_slice(), me)?;
+    Ok(first_difference(here.as_slice(), there.as_slice()))
+}
+
+/// The first of so many of the server's mask words that differs.
+fn first_other_mask(me: Point, first: &Secrets, second: &Secrets, count: u32) -> Option<u32>
+    requires first { HasWords count first.now.masks }
+    requires second { HasWords count second.now.masks }
+    ensures found { IfSome result (DifferFirst (take count (member first.now.masks me))
+        (take count (member second.now.masks me))) }
+    ensures none { IfNone result (SameMasks count me first.now second.now) }
+{
+    let own = first.masks.get(me).as_slice();
+    let other = second.masks.get(me).as_slice();
+    first_other_word(own, other, count)
+}
+
+/// The rounds of the script's runs in two worlds that open the same numbers, or the first that differs.
+fn rounds_opening_the_same<S: Script>(
+    alloc: Global,
+    script: &S,
+    first: &Secrets,
+    second: &Secrets,
+) -> Result<u32, GateFault>
+    requires first { HasSecrets (S.inputs_of script.now) (S.masks_of script.now) first.now }
+    requires second { HasSecrets (S.inputs_of script.now) (S.masks_of script.now) second.now }
+    ensures same { IfOk result (λ _. SameOpened (S.batch_of script.now) (S.rounds_of script.now)
+        first.now second.now) }
+    ensures rounds { IfOk result (λ rounds. rounds ≡ rounds_run (S.batch_of script.now)
+        (S.rounds_of script.now) (values_of first.now.inputs) first.now.masks) }
+    ensures first_elements { OnOk result
+        ((k : ℕ) → IsElement (slice_index (values_of first.now.inputs) k)) }
+    ensures second_elements { OnOk result
+        ((k : ℕ) → IsElement (slice_index (values_of second.now.inputs) k)) }
+    ensures refused { (me : Server) → SameShares me first.now second.now →
+        SameMasks (S.masks_of script.now) me first.now second.now →
+        IfErr result (Refuses (S.batch_of script.now) (S.rounds_of script.now)
+        (S.masks_of script.now) me first.now second.now) }
+{
+    let here = run_on_values(alloc, script, first)?;
+    let there = run_on_values(alloc, script, second)?;
+    let opened = here.opened.as_slice();
+    let others = there.opened.as_slice();
+    if let Some(place) = first_difference(opened, others) {
+        return Err(GateFault::RevealDiffers {
+            place: place as u64,
+            first: item(opened, place),
+            second: item(others, place),
+        });
+    }
+    Ok(here.rounds)
+}
+
 /// The rounds of the script's runs in two worlds that look alike to the server, or the first refusal.
 pub(crate) fn rounds_alike<S: Script>(
     alloc: Global,
@@ -141,26 +211,11 @@ pub(crate) fn rounds_alike<S: Script>(
 {
     // The number of inputs is a u32, so each of them is counted by one.
     let _inputs = script.inputs();
-    let here = points(alloc, first.inputs.as_slice(), me)?;
-    let there = points(alloc, second.inputs.as_slice(), me)?;
-    if let Some(wire) = first_difference(here.as_slice(), there.as_slice()) {
+    if let Some(wire) = first_other_input(alloc, me, first, second)? {
         return Err(GateFault::InputsDiffer(wire as u32));
     }
-    let own = first.masks.get(me).as_slice();
-    let other = second.masks.get(me).as_slice();
-    if let Some(place) = first_other_word(own, other, script.masks()) {
+    if let Some(place) = first_other_mask(me, first, second, script.masks()) {
         return Err(GateFault::OwnMaskDiffers(place));
     }
-    let here = run_on_values(alloc, script, first)?;
-    let there = run_on_values(alloc, script, second)?;
-    let opened = here.opened.as_slice();
-    let others = there.opened.as_slice();
-    if let Some(place) = first_difference(opened, others) {
-        return Err(GateFault::RevealDiffers {
-            place: place as u64,
-            first: item(opened, place),
-            second: item(others, place),
-        });
-    }
-    Ok(here.rounds)
+    rounds_opening_the_same(alloc, script, first, second)
 }

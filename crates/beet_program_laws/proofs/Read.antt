@@ -44,8 +44,9 @@ use Rattle.beet_errand.specs.Fetches.{IsDone}
 use Rattle.beet_errand.specs.declared.answer.Status.TheVariants.{BadFile, TooFewWords}
 use Rattle.beet_load.specs.Farmers.{farmer_errand, farmers_errand, list_at, words_errand, words_wanted}
 use Rattle.beet_load.specs.Limits.{over_product}
-use Rattle.beet_load.specs.Loading.{Loaded, loaded_errand}
+use Rattle.beet_load.specs.Loading.{Loaded, loaded_errand, rest_errand}
 use Rattle.beet_load.specs.Servers.{AllWords, HasEnough, IsCut, ServerWords, all_words_errand, coefficients_wanted, counted, cut_server, cut_servers, enough_held, enough_of, enough_of_all, masks_wanted, seeded, server_errand, source_errand, three_errand, wrong_count}
+use Rattle.beet_load.specs.Settings.{setting_errand}
 use Rattle.beet_load.specs.Wholes.{CanDeal, CanStart, IsFarmer, all_words, bids_errand, curves_errand, limited_errand}
 use Rattle.beet_load.specs.WordTexts.{server_short_text, too_few_text}
 use Rattle.beet_load.proofs.Cuts.{seeded_cut, take-few}
@@ -257,7 +258,7 @@ module _ (files : List File) where
       (record { few = omega (arith, few, h.1); farmers = h.0; servers = good.0 })))
 
   pub loaded-yield : (auction servers book : List ℕ) → Yields files (loaded_errand auction servers book) IsLoaded
-  unfolding loaded_errand
+  unfolding loaded_errand setting_errand rest_errand
   loaded-yield auction servers book =
       then-yields files (reads auction AUCTION_LIMIT auction_of) _ (λ grid. Unit {0}) IsLoaded (any-yield files auction AUCTION_LIMIT auction_of) (λ grid any.
       then-yields files (reads servers SERVERS_LIMIT servers_of) _ (λ sources. Unit {0}) IsLoaded (any-yield files servers SERVERS_LIMIT servers_of) (λ sources any.
@@ -267,7 +268,7 @@ module _ (files : List File) where
 
   -- where a job is done that keeps a whole book, what it has read is so
   pub limited : (auction servers book : List ℕ) → Yields files (limited_errand auction servers book) (IsLimited files auction)
-  unfolding limited_errand
+  unfolding limited_errand setting_errand rest_errand
   limited auction servers book =
       then-yields files (reads auction AUCTION_LIMIT auction_of) _ (IsHeld files auction AUCTION_LIMIT auction_of) (IsLimited files auction)
       (held-yield files auction AUCTION_LIMIT auction_of) (λ grid held.

@@ -94,10 +94,13 @@ fn reply_for<R: Threads + Wait + Sync, G: Gate>(
     ensures memory { IfErr result (λ stop. stop ≡ Stop.OutOfMemory) }
     ensures reply { IfOk result (λ reply. reply ≡ recorded_answer out.now (loaded_of whole)) }
 {
-    let ran = run_whole(rt, alloc, &whole.book, &whole.words, gate)?;
+    let ran = run_whole(rt, alloc, &whole.book, &whole.words, gate);
     drop(whole);
-    let reply = outcome_reply(alloc, ran.grid(), ran.finish(), ran.rounds())?;
-    let transcripts = ran.into_transcripts(rt, alloc)?;
+    let ran = ran?;
+    let reply = outcome_reply(alloc, ran.grid(), ran.finish(), ran.rounds());
+    let transcripts = ran.into_transcripts(rt, alloc);
+    let reply = reply?;
+    let transcripts = transcripts?;
     let files = transcript_files(alloc, out, transcripts)?;
     Ok(Reply {
         status: reply.status,

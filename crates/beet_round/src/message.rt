@@ -1,6 +1,6 @@
 //! Messages of a round.
 
-ghost use Rattle.std.specs.Prelude.{◌≡◌, []};
+ghost use Rattle.std.specs.Prelude.{◌≡◌, ◌≤◌, [], length};
 
 use arrayvec::ArrayVec;
 use beet_field::{Fe, Point};
@@ -31,21 +31,31 @@ impl RoundMessage {
         }
     }
 
-    /// Makes it equal to another. No more is written than the numbers that the other has.
+    /// Makes it the message of this sender, receiver and round with these numbers. No more is written
+    /// than the numbers.
+    pub fn write(&mut self, from: Point, to: Point, round: u32, numbers: &[Fe])
+        requires { length numbers.now ≤ 64 }
+        ensures { self.new ≡ record {
+          from = from;
+          to = to;
+          round = round;
+          numbers = record { items = numbers.now };
+        } }
+    {
+        self.from = from;
+        self.to = to;
+        self.round = round;
+        self.numbers.clear();
+        if self.numbers.try_extend_from_slice(numbers).is_err() {
+            unreachable!();
+        }
+    }
+
+    /// Makes it equal to another.
     pub fn fill(&mut self, other: &RoundMessage)
         ensures { self.new ≡ other.now }
     {
-        self.from = other.from;
-        self.to = other.to;
-        self.round = other.round;
-        self.numbers.clear();
-        if self
-            .numbers
-            .try_extend_from_slice(other.numbers.as_slice())
-            .is_err()
-        {
-            unreachable!();
-        }
+        self.write(other.from, other.to, other.round, other.numbers.as_slice());
     }
 
     /// An equal message.

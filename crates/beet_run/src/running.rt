@@ -63,10 +63,11 @@ pub fn start_servers(
     ensures starts { IfOk result (Starts grid.now inputs words) }
 {
     let script = AuctionScript::over(grid);
-    let one = start(alloc, Point::One, script, inputs.one, words.one)?;
-    let two = start(alloc, Point::Two, script, inputs.two, words.two)?;
-    let three = start(alloc, Point::Three, script, inputs.three, words.three)?;
-    Ok(Trio { one, two, three })
+    let one = start(alloc, Point::One, script, inputs.one, words.one);
+    let two = start(alloc, Point::Two, script, inputs.two, words.two);
+    let three = start(alloc, Point::Three, script, inputs.three, words.three);
+    let cores = Trio { one, two, three }.transpose()?;
+    Ok(cores)
 }
 
 /// The finish that the script names at a server that has ended.

@@ -81,14 +81,14 @@ fn pass_rounds(rt: &impl Abort, cores: &mut Trio<Core>, rounds: u32) {
 fn pass_with_offers(rt: &impl Abort, cores: &mut Trio<Core>) {
     let sent = send_all(rt, cores);
     expect_offers(rt, &mut cores.one, &OFFERS);
-    assert_eq!(rt; cores.one.round(), ROUND);
+    assert!(rt; cores.one.round() == ROUND);
     assert!(rt; give_all(cores, sent));
 }
 
 /// The auction has ended as it does without offers.
 fn expect_end(rt: &impl Abort, core: &Core) {
     assert!(rt; core.ended());
-    assert_eq!(rt; core.round(), ROUNDS);
+    assert!(rt; core.round() == ROUNDS);
     assert!(rt; core.opened().last() == Some(&Fe::reduce(35)));
 }
 

@@ -15,7 +15,7 @@ fn three_by_four(rt: &impl Abort, alloc: Global) -> ClearRun {
 fn expect_twelve(rt: &impl Abort, run: &ClearRun) {
     assert!(rt; are(run.wires.as_slice(), &[3, 4, 12]));
     assert!(rt; are(run.opened.as_slice(), &[12]));
-    assert_eq!(rt; run.rounds, 2);
+    assert!(rt; run.rounds == 2);
 }
 
 #[test]

@@ -83,7 +83,7 @@ fn expect_message(
 
 /// Compares the round of a box, and whether both of its messages are in.
 fn expect_stand(rt: &impl Abort, mailbox: &RoundBox, round: u32, ready: bool) {
-    assert_eq!(rt; mailbox.round(), round);
+    assert!(rt; mailbox.round() == round);
     assert!(rt; mailbox.ready() == ready);
 }
 
@@ -125,7 +125,7 @@ fn expect_each(rt: &impl Abort, mailbox: &mut RoundBox) {
     expect_stand(rt, mailbox, 3, true);
     let (low, high) = ((Point::Two, 100), (Point::Three, 400));
     expect_turn(rt, mailbox, 61, low, high, 61);
-    assert_eq!(rt; mailbox.round(), 4);
+    assert!(rt; mailbox.round() == 4);
 }
 
 #[test]
@@ -153,7 +153,7 @@ const AFTER_A_DROPPED: [Offer; 1] = [(Point::One, Point::Two, 1, 10, 3, Verdict:
 
 /// Offers messages to the box at round 1, where an early message was.
 fn expect_later(rt: &impl Abort, mailbox: &mut RoundBox, offers: &[Offer]) {
-    assert_eq!(rt; mailbox.round(), 1);
+    assert!(rt; mailbox.round() == 1);
     expect_verdicts(rt, mailbox, offers);
 }
 

@@ -86,7 +86,7 @@ fn expect_end(
     rounds: u32,
 ) {
     assert!(rt; script.finish(run.opened.as_slice()) == Some(finish_of(ending)));
-    assert_eq!(rt; run.rounds, rounds);
+    assert!(rt; run.rounds == rounds);
 }
 
 /// The run of the script on these sums, supply first, where so many masks are rejected.
@@ -170,24 +170,26 @@ const OPENINGS: [Opening; 6] = [
     ),
 ];
 
-/// Runs the book of each case with this kind of gates.
-fn expect_openings(rt: &impl Abort, alloc: Global, gates: Gates, cases: &[Opening]) {
-    for (policy, sums, rejected, wanted, ending, rounds) in cases {
-        let script = script_of(rt, 1, gates, *policy);
-        let run = run_on(rt, alloc, &script, sums, *rejected);
-        expect_end(rt, &script, &run, *ending, rounds_with(gates, *rounds));
-        assert!(rt; are(run.opened.as_slice(), wanted));
+/// Runs the book of a case with this kind of gates.
+fn expect_opening(rt: &impl Abort, alloc: Global, gates: Gates, case: &Opening) {
+    let (policy, sums, rejected, wanted, ending, rounds) = case;
+    let script = script_of(rt, 1, gates, *policy);
+    let run = run_on(rt, alloc, &script, sums, *rejected);
+    expect_end(rt, &script, &run, *ending, rounds_with(gates, *rounds));
+    assert!(rt; are(run.opened.as_slice(), wanted));
+}
+
+/// Runs the book of each case with chains of gates, and with trees.
+fn expect_openings(rt: &impl Abort, alloc: Global, cases: &[Opening]) {
+    for case in cases {
+        expect_opening(rt, alloc, Gates::Chain, case);
+        expect_opening(rt, alloc, Gates::Tree, case);
     }
 }
 
 #[test]
 fn opened_numbers_of_one_price(rt: HostRuntime) {
-    expect_openings(&rt, rt.alloc(), Gates::Chain, &OPENINGS);
-}
-
-#[test]
-fn opened_numbers_of_one_price_with_trees(rt: HostRuntime) {
-    expect_openings(&rt, rt.alloc(), Gates::Tree, &OPENINGS);
+    expect_openings(&rt, rt.alloc(), &OPENINGS);
 }
 
 /// The most that all bidders can buy at a price.
@@ -308,23 +310,35 @@ const BOOKS: [Worked; 15] = [
     ),
 ];
 
-/// Runs the book of each case with this kind of gates.
-fn expect_books(rt: &impl Abort, alloc: Global, gates: Gates, cases: &[Worked]) {
-    for (prices, policy, sums, rejected, ending, rounds) in cases {
-        let script = script_of(rt, *prices, gates, *policy);
-        let run = run_on(rt, alloc, &script, sums, *rejected);
-        expect_end(rt, &script, &run, *ending, rounds_with(gates, *rounds));
+/// Runs the book of a case with this kind of gates.
+fn expect_book(rt: &impl Abort, alloc: Global, gates: Gates, case: &Worked) {
+    let (prices, policy, sums, rejected, ending, rounds) = case;
+    let script = script_of(rt, *prices, gates, *policy);
+    let run = run_on(rt, alloc, &script, sums, *rejected);
+    expect_end(rt, &script, &run, *ending, rounds_with(gates, *rounds));
+}
+
+/// Runs the book of each case with chains of gates, and with trees.
+fn expect_books(rt: &impl Abort, alloc: Global, cases: &[Worked]) {
+    for case in cases {
+        expect_book(rt, alloc, Gates::Chain, case);
+        expect_book(rt, alloc, Gates::Tree, case);
     }
 }
 
 #[test]
 fn worked_books(rt: HostRuntime) {
-    expect_books(&rt, rt.alloc(), Gates::Chain, &BOOKS);
+    expect_books(&rt, rt.alloc(), &BOOKS);
 }
 
-#[test]
-fn worked_books_with_trees(rt: HostRuntime) {
-    expect_books(&rt, rt.alloc(), Gates::Tree, &BOOKS);
+/// The numbers of rounds, masks, coefficients and wires of a script.
+fn bounds_of(script: &AuctionScript) -> (u32, u32, u32, u32) {
+    (
+        script.rounds(),
+        script.masks(),
+        script.coefficients(),
+        script.wires(),
+    )
 }
 
 /// Makes the script of the most prices with this kind of gates, and none beyond the limits. Compares its bounds.
@@ -332,10 +346,7 @@ fn expect_limits(rt: &impl Abort, gates: Gates, rounds: u32) {
     assert!(rt; AuctionScript::new(0, gates).is_none());
     assert!(rt; AuctionScript::new(4_097, gates).is_none());
     let script = AuctionScript::new(4_096, gates).expect(rt, "a script");
-    assert!(rt; script.rounds() == rounds);
-    assert!(rt; script.masks() == 15);
-    assert!(rt; script.coefficients() == 7_680);
-    assert!(rt; script.wires() == 20_255);
+    assert!(rt; bounds_of(&script) == (rounds, 15, 7_680, 20_255));
 }
 
 #[test]

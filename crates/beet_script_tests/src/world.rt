@@ -107,7 +107,7 @@ fn has_twelve(core: &ServerCore<Product>) -> bool {
 
 /// Compares how a server stands.
 fn expect_core(rt: &impl Abort, core: &ServerCore<Product>, rounds: u32, ended: bool) {
-    assert_eq!(rt; core.round(), rounds);
+    assert!(rt; core.round() == rounds);
     assert!(rt; has_twelve(core) == ended);
 }
 
@@ -118,7 +118,7 @@ fn expect_stand(rt: &impl Abort, world: &World<Product>, stand: Stand) {
     expect_core(rt, world.core(Point::One), one, one_ended);
     expect_core(rt, world.core(Point::Two), two, two_ended);
     expect_core(rt, world.core(Point::Three), three, three_ended);
-    assert_eq!(rt; world.undelivered(), stand.undelivered);
+    assert!(rt; world.undelivered() == stand.undelivered);
 }
 
 /// Plays a schedule, and compares how the world then stands.

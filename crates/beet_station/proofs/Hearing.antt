@@ -1,6 +1,5 @@
 -- What a core makes of the next message of a link.
 use Rattle.std.proofs.Common.{◌≡◌, ◌≤◌, ◌+◌, ℕ, List, Some, slice_get, subst}
-use Rattle.beet_field.specs.declared.point.Point.{Point}
 use Rattle.beet_gates.specs.declared.Batch.{Batch}
 use Rattle.beet_round.specs.Sides.{peer}
 use Rattle.beet_round.specs.declared.mailbox.Verdict.{Verdict}

@@ -1,7 +1,6 @@
 -- One round of a server with its ends.
-use Rattle.std.proofs.Common.{◌≡◌, ◌≢◌, ◌≤◌, ◌<◌, ◌+◌, ℕ, List, [], ◌∷◌, true, false, inl, inr, sym, refl, ap, subst, ◌∙◌, arith}
+use Rattle.std.proofs.Common.{◌≡◌, ◌<◌, ◌+◌, ℕ, List, [], true, false, inl, inr, sym, ap, subst, ◌∙◌, arith}
 use Rattle.std.proofs.lemmas.Bool.{both_ways, cases_lt}
-use Rattle.beet_field.specs.Trio.{member}
 use Rattle.beet_field.specs.declared.point.Point.{Point}
 use Rattle.beet_field.specs.declared.trio.Trio.{Trio}
 use Rattle.beet_gates.specs.Scripts.{LawFrom, Standing, start_of}
@@ -15,12 +14,12 @@ use Rattle.beet_sharing.proofs.Rounds.{lawful-rounds}
 use Rattle.beet_delivery.specs.Events.{Delivered, all_delivered}
 use Rattle.beet_server.specs.Answers.{Keeps, Moves}
 use Rattle.beet_server.specs.Cores.{Core, has_ended, is_quiet, setup_of}
-use Rattle.beet_server.specs.Fits.{Fits, IsRound, message_of, messages_from}
+use Rattle.beet_server.specs.Fits.{Fits, IsRound, message_of}
 use Rattle.beet_server.proofs.Passing.{ended_at, is_round, round_most}
 use Rattle.beet_server.specs.Lockstep.{HasHanded, IsAtRound}
 use Rattle.beet_server.proofs.Rounds.{hands-out, high-taken, loud-then, low-taken, quiet-then, with_low}
 use Rattle.beet_link.specs.Ends.{IsNext, LinkEnd, end_at, one_on}
-use Rattle.beet_link.specs.Streams.{rounds_from, stream, stream_of}
+use Rattle.beet_link.specs.Streams.{rounds_from}
 use Rattle.beet_link.proofs.StreamFacts.{next-is, next-only}
 use Rattle.beet_station.specs.declared.station.Station.{Station}
 use Rattle.beet_station.specs.Stations.{HasHeard, IsEnded, IsTied}

@@ -58,13 +58,17 @@ fn all_links<S: Script>(alloc: Global, cores: &Trio<ServerCore<S>>) -> Result<Li
     requires { AreFresh S.batch_of S.inputs_of cores.now }
     ensures { IfOk result (AreLinked S.batch_of S.inputs_of S.rounds_of cores.now) }
 {
-    let one_two = pair(alloc, cores, Point::One, Point::Two)?;
-    let one_three = pair(alloc, cores, Point::One, Point::Three)?;
-    let two_three = pair(alloc, cores, Point::Two, Point::Three)?;
+    // Each pair of links stands at the server that it leaves out.
+    let links = Trio {
+        one: pair(alloc, cores, Point::Two, Point::Three),
+        two: pair(alloc, cores, Point::One, Point::Three),
+        three: pair(alloc, cores, Point::One, Point::Two),
+    };
+    let Trio { one, two, three } = links.transpose()?;
     Ok(Links {
-        one_two,
-        one_three,
-        two_three,
+        one_two: three,
+        one_three: two,
+        two_three: one,
     })
 }
 
@@ -95,7 +99,14 @@ pub fn stations<S: Script>(
     requires { AreFresh S.batch_of S.inputs_of cores }
     ensures { IfOk result (AreTied S.batch_of S.inputs_of S.rounds_of cores) }
 {
-    let links = all_links(alloc, &cores)?;
+    let links = match all_links(alloc, &cores) {
+        Ok(links) => links,
+        Err(error) => {
+            // One call lets them go: else the proof of this way out goes through each of their parts.
+            drop(cores);
+            return Err(error);
+        }
+    };
     let (one_with_two, two_with_one) = links.one_two;
     let (one_with_three, three_with_one) = links.one_three;
     let (two_with_three, three_with_two) = links.two_three;

@@ -130,6 +130,30 @@ fn round<S: Script, R: Wait, G: Gate>(
     Some(())
 }
 
+/// Runs the rounds that are left, to the server's end. `None`: the flag was raised before.
+fn all_rounds<S: Script, R: Wait, G: Gate>(
+    rt: &R,
+    gate: &G,
+    seat: &mut G::Seat,
+    stop: &AtomicBool,
+    me: Point,
+    station: &mut Station<S>,
+    mail: &mut Mail,
+    run: &Snapshot<Trio<ServerCore<S>>>,
+) -> Option<()>
+    requires { IsTied S.batch_of S.inputs_of S.rounds_of run.now.value me station.old }
+    ensures { IfSome result
+        (λ _. IsEnded S.batch_of S.inputs_of S.rounds_of run.now.value me station.new.core) }
+{
+    for _ in rt.forever() {
+        if station.core.ended() {
+            return Some(());
+        }
+        round(rt, gate, seat, stop, me, station, mail, run)?;
+    }
+    unreachable!()
+}
+
 /// Runs the server to its end. `None`: the flag was raised before.
 pub fn serve<S: Script, R: Wait, G: Gate>(
     rt: &R,
@@ -148,11 +172,6 @@ pub fn serve<S: Script, R: Wait, G: Gate>(
         heard: RoundMessage::blank(me, me),
     };
     let mut seat = gate.seat(me);
-    for _ in rt.forever() {
-        if station.core.ended() {
-            return Some(station.core);
-        }
-        round(rt, gate, &mut seat, stop, me, &mut station, &mut mail, run)?;
-    }
-    unreachable!()
+    let ended = all_rounds(rt, gate, &mut seat, stop, me, &mut station, &mut mail, run);
+    ended.and(Some(station.core))
 }

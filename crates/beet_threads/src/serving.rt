@@ -46,6 +46,8 @@ pub fn run<S: Script, R: Wait, G: Gate>(
     ensures { IfSome result (IsEnded S.batch_of S.inputs_of S.rounds_of serving.run.value serving.me) }
 {
     if stop.load(Ordering::SeqCst) {
+        // One call lets it go: else the proof of this way out goes through each of its parts.
+        drop(serving);
         return None;
     }
     let Serving { me, station, run } = serving;

@@ -1,8 +1,10 @@
 -- How a trial ends.
-use Rattle.std.proofs.Common.{◌≡◌, ◌≤◌, ℕ, List, get_or, All, Result, arith, ap, sym, ◌∙◌, subst}
+use Rattle.std.proofs.Common.{◌≡◌, ◌≤◌, ℕ, ◌*◌, List, length, get_or, All, Result, arith, ap, sym, ◌∙◌, subst}
 use Rattle.std.specs.List.{range_with_len}
 use Rattle.std.proofs.lemmas.List.FromFn.{length-map-range_with_len}
 use Rattle.std.proofs.lemmas.List.Elements.{All-map}
+use Rattle.beet_field.specs.Trio.{member}
+use Rattle.beet_field.specs.declared.point.Point.{Point}
 use Rattle.beet_field.specs.declared.trio.Trio.{Trio}
 use Rattle.beet_store.specs.Files.{Seen}
 use Rattle.beet_bids.specs.Books.{IsBook}
@@ -21,7 +23,7 @@ use Rattle.beet_load.specs.Collecting.{curves_of}
 use Rattle.beet_load.specs.Servers.{ServerWords, masks_of}
 use Rattle.beet_load.proofs.Inputs.{inputs-shares, is-book}
 use Rattle.beet_run.specs.Runs.{EndsAuction}
-use Rattle.beet_run.proofs.BookRuns.{book-run}
+use Rattle.beet_run.proofs.BookRuns.{book-run, inputs-many}
 use Rattle.beet_trial.specs.Adding.{CarrySums}
 use Rattle.beet_trial.specs.Sizes.{AreSizes}
 use Rattle.beet_trial.specs.Rules.{trial_grid, trial_curve, trial_farmer, trial_farmers, trial_servers, trial_book}
@@ -49,6 +51,17 @@ trial-is-book grid bidders limit few =
     (each-curve (IsOfGrid grid) grid bidders (is-of-grid grid))
     (omega (arith, few, length-map-range_with_len (trial_farmer grid) 0 bidders))
 
+-- the prices are within the limit
+in-limit : (grid : Grid) (bidders prices : ℕ) → grid ≡ trial_grid prices → AreSizes bidders prices → grid.prices ≤ MOST_PRICES
+in-limit grid bidders prices e sizes = subst (λ (g : Grid). g.prices ≤ MOST_PRICES) (sym e) sizes.prices_limit
+
+-- each server has an input for each side of each price
+pub trial-many : (grid : Grid) (bidders prices : ℕ) (totals : Totals) (inputs : Trio (List ℕ)) → grid ≡ trial_grid prices → AreSizes bidders prices →
+    CarrySums grid (trial_farmers grid bidders) totals → inputs ≡ wires_of totals → (i : Point) → length (member inputs i) ≡ 2 * grid.prices
+trial-many grid bidders prices totals inputs e sizes c w =
+    inputs-many (trial_book grid bidders) inputs (trial-is-book grid bidders (in-limit grid bidders prices e sizes) sizes.few)
+    (trial-shares grid bidders totals inputs c w)
+
 -- the job over the grid that it begins with
 pub over-grid : {grid : Grid} (bidders prices : ℕ) {seen : Seen} {result : Result Answer Stop} → grid ≡ trial_grid prices →
     Reads (λ (reply : Answer). reply) seen seen (trial_over grid bidders) result → Reads (λ (reply : Answer). reply) seen seen (trial_job bidders prices) result
@@ -59,8 +72,8 @@ pub trial-ends : (grid : Grid) (servers : Trio ServerWords) (bidders prices : �
     grid ≡ trial_grid prices → servers ≡ trial_servers grid → AreSizes bidders prices → CarrySums grid (trial_farmers grid bidders) totals →
     inputs ≡ wires_of totals → EndsAuction grid inputs servers finish rounds → sized_answer grid bidders finish rounds ≡ trial_answer grid bidders
 trial-ends grid servers bidders prices totals inputs finish rounds e s sizes c w run =
-    let limit : grid.prices ≤ MOST_PRICES = subst (λ (g : Grid). g.prices ≤ MOST_PRICES) (sym e) sizes.prices_limit in
-    let ends = book-run (trial_book grid bidders) inputs (trial_servers grid) finish rounds (trial-is-book grid bidders limit sizes.few)
+    let book = trial-is-book grid bidders (in-limit grid bidders prices e sizes) sizes.few in
+    let ends = book-run (trial_book grid bidders) inputs (trial_servers grid) finish rounds book
     (trial-shares grid bidders totals inputs c w) (subst (λ x. EndsAuction grid inputs x finish rounds) s run) in
     ap (λ f. sized_answer grid bidders f rounds) ends.0
     ∙ ap (λ n. sized_answer grid bidders (book_finish (trial_book grid bidders) (masks_of (trial_servers grid))) n) ends.1

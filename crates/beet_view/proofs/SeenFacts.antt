@@ -1,14 +1,10 @@
 -- What a bidder, a round and a whole view that were read are known to be.
-use Rattle.std.proofs.Common.{◌≡◌, ◌≢◌, ℕ, zero, suc, ◌*◌, ◌≤◌, Bool, true, false, if◌then◌else◌, eqb, List, length, All, Option, None, Some, MatchOption, IfSome, Ok, Err, refl, sym, ap, subst, ◌∙◌, arith}
+use Rattle.std.proofs.Common.{◌≡◌, ◌≢◌, ℕ, zero, suc, ◌*◌, ◌≤◌, Bool, true, false, if◌then◌else◌, eqb, List, length, All, Option, None, Some, MatchOption, IfSome, Ok, refl, sym, ap, ◌∙◌, arith}
 use Rattle.std.proofs.Math.Nat.{le-div_iff_mul-le}
 use Rattle.std.proofs.lemmas.Bool.{eqb-true, eqb-false}
 use Rattle.beet_field.specs.Point.{number_of}
 use Rattle.beet_field.specs.declared.point.Point.{Point}
 use Rattle.beet_field.specs.declared.point.Point.TheVariants.{One, Two, Three}
-use Rattle.beet_forms.specs.declared.faults.ReadFault.{ReadFault}
-use Rattle.beet_forms.specs.declared.faults.ReadFault.TheVariants.{Bad, OutOfMemory}
-use Rattle.beet_forms.specs.Faults.{Reading, Answers}
-use Rattle.beet_words.specs.declared.fields.Allowed.{Allowed}
 use Rattle.beet_words.specs.Bundles.{up_to, word_at, words_at}
 use Rattle.beet_words.specs.Fields.{◌>>=◌, number_at, times, counted_at}
 use Rattle.beet_bids.specs.Grids.{Grid}
@@ -139,13 +135,6 @@ seen_at-is bytes server grid at read e =
     value_has (λ (r : Seen × ℕ). IsSeenWithin server grid r.0) (made mark.between.0 points.between.0 own.between.0, own.between.1) read own.two
     (seen_within server grid (known_of mark.between.0) points.between.0 own.between.0 many.many kept)
 
--- a number is read between the limits that it is read by
-pub number_at-from_to : (bytes : List ℕ) (allowed : Allowed) (low high at : ℕ) (read : ℕ × ℕ) →
-    allowed ≡ from_to low high →
-    number_at bytes allowed at ≡ Ok read →
-    number_at bytes (from_to low high) at ≡ Ok read
-number_at-from_to bytes allowed low high at read is e = subst (λ limits. number_at bytes limits at ≡ Ok read) is e
-
 -- a grid whose numbers are read one after another, up to its policy
 pub grid_at-numbers : (bytes : List ℕ) (tells : Bool) (at base tick prices gates a b c d : ℕ) →
     number_at bytes (from_to 0 LARGEST_BASE) at ≡ Ok (base, a) →
@@ -156,12 +145,6 @@ pub grid_at-numbers : (bytes : List ℕ) (tells : Bool) (at base tick prices gat
     ≡ (policy_at bytes tells d >>= λ policy. Ok (record { base = base; tick = tick; prices = prices; gates = gates_of gates; policy = policy.0 }, policy.1))
 unfolding grid_at
 grid_at-numbers bytes tells at base tick prices gates a b c d e f g h = rw (e, f, g, h) refl
-
--- a fault of the first of two steps is told of both
-pub first-fault : {A B T U : Type 0} (first : Reading A) (next : A → Reading B) (seen : T → A) (view : U → B) (fault : ReadFault) →
-    Answers seen first (Err fault) → Answers view (first >>= next) (Err fault)
-first-fault first next seen view (Bad place reason) is = rw is refl
-first-fault first next seen view OutOfMemory is = tt
 
 -- bidders were read
 pub record AreBidders (server : Point) (grid : Grid) (bidders : List Seen) : Type 0 where

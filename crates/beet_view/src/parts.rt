@@ -6,12 +6,12 @@ ghost use Rattle.beet_words.specs.Fields.{times};
 ghost use Rattle.beet_gates.specs.declared.TheConstants.{MOST_NUMBERS};
 ghost use Rattle.beet_view.specs.Transcripts.{point_at, message_at};
 
-use crate::quantities::from_to;
+use crate::quantities::{from_to, read_from_to};
 use arrayvec::ArrayVec;
 use beet_field::{Fe, P};
 use beet_forms::ReadFault;
 use beet_gates::MOST_NUMBERS;
-use beet_words::{FeList, read_number};
+use beet_words::FeList;
 use std::alloc::Global;
 
 /// A number of the field.
@@ -68,6 +68,6 @@ pub(crate) fn read_message(
     ensures numbers { Answers (λ read. (read.0.items, read.1)) (message_at bytes.now at) result }
     ensures within { IfOk result (λ read. read.1 ≤ length bytes.now) }
 {
-    let (count, at) = read_number(bytes, from_to(1, MOST_NUMBERS as u64), at)?;
+    let (count, at) = read_from_to(bytes, 1, MOST_NUMBERS as u64, at)?;
     read_so_many_numbers(bytes, count, at)
 }

@@ -2,6 +2,7 @@
 
 ghost use Rattle.std.specs.Prelude.{◌≡◌, ◌≤◌, length, IfOk};
 ghost use Rattle.beet_forms.specs.Faults.{Answers};
+ghost use Rattle.beet_words.specs.Fields.{number_at};
 ghost use Rattle.beet_view.specs.Transcripts.{from_to as allowed_from_to, allowed_after, start_of, quantities_at};
 
 use beet_bids::LARGEST_QUANTITY;
@@ -28,6 +29,21 @@ pub(crate) fn from_to(low: u64, high: u64) -> Allowed
         truncated: TRUNCATED,
         outside: BAD_NUMBER,
     }
+}
+
+/// The number of a transcript at an offset, from the lowest to the highest, and the offset after it.
+pub(crate) fn read_from_to(
+    bytes: &[u8],
+    low: u64,
+    high: u64,
+    at: usize,
+) -> Result<(u64, usize), ReadFault>
+    requires { at ≤ length bytes.now }
+    ensures number { Answers (λ read. read) (number_at bytes.now (allowed_from_to low high) at) result }
+    ensures allowed { IfOk result (λ read. (low ≤ read.0) × (read.0 ≤ high)) }
+    ensures within { IfOk result (λ read. read.1 ≤ length bytes.now) }
+{
+    read_number(bytes, from_to(low, high), at)
 }
 
 impl Course {

@@ -8,7 +8,7 @@ ghost use Rattle.beet_bids.specs.Grids.{IsGrid};
 ghost use Rattle.beet_view.specs.Transcripts.{magic, from_to as allowed_from_to, gates_of, known_of, form_in, server_at, policy_at, grid_at, most_bidders, own_at, own_where_known, seen_at, round_at, view_in, view_bytes, FitsFile};
 
 use crate::parts::{read_message, read_points};
-use crate::quantities::{Course, from_to};
+use crate::quantities::{Course, read_from_to};
 use crate::view::{Received, Seen, View};
 use beet_bids::{Curve, Grid, LARGEST_BASE, LARGEST_TICK, MOST_PRICES, Policy};
 use beet_book::MOST_PRODUCT;
@@ -18,7 +18,7 @@ use beet_gates::Gates;
 use beet_plan::{MASK_COEFFICIENTS, SPARE_MASKS, SPARE_WORDS};
 use beet_words::{
     BAD_MAGIC, BAD_NUMBER, MOST_BIDDERS, TRAILING, WordList, read_end, read_list, read_magic,
-    read_many, read_number,
+    read_many,
 };
 use std::alloc::Global;
 
@@ -49,7 +49,7 @@ fn read_server(bytes: &[u8], at: usize) -> Result<(Point, usize), ReadFault>
     ensures server { Answers (λ read. read) (server_at bytes.now at) result }
     ensures within { IfOk result (λ read. read.1 ≤ length bytes.now) }
 {
-    let (number, at) = read_number(bytes, from_to(1, 3), at)?;
+    let (number, at) = read_from_to(bytes, 1, 3, at)?;
     let server = match number {
         1 => Point::One,
         2 => Point::Two,
@@ -79,7 +79,7 @@ fn read_policy(bytes: &[u8], tells: bool, at: usize) -> Result<(Policy, usize), 
     if !tells {
         return Ok((Policy::Volume, at));
     }
-    let (number, after) = read_number(bytes, from_to(0, 2), at)?;
+    let (number, after) = read_from_to(bytes, 0, 2, at)?;
     match number {
         0 => Ok((Policy::Price, after)),
         1 => Err(ReadFault::at_offset(at as u64, BAD_NUMBER)),
@@ -95,10 +95,10 @@ fn read_grid(bytes: &[u8], tells: bool, at: usize) -> Result<(Grid, usize), Read
     ensures limits { IfOk result (λ read. IsGrid read.0) }
     ensures within { IfOk result (λ read. read.1 ≤ length bytes.now) }
 {
-    let (base, at) = read_number(bytes, from_to(0, LARGEST_BASE), at)?;
-    let (tick, at) = read_number(bytes, from_to(1, LARGEST_TICK), at)?;
-    let (prices, at) = read_number(bytes, from_to(1, MOST_PRICES as u64), at)?;
-    let (gates, at) = read_number(bytes, from_to(0, 1), at)?;
+    let (base, at) = read_from_to(bytes, 0, LARGEST_BASE, at)?;
+    let (tick, at) = read_from_to(bytes, 1, LARGEST_TICK, at)?;
+    let (prices, at) = read_from_to(bytes, 1, MOST_PRICES as u64, at)?;
+    let (gates, at) = read_from_to(bytes, 0, 1, at)?;
     let (policy, at) = read_policy(bytes, tells, at)?;
     let Some(grid) = Grid::new(base, tick, prices as u32, gates_of(gates)) else {
         unreachable!()
@@ -175,7 +175,7 @@ fn read_seen(
     ensures seen { Answers (λ read. read) (seen_at bytes.now server grid.now.prices at) result }
     ensures within { IfOk result (λ read. read.1 ≤ length bytes.now) }
 {
-    let (mark, at) = read_number(bytes, from_to(0, 3), at)?;
+    let (mark, at) = read_from_to(bytes, 0, 3, at)?;
     let (points, at) = read_points(alloc, bytes, 2 * grid.prices() as u64, at)?;
     let (own, at) = read_own_where_known(alloc, bytes, server, grid, mark, at)?;
     let known = known_of(mark);
@@ -232,7 +232,7 @@ fn read_bidders(
         (seen_at bytes.now server grid.now.prices) at) result }
     ensures within { IfOk result (λ read. read.1 ≤ length bytes.now) }
 {
-    let (count, at) = read_number(bytes, from_to(0, most_bidders(grid)), at)?;
+    let (count, at) = read_from_to(bytes, 0, most_bidders(grid), at)?;
     read_so_many_bidders(alloc, bytes, server, grid, count, at)
 }
 
@@ -270,7 +270,7 @@ fn read_rounds(alloc: Global, bytes: &[u8], at: usize) -> Result<(Vec<Received>,
         (counted_at bytes.now (allowed_from_to 0 MOST_ROUNDS) (round_at bytes.now) at) result }
     ensures within { IfOk result (λ read. read.1 ≤ length bytes.now) }
 {
-    let (count, at) = read_number(bytes, from_to(0, MOST_ROUNDS), at)?;
+    let (count, at) = read_from_to(bytes, 0, MOST_ROUNDS, at)?;
     read_so_many_rounds(alloc, bytes, count, at)
 }
 

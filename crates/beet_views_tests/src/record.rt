@@ -151,11 +151,15 @@ fn expect_line(
     assert!(rt; is_refused(end, wanted));
 }
 
+/// Compares the lines at both auctions.
+fn expect_lines(rt: &(impl Abort + Threads + Wait + Sync), alloc: Global, book: &str) {
+    let refused = "bad file: big.book row 0 reason 6\n";
+    expect_line(rt, alloc, TOO_MANY, book, refused);
+    expect_line(rt, alloc, MOST, book, "read fault: none.bid\n");
+}
+
 #[test]
 fn product_of_a_book(rt: HostRuntime) {
-    let alloc = rt.alloc();
-    let book = book_of_many(&rt, alloc);
-    let refused = "bad file: big.book row 0 reason 6\n";
-    expect_line(&rt, alloc, TOO_MANY, book.as_str(), refused);
-    expect_line(&rt, alloc, MOST, book.as_str(), "read fault: none.bid\n");
+    let book = book_of_many(&rt, rt.alloc());
+    expect_lines(&rt, rt.alloc(), book.as_str());
 }

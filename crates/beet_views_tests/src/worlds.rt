@@ -23,9 +23,9 @@ fn turned(mask: u64, lost: u64) -> Option<u64> {
 
 #[test]
 fn turned_masks(rt: HostRuntime) {
-    assert_eq!(rt; turned(5, ONES - 3), Some(2));
-    assert_eq!(rt; turned(ONES - 1, 1), Some(0));
-    assert_eq!(rt; turned(ONES, 9), Some(ONES));
+    assert!(rt; turned(5, ONES - 3) == Some(2));
+    assert!(rt; turned(ONES - 1, 1) == Some(0));
+    assert!(rt; turned(ONES, 9) == Some(ONES));
 }
 
 /// A bidder: the server that knows it, and what it sells and buys at the one price.
@@ -517,7 +517,7 @@ fn expect_moved_words(rt: &impl Abort, mapped: &Words, bidder: &[u64]) {
 
 /// Compares the coefficients of a mapped world, where supply exceeds demand by one more than in the first.
 fn expect_moved_coefficients(rt: &impl Abort, mapped: &Trio<WordList>) {
-    assert_eq!(rt; mapped.one.as_slice().len(), 1_538);
+    assert!(rt; mapped.one.as_slice().len() == 1_538);
     let mut own = mapped.two.as_slice().iter();
     assert!(rt; own.all(|word| word.value() == 1));
     let mut moved = mapped.three.as_slice().iter();

@@ -1,5 +1,5 @@
 -- A bundle that was written is read again.
-use Rattle.std.proofs.Common.{◌≡◌, ℕ, ◌+◌, List, [], ◌++◌, length, All, Ok, refl, sym, ap, arith}
+use Rattle.std.proofs.Common.{◌≡◌, ℕ, ◌+◌, List, [], ◌++◌, length, All, Ok, refl, sym, ap, ◌∙◌, arith}
 use Rattle.std.specs.List.{flat_map}
 use Rattle.std.proofs.lemmas.Bool.{le-ltb}
 use Rattle.std.proofs.lemmas.List.{append-nil, length-append}
@@ -7,6 +7,7 @@ use Rattle.beet_words.specs.declared.bundle.TheConstants.{MOST_WORDS, MOST_BIDDE
 use Rattle.beet_words.specs.Words.{IsWord, ones}
 use Rattle.beet_words.specs.Fields.{number_bytes, number_at, times, counted_at, after_magic, ended}
 use Rattle.beet_words.specs.Bundles.{Words, magic, up_to, word_at, list_at, server_at, bundle_of, list_bytes, server_bytes, bundle_bytes, IsShort, AreWords, FitsBundle}
+use Rattle.beet_words.proofs.BundleParts.{after_servers}
 use Rattle.beet_words.proofs.FieldsAgain.{StandsAt, StandsAt-left, StandsAt-right, number_at-number, times-parts}
 
 -- a list of words is read
@@ -69,8 +70,7 @@ bundle_of-parts : (file : List ℕ) (words : Words) (one two three lists : ℕ) 
     times (length words.bidders) (list_at file) three ≡ Ok (words.bidders, lists) →
     ended file TRAILING lists ≡ Ok tt →
     bundle_of file ≡ Ok words
-unfolding bundle_of
-bundle_of-parts file words one two three lists a b c d e f g = rw (a, b, c, d, e, f, g) refl
+bundle_of-parts file words one two three lists a b c d e f g = after_servers file _ _ _ _ _ _ _ _ _ a b c d e ∙ rw (f, g) refl
 
 -- the bytes of a bundle are read as its words
 pub bundle_of-bundle : (words : Words) → FitsBundle words → AreWords words → bundle_of (bundle_bytes words) ≡ Ok words

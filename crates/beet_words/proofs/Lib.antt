@@ -3,6 +3,7 @@ pub mod TapeRows
 pub mod TapeAgain
 pub mod Times
 pub mod FieldsAgain
+mod BundleParts
 pub mod BundleAgain
 mod Drawing
 pub mod DrawnFrom

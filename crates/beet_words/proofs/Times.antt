@@ -16,6 +16,12 @@ onto-cons : {A : Type 0} (front : List A) (value : A) (reading : Reading (List A
 onto-cons front value (Ok read) = ap (λ values. Ok (values, read.1)) (simp append_assoc)
 onto-cons front value (Err fault) = refl
 
+-- a fault of the first of two steps is told of both
+pub first-fault : {A B T U : Type 0} (first : Reading A) (next : A → Reading B) (seen : T → A) (view : U → B) (fault : ReadFault) →
+    Answers seen first (Err fault) → Answers view (first >>= next) (Err fault)
+first-fault first next seen view (Bad place reason) is = rw is refl
+first-fault first next seen view OutOfMemory is = tt
+
 -- one more part is read
 pub onto-next : {A : Type 0} (part : Part A) (front : List A) (count i at after : ℕ) (value : A) (whole : Reading (List A × ℕ)) →
     i < count →

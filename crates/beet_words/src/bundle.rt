@@ -11,7 +11,7 @@ use crate::fields::{Allowed, push_number, read_end, read_magic, read_number, roo
 use crate::many::read_many;
 use crate::word::{Word, WordList};
 use beet_field::{P, Trio};
-use beet_forms::ReadFault;
+use beet_forms::{ReadFault, beside};
 use std::alloc::{AllocError, Global};
 use std::marker::Model;
 
@@ -171,11 +171,12 @@ pub fn read_bundle(alloc: Global, bytes: &[u8]) -> Result<Words, ReadFault>
     let at = read_magic(bytes, MAGIC, BAD_MAGIC)?;
     let (count, at) = read_number(bytes, up_to(MOST_BIDDERS as u64), at)?;
     let (one, at) = read_server(alloc, bytes, at)?;
-    let (two, at) = read_server(alloc, bytes, at)?;
-    let (three, at) = read_server(alloc, bytes, at)?;
-    let (bidders, at) = read_lists(alloc, bytes, count, at)?;
-    read_end(bytes, TRAILING, at)?;
-    Ok(Words {
+    let (one, (two, at)) = beside(one, read_server(alloc, bytes, at))?;
+    let ((one, two), (three, at)) = beside((one, two), read_server(alloc, bytes, at))?;
+    let servers = (one, two, three);
+    let (servers, (bidders, at)) = beside(servers, read_lists(alloc, bytes, count, at))?;
+    let (one, two, three) = servers;
+    let words = Words {
         masks: Trio {
             one: one.0,
             two: two.0,
@@ -187,7 +188,9 @@ pub fn read_bundle(alloc: Global, bytes: &[u8]) -> Result<Words, ReadFault>
             three: three.1,
         },
         bidders,
-    })
+    };
+    let (words, ()) = beside(words, read_end(bytes, TRAILING, at))?;
+    Ok(words)
 }
 
 /// Appends words.

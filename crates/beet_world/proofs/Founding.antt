@@ -29,6 +29,10 @@ module _ {S : Type 0} (next : S → ℕ → List ℕ → Batch) (inputs most : S
     pub going : (o : Setup) (x : Delivered) (rounds : ℕ) → HasRounds o rounds → Fits next o x old → (old.handed ≡ true → old.round < rounds) →
         new.handed ≡ true → new.round < rounds
 
+  -- a fresh core has handed out no messages
+  pub none-taken : (k : Core S) → IsFresh next inputs k → taken k.round k.handed ≡ 0
+  none-taken k is = ap (λ (c : Core S). taken c.round c.handed) is
+
   named : (t : Trio (Core S)) → AreFresh next inputs t → (s : Point) → (member t s).me ≡ s
   named t f = by_point (λ s. (member t s).me ≡ s) f.one.0 f.two.0 f.three.0
 
@@ -43,8 +47,7 @@ module _ {S : Type 0} (next : S → ℕ → List ℕ → Batch) (inputs most : S
 
     none_sent : (s : Point) → [] ≡ sent_by (setup_of next inputs start) (member start s)
     none_sent s =
-        let is = is_fresh start f s in
-        let none : taken (member start s).round (member start s).handed ≡ 0 = ap (λ (k : Core S). taken k.round k.handed) is in
+        let none = none-taken (member start s) (is_fresh start f s) in
         sym (ap (each (messages_from (setup_of next inputs start) (member start s).me)) none ∙ each-zero (messages_from (setup_of next inputs start) (member start s).me))
 
     idle : (s : Point) → (member start s).handed ≡ true → (member start s).round < rounds_among (setup_of next inputs start) (most start.one.script)

@@ -2,7 +2,7 @@
 
 ghost use Rattle.std.specs.Prelude.{◌≡◌, ◌≤◌, length};
 ghost use Rattle.beet_forms.specs.Faults.{Answers};
-ghost use Rattle.beet_world.specs.Schedules.{server_of, delivery_in, delivery_at, deliveries_of, schedule_of};
+ghost use Rattle.beet_world.specs.Schedules.{server_of, delivery_in, delivery_at, deliveries_of, schedule_in, schedule_of};
 
 use beet_field::Point;
 use beet_forms::{LONGEST_FILE, ReadFault, Row, RowReader, number, three_fields};
@@ -102,6 +102,17 @@ fn read_deliveries(
     Ok(deliveries)
 }
 
+/// The deliveries of a schedule, of all its rows.
+fn read_rows(alloc: Global, rows: &mut RowReader, row: &mut Row) -> Result<Vec<Delivery>, ReadFault>
+    requires { length rows.old ≤ LONGEST_FILE }
+    ensures { Answers (λ deliveries. deliveries.items) (schedule_in rows.old) result }
+{
+    if !rows.begins_with(row, b"beet-schedule", b"1")? {
+        return Err(ReadFault::at_row(1, BAD_ROW));
+    }
+    read_deliveries(alloc, rows, row)
+}
+
 /// The deliveries of a schedule file, in order: the row `beet-schedule,1` and then at most
 /// 1,000,000 rows `FROM,TO,ROUND`. An error is `OutOfMemory`, or a fault in the file.
 ///
@@ -114,8 +125,5 @@ pub fn read_schedule(alloc: Global, bytes: &[u8]) -> Result<Vec<Delivery>, ReadF
 {
     let mut rows = RowReader::new(alloc, bytes);
     let mut row = Row::new(alloc);
-    if !rows.begins_with(&mut row, b"beet-schedule", b"1")? {
-        return Err(ReadFault::at_row(1, BAD_ROW));
-    }
-    read_deliveries(alloc, &mut rows, &mut row)
+    read_rows(alloc, &mut rows, &mut row)
 }

@@ -125,6 +125,19 @@ fn verdict_on_repeat(passed: u32, round: u32) -> Verdict
     }
 }
 
+/// Room for the messages of so many rounds of each server, and a mark for each message, none set.
+fn room(alloc: Global, rounds: u32) -> Result<(Trio<Vec<[RoundMessage; 2]>>, Vec<bool>), AllocError>
+    ensures none { IfOk result (λ room. (s : Server) → (member room.0 s).items ≡ []) }
+    ensures capacity { IfOk result (λ room. (s : Server)
+        → rounds ≤ vec_capacity (member room.0 s)) }
+    ensures marks { IfOk result (λ room. room.1.items ≡ unmarked rounds) }
+{
+    let rounds = rounds as usize;
+    let marks = vec![in alloc; false; 6 * rounds]?;
+    let sent = Trio::try_of(|_| Vec::with_capacity(alloc, rounds))?;
+    Ok((sent, marks))
+}
+
 impl<S: Script> World<S> {
     /// A world of three fresh servers, of which each has sent its messages of round 0. It takes the
     /// memory for the messages of all rounds, and fails only where there is too little; no other
@@ -136,14 +149,15 @@ impl<S: Script> World<S> {
           marks = unmarked (S.rounds_of cores.one.script);
         }) }
     {
-        let rounds = cores.one.script().rounds() as usize;
         let start = Snapshot::of(&cores);
-        let mut sent = Trio {
-            one: Vec::with_capacity(alloc, rounds)?,
-            two: Vec::with_capacity(alloc, rounds)?,
-            three: Vec::with_capacity(alloc, rounds)?,
+        let (mut sent, marks) = match room(alloc, cores.one.script().rounds()) {
+            Ok(room) => room,
+            Err(error) => {
+                // One call lets them go: else the proof of this way out goes through each of their parts.
+                drop(cores);
+                return Err(error);
+            }
         };
-        let marks = vec![in alloc; false; 6 * rounds]?;
         let mut cores = cores;
         hand_out(&mut cores.one, &mut sent.one);
         hand_out(&mut cores.two, &mut sent.two);

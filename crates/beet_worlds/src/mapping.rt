@@ -6,11 +6,13 @@ ghost use Rattle.beet_gates.specs.Scripts.{HasWords};
 ghost use Rattle.beet_bids.specs.Books.{IsBook};
 ghost use Rattle.beet_plan.specs.Auction.{most_coefficients, most_masks, auction_over};
 ghost use Rattle.beet_sharing.specs.Runs.{numbers_of};
+ghost use Rattle.beet_book.specs.Farmers.{farmers_of};
 ghost use Rattle.beet_map.specs.Refused.{HasSecrets};
 ghost use Rattle.beet_worlds.specs.Agreement.{Agree};
 ghost use Rattle.beet_worlds.specs.Disagreement.{RefusesMap};
 ghost use Rattle.beet_worlds.specs.Enough.{AreEnough};
 ghost use Rattle.beet_worlds.specs.InputLines.{AreInputLines};
+ghost use Rattle.beet_worlds.specs.MappedBidders.{BiddersMapped};
 ghost use Rattle.beet_worlds.specs.MappedWords.{IsOnlyFirst, IsOnlySecond, Mapped};
 ghost use Rattle.beet_worlds.specs.ViewsWith.{transcript_with, view_with};
 ghost use Rattle.beet_worlds.specs.Worlds.{AlwaysSame, CoefficientsMapped, Ends, LookSameIn, WorldsMapped};
@@ -88,6 +90,64 @@ fn map_coefficients(
     }
 }
 
+/// What the servers hold in the auction of a book, with these words.
+fn secrets_of(alloc: Global, book: &Book, words: &Words) -> Result<Secrets, AllocError>
+    requires { length words.now.bidders ≡ length book.now.bidders }
+    ensures inputs { IfOk result (λ secrets. AreInputLines book.now words.now.bidders secrets.inputs) }
+    ensures masks { IfOk result (λ secrets. secrets.masks ≡ words.now.masks) }
+    ensures limits { OnOk result (IsBook book.now) }
+{
+    let masks = copy_of(alloc, &words.masks)?;
+    secrets_with(alloc, book, masks, words.bidders.as_slice())
+}
+
+/// The mask words of the servers; their lines are let go.
+fn into_masks(secrets: Secrets) -> Trio<WordList>
+    ensures { result ≡ secrets.masks }
+{
+    secrets.masks
+}
+
+/// The mask words and the coefficient words of the second world, whose bidders have these words.
+fn map_for_servers(
+    alloc: Global,
+    me: Point,
+    first: &Book,
+    second: &Book,
+    words: &Words,
+    bidders: &[WordList],
+) -> Result<(Trio<WordList>, Trio<WordList>), AllocError>
+    requires enough { AreEnough first.now words.now }
+    requires agree { Agree me first.now second.now }
+    requires count { length bidders.now ≡ length words.now.bidders }
+    requires mapped { BiddersMapped me first.now.grid.prices
+        (farmers_of first.now.bidders words.now.bidders) (farmers_of second.now.bidders bidders.now) }
+    requires below { All (λ list. All IsWord list) words.now.bidders }
+    requires words { All (λ list. All IsWord list) bidders.now }
+    ensures { IfOk result (λ mapped. WorldsMapped me first.now words.now second.now
+        (record { masks = mapped.0; coefficients = mapped.1; bidders = bidders.now })) }
+{
+    look_at(&words.masks);
+    look_at(&words.coefficients);
+    let masks = map_masks(alloc, me, first, second, &words.masks)?;
+    let there = secrets_with(alloc, second, masks, bidders)?;
+    let here = secrets_of(alloc, first, words)?;
+    let coefficients = map_coefficients(
+        alloc,
+        me,
+        first.grid(),
+        &here,
+        &there,
+        &words.coefficients,
+    );
+    drop(here);
+    let masks = into_masks(there);
+    let coefficients = coefficients?;
+    look_at(&masks);
+    look_at(&coefficients);
+    Ok((masks, coefficients))
+}
+
 /// The words of the second world, of two books that agree for server `me`.
 fn map_words(
     alloc: Global,
@@ -100,29 +160,17 @@ fn map_words(
     requires agree { Agree me first.now second.now }
     ensures { IfOk result (WorldsMapped me first.now words.now second.now) }
 {
-    look_at(&words.masks);
-    look_at(&words.coefficients);
     let bidders = map_bidders(alloc, me, first, second, words.bidders.as_slice())?;
-    let masks = map_masks(alloc, me, first, second, &words.masks)?;
-    let here = secrets_with(
-        alloc,
-        first,
-        copy_of(alloc, &words.masks)?,
-        words.bidders.as_slice(),
-    )?;
-    let there = secrets_with(alloc, second, masks, bidders.as_slice())?;
-    let coefficients = map_coefficients(
+    let (masks, coefficients) = map_for_servers(
         alloc,
         me,
-        first.grid(),
-        &here,
-        &there,
-        &words.coefficients,
+        first,
+        second,
+        words,
+        bidders.as_slice(),
     )?;
-    look_at(&there.masks);
-    look_at(&coefficients);
     Ok(Words {
-        masks: there.masks,
+        masks,
         coefficients,
         bidders,
     })

@@ -59,18 +59,18 @@ returns-clause-found c =
     let v = c.args.views.now in
     goes_on (Headers g v) (InTurn (Bidders g v) (InTurn (AllTapes g v) (InTurn (AllRounds g v) (AllMessages g v)))) _ c.in_ok-check_headers.ensures.headers
     (goes_on (Bidders g v) (InTurn (AllTapes g v) (InTurn (AllRounds g v) (AllMessages g v))) _ c.in_ok-check_bidders.ensures.bidders
-    (goes_on (AllTapes g v) (InTurn (AllRounds g v) (AllMessages g v)) _ c.in_ok-check_tapes.ensures (c.compare.ensures.found g c.in_ok-cores.ensures.ran)))
+    (goes_on (AllTapes g v) (InTurn (AllRounds g v) (AllMessages g v)) _ c.in_ok-check_tapes.ensures (c.compare-audited.ensures.found g c.in_ok-cores.ensures.ran)))
 
 pub returns-clause-one_run : goal.returns-clause-one_run
 returns-clause-one_run c =
-    judged-one c.args.grid.now c.args.views.now c.in_ok-check_headers.ensures.limits c.in_ok-check_bidders.ensures.elements c.compare.result (returns-clause-found c)
+    judged-one c.args.grid.now c.args.views.now c.in_ok-check_headers.ensures.limits c.in_ok-check_bidders.ensures.elements c.compare-audited.result (returns-clause-found c)
 
 pub returns-clause-finish : goal.returns-clause-finish
 returns-clause-finish c =
-    judged-finish c.args.grid.now c.args.views.now c.in_ok-check_headers.ensures.limits c.in_ok-check_bidders.ensures.elements c.compare.result c.in_ok-cores.cores
-    (returns-clause-found c) c.in_ok-cores.ensures.ran c.compare.ensures.finish
+    judged-finish c.args.grid.now c.args.views.now c.in_ok-check_headers.ensures.limits c.in_ok-check_bidders.ensures.elements c.compare-audited.result c.in_ok-cores.cores
+    (returns-clause-found c) c.in_ok-cores.ensures.ran c.compare-audited.ensures.finish
 
 pub returns-clause-rounds : goal.returns-clause-rounds
 returns-clause-rounds c =
-    judged-rounds c.args.grid.now c.args.views.now c.in_ok-check_headers.ensures.limits c.in_ok-check_bidders.ensures.elements c.compare.result c.in_ok-cores.cores
-    (returns-clause-found c) c.in_ok-cores.ensures.ran c.compare.ensures.finish c.compare.ensures.rounds
+    judged-rounds c.args.grid.now c.args.views.now c.in_ok-check_headers.ensures.limits c.in_ok-check_bidders.ensures.elements c.compare-audited.result c.in_ok-cores.cores
+    (returns-clause-found c) c.in_ok-cores.ensures.ran c.compare-audited.ensures.finish c.compare-audited.ensures.rounds

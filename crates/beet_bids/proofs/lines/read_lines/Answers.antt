@@ -16,7 +16,7 @@ returns-in_err-line-clause-reads c =
     let turn = turn_reasons c.args.grid.now (c.len.result + 2) c.loop-lines.before c.next.new.row c.loop-lines.rows c.next.new.self is in
     let p = err_from_is_err_and c.from_residual-in_err-line.result c.from_residual-in_err-line.ensures.1 in
     rw (← some_rows c.args.grid.now c.args.rows.now some, ← (sym turn ∙ fault), p.1, p.2)
-    (row_refuses {T = Vec Line Global} (c.len.result + 2) _ _ _ _ (λ v. v.items) c.in_err-line.field-0.0 c.in_err-line.ensures)
+    (row_refuses {T = Vec Line Global} (c.len.result + 2) _ _ _ _ (λ (line : Line). Some line) (λ v. v.items) c.in_err-line.field-0.0 c.in_err-line.ensures)
 
 pub loop-lines-preserved : goal.loop-lines-preserved
 loop-lines-preserved c =

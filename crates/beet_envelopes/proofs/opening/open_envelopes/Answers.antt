@@ -18,4 +18,4 @@ returns-in_err-entries-clause-reads g c =
 pub returns-clause-reads : goal.returns-clause-reads
 unfolding open_job
 returns-clause-reads g c =
-    bind c.in_ok-grid.ensures (bind c.in_ok-sources.ensures (bind c.in_ok-entries.ensures (rw c.as_slice.ensures.value at c.open_entries.ensures.reads)))
+    bind c.in_ok-grid.ensures (bind c.in_ok-sources.ensures (bind c.in_ok-entries.ensures (rw c.as_slice.ensures.value at c.open_entries-opened.ensures.reads)))

@@ -21,9 +21,9 @@ pub returns-in_err-envelopes-clause-reads : goal.returns-in_err-envelopes-clause
 unfolding seal_job
 returns-in_err-envelopes-clause-reads g c = exits c.from_residual-in_err-envelopes.ensures.1 (bind c.in_ok-grid.ensures (bind c.in_ok-curve.ensures.reads (bind {rest = λ words. gives (sealed_answer c.in_ok-grid.grid c.args.out.now c.in_ok-curve.curve words)} c.in_ok-tape.ensures.reads no_memory)))
 
-pub returns-in_err-envelope_files-clause-reads : goal.returns-in_err-envelope_files-clause-reads
+pub returns-in_err-files-clause-reads : goal.returns-in_err-files-clause-reads
 unfolding seal_job
-returns-in_err-envelope_files-clause-reads g c = exits c.from_residual-in_err-envelope_files.ensures.1 (bind c.in_ok-grid.ensures (bind c.in_ok-curve.ensures.reads (bind {rest = λ words. gives (sealed_answer c.in_ok-grid.grid c.args.out.now c.in_ok-curve.curve words)} c.in_ok-tape.ensures.reads no_memory)))
+returns-in_err-files-clause-reads g c = exits c.from_residual-in_err-files.ensures.1 (bind c.in_ok-grid.ensures (bind c.in_ok-curve.ensures.reads (bind {rest = λ words. gives (sealed_answer c.in_ok-grid.grid c.args.out.now c.in_ok-curve.curve words)} c.in_ok-tape.ensures.reads no_memory)))
 
 pub returns-in_err-sealed_line-clause-reads : goal.returns-in_err-sealed_line-clause-reads
 unfolding seal_job
@@ -37,6 +37,6 @@ returns-clause-reads g c =
     let tape = c.in_ok-tape.tape in
     let files = files-sealed grid c.args.out.now curve tape _ c.in_ok-envelopes.envelopes c.in_ok-tape.ensures.fresh
     c.in_ok-envelopes.ensures.servers c.in_ok-envelopes.ensures.dealt in
-    let answer = answer-sealed grid c.args.out.now curve tape.words _ _ _ (c.in_ok-envelope_files.ensures ∙ files)
+    let answer = answer-sealed grid c.args.out.now curve tape.words _ _ _ (c.in_ok-files.ensures ∙ files)
     c.in_ok-sealed_line.ensures c.prices.ensures.value in
     bind c.in_ok-grid.ensures (bind c.in_ok-curve.ensures.reads (bind {rest = λ words. gives (sealed_answer c.in_ok-grid.grid c.args.out.now c.in_ok-curve.curve words)} c.in_ok-tape.ensures.reads (given (sym answer))))

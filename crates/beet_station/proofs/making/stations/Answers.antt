@@ -7,9 +7,9 @@ pub returns : goal.returns
 returns g c =
     let script = g.S.Script in
     let start = c.args.cores in
-    let one_two = c.in_ok-links.ensures.one_two in
-    let one_three = c.in_ok-links.ensures.one_three in
-    let two_three = c.in_ok-links.ensures.two_three in
+    let one_two = c.in-Ok.ensures.one_two in
+    let one_three = c.in-Ok.ensures.one_three in
+    let two_three = c.in-Ok.ensures.two_three in
     record {
       one = begins script.batch_of script.inputs_of script.rounds_of start c.requires One c.station.result c.station.ensures refl
           one_two.put_there one_three.put_there one_two.taken_back one_three.taken_back;

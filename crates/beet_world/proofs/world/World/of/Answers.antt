@@ -1,15 +1,42 @@
-use Rattle.std.proofs.Common.{rules, false, ◌≡◌, ◌≤◌, ◌*◌, List, Vec, Global, ◌∙◌, ap, arith}
-use Rattle.std.specs.Prelude.{replicate, vec_capacity}
+use Rattle.std.proofs.Common.{◌≡◌, ◌≤◌, List, Vec, Global, sym, ◌∙◌, ap, arith, length, vec_capacity}
 use Rattle.beet_field.specs.Trio.{member}
+use Rattle.beet_field.specs.declared.point.Point.TheVariants.{One, Two, Three}
 use Rattle.beet_field.specs.declared.trio.Trio.{Trio}
 use Rattle.beet_gates.specs.Scripts.{bounds_of}
 use Rattle.beet_round.specs.declared.message.RoundMessage.{RoundMessage}
 use Rattle.beet_server.specs.Cores.{Core, setup_of}
 use Rattle.beet_sharing.proofs.Rounds.{lawful-rounds}
 use Rattle.beet_world.specs.Marks.{unmarked}
-use Rattle.beet_world.proofs.Founding.{HasHandedOut, world-begins}
+use Rattle.beet_world.proofs.Founding.{HasHandedOut, none-taken, world-begins}
 use Rattle.beet_server.proofs.Rounds.{by_point}
 use Rattle.beet_world.proofs.world.World.of.Goals as goal
+
+pub hand_out-requires : goal.hand_out-requires
+hand_out-requires g c =
+    let none : length c.in-Ok.room.0.one.items ≡ 0 = ap length (c.in-Ok.ensures.none One) in
+    record {
+      room = omega (arith, c.in-Ok.ensures.capacity One, c.rounds.ensures, ap g.S.Script.rounds_of c.script.ensures);
+      counted = none ∙ sym (none-taken g.S.Script.batch_of g.S.Script.inputs_of g.S.Script.rounds_of c.args.cores.one c.requires.one.1);
+      within = omega (arith, none);
+    }
+
+pub hand_out-requires-2 : goal.hand_out-requires-2
+hand_out-requires-2 g c =
+    let none : length c.in-Ok.room.0.two.items ≡ 0 = ap length (c.in-Ok.ensures.none Two) in
+    record {
+      room = omega (arith, c.in-Ok.ensures.capacity Two, c.rounds.ensures, ap g.S.Script.rounds_of c.script.ensures, ap g.S.Script.rounds_of c.requires.script_two);
+      counted = none ∙ sym (none-taken g.S.Script.batch_of g.S.Script.inputs_of g.S.Script.rounds_of c.args.cores.two c.requires.two.1);
+      within = omega (arith, none);
+    }
+
+pub hand_out-requires-3 : goal.hand_out-requires-3
+hand_out-requires-3 g c =
+    let none : length c.in-Ok.room.0.three.items ≡ 0 = ap length (c.in-Ok.ensures.none Three) in
+    record {
+      room = omega (arith, c.in-Ok.ensures.capacity Three, c.rounds.ensures, ap g.S.Script.rounds_of c.script.ensures, ap g.S.Script.rounds_of c.requires.script_three);
+      counted = none ∙ sym (none-taken g.S.Script.batch_of g.S.Script.inputs_of g.S.Script.rounds_of c.args.cores.three c.requires.three.1);
+      within = omega (arith, none);
+    }
 
 pub invariant_of-result : goal.invariant_of-result
 invariant_of-result g c =
@@ -27,19 +54,18 @@ invariant_of-result g c =
     let one = c.hand_out.ensures in
     let two = c.hand_out-2.ensures in
     let three = c.hand_out-3.ensures in
-    let rounds : c.rounds-rounds.result ≡ script.rounds_of first = c.rounds-rounds.ensures ∙ ap script.rounds_of c.script.ensures in
-    let raw : c.in_ok-marks.marks.items ≡ replicate (6 * c.rounds-rounds.result) false = search rules in
-    let marks : c.in_ok-marks.marks.items ≡ unmarked (script.rounds_of first) = rw rounds at raw in
+    let rounds : c.rounds.result ≡ script.rounds_of first = c.rounds.ensures ∙ ap script.rounds_of c.script.ensures in
+    let marks : c.in-Ok.room.1.items ≡ unmarked (script.rounds_of first) = c.in-Ok.ensures.marks ∙ ap unmarked rounds in
     let out = by_point (λ s. HasHandedOut next script.inputs_of script.rounds_of (member start s) (member cores s) (member sent s))
-    (record { keeps = one.keeps; quiet = one.quiet; fits = one.fits; going = one.going; sends = λ o x k e. one.sends o x k (c.in_ok-with_capacity.ensures.items ∙ e) })
-    (record { keeps = two.keeps; quiet = two.quiet; fits = two.fits; going = two.going; sends = λ o x k e. two.sends o x k (c.in_ok-with_capacity-2.ensures.items ∙ e) })
-    (record { keeps = three.keeps; quiet = three.quiet; fits = three.fits; going = three.going; sends = λ o x k e. three.sends o x k (c.in_ok-with_capacity-3.ensures.items ∙ e) }) in
+    (record { keeps = one.keeps; quiet = one.quiet; fits = one.fits; going = one.going; sends = λ o x k e. one.sends o x k (c.in-Ok.ensures.none One ∙ e) })
+    (record { keeps = two.keeps; quiet = two.quiet; fits = two.fits; going = two.going; sends = λ o x k e. two.sends o x k (c.in-Ok.ensures.none Two ∙ e) })
+    (record { keeps = three.keeps; quiet = three.quiet; fits = three.fits; going = three.going; sends = λ o x k e. three.sends o x k (c.in-Ok.ensures.none Three ∙ e) }) in
     rw (c.of-start.ensures, marks) (record {
       is_world = world-begins next script.inputs_of script.rounds_of start cores sent f h out;
       room = by_point (λ s. script.rounds_of first ≤ vec_capacity (member vecs s))
-          (omega (arith, rounds, one.capacity, c.in_ok-with_capacity.ensures.capacity))
-          (omega (arith, rounds, two.capacity, c.in_ok-with_capacity-2.ensures.capacity))
-          (omega (arith, rounds, three.capacity, c.in_ok-with_capacity-3.ensures.capacity));
+          (omega (arith, rounds, one.capacity, c.in-Ok.ensures.capacity One))
+          (omega (arith, rounds, two.capacity, c.in-Ok.ensures.capacity Two))
+          (omega (arith, rounds, three.capacity, c.in-Ok.ensures.capacity Three));
       script = by_point (λ s. (member cores s).script ≡ first) one.keeps.script (two.keeps.script ∙ f.script_two) (three.keeps.script ∙ f.script_three);
       masks = by_point (λ s. (member cores s).masks.words ≡ (member start s).masks.words) one.keeps.masks two.keeps.masks three.keeps.masks;
       coefficients = by_point (λ s. (member cores s).coefficients.words ≡ (member start s).coefficients.words) one.keeps.coefficients two.keeps.coefficients

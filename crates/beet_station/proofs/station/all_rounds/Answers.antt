@@ -1,7 +1,7 @@
 use Rattle.std.proofs.Common.{sym, ◌∙◌}
 use Rattle.beet_gates.specs.Scripts.{bounds_of}
 use Rattle.beet_station.proofs.Turns.{all-passed}
-use Rattle.beet_station.proofs.station.serve.Goals as goal
+use Rattle.beet_station.proofs.station.all_rounds.Goals as goal
 
 pub returns-then-ended : goal.returns-then-ended
 returns-then-ended g c =

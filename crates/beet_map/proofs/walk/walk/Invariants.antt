@@ -2,7 +2,7 @@ use Rattle.std.proofs.Common.{◌≡◌}
 use Rattle.beet_sharing.specs.Runs.{shared_at}
 use Rattle.beet_map.specs.Mapped.{GateMapped}
 use Rattle.beet_map.specs.Secrets.{begin_in}
-use Rattle.beet_map.proofs.walk.map_numbers.Given as goal
+use Rattle.beet_map.proofs.walk.walk.Given as goal
 
 abbrev pub invariant-loop-t : goal.invariant-loop-t
 invariant-loop-t g l = record {

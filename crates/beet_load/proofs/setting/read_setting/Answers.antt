@@ -1,0 +1,21 @@
+use Rattle.std.proofs.Common.{refl}
+use Rattle.beet_errand.proofs.Frame.{bind, exits, given, stopped}
+use Rattle.beet_load.specs.Settings.{setting_errand}
+use Rattle.beet_load.proofs.setting.read_setting.Goals as goal
+
+pub returns-in_err-grid-clause-reads : goal.returns-in_err-grid-clause-reads
+unfolding setting_errand
+returns-in_err-grid-clause-reads g c = exits c.from_residual.ensures.1 (stopped c.in_err-grid.ensures)
+
+pub returns-in_err-sources-clause-reads : goal.returns-in_err-sources-clause-reads
+unfolding setting_errand
+returns-in_err-sources-clause-reads g c = exits c.from_residual-in_err-sources.ensures.1 (bind c.in_ok-grid.ensures (stopped c.in_err-sources.ensures))
+
+pub returns-in_err-entries-clause-reads : goal.returns-in_err-entries-clause-reads
+unfolding setting_errand
+returns-in_err-entries-clause-reads g c =
+    exits c.from_residual-in_err-entries.ensures.1 (bind c.in_ok-grid.ensures (bind c.in_ok-sources.ensures (stopped c.in_err-entries.ensures.reads)))
+
+pub returns-clause-reads : goal.returns-clause-reads
+unfolding setting_errand
+returns-clause-reads g c = bind c.in_ok-grid.ensures (bind c.in_ok-sources.ensures (bind c.in_ok-entries.ensures.reads (given refl)))

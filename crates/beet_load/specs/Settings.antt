@@ -1,0 +1,31 @@
+-- The setting of an auction: what the files of the auction, of its servers and of its book say.
+use Rattle.std.specs.Prelude.{ℕ, List}
+use Rattle.beet_bids.specs.Grids.{Grid}
+use Rattle.beet_bids.specs.AuctionFiles.{auction_of}
+use Rattle.beet_book.specs.BookFiles.{book_of}
+use Rattle.beet_book.specs.ServerFiles.{servers_of}
+use Rattle.beet_book.specs.declared.entries.Entry.{Entry}
+use Rattle.beet_book.specs.declared.sources.Servers.{Servers}
+use Rattle.beet_errand.specs.Errands.{Step, ◌>>=◌, gives, reads}
+use Rattle.beet_load.specs.declared.setting.Setting.{Setting as Held}
+use Rattle.beet_bids.specs.declared.auction_file.TheConstants.{AUCTION_LIMIT}
+use Rattle.beet_book.specs.declared.server_file.TheConstants.{SERVERS_LIMIT}
+use Rattle.beet_book.specs.declared.book_file.TheConstants.{BOOK_LIMIT}
+
+-- the grid, where the words of the servers come from, and the entries of the book
+pub record Setting : Type 0 where
+  pub grid : Grid
+  pub sources : Servers
+  pub entries : List Entry
+
+-- the three files, one after another
+unfoldable pub setting_errand : List ℕ → List ℕ → List ℕ → Step Setting
+setting_errand auction servers book = do
+  grid ← reads auction AUCTION_LIMIT auction_of
+  sources ← reads servers SERVERS_LIMIT servers_of
+  entries ← reads book BOOK_LIMIT book_of
+  gives (record { grid = grid; sources = sources; entries = entries })
+
+-- the setting, by what the program holds of it
+abbrev pub setting_of : Held → Setting
+setting_of held = record { grid = held.grid; sources = held.sources; entries = held.entries.items }

@@ -1,0 +1,93 @@
+use Rattle.std.proofs.Common.{ℕ, List, ◌≡◌, refl, sym, subst, ◌∙◌}
+use Rattle.std.specs.Prelude.{All}
+use Rattle.beet_field.specs.declared.trio.Trio.{Trio}
+use Rattle.beet_words.specs.Bundles.{AreWords}
+use Rattle.beet_words.specs.Words.{IsWord}
+use Rattle.beet_gates.specs.Scripts.{HasWords}
+use Rattle.beet_plan.specs.Auction.{most_coefficients, auction_over}
+use Rattle.beet_sharing.specs.Runs.{numbers_of}
+use Rattle.beet_worlds.specs.MappedMasks.{MasksMapped}
+use Rattle.beet_worlds.specs.Worlds.{CoefficientsMapped, WorldsMapped}
+use Rattle.beet_worlds.proofs.EachMapped.{as-many}
+use Rattle.beet_worlds.proofs.WorldFacts.{Stands, look-same-in, numbers-first, secrets-first, secrets-second, stands-of, worlds-mapped}
+use Rattle.beet_worlds.proofs.mapping.map_for_servers.Goals.{After-grid}
+use Rattle.beet_worlds.proofs.mapping.map_for_servers.Goals as goal
+
+-- each word of three lists is below 2^61
+abbrev AreBelow : Trio (List ℕ) → Type 0
+AreBelow words = All IsWord words.one × All IsWord words.two × All IsWord words.three
+
+pub secrets_with-requires : goal.secrets_with-requires
+secrets_with-requires c =
+    c.requires.count ∙ c.requires.enough.count ∙ sym (as-many c.args.first.now.bidders c.args.second.now.bidders c.requires.agree.marks)
+
+-- what both worlds hold, when the numbers are mapped
+module _ (c : After-grid) where
+  masks-same : c.words.inside.masks ≡ c.args.words.now.masks
+  masks-same = λ i. (c.words.view_is i).masks
+
+  below : AreWords c.args.words.now
+  below = record {
+    masks = subst AreBelow masks-same c.look_at.ensures;
+    coefficients = subst AreBelow (λ i. (c.words.view_is i).coefficients) c.look_at-2.ensures;
+    bidders = c.requires.below;
+  }
+
+  masks-here : c.in_ok-here.here.masks ≡ c.args.words.now.masks
+  masks-here = c.in_ok-here.ensures.masks
+
+  stands : Stands c.args.me c.args.first.now c.args.second.now c.args.words.now c.in_ok-there.there.masks c.args.bidders.now c.in_ok-here.here.inputs
+      c.in_ok-there.there.inputs
+  stands =
+      let first = c.args.first.now in
+      let second = c.args.second.now in
+      let here = c.in_ok-here.here in
+      let there = c.in_ok-there.there in
+      stands-of c.args.me first second c.args.words.now c.args.words.now.bidders c.args.bidders.now c.in_ok-masks.masks there.masks here.inputs there.inputs
+      c.requires.agree c.requires.enough c.in_ok-here.ensures.limits c.in_ok-there.ensures.limits below refl c.requires.count
+      (subst (λ t. MasksMapped c.args.me first second t c.in_ok-masks.masks) masks-same c.in_ok-masks.ensures) c.in_ok-there.ensures.masks
+      c.requires.mapped c.in_ok-here.ensures.inputs c.in_ok-there.ensures.inputs
+
+pub map_coefficients-coefficients-requires-clause-here : goal.map_coefficients-coefficients-requires-clause-here
+map_coefficients-coefficients-requires-clause-here c =
+    let grid = (goal.at.map_coefficients-coefficients-requires-clause-here c).After-grid in
+    secrets-first c.args.me c.args.first.now c.args.second.now c.args.words.now c.args.bidders.now c.in_ok-here.here c.in_ok-there.there c.requires.agree.grids
+    c.grid.result.now c.grid.ensures.value (masks-here grid) (stands grid)
+
+pub map_coefficients-coefficients-requires-clause-there : goal.map_coefficients-coefficients-requires-clause-there
+map_coefficients-coefficients-requires-clause-there c =
+    let grid = (goal.at.map_coefficients-coefficients-requires-clause-there c).After-grid in
+    secrets-second c.args.me c.args.first.now c.args.second.now c.args.words.now c.args.bidders.now c.in_ok-here.here c.in_ok-there.there c.requires.agree.grids
+    c.grid.result.now c.grid.ensures.value (masks-here grid) (stands grid)
+
+pub map_coefficients-coefficients-requires-clause-numbers : goal.map_coefficients-coefficients-requires-clause-numbers
+map_coefficients-coefficients-requires-clause-numbers c =
+    let grid = (goal.at.map_coefficients-coefficients-requires-clause-numbers c).After-grid in
+    subst (λ t. HasWords (most_coefficients (auction_over c.grid.result.now)) (numbers_of t)) (sym (λ i. (c.words.view_is i).coefficients))
+    (numbers-first c.args.me c.args.first.now c.args.second.now c.args.words.now c.args.bidders.now c.in_ok-here.here c.in_ok-there.there c.requires.agree.grids
+    c.grid.result.now c.grid.ensures.value (masks-here grid) (stands grid))
+
+pub map_coefficients-coefficients-requires-clause-same : goal.map_coefficients-coefficients-requires-clause-same
+map_coefficients-coefficients-requires-clause-same c =
+    let grid = (goal.at.map_coefficients-coefficients-requires-clause-same c).After-grid in
+    look-same-in c.args.me c.args.first.now c.args.second.now c.args.words.now c.args.bidders.now c.in_ok-here.here c.in_ok-there.there c.requires.agree.grids
+    c.grid.result.now c.grid.ensures.value (masks-here grid) (stands grid)
+
+pub returns : goal.returns
+returns c =
+    let first = c.args.first.now in
+    let second = c.args.second.now in
+    let words = c.args.words.now in
+    let here = c.in_ok-here.here in
+    let there = c.in_ok-there.there in
+    let lists = c.args.bidders.now in
+    let grid = (goal.at.returns c).After-grid in
+    let coefficients = c.in_ok-coefficients.coefficients in
+    let is : there.masks ≡ c.into_masks-masks.result = sym c.into_masks-masks.ensures in
+    let moved : CoefficientsMapped c.grid.result.now c.args.me here there words.coefficients coefficients =
+    subst (λ t. CoefficientsMapped c.grid.result.now c.args.me here there t coefficients) (λ i. (c.words.view_is i).coefficients) c.in_ok-coefficients.ensures in
+    let mapped_below : AreWords (record { masks = c.into_masks-masks.result; coefficients = coefficients; bidders = lists }) =
+    record { masks = c.look_at-3.ensures; coefficients = c.look_at-4.ensures; bidders = c.requires.words } in
+    subst (λ masks. WorldsMapped c.args.me first words second (record { masks = masks; coefficients = coefficients; bidders = lists })) is
+    (worlds-mapped c.args.me first second words lists here there c.requires.agree.grids c.grid.result.now c.grid.ensures.value (masks-here grid) (stands grid) coefficients moved
+    (subst (λ masks. AreWords (record { masks = masks; coefficients = coefficients; bidders = lists })) (sym is) mapped_below))
