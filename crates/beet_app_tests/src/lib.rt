@@ -1,9 +1,12 @@
-//! The tests of beet_app and beet_answer over a shelf and a desk in memory, which are proved over their contracts alone.
+//! The tests of beet_app and beet_answer over a shelf and a desk in memory, and of the words that name sources, which are proved
+//! over contracts alone. Other jobs over files are lines of beet_lines.
 #![tactic(auto)]
 
 #[cfg(test)]
 mod meeting;
 #[cfg(test)]
 mod refused;
+#[cfg(test)]
+mod sources;
 #[cfg(test)]
 mod tests;

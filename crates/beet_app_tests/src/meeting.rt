@@ -196,9 +196,9 @@ pub(crate) fn sealed(rt: &(impl Abort + Threads + Wait + Sync), alloc: Global) -
 }
 
 /// What is said of the outcome of the auction, and of that of the trial.
-const OUTCOME: &str = "price 110\nvolume 35\nrounds 255\n";
+pub(crate) const OUTCOME: &str = "price 110\nvolume 35\nrounds 255\n";
 
-const TRIAL: &str = "bidders 0 prices 1\nprice 1000\nvolume 0\nrounds 128\n";
+pub(crate) const TRIAL: &str = "bidders 0 prices 1\nprice 1000\nvolume 0\nrounds 128\n";
 
 /// The jobs that run in threads, with their rounds and their texts.
 const MEETINGS: [(&str, u64, &str); 4] = [

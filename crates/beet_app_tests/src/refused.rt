@@ -1,10 +1,7 @@
 //! Each fetch and each call of the desk refused once, for every job.
 
-use crate::meeting::{add_put, sealed};
-use crate::tests::{
-    BOTH_WORLDS, CLEAR, ENVELOPES, RECORD, TRANSCRIPTS, WORLDS, desk_of, expect_said, push_all,
-    run_over,
-};
+use crate::meeting::{OUTCOME, TRIAL, add_put, sealed};
+use crate::tests::{CLEAR, RECORD, desk_of, expect_said, push_all, run_over};
 use beet_link::FreeGate;
 use beet_store::{Held, MemoryDesk};
 use std::alloc::Global;
@@ -12,8 +9,8 @@ use std::process::Abort;
 use std::sync::Wait;
 use std::thread::Threads;
 
-/// A book whose bidders have tapes, the tape of a bid that is sealed, and a schedule of no message.
-const FILES: [(&str, &str); 5] = [
+/// A book whose bidders have tapes, a schedule of no message, and the tape of a bid that is sealed.
+const FILES: [(&str, &str); 6] = [
     (
         "tapes.book",
         "beet-book,1\ndan,0,dan.bid,tape,two\neva,0,eva.bid,tape,pair\n",
@@ -22,19 +19,45 @@ const FILES: [(&str, &str); 5] = [
     ("two", "0000000000000001\n0000000000000002\n"),
     ("pair", "0000000000000003\n0000000000000004\n"),
     ("none.sch", "beet-schedule,1\n"),
+    (
+        "eight",
+        "0000000000000001\n0000000000000002\n0000000000000003\n0000000000000004\n0000000000000005\n0000000000000006\n0000000000000007\n0000000000000008\n",
+    ),
 ];
 
-/// A tape of eight words.
-const EIGHT: (&str, &str) = (
-    "eight",
-    "0000000000000001\n0000000000000002\n0000000000000003\n0000000000000004\n0000000000000005\n0000000000000006\n0000000000000007\n0000000000000008\n",
-);
+/// Two worlds that look the same to server 2.
+const WORLDS: &str = "worlds g.auc s.srv b.book c.book 2 w";
 
-/// A job, the files that it fetches, in order, and those that it puts.
+/// The files that are put by the jobs that put some, with their lengths.
+const TRANSCRIPTS: [Put; 3] = [("o.1", 34_800), ("o.2", 35_000), ("o.3", 34_800)];
+
+const BOTH_WORLDS: [Put; 3] = [
+    ("w.first", 35_000),
+    ("w.second", 35_000),
+    ("w.words", 62_224),
+];
+
+const ENVELOPES: [Put; 3] = [("e.1", 104), ("e.2", 104), ("e.3", 104)];
+
+/// What is said of a tally, of a schedule of no message, of two worlds and of a sealed bid.
+const SUMS: &str = "supply 80\ndemand 35\n";
+
+const WAITING: &str =
+    "server 1 round 0 waiting\nserver 2 round 0 waiting\nserver 3 round 0 waiting\nundelivered 6\n";
+
+const EQUAL: &str = "price 110\nvolume 35\nrounds 255\ntranscripts equal\n";
+
+const SEALED: &str = "sealed 4\n";
+
+/// A file that is put, and its length.
+type Put = (&'static str, usize);
+
+/// A job, the files that it fetches, in order, those that it puts, and its text.
 type Job = (
     &'static str,
     &'static [&'static str],
-    &'static [&'static str],
+    &'static [Put],
+    &'static str,
 );
 
 /// A case of each job.
@@ -43,11 +66,13 @@ const JOBS: [Job; 9] = [
         "tally g1.auc tapes.book",
         &["g1.auc", "tapes.book", "dan.bid", "two", "eva.bid", "pair"],
         &[],
+        SUMS,
     ),
     (
         CLEAR,
         &["g.auc", "s.srv", "b.book", "anna.bid", "bo.bid", "carl.bid"],
         &[],
+        OUTCOME,
     ),
     (
         "rehearse g.auc s.srv b.book none.sch",
@@ -55,16 +80,19 @@ const JOBS: [Job; 9] = [
             "g.auc", "s.srv", "b.book", "anna.bid", "bo.bid", "carl.bid", "none.sch",
         ],
         &[],
+        WAITING,
     ),
     (
         RECORD,
         &["g.auc", "s.srv", "b.book", "anna.bid", "bo.bid", "carl.bid"],
         &TRANSCRIPTS,
+        OUTCOME,
     ),
     (
         "audit g.auc o.1 o.2 o.3",
         &["g.auc", "o.1", "o.2", "o.3"],
         &[],
+        OUTCOME,
     ),
     (
         WORLDS,
@@ -81,11 +109,13 @@ const JOBS: [Job; 9] = [
             "carl.bid",
         ],
         &BOTH_WORLDS,
+        EQUAL,
     ),
     (
         "seal g.auc anna.bid tape:eight e",
         &["g.auc", "anna.bid", "eight"],
         &ENVELOPES,
+        SEALED,
     ),
     (
         "open g.auc s.srv made",
@@ -93,70 +123,47 @@ const JOBS: [Job; 9] = [
             "g.auc", "s.srv", "made", "a.1", "a.2", "a.3", "b.1", "b.2", "b.3", "c.1", "c.2", "c.3",
         ],
         &[],
+        OUTCOME,
     ),
-    ("trial 0 1", &[], &[]),
+    ("trial 0 1", &[], &[], TRIAL),
 ];
 
 /// All files that the jobs fetch.
 fn all_files(rt: &(impl Abort + Threads + Wait + Sync), alloc: Global) -> Vec<Held> {
     let mut files = sealed(rt, alloc);
     push_all(rt, alloc, &mut files, &FILES);
-    push_all(rt, alloc, &mut files, &[EIGHT]);
-    add_put(rt, alloc, RECORD, &TRANSCRIPTS, &mut files);
+    add_put(rt, alloc, RECORD, &["o.1", "o.2", "o.3"], &mut files);
     files
 }
 
-/// Compares how many of these files a desk holds, which are the first.
-fn expect_first(rt: &impl Abort, desk: &MemoryDesk, files: &[&str], count: usize) {
-    for (i, name) in files.iter().enumerate() {
-        assert!(rt; desk.file(name).is_some() == (i < count), "of {name}");
+/// Compares how many of these files a desk holds, which are the first, and their lengths.
+fn expect_first(rt: &impl Abort, desk: &MemoryDesk, files: &[Put], count: usize) {
+    for (i, (name, length)) in files.iter().enumerate() {
+        let wanted = if i < count { Some(*length) } else { None };
+        let found = desk.file(name).map(|file| file.len());
+        assert!(rt; found == wanted, "of {name}");
     }
 }
 
 /// Does a job, of which this fetch and this call of the desk fail, and compares its status, how many of its files stand, and
-/// its text, unless there is none to compare.
-fn expect_refused(
+/// its text.
+fn expect_end(
     rt: &(impl Abort + Threads + Wait + Sync),
     alloc: Global,
-    (line, _, put): Job,
+    (line, _, put, _): Job,
     (fetch, call): (usize, usize),
     (status, count): (u8, usize),
-    text: Option<&str>,
+    text: &str,
 ) {
     let mut desk = desk_of(rt, alloc, call as u64);
     let files = all_files(rt, alloc);
     let found = run_over(rt, alloc, line, files, fetch as u64, &mut desk, &FreeGate);
     assert!(rt; found == status, "of {line}");
     expect_first(rt, &desk, put, count);
-    if let Some(text) = text {
-        expect_said(rt, &desk, text);
-    }
+    expect_said(rt, &desk, text);
 }
 
-/// A fetch of a job fails, and the line names its file.
-fn expect_read_fault(
-    rt: &(impl Abort + Threads + Wait + Sync),
-    alloc: Global,
-    job: Job,
-    fetch: usize,
-    name: &str,
-) {
-    let text = format!(in alloc; "read fault: {name}\n").expect(rt, "memory");
-    expect_refused(rt, alloc, job, (fetch, 0), (3, 0), Some(text.as_str()));
-}
-
-/// A call of the desk fails: the files before it stand, and nothing is said.
-fn expect_write_fault(
-    rt: &(impl Abort + Threads + Wait + Sync),
-    alloc: Global,
-    job: Job,
-    before: usize,
-) {
-    let calls = (0, before.saturating_add(1));
-    expect_refused(rt, alloc, job, calls, (4, before), Some(""));
-}
-
-/// Each fetch of a job fails once.
+/// Each fetch of a job fails once, and the line names its file.
 fn expect_read_faults(
     rt: &(impl Abort + Threads + Wait + Sync),
     alloc: Global,
@@ -164,11 +171,13 @@ fn expect_read_faults(
     fetched: &[&str],
 ) {
     for (i, name) in fetched.iter().enumerate() {
-        expect_read_fault(rt, alloc, job, i.saturating_add(1), name);
+        let text = format!(in alloc; "read fault: {name}\n").expect(rt, "memory");
+        let calls = (i.saturating_add(1), 0);
+        expect_end(rt, alloc, job, calls, (3, 0), text.as_str());
     }
 }
 
-/// Each call of the desk of a job fails once, of which so many put files.
+/// Each call of the desk of a job fails once, of which so many put files: those before it stand, and nothing is said.
 fn expect_write_faults(
     rt: &(impl Abort + Threads + Wait + Sync),
     alloc: Global,
@@ -176,17 +185,18 @@ fn expect_write_faults(
     put: usize,
 ) {
     for before in 0..=put {
-        expect_write_fault(rt, alloc, job, before);
+        let calls = (0, before.saturating_add(1));
+        expect_end(rt, alloc, job, calls, (4, before), "");
     }
 }
 
 /// Each fetch and each call of the desk of a job fails once. It makes no more: where the next ones would fail, it is done.
 fn expect_each_refused(rt: &(impl Abort + Threads + Wait + Sync), alloc: Global, job: Job) {
-    let (_, fetched, put) = job;
+    let (_, fetched, put, text) = job;
     expect_read_faults(rt, alloc, job, fetched);
     expect_write_faults(rt, alloc, job, put.len());
     let beyond = (fetched.len().saturating_add(1), put.len().saturating_add(2));
-    expect_refused(rt, alloc, job, beyond, (0, put.len()), None);
+    expect_end(rt, alloc, job, beyond, (0, put.len()), text);
 }
 
 /// Does the jobs.

@@ -1,5 +1,3 @@
-ghost use Rattle.std.specs.Prelude.{◌≤◌};
-
 use beet_answer::give_answer;
 use beet_app::run;
 use beet_errand::{NewFile, Reply, Status};
@@ -10,8 +8,8 @@ use std::process::Abort;
 use std::sync::Wait;
 use std::thread::Threads;
 
-/// An auction of four prices with three bidders, another book of them that has the same outcome, one that has not, and an
-/// auction of one price with a bidder.
+/// An auction of four prices with three bidders, another book of them that has the same outcome, an auction of one price with
+/// a bidder, and a list of no envelopes.
 const FILES: [(&str, &str); 14] = [
     (
         "g.auc",
@@ -29,16 +27,11 @@ const FILES: [(&str, &str); 14] = [
         "c.book",
         "beet-book,1\nanna,0,anna2.bid,tape,t\nbo,0,bo2.bid,tape,t\ncarl,2,carl.bid,tape,t\n",
     ),
-    (
-        "d.book",
-        "beet-book,1\nanna,0,anna3.bid,tape,t\nbo,0,bo.bid,tape,t\ncarl,2,carl.bid,tape,t\n",
-    ),
     ("anna.bid", "beet-bid,1\n100,45,0\n110,30,0\n115,10,0\n"),
     (
         "anna2.bid",
         "beet-bid,1\n100,0,10\n105,0,30\n110,0,38\n115,0,80\n",
     ),
-    ("anna3.bid", "beet-bid,1\n100,45,0\n110,31,0\n115,10,0\n"),
     (
         "bo.bid",
         "beet-bid,1\n100,0,0\n105,0,20\n110,0,40\n115,0,60\n",
@@ -57,23 +50,17 @@ const FILES: [(&str, &str); 14] = [
         "beet-book,1\ndan,0,dan.bid,seed,0d0d0d0d0d0d0d0d0d0d0d0d0d0d0d0d0d0d0d0d0d0d0d0d0d0d0d0d0d0d0d0d\n",
     ),
     ("dan.bid", "beet-bid,1\n100,35,40\n"),
+    ("none.lst", "beet-list,1\n"),
+    (
+        "made.srv",
+        "beet-servers,1\n1,tape,made,made\n2,tape,made,made\n3,tape,made,made\n",
+    ),
 ];
 
 /// Commands over these files.
 pub(crate) const CLEAR: &str = "clear g.auc s.srv b.book";
 
 pub(crate) const RECORD: &str = "record g.auc s.srv b.book o";
-
-pub(crate) const WORLDS: &str = "worlds g.auc s.srv b.book c.book 2 w";
-
-const DIFFERING: &str = "worlds g.auc s.srv b.book d.book 2 w";
-
-/// The files that they put.
-pub(crate) const TRANSCRIPTS: [&str; 3] = ["o.1", "o.2", "o.3"];
-
-pub(crate) const BOTH_WORLDS: [&str; 3] = ["w.first", "w.second", "w.words"];
-
-pub(crate) const ENVELOPES: [&str; 3] = ["e.1", "e.2", "e.3"];
 
 /// The name of a file that a test makes.
 const MADE: &str = "made";
@@ -172,63 +159,9 @@ fn expect_job(
     expect_said(rt, &desk, text);
 }
 
-/// Compares the lengths of these files, which are none where a desk was not given them.
-fn expect_lengths(rt: &impl Abort, desk: &MemoryDesk, names: &[&str], lengths: &[Option<usize>]) {
-    for (name, length) in names.iter().zip(lengths) {
-        assert!(rt;
-            desk.file(name).map(|file| file.len()) == *length,
-            "of {name}"
-        );
-    }
-}
-
-/// A job, the files that it may put, its status, and the lengths of those that stand.
-type Putting = (&'static str, [&'static str; 3], u8, [Option<usize>; 3]);
-
-/// Does a job, and compares its status and the files that then stand. Where the transcripts of two worlds do, they are the same.
-fn expect_files(rt: &(impl Abort + Threads + Wait + Sync), alloc: Global, case: &Putting) {
-    let (line, names, status, lengths) = case;
-    let mut desk = desk_of(rt, alloc, 0);
-    assert!(rt;
-        done(rt, alloc, line, "", &mut desk) == *status,
-        "of {line}"
-    );
-    expect_lengths(rt, &desk, names, lengths);
-    assert!(rt; desk.file("w.first") == desk.file("w.second"));
-}
-
-/// Does the job of each case.
-fn expect_puttings(rt: &(impl Abort + Threads + Wait + Sync), alloc: Global, cases: &[Putting]) {
-    for case in cases {
-        expect_files(rt, alloc, case);
-    }
-}
-
 #[test]
 fn the_usage_line_is_not_taken(rt: HostRuntime) {
     expect_job(&rt, rt.alloc(), "clear g.auc", "", 1, 4, "");
-}
-
-/// Transcripts, two worlds that look the same, and two that do not agree.
-const PUTTINGS: [Putting; 3] = [
-    (
-        RECORD,
-        TRANSCRIPTS,
-        0,
-        [Some(34_800), Some(35_000), Some(34_800)],
-    ),
-    (
-        WORLDS,
-        BOTH_WORLDS,
-        0,
-        [Some(35_000), Some(35_000), Some(62_224)],
-    ),
-    (DIFFERING, BOTH_WORLDS, 7, [None; 3]),
-];
-
-#[test]
-fn files_of_jobs(rt: HostRuntime) {
-    expect_puttings(&rt, rt.alloc(), &PUTTINGS);
 }
 
 /// A file of so many bytes.
@@ -237,64 +170,62 @@ fn expect_too_long(
     alloc: Global,
     line: &str,
     length: usize,
-)
-    requires { length ≤ 20000000 }
-{
+) {
     let made = "x".repeat(alloc, length).expect(rt, "memory");
     let text = "bad file: made row 0 reason 20\n";
     expect_job(rt, alloc, line, made.as_str(), 0, 5, text);
 }
 
 /// A book and a schedule that are a byte too long.
-fn expect_both_too_long(rt: &(impl Abort + Threads + Wait + Sync), alloc: Global) {
-    expect_too_long(rt, alloc, "clear g.auc s.srv made", 4_194_305);
+#[test]
+fn files_are_too_long(rt: HostRuntime) {
+    expect_too_long(&rt, rt.alloc(), "clear g.auc s.srv made", 4_194_305);
     let rehearse = "rehearse g.auc s.srv b.book made";
-    expect_too_long(rt, alloc, rehearse, 16_777_217);
+    expect_too_long(&rt, rt.alloc(), rehearse, 16_777_217);
+}
+
+/// A tape whose masks are all rejected.
+fn spent(rt: &impl Abort, alloc: Global) -> String {
+    let zeros = "0000000000000000\n".repeat(alloc, 2_560);
+    let mut rows = "1fffffffffffffff\n".repeat(alloc, 3).expect(rt, "memory");
+    rows.push_str(zeros.expect(rt, "memory").as_str())
+        .expect(rt, "memory");
+    rows
 }
 
 #[test]
-fn files_are_too_long(rt: HostRuntime) {
-    expect_both_too_long(&rt, rt.alloc());
+fn nobody_bids_in_envelopes(rt: HostRuntime) {
+    let text = "price 100\nvolume 0\nrounds 382\n";
+    let line = "open g.auc s.srv made";
+    expect_job(&rt, rt.alloc(), line, "beet-list,1\n", 0, 0, text);
+    let line = "open g.auc made.srv none.lst";
+    let spent = spent(&rt, rt.alloc());
+    let text = "masks spent\nrounds 192\n";
+    expect_job(&rt, rt.alloc(), line, spent.as_str(), 0, 6, text);
 }
-
-/// The senders and receivers of a round, in falling order.
-const LINKS: [(u32, u32); 6] = [(2, 1), (3, 1), (1, 2), (3, 2), (1, 3), (2, 3)];
 
 /// How many rounds the run of the auction of one price has.
 const ROUNDS: u32 = 128;
 
-/// Adds a row to a schedule.
-fn deliver(rt: &impl Abort, alloc: Global, schedule: &mut String, from: u32, to: u32, round: u32) {
-    let row = format!(in alloc; "{from},{to},{round}\n").expect(rt, "memory");
-    schedule.push_str(row.as_str()).expect(rt, "memory");
-}
-
-/// Adds the messages of a round to a schedule.
-fn deliver_round(
-    rt: &impl Abort,
-    alloc: Global,
-    schedule: &mut String,
-    links: &[(u32, u32)],
-    round: u32,
-) {
-    for (from, to) in links {
-        deliver(rt, alloc, schedule, *from, *to, round);
-    }
-}
-
-/// Adds all messages to a schedule, the last round first.
-fn deliver_backwards(rt: &impl Abort, alloc: Global, schedule: &mut String) {
+/// The rows of all messages, the last round first.
+fn all_backwards(rt: &impl Abort, alloc: Global) -> String {
+    let mut rows = String::new(alloc);
     for before in 0..ROUNDS {
-        deliver_round(rt, alloc, schedule, &LINKS, ROUNDS - 1 - before);
+        let round = ROUNDS - 1 - before;
+        let messages = format!(in alloc;
+            "2,1,{round}\n3,1,{round}\n1,2,{round}\n3,2,{round}\n1,3,{round}\n2,3,{round}\n"
+        ).expect(rt, "memory");
+        rows.push_str(messages.as_str()).expect(rt, "memory");
     }
+    rows
 }
 
 /// A schedule of all messages, the last round first, as often as there are rounds.
 fn backwards(rt: &impl Abort, alloc: Global) -> String {
+    let rows = all_backwards(rt, alloc);
+    let rows = rows.repeat(alloc, ROUNDS as usize).expect(rt, "memory");
     let mut schedule = String::from_str(alloc, "beet-schedule,1\n").expect(rt, "memory");
-    for _ in 0..ROUNDS {
-        deliver_backwards(rt, alloc, &mut schedule);
-    }
+    schedule.push_str(rows.as_str()).expect(rt, "memory");
     schedule
 }
 

@@ -110,7 +110,7 @@ fn deal_in_order(
 {
     let mut dealt = Vec::with_capacity(alloc, curves.len())?;
     for (i, tape) in tapes.iter_mut().enumerate() {
-        dealt.push(deal_bidder(alloc, grid, &curves[i], tape)?)?;
+        dealt.push_reserved(deal_bidder(alloc, grid, &curves[i], tape)?);
     }
     Ok(dealt)
 }

@@ -1,6 +1,5 @@
-use crate::samples::{Refusal, expect_refusal, grid_of};
+use crate::samples::{Kind, Refusal, expect_refusals, grid_of};
 use beet_bids::{Bidder, Book, Curve, Grid, Outcome, Policy, outcome, read_auction, read_bid};
-use beet_forms::ReadFault;
 use beet_gates::Gates;
 use std::alloc::Global;
 use std::process::Abort;
@@ -119,28 +118,15 @@ const AUCTIONS: [(&str, Refusal); 26] = [
     ),
 ];
 
-/// Why an auction file is refused.
-fn auction_fault(rt: &impl Abort, alloc: Global, text: &str) -> Option<ReadFault> {
-    assert!(rt; text.len() <= 1_000);
-    read_auction(alloc, text.as_bytes()).err()
-}
-
-/// Reads the auction file of each case.
-fn expect_auctions(rt: &impl Abort, alloc: Global, cases: &[(&str, Refusal)]) {
-    for (text, wanted) in cases {
-        expect_refusal(rt, auction_fault(rt, alloc, text), *wanted, text);
-    }
-}
-
 #[test]
 fn auctions(rt: HostRuntime) {
-    expect_auctions(&rt, rt.alloc(), &AUCTIONS);
+    expect_refusals(&rt, rt.alloc(), Kind::Auction, &AUCTIONS);
 }
 
 /// Auction files, with their kinds of gates and what is opened.
-type Kind = (&'static str, Gates, Policy);
+type Told = (&'static str, Gates, Policy);
 
-const KINDS: [Kind; 5] = [
+const KINDS: [Told; 5] = [
     (CHAIN, Gates::Chain, Policy::Volume),
     (TREE, Gates::Tree, Policy::Volume),
     (PRICE, Gates::Chain, Policy::Price),
@@ -156,7 +142,7 @@ fn kinds_in(rt: &impl Abort, alloc: Global, text: &str) -> Option<(Gates, Policy
 }
 
 /// Reads the auction file of each case.
-fn expect_kinds(rt: &impl Abort, alloc: Global, cases: &[Kind]) {
+fn expect_kinds(rt: &impl Abort, alloc: Global, cases: &[Told]) {
     for (text, gates, policy) in cases {
         assert!(rt;
             kinds_in(rt, alloc, text) == Some((*gates, *policy)),
@@ -191,22 +177,10 @@ const BIDS: [(&str, Refusal); 14] = [
     ("beet-bid,1\n100,0,20\n105,0,20\n110,0,20", None),
 ];
 
-/// The curve of a bid file.
-fn curve_of(rt: &impl Abort, alloc: Global, grid: &Grid, text: &str) -> Result<Curve, ReadFault> {
-    assert!(rt; text.len() <= 1_000);
-    read_bid(alloc, grid, text.as_bytes())
-}
-
 /// The curve of a bid file that is read.
 fn curve_in(rt: &impl Abort, alloc: Global, grid: &Grid, text: &str) -> Curve {
-    curve_of(rt, alloc, grid, text).expect(rt, "a curve")
-}
-
-/// Reads the bid file of each case.
-fn expect_bids(rt: &impl Abort, alloc: Global, grid: &Grid, cases: &[(&str, Refusal)]) {
-    for (text, wanted) in cases {
-        expect_refusal(rt, curve_of(rt, alloc, grid, text).err(), *wanted, text);
-    }
+    assert!(rt; text.len() <= 1_000);
+    read_bid(alloc, grid, text.as_bytes()).expect(rt, "a curve")
 }
 
 /// What is bought and sold at each price of a curve.
@@ -224,8 +198,8 @@ fn expect_curve(rt: &impl Abort, grid: &Grid, curve: &Curve, wanted: &[(u64, u64
 
 #[test]
 fn bids(rt: HostRuntime) {
+    expect_refusals(&rt, rt.alloc(), Kind::Bid, &BIDS);
     let grid = grid_of(&rt, 4);
-    expect_bids(&rt, rt.alloc(), &grid, &BIDS);
     let text = "beet-bid,1\n100,45,0\n110,30,7\n";
     let curve = curve_in(&rt, rt.alloc(), &grid, text);
     let copy = curve.copy(rt.alloc()).expect(&rt, "memory");

@@ -3,7 +3,10 @@ ghost use Rattle.beet_bids.specs.Curves.{IsOfGrid};
 ghost use Rattle.beet_book.specs.Dealing.{HasLengths};
 
 use crate::parts::deal_all;
-use crate::samples::{POINTS, Refusal, are, expect_refusal, grid_of, numbered_rows, tape_of_eight};
+use crate::samples::{
+    Kind, POINTS, Refusal, are, expect_refusal, expect_refusals, grid_of, numbered_rows,
+    tape_of_eight,
+};
 use beet_bids::{Curve, Grid, read_bid};
 use beet_book::{
     BidderSource, Dealt, Entry, Servers, Totals, deal_bidder, read_book, read_servers,
@@ -41,28 +44,16 @@ const THREE: &str =
 
 const BUNDLE: &str = "beet-servers,1\nbundle,w\n";
 
-/// What a servers file says.
-fn servers_of(rt: &impl Abort, alloc: Global, text: &str) -> Result<Servers, ReadFault> {
-    assert!(rt; text.len() <= 4_096);
-    read_servers(alloc, text.as_bytes())
-}
-
-/// Reads the servers file of each case.
-fn expect_servers(rt: &impl Abort, alloc: Global, cases: &[(&str, Refusal)]) {
-    for (text, wanted) in cases {
-        expect_refusal(rt, servers_of(rt, alloc, text).err(), *wanted, text);
-    }
-}
-
 /// Whether a servers file names a bundle, or else the words of each server.
 fn names_bundle(rt: &impl Abort, alloc: Global, text: &str) -> bool {
-    let servers = servers_of(rt, alloc, text).expect(rt, "a servers file");
+    assert!(rt; text.len() <= 1_000);
+    let servers = read_servers(alloc, text.as_bytes()).expect(rt, "a servers file");
     matches!(&servers, Servers::Bundle(_))
 }
 
 #[test]
 fn servers(rt: HostRuntime) {
-    expect_servers(&rt, rt.alloc(), &SERVERS);
+    expect_refusals(&rt, rt.alloc(), Kind::Servers, &SERVERS);
     assert!(rt; !names_bundle(&rt, rt.alloc(), THREE));
     assert!(rt; names_bundle(&rt, rt.alloc(), BUNDLE));
 }
@@ -102,13 +93,6 @@ fn entries_of(rt: &impl Abort, alloc: Global, text: &str) -> Result<Vec<Entry>, 
     read_book(alloc, text.as_bytes())
 }
 
-/// Reads the book of each case.
-fn expect_books(rt: &impl Abort, alloc: Global, cases: &[(&str, Refusal)]) {
-    for (text, wanted) in cases {
-        expect_refusal(rt, entries_of(rt, alloc, text).err(), *wanted, text);
-    }
-}
-
 /// Compares the entries of the two bidders.
 fn expect_two(rt: &impl Abort, entries: &[Entry]) {
     assert!(rt; entries.len() == 2);
@@ -120,7 +104,7 @@ fn expect_two(rt: &impl Abort, entries: &[Entry]) {
 
 #[test]
 fn books(rt: HostRuntime) {
-    expect_books(&rt, rt.alloc(), &BOOKS);
+    expect_refusals(&rt, rt.alloc(), Kind::Book, &BOOKS);
     let entries = entries_of(&rt, rt.alloc(), ANNA_AND_BO).expect(&rt, "a book");
     expect_two(&rt, &entries);
 }

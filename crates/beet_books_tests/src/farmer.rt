@@ -4,7 +4,8 @@ ghost use Rattle.beet_book.specs.Dealing.{HasLengths};
 ghost use Rattle.beet_farmer.specs.Sealing.{points_in};
 
 use crate::samples::{
-    POINTS, Refusal, are, expect_offset, expect_refusal, grid_of, numbered_rows, tape_of_eight,
+    Kind, POINTS, Refusal, are, expect_offset, expect_refusal, expect_refusals, grid_of,
+    numbered_rows, tape_of_eight,
 };
 use beet_bids::{Curve, Grid, read_bid};
 use beet_farmer::{Envelope, ListEntry, read_envelope, read_list, seal, write_envelope};
@@ -178,13 +179,6 @@ fn entries_of(rt: &impl Abort, alloc: Global, text: &str) -> Result<Vec<ListEntr
     read_list(alloc, text.as_bytes())
 }
 
-/// Reads the list of each case.
-fn expect_lists(rt: &impl Abort, alloc: Global, cases: &[(&str, Refusal)]) {
-    for (text, wanted) in cases {
-        expect_refusal(rt, entries_of(rt, alloc, text).err(), *wanted, text);
-    }
-}
-
 /// Compares the entries of two bidders.
 fn expect_two(rt: &impl Abort, entries: &[ListEntry]) {
     assert!(rt; entries.len() == 2);
@@ -201,7 +195,7 @@ fn expect_count(rt: &impl Abort, alloc: Global, text: &str, count: usize) {
 
 #[test]
 fn lists(rt: HostRuntime) {
-    expect_lists(&rt, rt.alloc(), &LISTS);
+    expect_refusals(&rt, rt.alloc(), Kind::List, &LISTS);
     expect_count(&rt, rt.alloc(), "beet-list,1\n", 0);
     let text = "beet-list,1\nanna,a.1,a.2,a.3\nbo,b.1,b.2,b.3\n";
     let entries = entries_of(&rt, rt.alloc(), text).expect(&rt, "a list");

@@ -1,5 +1,5 @@
-//! The tests of the field, of lines and of the books: of beet_field, beet_shamir, beet_bids, beet_book and beet_farmer, which are
-//! proved over their contracts alone.
+//! The tests of files, words and books: of beet_field, beet_shamir, beet_store, beet_forms, beet_words, beet_bids, beet_book and
+//! beet_farmer, which are proved over their contracts alone.
 #![tactic(auto)]
 
 #[cfg(test)]
@@ -11,6 +11,14 @@ mod farmer;
 #[cfg(test)]
 mod field;
 #[cfg(test)]
+mod forms;
+#[cfg(test)]
 mod parts;
 #[cfg(test)]
+mod printing;
+#[cfg(test)]
 mod samples;
+#[cfg(test)]
+mod store;
+#[cfg(test)]
+mod words;

@@ -1,6 +1,8 @@
 //! What the tests of several crates share.
 
-use beet_bids::Grid;
+use beet_bids::{Grid, read_auction, read_bid};
+use beet_book::{read_book, read_servers};
+use beet_farmer::read_list;
 use beet_field::{Fe, Trio};
 use beet_forms::ReadFault;
 use beet_gates::Gates;
@@ -15,6 +17,38 @@ pub type Refusal = Option<(u32, u32)>;
 pub fn expect_refusal(rt: &impl Abort, found: Option<ReadFault>, wanted: Refusal, text: &str) {
     let wanted = wanted.map(|(row, reason)| ReadFault::at_row(row, reason));
     assert!(rt; found == wanted, "of {text}");
+}
+
+/// What a text is read as: a bid at four prices, or a file of another kind.
+#[derive(Clone, Copy)]
+pub enum Kind {
+    Auction,
+    Bid,
+    Servers,
+    Book,
+    List,
+    Tape,
+}
+
+/// Why a short text is refused.
+fn fault_of(rt: &impl Abort, alloc: Global, kind: Kind, text: &str) -> Option<ReadFault> {
+    assert!(rt; text.len() <= 1_000);
+    let bytes = text.as_bytes();
+    match kind {
+        Kind::Auction => read_auction(alloc, bytes).err(),
+        Kind::Bid => read_bid(alloc, &grid_of(rt, 4), bytes).err(),
+        Kind::Servers => read_servers(alloc, bytes).err(),
+        Kind::Book => read_book(alloc, bytes).err(),
+        Kind::List => read_list(alloc, bytes).err(),
+        Kind::Tape => read_tape(alloc, bytes, 9).err(),
+    }
+}
+
+/// Reads the text of each case.
+pub fn expect_refusals(rt: &impl Abort, alloc: Global, kind: Kind, cases: &[(&str, Refusal)]) {
+    for (text, wanted) in cases {
+        expect_refusal(rt, fault_of(rt, alloc, kind, text), *wanted, text);
+    }
 }
 
 /// Compares how bytes were read with the offset and the reason that they are to be refused with.

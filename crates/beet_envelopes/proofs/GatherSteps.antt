@@ -1,7 +1,6 @@
 -- Reading the envelopes of one bidder after another.
-use Rattle.std.proofs.Common.{◌≡◌, ◌<◌, ◌≤◌, ◌+◌, ◌*◌, ℕ, List, [], ◌∷◌, ◌++◌, length, drop, get_or, Ok, Err, sym, ◌∙◌, ap, arith, subst}
-use Rattle.std.proofs.lemmas.Grind.{common_steps}
-use Rattle.std.proofs.lemmas.List.{drop_more}
+use Rattle.std.proofs.Common.{◌≡◌, ◌<◌, ◌≤◌, ◌+◌, ◌*◌, ℕ, List, [], ◌∷◌, ◌++◌, length, drop, get_or, Ok, Err, sym, ◌∙◌, ap, subst}
+use Rattle.std.proofs.lemmas.List.{drop_all, drop_more}
 use Rattle.beet_field.specs.declared.trio.Trio.{Trio}
 use Rattle.beet_store.specs.Files.{Seen}
 use Rattle.beet_bids.specs.Grids.{Grid}
@@ -55,11 +54,8 @@ module _ (grid : Grid) (entries : List ListEntry) (i : ℕ) (entry : ListEntry) 
       let rest = λ (p : Trio (List ℕ)). bidders_errand grid (h.bidders ++ p ∷ []) (drop (i + 1) entries) in
       reached_last h.read (stopped {rest = rest} r)
 
-none_left : (entries : List ListEntry) (i : ℕ) → length entries ≤ i → drop i entries ≡ []
-none_left entries i h = grind (arith, common_steps)
-
 -- all bidders are read and added
 pub all_gathered : {grid : Grid} {entries : List ListEntry} {old now : Seen} {totals : Totals} (i : ℕ) → length entries ≤ i →
     Gathered grid entries (drop i entries) old now totals → ReadsFor (AddsUp grid) old now (bidders_errand grid [] entries) (Ok totals)
 all_gathered {entries = entries} i ge g =
-    let h = rw (none_left entries i ge) at g in record { gives = (h.bidders, h.sums, h.read.went); cause = tt; later = h.read.later }
+    let h = rw (drop_all i entries ge) at g in record { gives = (h.bidders, h.sums, h.read.went); cause = tt; later = h.read.later }

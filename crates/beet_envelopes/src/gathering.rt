@@ -73,8 +73,16 @@ pub(crate) fn add_bidders<S: Shelf>(
 {
     let mut totals = Totals::new(alloc, grid)?;
     for entry in entries {
-        let dealt = read_bidder(alloc, shelf, grid, entry)?;
+        // One call each lets them go: else the proof of each way out goes through each of their parts.
+        let dealt = match read_bidder(alloc, shelf, grid, entry) {
+            Ok(dealt) => dealt,
+            Err(stop) => {
+                drop(totals);
+                return Err(stop);
+            }
+        };
         totals.add(&dealt);
+        drop(dealt);
     }
     Ok(totals)
 }

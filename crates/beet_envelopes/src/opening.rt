@@ -15,7 +15,7 @@ use beet_book::Servers;
 use beet_errand::{Reply, Stop, fetch_file, judge};
 use beet_farmer::{LIST_LIMIT, ListEntry, read_list};
 use beet_link::Gate;
-use beet_load::{read_grid, read_sources, read_words};
+use beet_load::{AllWords, read_grid, read_sources, read_words};
 use beet_run::outcome_reply;
 use beet_store::Shelf;
 use std::alloc::Global;
@@ -55,10 +55,32 @@ fn open_entries<S: Shelf, R: Threads + Wait + Sync, G: Gate>(
             return Err(stop);
         }
     };
-    let servers = words.servers;
-    drop(words.bidders);
+    let AllWords { servers, bidders } = words;
+    drop(bidders);
     let (finish, rounds) = run_auction(rt, alloc, grid, totals.inputs(), servers, gate)?;
     Ok(outcome_reply(alloc, grid, finish, rounds)?)
+}
+
+/// The outcome of the bids in the envelopes of a list file, and the rounds in which three servers find it.
+fn open_list<S: Shelf, R: Threads + Wait + Sync, G: Gate>(
+    rt: &R,
+    alloc: Global,
+    shelf: &mut S,
+    grid: &Grid,
+    sources: &Servers,
+    list: &str,
+    gate: &G,
+) -> Result<Reply, Stop>
+    requires { IsGrid grid.now }
+    ensures done { IfOk result (λ reply. IsDone reply.status) }
+    ensures reads { Reads (λ reply. reply) (S.seen shelf.old) (S.seen shelf.new)
+        (λ next. reads list.now LIST_LIMIT list_of (λ entries. entries_job grid.now sources.now entries next)) result }
+{
+    let entries = read_entries(alloc, shelf, list)?;
+    let opened = open_entries(rt, alloc, shelf, grid, sources, entries.as_slice(), gate);
+    // One call lets them go: else the proof of this way out goes through each of their parts.
+    drop(entries);
+    opened
 }
 
 /// The outcome of the bids in the envelopes of a list, and the rounds in which three servers find it, in threads and under
@@ -80,10 +102,7 @@ pub fn open_envelopes<S: Shelf, R: Threads + Wait + Sync, G: Gate>(
 {
     let grid = read_grid(alloc, shelf, auction)?;
     let sources = read_sources(alloc, shelf, servers)?;
-    let entries = read_entries(alloc, shelf, list)?;
-    let opened = open_entries(rt, alloc, shelf, &grid, &sources, entries.as_slice(), gate);
-    // One call lets them go: else the proof of this way out goes through each of their parts.
-    drop(entries);
+    let opened = open_list(rt, alloc, shelf, &grid, &sources, list, gate);
     drop(sources);
     opened
 }

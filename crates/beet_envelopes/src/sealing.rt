@@ -2,16 +2,17 @@
 
 ghost use Rattle.std.specs.Prelude.{◌≡◌, ◌≤◌, ◌*◌, [], ◌∷◌, IfErr, IfOk, length, None};
 ghost use Rattle.beet_words.specs.Words.{accepted};
+ghost use Rattle.beet_bids.specs.Curves.{IsOfGrid};
 ghost use Rattle.beet_book.specs.Dealing.{HasLengths};
 ghost use Rattle.beet_farmer.specs.Envelopes.{envelope_bytes};
 ghost use Rattle.beet_farmer.specs.Sealing.{points_in};
 ghost use Rattle.beet_load.specs.Farmers.{words_wanted, words_errand};
 ghost use Rattle.beet_errand.specs.Fetches.{Reads};
-ghost use Rattle.beet_envelopes.specs.Seal.{name_for, own_words_errand, seal_job, sealed_text};
+ghost use Rattle.beet_envelopes.specs.Seal.{name_for, own_words_errand, seal_job, sealed_answer, sealed_text};
 ghost use Rattle.beet_envelopes.specs.SourceWords.{named_source};
 
 use crate::source_word::SourceWord;
-use beet_bids::Grid;
+use beet_bids::{Curve, Grid};
 use beet_errand::{NewFile, Reply, Status, Stop};
 use beet_farmer::{Envelope, seal, write_envelope};
 use beet_field::Trio;
@@ -89,11 +90,13 @@ fn envelope_files(
         ∷ (name_for out.now envelopes.now.three.server, envelope_bytes grid.now envelopes.now.three)
         ∷ []) }
 {
-    let mut files = Vec::with_capacity(alloc, 3)?;
-    files.push(envelope_file(alloc, grid, out, &envelopes.one)?)?;
-    files.push(envelope_file(alloc, grid, out, &envelopes.two)?)?;
-    files.push(envelope_file(alloc, grid, out, &envelopes.three)?)?;
-    Ok(files)
+    let files = Trio {
+        one: envelope_file(alloc, grid, out, &envelopes.one),
+        two: envelope_file(alloc, grid, out, &envelopes.two),
+        three: envelope_file(alloc, grid, out, &envelopes.three),
+    };
+    let Trio { one, two, three } = files.transpose()?;
+    Ok(vec![in alloc; one, two, three]?)
 }
 
 /// The line that tells the number of prices.
@@ -101,6 +104,51 @@ fn sealed_line(alloc: Global, prices: u32) -> Result<Vec<u8>, AllocError>
     ensures { IfOk result (λ text. text.items ≡ sealed_text prices) }
 {
     Ok(format!(in alloc; "sealed {prices}\n")?.into_bytes())
+}
+
+/// What sealing this curve with the words of this tape answers.
+fn sealed_reply(
+    alloc: Global,
+    grid: &Grid,
+    curve: &Curve,
+    tape: &mut Tape,
+    out: &str,
+) -> Result<Reply, AllocError>
+    requires of_grid { IsOfGrid grid.now curve.now }
+    requires fresh { tape.old.passed ≡ 0 }
+    requires enough { words_wanted grid.now ≤ length (accepted tape.old.words) }
+    ensures { IfOk result (λ reply. reply ≡ sealed_answer grid.now out.now curve.now tape.old.words) }
+{
+    let envelopes = seal(alloc, grid, curve, tape)?;
+    let files = envelope_files(alloc, grid, out, &envelopes);
+    // One call lets them go: else the proof of each way out goes through each of their parts.
+    drop(envelopes);
+    Ok(Reply {
+        status: Status::Done,
+        files: files?,
+        text: sealed_line(alloc, grid.prices())?,
+    })
+}
+
+/// Seals this curve in three envelopes, one for each server, with the words of a source.
+fn seal_curve<S: Shelf>(
+    alloc: Global,
+    shelf: &mut S,
+    grid: &Grid,
+    curve: &Curve,
+    source: SourceWord<'_>,
+    out: &str,
+) -> Result<Reply, Stop>
+    requires { IsOfGrid grid.now curve.now }
+    ensures done { IfOk result (λ reply. reply.status ≡ Status.Done) }
+    ensures reads { Reads (λ reply. reply) (S.seen shelf.old) (S.seen shelf.new)
+        (λ next. own_words_errand grid.now (named_source source.entry)
+        (λ words. next (sealed_answer grid.now out.now curve.now words))) result }
+{
+    let mut tape = read_words(alloc, shelf, grid, source)?;
+    let reply = sealed_reply(alloc, grid, curve, &mut tape, out);
+    drop(tape);
+    Ok(reply?)
 }
 
 /// Seals the bid of a file in three envelopes, one for each server, with the words of a source. They are the files `out`
@@ -119,17 +167,7 @@ pub fn seal_bid<S: Shelf>(
 {
     let grid = read_grid(alloc, shelf, auction)?;
     let curve = read_curve(alloc, shelf, &grid, bid)?;
-    let mut tape = read_words(alloc, shelf, &grid, source)?;
-    let envelopes = seal(alloc, &grid, &curve, &mut tape);
-    // One call each lets them go: else the proof of each way out goes through each of their parts.
+    let reply = seal_curve(alloc, shelf, &grid, &curve, source, out);
     drop(curve);
-    drop(tape);
-    let envelopes = envelopes?;
-    let files = envelope_files(alloc, &grid, out, &envelopes);
-    drop(envelopes);
-    Ok(Reply {
-        status: Status::Done,
-        files: files?,
-        text: sealed_line(alloc, grid.prices())?,
-    })
+    reply
 }

@@ -1,1 +1,2 @@
 pub mod EnvelopeAgain
+mod EntryParts

@@ -1,17 +1,18 @@
 //! The reader of lists of envelopes.
 
-ghost use Rattle.std.specs.Prelude.{◌≡◌, ◌≤◌, length, IfOk};
+ghost use Rattle.std.specs.Prelude.{◌≡◌, ◌≤◌, ℕ, List, Some, length, IfOk};
 ghost use Rattle.std.specs.Option.{ok_or};
+ghost use Rattle.std.specs.Result.{result_map_both};
 ghost use Rattle.beet_forms.specs.Faults.{Answers};
 ghost use Rattle.beet_forms.specs.declared.faults.TheConstants.{LONGEST_FILE};
 ghost use Rattle.beet_words.specs.declared.bundle.TheConstants.{MOST_BIDDERS};
 ghost use Rattle.beet_book.specs.Entries.{name_of};
 ghost use Rattle.beet_book.specs.NamedRows.{first_field, reading_at};
-ghost use Rattle.beet_farmer.specs.Lists.{entry_in, list_of};
+ghost use Rattle.beet_farmer.specs.Lists.{entry_in, entry_of, list_of};
 
 use beet_book::{NamedRow, read_named};
 use beet_field::Trio;
-use beet_forms::{BAD_ROW, Name, ReadFault, Row, four_fields};
+use beet_forms::{BAD_ROW, Name, ReadFault, Row, beside, four_fields};
 use std::alloc::Global;
 
 /// The most bytes of a list of envelopes.
@@ -36,6 +37,25 @@ fn read_name(alloc: Global, number: u32, field: &[u8]) -> Result<Name, ReadFault
     Ok(name)
 }
 
+/// The names that the last three fields of a row are.
+fn read_envelopes(
+    alloc: Global,
+    number: u32,
+    one: &[u8],
+    two: &[u8],
+    three: &[u8],
+) -> Result<Trio<Name>, ReadFault>
+    ensures { (name : List ℕ) →
+        Answers (λ entry. entry) (reading_at number
+        (entry_of (Some name) (name_of one.now) (name_of two.now) (name_of three.now)))
+        (result_map_both (λ envelopes. record { name = name; envelopes = envelopes }) (λ fault. fault) result) }
+{
+    let one = read_name(alloc, number, one)?;
+    let (one, two) = beside(one, read_name(alloc, number, two))?;
+    let ((one, two), three) = beside((one, two), read_name(alloc, number, three))?;
+    Ok(Trio { one, two, three })
+}
+
 /// The entry of a bidder's row.
 fn read_entry(alloc: Global, number: u32, row: &Row) -> Result<ListEntry, ReadFault>
     ensures entry { Answers (λ entry. entry) (reading_at number (entry_in row.now)) result }
@@ -45,13 +65,8 @@ fn read_entry(alloc: Global, number: u32, row: &Row) -> Result<ListEntry, ReadFa
         return Err(ReadFault::at_row(number, BAD_ROW));
     };
     let name = read_name(alloc, number, name)?;
-    let one = read_name(alloc, number, one)?;
-    let two = read_name(alloc, number, two)?;
-    let three = read_name(alloc, number, three)?;
-    Ok(ListEntry {
-        name,
-        envelopes: Trio { one, two, three },
-    })
+    let (name, envelopes) = beside(name, read_envelopes(alloc, number, one, two, three))?;
+    Ok(ListEntry { name, envelopes })
 }
 
 impl NamedRow for ListEntry {

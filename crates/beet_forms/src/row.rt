@@ -1,6 +1,6 @@
 //! The rows of a text file.
 
-ghost use Rattle.std.specs.Prelude.{◌≡◌, ◌↔◌, ◌≤◌, [], IfOk, IsTrue, option_map, vec_len, length};
+ghost use Rattle.std.specs.Prelude.{◌≡◌, ◌↔◌, ◌≤◌, ◌++◌, [], IfOk, OnOk, IsTrue, option_map, vec_len, length};
 ghost use Rattle.beet_forms.specs.Rows.{rows_of};
 ghost use Rattle.csv.specs.Records.{field_at};
 
@@ -10,7 +10,7 @@ use std::alloc::{AllocError, Global};
 use std::marker::Model;
 
 /// One row: its fields, each a list of bytes.
-#[derive(Debug, Drop)]
+#[derive(Drop)]
 pub struct Row {
     pub(crate) record: ByteRecord,
 }
@@ -56,6 +56,18 @@ impl Row {
     }
 }
 
+/// Appends the rows that are left.
+fn push_rows(alloc: Global, reader: &mut RowReader, rows: &mut Vec<Row>) -> Result<(), AllocError>
+    ensures { OnOk result (rows.new.items ≡ rows.old.items ++ reader.old) }
+{
+    let mut row = Row::new(alloc);
+    while reader.next(&mut row)? {
+        rows.push(row)?;
+        row = Row::new(alloc);
+    }
+    Ok(())
+}
+
 /// The rows of a text, all of them. A row takes a byte of the text at least. Want of memory is the only error.
 pub fn rows(alloc: Global, bytes: &[u8]) -> Result<Vec<Row>, AllocError>
     ensures records { IfOk result (λ v. v.items ≡ rows_of bytes.now) }
@@ -63,10 +75,6 @@ pub fn rows(alloc: Global, bytes: &[u8]) -> Result<Vec<Row>, AllocError>
 {
     let mut reader = RowReader::new(alloc, bytes);
     let mut rows = Vec::new(alloc);
-    let mut row = Row::new(alloc);
-    while reader.next(&mut row)? {
-        rows.push(row)?;
-        row = Row::new(alloc);
-    }
+    push_rows(alloc, &mut reader, &mut rows)?;
     Ok(rows)
 }

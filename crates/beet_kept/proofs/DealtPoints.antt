@@ -1,5 +1,6 @@
 -- What the bidders of a book deal, one after another.
-use Rattle.std.proofs.Common.{◌≡◌, ◌≤◌, ◌<◌, ℕ, suc, zero, ◌+◌, ◌*◌, List, [], ◌∷◌, ◌++◌, map, length, take, slice_get, Option, Some, true, arith, refl, sym, ap, ◌∙◌, subst, get_or, All, length-append}
+use Rattle.std.proofs.Common.{◌≡◌, ◌≤◌, ◌<◌, ℕ, suc, zero, ◌+◌, ◌*◌, List, [], ◌∷◌, ◌++◌, map, length, take, slice_get, Option, Some, Result, Ok, Err, IfOk, true, arith, refl, sym, ap, ◌∙◌, subst, get_or, All, length-append}
+use Rattle.std.specs.declared.alloc.AllocError.{AllocError}
 use Rattle.std.proofs.lemmas.List.{map-append, take_all}
 use Rattle.std.proofs.lemmas.List.Elements.{All-get_or}
 use Rattle.std.proofs.lemmas.Grind.{same_number_lists}
@@ -26,6 +27,7 @@ use Rattle.beet_load.specs.Wholes.{CanDeal}
 use Rattle.beet_view.specs.BookViews.{seen_at}
 use Rattle.beet_view.specs.declared.view.Seen.{Seen}
 use Rattle.beet_kept.specs.DealtBooks.{HasDealt, seen_with, shows}
+use Rattle.beet_kept.specs.declared.dealing.DealtPart.{DealtPart}
 
 -- a tape of words that are all kept has them left
 pub tape-left : (grid : Grid) (kept : ℕ) (tape : Tape) (words : List ℕ) → tape ≡ record { words = take kept words; passed = 0 } →
@@ -150,6 +152,14 @@ farmers-joined [] rest (w ∷ ws) back e = absurd cc
 farmers-joined (b ∷ bs) rest [] back e = absurd cc
 farmers-joined (b ∷ bs) rest (w ∷ ws) back e =
     ap (λ (fs : List Farmer). record { bidder = b; words = w } ∷ fs) (farmers-joined bs rest ws back (omega arith))
+
+-- two parts over one grid have the same prices
+pub same-prices : (grid : Grid) (whom : Option Point) (few rest : List Farmer) (first second : Result DealtPart AllocError) →
+    IfOk first (λ part. HasDealt grid whom few part.totals part.seen) → IfOk second (λ part. HasDealt grid whom rest part.totals part.seen) →
+    IfOk first (λ one. IfOk second (λ other. other.totals.prices ≡ one.totals.prices))
+same-prices grid whom few rest (Ok one) (Ok other) a b = b.prices ∙ sym a.prices
+same-prices grid whom few rest (Ok one) (Err e) a b = tt
+same-prices grid whom few rest (Err e) second a b = tt
 
 -- two parts that are dealt, put together
 pub dealt-joined : (grid : Grid) (whom : Option Point) (few rest : List Farmer) (one other both : Totals) (seen more all : Trio (List Seen)) →

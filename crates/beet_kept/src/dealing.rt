@@ -14,6 +14,7 @@ ghost use Rattle.beet_kept.specs.DealtBooks.{CanDealAll, HasDealt, own_at, seen_
 use beet_bids::{Bidder, Book, Curve, Grid};
 use beet_book::{FEWEST_FOR_TWO, Totals, deal_bidder, workers};
 use beet_field::{Point, Trio};
+use beet_forms::beside;
 use beet_load::{front, words_kept};
 use beet_view::Seen;
 use beet_words::{FeList, WordList};
@@ -52,14 +53,13 @@ impl SeenByAll {
     }
 
     /// The bidders of others after these.
-    fn append(&mut self, others: SeenByAll) -> Result<(), AllocError>
+    fn append(&mut self, others: &mut SeenByAll) -> Result<(), AllocError>
         ensures { OnOk result (self.new ≡ record {
-          one = self.old.one ++ others.one;
-          two = self.old.two ++ others.two;
-          three = self.old.three ++ others.three;
+          one = self.old.one ++ others.old.one;
+          two = self.old.two ++ others.old.two;
+          three = self.old.three ++ others.old.three;
         }) }
     {
-        let mut others = others;
         self.one.append(&mut others.one)?;
         self.two.append(&mut others.two)?;
         self.three.append(&mut others.three)?;
@@ -102,7 +102,8 @@ fn own_part(
 {
     let knows = bidder.known == Some(at);
     if knows {
-        Ok(Some((bidder.curve.copy(alloc)?, words.copy(alloc)?)))
+        let curve = bidder.curve.copy(alloc)?;
+        Ok(Some(beside(curve, words.copy(alloc))?))
     } else {
         Ok(None)
     }
@@ -192,10 +193,12 @@ fn deal_one(
         totals.new seen.new) }
 {
     let mut tape = front(alloc, words, words_kept(grid))?;
-    let dealt = deal_bidder(alloc, grid, &bidder.curve, &mut tape)?;
+    let dealt = deal_bidder(alloc, grid, &bidder.curve, &mut tape);
+    // One call lets the tape go, not each way out by itself.
+    drop(tape);
+    let dealt = dealt?;
     totals.add(&dealt);
-    seen.show_each(alloc, whom, bidder, words, dealt.into_points())?;
-    Ok(())
+    seen.show_each(alloc, whom, bidder, words, dealt.into_points())
 }
 
 /// Some bidders of a book: their points added up, and each bidder as the servers see it for which bidders are kept.
@@ -205,20 +208,38 @@ struct DealtPart {
     seen: SeenByAll,
 }
 
+impl DealtPart {
+    /// Adds the points of another part, and takes its bidders after these.
+    fn merge(&mut self, other: &mut DealtPart) -> Result<(), AllocError>
+        requires { other.old.totals.prices ≡ self.old.totals.prices }
+        ensures { (grid : Lattice) (whom : Option Server) (few rest : List Farmer)
+            → HasDealt grid whom few self.old.totals self.old.seen
+            → HasDealt grid whom rest other.old.totals other.old.seen
+            → OnOk result (HasDealt grid whom (few ++ rest) self.new.totals self.new.seen) }
+    {
+        self.totals.merge(&other.totals);
+        self.seen.append(&mut other.seen)
+    }
+}
+
 /// Puts two parts together, of which the second has the bidders after those of the first.
-fn join_parts(first: DealtPart, second: DealtPart) -> Result<DealtPart, AllocError>
-    requires { second.totals.prices ≡ first.totals.prices }
-    ensures { (grid : Lattice) (whom : Option Server) (few rest : List Farmer) → HasDealt grid whom few first.totals first.seen
-        → HasDealt grid whom rest second.totals second.seen
+fn join_parts(
+    first: Result<DealtPart, AllocError>,
+    second: Result<DealtPart, AllocError>,
+) -> Result<DealtPart, AllocError>
+    requires { IfOk first (λ few. IfOk second (λ rest. rest.totals.prices ≡ few.totals.prices)) }
+    ensures { (grid : Lattice) (whom : Option Server) (few rest : List Farmer)
+        → IfOk first (λ part. HasDealt grid whom few part.totals part.seen)
+        → IfOk second (λ part. HasDealt grid whom rest part.totals part.seen)
         → IfOk result (λ both. HasDealt grid whom (few ++ rest) both.totals both.seen) }
 {
-    let DealtPart {
-        mut totals,
-        mut seen,
-    } = first;
-    totals.merge(&second.totals);
-    seen.append(second.seen)?;
-    Ok(DealtPart { totals, seen })
+    let (second, few) = beside(second, first)?;
+    let (mut few, mut rest) = beside(few, second)?;
+    let merged = few.merge(&mut rest);
+    // One call lets them go, not each way out by itself.
+    drop(rest);
+    let (both, ()) = beside(few, merged)?;
+    Ok(both)
 }
 
 /// Deals the quantities of the bidders one after another.
@@ -304,10 +325,7 @@ fn deal_both<R: Threads + Sync>(
                 HasDealt grid.entry.now whom (farmers_of rest.entry.now back.entry.now) part.totals part.seen) }
         { deal_by(rt, alloc, grid, whom, half, rest, back) },
     );
-    let few_part = first?;
-    let rest_part = second?;
-    let both = join_parts(few_part, rest_part)?;
-    Ok(both)
+    join_parts(first, second)
 }
 
 /// What the bidders of a book deal: the inputs of the servers, and the bidders as the servers see them for which they are

@@ -19,6 +19,7 @@ use crate::dealing::{SeenByAll, deal_book};
 use beet_bids::{Book, Grid};
 use beet_errand::Stop;
 use beet_field::{Point, Trio};
+use beet_forms::beside;
 use beet_load::{ServerWords, cut_three};
 use beet_plan::Finish;
 use beet_run::{finish_at, run_on_one_thread};
@@ -177,11 +178,8 @@ fn write_three<R: Threads + Sync>(
                 × IfOk result.1 (λ file. Writes cores.entry.now.three grid.entry.now three.items file.items) }
         { write_two(rt, alloc, grid, &cores.two, two, &cores.three, three) },
     );
-    Ok(Trio {
-        one: one?,
-        two: two?,
-        three: three?,
-    })
+    let files = Trio { one, two, three }.transpose()?;
+    Ok(files)
 }
 
 /// The grid of a book, which is within its limits.
@@ -225,7 +223,7 @@ pub fn make_ready<R: Threads + Sync>(
 {
     let grid = grid_of(book);
     let dealt = deal_book(rt, alloc, whom, book, words.bidders.as_slice())?;
-    let tapes = cut_three(alloc, &grid, words)?;
+    let (dealt, tapes) = beside(dealt, cut_three(alloc, &grid, words))?;
     Ok(Ready {
         grid,
         seen: dealt.seen,
@@ -260,10 +258,11 @@ pub fn see_whole<R: Threads + Sync>(
 {
     let begun = make_ready(rt, alloc, Some(at), book, words)?;
     let grid = begun.grid;
+    let seen = begun.seen.into_one(at);
     let cores = run_on_one_thread(alloc, &grid, begun.inputs, begun.tapes)?;
     let finish = finish_at(&cores.one);
     let rounds = cores.one.round();
-    let transcript = transcript_of(alloc, cores.get(at), &grid, begun.seen.into_one(at));
+    let transcript = transcript_of(alloc, cores.get(at), &grid, seen);
     drop(cores);
     Ok(SeenRun {
         finish,

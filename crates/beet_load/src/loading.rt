@@ -85,5 +85,7 @@ pub fn load<S: Shelf>(
         (loaded_errand auction.now servers.now book.now) result }
 {
     let setting = read_setting(alloc, shelf, auction, servers, book)?;
-    add_up(alloc, shelf, &setting)
+    let loaded = add_up(alloc, shelf, &setting);
+    drop(setting);
+    loaded
 }

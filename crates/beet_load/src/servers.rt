@@ -1,6 +1,6 @@
 //! Reading the words of the servers.
 
-ghost use Rattle.std.specs.Prelude.{◌≡◌, ◌≤◌, ◌*◌, IfOk, length, take, Option, Some, None, option_map, codes};
+ghost use Rattle.std.specs.Prelude.{◌≡◌, ◌≤◌, ◌*◌, IfOk, length, take, Ok, Option, Some, None, option_map, codes};
 ghost use Rattle.beet_forms.specs.Faults.{Answers};
 ghost use Rattle.beet_words.specs.Bundles.{bundle_of};
 ghost use Rattle.beet_bids.specs.Grids.{IsGrid};
@@ -220,7 +220,8 @@ fn read_server<S: Shelf>(
         (server_errand grid.now server source.now) result }
 {
     let words = read_source(alloc, shelf, grid, source)?;
-    check_counts(alloc, grid, server, &words)?;
+    let checked = check_counts(alloc, grid, server, &words);
+    let (words, ()) = beside(words, checked)?;
     Ok(words)
 }
 
@@ -246,16 +247,25 @@ fn read_three<S: Shelf>(
     Ok(Trio { one, two, three })
 }
 
+/// The fault of a bundle that has another number of bidders, where a number is given.
+fn check_count(words: &Words, count: Option<usize>) -> Result<(), ReadFault>
+    ensures { Answers (λ done. words.now) (counted count (Ok words.now)) result }
+{
+    match count {
+        Some(count) if words.bidders.len() != count => Err(ReadFault::at_offset(8, WRONG_COUNT)),
+        _ => Ok(()),
+    }
+}
+
 /// The words of a bundle, which has so many bidders where a number is given.
 fn counted_bundle(alloc: Global, bytes: &[u8], count: Option<usize>) -> Result<Words, ReadFault>
     requires { length bytes.now ≤ LONGEST_FILE }
     ensures { Answers (λ words. words) (counted count (bundle_of bytes.now)) result }
 {
     let words = read_bundle(alloc, bytes)?;
-    match count {
-        Some(count) if words.bidders.len() != count => Err(ReadFault::at_offset(8, WRONG_COUNT)),
-        _ => Ok(words),
-    }
+    let checked = check_count(&words, count);
+    let (words, ()) = beside(words, checked)?;
+    Ok(words)
 }
 
 /// The words of a bundle file.
@@ -307,6 +317,13 @@ pub fn check_three(alloc: Global, grid: &Grid, servers: &Trio<ServerWords>) -> R
     check_counts(alloc, grid, 3, &servers.three)
 }
 
+/// The words of the bidders in a bundle, given away. Those of the servers are let go.
+fn into_bidders(words: Words) -> Vec<WordList>
+    ensures { result.items ≡ words.bidders }
+{
+    words.bidders
+}
+
 /// The words of a bundle: those of the servers, cut as those of tape files are, and those of the bidders.
 fn cut_bundle(alloc: Global, grid: &Grid, words: Words) -> Result<AllWords, AllocError>
     requires { IsGrid grid.now }
@@ -315,10 +332,11 @@ fn cut_bundle(alloc: Global, grid: &Grid, words: Words) -> Result<AllWords, Allo
       bidders = Some words.bidders;
     }) }
 {
-    let servers = cut_three(alloc, grid, &words)?;
+    let servers = cut_three(alloc, grid, &words);
+    let (words, servers) = beside(words, servers)?;
     Ok(AllWords {
         servers,
-        bidders: Some(words.bidders),
+        bidders: Some(into_bidders(words)),
     })
 }
 

@@ -11,6 +11,7 @@ use crate::servers::read_sources;
 use beet_bids::Grid;
 use beet_book::{Entry, Servers};
 use beet_errand::Stop;
+use beet_forms::beside;
 use beet_store::Shelf;
 use std::alloc::Global;
 
@@ -37,7 +38,7 @@ pub(crate) fn read_setting<S: Shelf>(
 {
     let grid = read_grid(alloc, shelf, auction)?;
     let sources = read_sources(alloc, shelf, servers)?;
-    let entries = read_entries(alloc, shelf, book)?;
+    let (sources, entries) = beside(sources, read_entries(alloc, shelf, book))?;
     Ok(Setting {
         grid,
         sources,

@@ -113,5 +113,7 @@ pub fn load_whole<S: Shelf>(
         (limited_errand auction.now servers.now book.now) result }
 {
     let setting = read_setting(alloc, shelf, auction, servers, book)?;
-    read_rest(alloc, shelf, book, &setting)
+    let whole = read_rest(alloc, shelf, book, &setting);
+    drop(setting);
+    whole
 }

@@ -1,14 +1,17 @@
 -- Moved numbers.
-use Rattle.std.proofs.Common.{◌≡◌, ◌≢◌, ◌<◌, ℕ, List, sym, refl, arith, ◌⊎◌, inl, inr}
+use Rattle.std.proofs.Common.{◌≡◌, ◌≢◌, ◌<◌, ℕ, List, sym, refl, subst, ◌∙◌, arith, ◌⊎◌, inl, inr}
 use Rattle.beet_field.specs.Field.{p, IsElement}
 use Rattle.beet_field.specs.declared.point.Point.{Point}
 use Rattle.beet_field.specs.declared.point.Point.TheVariants.{One, Two, Three}
 use Rattle.beet_shamir.specs.Line.{point_of, reshared}
 use Rattle.beet_gates.specs.declared.Act.{Act}
 use Rattle.beet_gates.specs.declared.Act.TheVariants.{Deal, Mul, Reveal, End}
-use Rattle.beet_sharing.specs.Runs.{secret_of}
-use Rattle.beet_field.specs.Trio.{trio_of}
+use Rattle.beet_sharing.specs.Runs.{Shared, secret_of}
+use Rattle.beet_field.specs.Trio.{member, trio_of}
+use Rattle.beet_field.specs.declared.trio.Trio.{Trio}
 use Rattle.beet_map.specs.Mapped.{moved_of}
+use Rattle.beet_map.specs.Secrets.{Secrets}
+use Rattle.beet_map.specs.Steps.{MovesAt, MovesBatch}
 
 -- the message to s stays
 pub moved_same : (s : Point) (rho x y : ℕ) → IsElement y → point_of y (moved_of s rho x y) s ≡ point_of x rho s
@@ -62,3 +65,21 @@ same_or Two Three = inr (λ e. cc)
 same_or Three One = inr (λ e. cc)
 same_or Three Two = inr (λ e. cc)
 same_or Three Three = inl refl
+
+module _ (me : Point) (a : Act) (first : Secrets) (here : Shared) (second : Secrets) (there : Shared) (old new : Trio (List ℕ)) where
+  -- what a batch does to the list of one server
+  abbrev ListMoved : Point → Type 0
+  ListMoved j = (j ≡ me → member new j ≡ member old j) × (j ≢ me → MovesAt me a first here second there j (member old j) (member new j))
+
+  pub list_moved : (j : Point) (list : List ℕ) → list ≡ member old j → (j ≡ me → member new j ≡ list) →
+      (j ≢ me → MovesAt me a first here second there j list (member new j)) → ListMoved j
+  list_moved j list is own other = (λ e. own e ∙ is, λ ne. subst (λ l. MovesAt me a first here second there j l (member new j)) is (other ne))
+
+  each_moved : ListMoved One → ListMoved Two → ListMoved Three → (j : Point) → ListMoved j
+  each_moved one two three One = one
+  each_moved one two three Two = two
+  each_moved one two three Three = three
+
+  -- and to all three
+  pub moves_batch : ListMoved One → ListMoved Two → ListMoved Three → MovesBatch me a first here second there old new
+  moves_batch one two three = record { own = (each_moved one two three me).0 refl; others = λ j. (each_moved one two three j).1 }

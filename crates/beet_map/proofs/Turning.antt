@@ -33,93 +33,98 @@ module _ (next : ℕ → List ℕ → Batch) (me : Point) (rounds : ℕ) (w w' :
   batch_is' : b ≡ coming o' t
   batch_is' = batch_is ∙ (λ i. next t (sym alike.opened i))
 
-  module _ (stand stand' : Shared) (lets : stand ≡ with_batch_lets b here) (lets' : stand' ≡ with_batch_lets b there) where
-    stands : stand ≡ standing_at o t
-    stands = lets ∙ (λ i. with_batch_lets (batch_is i) (first i))
+  abbrev stand : Shared
+  stand = with_batch_lets b here
 
-    stands' : stand' ≡ standing_at o' t
-    stands' = lets' ∙ (λ i. with_batch_lets (batch_is' i) (second i))
+  abbrev stand' : Shared
+  stand' = with_batch_lets b there
 
-    draws_first : (j : Point) → stand.drawn + draws_in b.act ≤ length (member drawn j)
-    draws_first j = subst (λ n. n ≤ length (member drawn j)) (λ i. (sym stands i).drawn + draws_in (sym batch_is i).act) (room.numbers t j lt)
+  stands : stand ≡ standing_at o t
+  stands = λ i. with_batch_lets (batch_is i) (first i)
 
-    draws_moved : (j : Point) → stand.drawn + draws_in b.act ≤ length (member numbers j)
-    draws_moved j = subst (λ n. stand.drawn + draws_in b.act ≤ n) (sym (mapped.lengths j)) (draws_first j)
+  stands' : stand' ≡ standing_at o' t
+  stands' = λ i. with_batch_lets (batch_is' i) (second i)
 
-    deals_first : stand.dealt + deals_in b.act ≤ length w.masks.one
-    deals_first = subst (λ n. n ≤ length w.masks.one) (λ i. (sym stands i).dealt + deals_in (sym batch_is i).act) (room.words t lt)
+  draws_first : (j : Point) → stand.drawn + draws_in b.act ≤ length (member drawn j)
+  draws_first j = subst (λ n. n ≤ length (member drawn j)) (λ i. (sym stands i).drawn + draws_in (sym batch_is i).act) (room.numbers t j lt)
 
-    deals_second : stand.dealt + deals_in b.act ≤ length w'.masks.one
-    deals_second = subst (λ n. n ≤ length w'.masks.one) (λ i. (sym stands i).dealt + deals_in (sym batch_is i).act) (room.words' t lt)
+  draws_moved : (j : Point) → stand.drawn + draws_in b.act ≤ length (member numbers j)
+  draws_moved j = subst (λ n. stand.drawn + draws_in b.act ≤ n) (sym (mapped.lengths j)) (draws_first j)
 
-    pub ready_move : HasEnough b.act w.masks numbers stand
-    ready_move = record { words = deals_first; one = draws_moved One; two = draws_moved Two; three = draws_moved Three }
+  deals_first : stand.dealt + deals_in b.act ≤ length w.masks.one
+  deals_first = subst (λ n. n ≤ length w.masks.one) (λ i. (sym stands i).dealt + deals_in (sym batch_is i).act) (room.words t lt)
 
-    pub ready_first : HasEnough b.act w.masks drawn stand
-    ready_first = record { words = deals_first; one = draws_first One; two = draws_first Two; three = draws_first Three }
+  deals_second : stand.dealt + deals_in b.act ≤ length w'.masks.one
+  deals_second = subst (λ n. n ≤ length w'.masks.one) (λ i. (sym stands i).dealt + deals_in (sym batch_is i).act) (room.words' t lt)
 
-    pub next_first : act_among (dealing w.masks drawn) b.act stand ≡ shared_at o (t + 1)
-    next_first =
+  pub ready_move : HasEnough b.act w.masks numbers stand
+  ready_move = record { words = deals_first; one = draws_moved One; two = draws_moved Two; three = draws_moved Three }
+
+  pub ready_first : HasEnough b.act w.masks drawn stand
+  ready_first = record { words = deals_first; one = draws_first One; two = draws_first Two; three = draws_first Three }
+
+  pub next_first : act_among (dealing w.masks drawn) b.act stand ≡ shared_at o (t + 1)
+  next_first =
+      let s : t + 1 ≡ suc t = omega arith in
+      subst (λ n. act_among (dealing w.masks drawn) b.act stand ≡ shared_at o n) (sym s) (λ i. act_among o (batch_is i).act (stands i))
+
+  module _ (e : Trio (List ℕ)) (moves : MovesBatch me b.act w stand w' stand' numbers e) where
+    same_lengths : (j : Point) → length (member e j) ≡ length (member numbers j)
+    same_lengths j = ⊎_elim
+        (λ (x : j ≡ me). subst (λ p. length (member e p) ≡ length (member numbers p)) (sym x) (ap length moves.own))
+        (λ (ne : j ≢ me). (moves.others j ne).same_length)
+        (same_or j me)
+
+    drawn_is : stand'.drawn ≡ stand.drawn
+    drawn_is = (λ i. (stands' i).drawn) ∙ alike.drawn ∙ (λ i. (sym stands i).drawn)
+
+    dealt_is : stand'.dealt ≡ stand.dealt
+    dealt_is = (λ i. (stands' i).dealt) ∙ alike.dealt ∙ (λ i. (sym stands i).dealt)
+
+    draws_second : (j : Point) → stand'.drawn + draws_in b.act ≤ length (member e j)
+    draws_second j = let a = draws_moved j in let c = same_lengths j in let d = drawn_is in omega arith
+
+    pub ready_second : HasEnough b.act w'.masks e stand'
+    ready_second = record {
+      words = let a = deals_second in let d = dealt_is in omega arith;
+      one = draws_second One;
+      two = draws_second Two;
+      three = draws_second Three;
+    }
+
+    unmoved : (j : Point) (n : ℕ) → (j ≢ me → slice_index (member e j) n ≡ slice_index (member numbers j) n) →
+        slice_index (member e j) n ≡ slice_index (member numbers j) n
+    unmoved j n other = ⊎_elim
+        (λ (x : j ≡ me). subst (λ p. slice_index (member e p) n ≡ slice_index (member numbers p) n) (sym x) (ap (λ l. slice_index l n) moves.own))
+        other
+        (same_or j me)
+
+    extends : Extends me o o' t e
+    extends = record {
+      own = moves.own;
+      lengths = same_lengths;
+      moves = λ j ne k below.
+          let m = moves.others j ne in
+          let from : slice_index (member numbers j) (stand.drawn + k) ≡ slice_index (member drawn j) ((shared_at o t).drawn + k) =
+          (λ i. slice_index (member numbers j) ((stands i).drawn + k)) ∙ mapped.rest j ne ((shared_at o t).drawn + k) (omega arith) in
+          (λ i. slice_index (member e j) ((sym stands i).drawn + k)) ∙ m.moves k (subst (λ c. k < draws_in c.act) (sym batch_is) below)
+          ∙ (λ i. moved_of me (from i)
+          (secret_of (batch_is i).act (member (stands i).wires j) (slice_index (member w.masks j) (stands i).dealt) k)
+          (secret_of (batch_is' i).act (member (stands' i).wires j) (slice_index (member w'.masks j) (stands' i).dealt) k));
+      below = λ j n low. unmoved j n (λ ne. (moves.others j ne).below n (subst (λ s. n < s.drawn) (sym stands) low));
+      beyond = λ j n high. unmoved j n
+          (λ ne. (moves.others j ne).beyond n (subst (λ m. m ≤ n) (λ i. (sym stands i).drawn + draws_in (sym batch_is i).act) high));
+    }
+
+    pub next_mapped : GateMapped me (t + 1) o (begin_in next w' e)
+    next_mapped =
         let s : t + 1 ≡ suc t = omega arith in
-        subst (λ n. act_among (dealing w.masks drawn) b.act stand ≡ shared_at o n) (sym s) (λ i. act_among o (batch_is i).act (stands i))
+        subst (λ n. GateMapped me n o (begin_in next w' e)) (sym s) (extended next me rounds w w' may drawn numbers t lt mapped e extends)
 
-    module _ (e : Trio (List ℕ)) (moves : MovesBatch me b.act w stand w' stand' numbers e) where
-      same_lengths : (j : Point) → length (member e j) ≡ length (member numbers j)
-      same_lengths j = ⊎_elim
-          (λ (x : j ≡ me). subst (λ p. length (member e p) ≡ length (member numbers p)) (sym x) (ap length moves.own))
-          (λ (ne : j ≢ me). (moves.others j ne).same_length)
-          (same_or j me)
-
-      drawn_is : stand'.drawn ≡ stand.drawn
-      drawn_is = (λ i. (stands' i).drawn) ∙ alike.drawn ∙ (λ i. (sym stands i).drawn)
-
-      dealt_is : stand'.dealt ≡ stand.dealt
-      dealt_is = (λ i. (stands' i).dealt) ∙ alike.dealt ∙ (λ i. (sym stands i).dealt)
-
-      draws_second : (j : Point) → stand'.drawn + draws_in b.act ≤ length (member e j)
-      draws_second j = let a = draws_moved j in let c = same_lengths j in let d = drawn_is in omega arith
-
-      pub ready_second : HasEnough b.act w'.masks e stand'
-      ready_second = record {
-        words = let a = deals_second in let d = dealt_is in omega arith;
-        one = draws_second One;
-        two = draws_second Two;
-        three = draws_second Three;
-      }
-
-      unmoved : (j : Point) (n : ℕ) → (j ≢ me → slice_index (member e j) n ≡ slice_index (member numbers j) n) →
-          slice_index (member e j) n ≡ slice_index (member numbers j) n
-      unmoved j n other = ⊎_elim
-          (λ (x : j ≡ me). subst (λ p. slice_index (member e p) n ≡ slice_index (member numbers p) n) (sym x) (ap (λ l. slice_index l n) moves.own))
-          other
-          (same_or j me)
-
-      extends : Extends me o o' t e
-      extends = record {
-        own = moves.own;
-        lengths = same_lengths;
-        moves = λ j ne k below.
-            let m = moves.others j ne in
-            let from : slice_index (member numbers j) (stand.drawn + k) ≡ slice_index (member drawn j) ((shared_at o t).drawn + k) =
-            (λ i. slice_index (member numbers j) ((stands i).drawn + k)) ∙ mapped.rest j ne ((shared_at o t).drawn + k) (omega arith) in
-            (λ i. slice_index (member e j) ((sym stands i).drawn + k)) ∙ m.moves k (subst (λ c. k < draws_in c.act) (sym batch_is) below)
-            ∙ (λ i. moved_of me (from i)
-            (secret_of (batch_is i).act (member (stands i).wires j) (slice_index (member w.masks j) (stands i).dealt) k)
-            (secret_of (batch_is' i).act (member (stands' i).wires j) (slice_index (member w'.masks j) (stands' i).dealt) k));
-        below = λ j n low. unmoved j n (λ ne. (moves.others j ne).below n (subst (λ s. n < s.drawn) (sym stands) low));
-        beyond = λ j n high. unmoved j n
-            (λ ne. (moves.others j ne).beyond n (subst (λ m. m ≤ n) (λ i. (sym stands i).drawn + draws_in (sym batch_is i).act) high));
-      }
-
-      pub next_mapped : GateMapped me (t + 1) o (begin_in next w' e)
-      next_mapped =
-          let s : t + 1 ≡ suc t = omega arith in
-          subst (λ n. GateMapped me n o (begin_in next w' e)) (sym s) (extended next me rounds w w' may drawn numbers t lt mapped e extends)
-
-      pub next_second : act_among (dealing w'.masks e) b.act stand' ≡ shared_at (begin_in next w' e) (t + 1)
-      next_second =
-          let s : t + 1 ≡ suc t = omega arith in
-          let same = stays_at next me rounds w w' may drawn numbers t lt mapped e extends t (omega arith) in
-          subst (λ n. act_among (dealing w'.masks e) b.act stand' ≡ shared_at (begin_in next w' e) n) (sym s)
-          ((λ i. act_among (begin_in next w' e) (batch_is' i).act (stands' i))
-          ∙ (λ i. act_among (begin_in next w' e) (next t (sym same i).opened).act (with_batch_lets (next t (sym same i).opened) (sym same i))))
+    pub next_second : act_among (dealing w'.masks e) b.act stand' ≡ shared_at (begin_in next w' e) (t + 1)
+    next_second =
+        let s : t + 1 ≡ suc t = omega arith in
+        let same = stays_at next me rounds w w' may drawn numbers t lt mapped e extends t (omega arith) in
+        subst (λ n. act_among (dealing w'.masks e) b.act stand' ≡ shared_at (begin_in next w' e) n) (sym s)
+        ((λ i. act_among (begin_in next w' e) (batch_is' i).act (stands' i))
+        ∙ (λ i. act_among (begin_in next w' e) (next t (sym same i).opened).act (with_batch_lets (next t (sym same i).opened) (sym same i))))

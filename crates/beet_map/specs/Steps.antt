@@ -19,6 +19,10 @@ use Rattle.beet_map.specs.Secrets.{Secrets}
 abbrev pub dealing : Trio (List ℕ) → Trio (List ℕ) → Setup
 dealing masks numbers = record { next = λ done opened. end_batch; inputs = trio_of (λ i. []); masks = masks; numbers = numbers }
 
+-- a run that has no wires yet
+abbrev pub nothing_shared : Shared
+nothing_shared = record { wires = trio_of (λ i. []); opened = []; drawn = 0; dealt = 0 }
+
 -- the line with the k-th secret of a server as its value and the number that hides it as its slope
 abbrev pub hidden_line : Act → List ℕ → ℕ → List ℕ → ℕ → ℕ → Line
 hidden_line a points word numbers drawn k = record { value = secret_of a points word k; slope = slice_index numbers (drawn + k) }

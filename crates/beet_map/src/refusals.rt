@@ -8,7 +8,7 @@ ghost use Rattle.beet_gates.specs.Clear.{rounds_run};
 ghost use Rattle.beet_gates.specs.Scripts.{HasWords};
 ghost use Rattle.beet_map.specs.Refused.{DifferFirst, HasSecrets, LookSame, Refuses, SameMasks, SameOpened, SameShares, opened_in};
 ghost use Rattle.beet_map.specs.Secrets.{shares_of, values_of};
-ghost use Rattle.beet_map.specs.declared.refusals.GateFault.TheVariants.{OutOfMemory};
+ghost use Rattle.beet_map.specs.declared.refusals.GateFault.TheVariants.{OutOfMemory, RevealDiffers};
 
 use crate::secrets::Secrets;
 use crate::stage::points;
@@ -152,6 +152,27 @@ fn first_other_mask(me: Point, first: &Secrets, second: &Secrets, count: u32) ->
     first_other_word(own, other, count)
 }
 
+/// The rounds of two runs that open the same numbers, or the first that differs.
+fn rounds_in_both(first: &ClearRun, second: &ClearRun) -> Result<u32, GateFault>
+    ensures same { IfOk result (λ _. first.now.opened ≡ second.now.opened) }
+    ensures rounds { IfOk result (λ rounds. rounds ≡ first.now.rounds) }
+    ensures differ { IfErr result (λ fault. (place : ℕ)
+        × DifferFirst first.now.opened second.now.opened place
+        × (fault ≡ RevealDiffers place (slice_get first.now.opened place)
+        (slice_get second.now.opened place))) }
+{
+    let here = first.opened.as_slice();
+    let there = second.opened.as_slice();
+    match first_difference(here, there) {
+        None => Ok(first.rounds),
+        Some(place) => Err(GateFault::RevealDiffers {
+            place: place as u64,
+            first: item(here, place),
+            second: item(there, place),
+        }),
+    }
+}
+
 /// The rounds of the script's runs in two worlds that open the same numbers, or the first that differs.
 fn rounds_opening_the_same<S: Script>(
     alloc: Global,
@@ -176,16 +197,7 @@ fn rounds_opening_the_same<S: Script>(
 {
     let here = run_on_values(alloc, script, first)?;
     let there = run_on_values(alloc, script, second)?;
-    let opened = here.opened.as_slice();
-    let others = there.opened.as_slice();
-    if let Some(place) = first_difference(opened, others) {
-        return Err(GateFault::RevealDiffers {
-            place: place as u64,
-            first: item(opened, place),
-            second: item(others, place),
-        });
-    }
-    Ok(here.rounds)
+    rounds_in_both(&here, &there)
 }
 
 /// The rounds of the script's runs in two worlds that look alike to the server, or the first refusal.

@@ -1,10 +1,11 @@
 //! A run on the points of all three servers, batch by batch.
 
-ghost use Rattle.std.specs.Prelude.{◌≡◌, ◌≤◌, ◌<◌, ◌+◌, ◌++◌, [], IfOk, OnOk, length, map};
+ghost use Rattle.std.specs.Prelude.{◌≡◌, ◌≤◌, ◌<◌, ◌+◌, ◌++◌, [], IfOk, OnOk, length, map, slice_index};
 ghost use Rattle.beet_field.specs.Trio.{member, trio_of};
+ghost use Rattle.beet_gates.specs.Each.{each};
 ghost use Rattle.beet_gates.specs.Scripts.{deals_in};
 ghost use Rattle.beet_sharing.specs.Runs.{act_among, draws_in, opened_at, opened_by, with_batch_lets};
-ghost use Rattle.beet_map.specs.Steps.{dealing, lines_gained, HasEnough};
+ghost use Rattle.beet_map.specs.Steps.{HasEnough, dealing, hidden_line, lines_gained, nothing_shared};
 ghost use Rattle.beet_map.specs.Secrets.{shares_of};
 
 use crate::moving::{draws, word_at};
@@ -44,7 +45,7 @@ impl Model for Stage {
 pub(crate) fn points(alloc: Global, lines: &[Line], at: Point) -> Result<Vec<Fe>, AllocError>
     ensures { IfOk result (λ points. points.items ≡ shares_of lines.now at) }
 {
-    let mut points = Vec::with_capacity(alloc, lines.len())?;
+    let mut points = Vec::new(alloc);
     append_points(&mut points, lines, at)?;
     Ok(points)
 }
@@ -71,26 +72,20 @@ fn append_opened(opened: &mut Vec<Fe>, wires: &Numbers, shown: &[u32]) -> Result
 }
 
 impl Stage {
-    /// The start of a run with these inputs.
-    pub(crate) fn begin(alloc: Global, inputs: &[Line]) -> Result<Stage, AllocError>
-        ensures { IfOk result (λ stage.
-            stage ≡ record {
-              wires = trio_of (shares_of inputs.now);
-              opened = [];
-              drawn = 0;
-              dealt = 0;
-            }) }
+    /// A run that has no wires yet.
+    pub(crate) fn new(alloc: Global) -> Stage
+        ensures { result ≡ nothing_shared }
     {
-        Ok(Stage {
+        Stage {
             wires: Numbers {
-                one: points(alloc, inputs, Point::One)?,
-                two: points(alloc, inputs, Point::Two)?,
-                three: points(alloc, inputs, Point::Three)?,
+                one: Vec::new(alloc),
+                two: Vec::new(alloc),
+                three: Vec::new(alloc),
             },
             opened: Vec::new(alloc),
             drawn: 0,
             dealt: 0,
-        })
+        }
     }
 
     /// Appends the lets of a batch.
@@ -102,46 +97,47 @@ impl Stage {
         append_lets(&mut self.wires.three, batch.lets.as_slice())
     }
 
+    /// Appends the lines of the bits that a server deals.
+    fn append_dealt(
+        &self,
+        lines: &mut Vec<Line>,
+        act: &Act,
+        masks: &Trio<WordList>,
+        numbers: &Numbers,
+        server: Point,
+    ) -> Result<(), AllocError>
+        requires { self.now.drawn + draws_in act.now ≤ length (member numbers.now server) }
+        ensures { OnOk result (lines.new.items ≡ lines.old.items
+            ++ each (hidden_line act.now (member self.now.wires server)
+            (slice_index (member masks.now server) self.now.dealt) (member numbers.now server)
+            self.now.drawn) (draws_in act.now)) }
+    {
+        append_hidden(
+            lines,
+            act,
+            self.wires.at(server),
+            word_at(masks.get(server).as_slice(), self.dealt),
+            numbers.at(server),
+            self.drawn,
+        )
+    }
+
     /// Appends the lines of the bits that the three servers deal.
     fn append_deal(
         &self,
         lines: &mut Vec<Line>,
+        act: &Act,
         masks: &Trio<WordList>,
         numbers: &Numbers,
     ) -> Result<(), AllocError>
-        requires { HasEnough Act.Deal masks.now numbers.now self.now }
+        requires deal { act.now ≡ Act.Deal }
+        requires enough { HasEnough act.now masks.now numbers.now self.now }
         ensures { OnOk result (lines.new.items ≡
             lines.old.items ++ lines_gained Act.Deal masks.now numbers.now self.now) }
     {
-        let act = Act::Deal;
-        let wires = &self.wires;
-        let word = word_at(masks.one.as_slice(), self.dealt);
-        append_hidden(
-            lines,
-            &act,
-            wires.one.as_slice(),
-            word,
-            numbers.one.as_slice(),
-            self.drawn,
-        )?;
-        let word = word_at(masks.two.as_slice(), self.dealt);
-        append_hidden(
-            lines,
-            &act,
-            wires.two.as_slice(),
-            word,
-            numbers.two.as_slice(),
-            self.drawn,
-        )?;
-        let word = word_at(masks.three.as_slice(), self.dealt);
-        append_hidden(
-            lines,
-            &act,
-            wires.three.as_slice(),
-            word,
-            numbers.three.as_slice(),
-            self.drawn,
-        )
+        self.append_dealt(lines, act, masks, numbers, Point::One)?;
+        self.append_dealt(lines, act, masks, numbers, Point::Two)?;
+        self.append_dealt(lines, act, masks, numbers, Point::Three)
     }
 
     /// Appends the lines of the wires that an act gives.
@@ -157,7 +153,7 @@ impl Stage {
             lines.old.items ++ lines_gained act.now masks.now numbers.now self.now) }
     {
         match act {
-            Act::Deal => self.append_deal(lines, masks, numbers),
+            Act::Deal => self.append_deal(lines, act, masks, numbers),
             Act::Mul(pairs) => append_products(
                 lines,
                 pairs.as_slice(),
@@ -170,7 +166,7 @@ impl Stage {
     }
 
     /// Appends the points of these lines.
-    fn add_lines(&mut self, lines: &[Line]) -> Result<(), AllocError>
+    pub(crate) fn add_lines(&mut self, lines: &[Line]) -> Result<(), AllocError>
         ensures { OnOk result (self.new ≡ record self.old {
           wires = trio_of (λ i. member self.old.wires i ++ shares_of lines.now i);
         }) }
@@ -192,6 +188,30 @@ impl Stage {
         }
     }
 
+    /// Appends the lines of the wires that an act gives, opens those that it shows, and appends the
+    /// points of all the lines.
+    fn gain(
+        &mut self,
+        lines: &mut Vec<Line>,
+        act: &Act,
+        masks: &Trio<WordList>,
+        numbers: &Numbers,
+    ) -> Result<(), AllocError>
+        requires enough { HasEnough act.now masks.now numbers.now self.old }
+        requires lines { lines.old.items ≡ [] }
+        ensures { OnOk result (self.new ≡ act_among (dealing masks.now numbers.now) act.now self.old) }
+    {
+        self.append_gained(lines, act, masks, numbers)?;
+        self.open(act)?;
+        self.add_lines(lines.as_slice())?;
+        // There are as many words and numbers, so a usize counts them.
+        let _words = masks.one.as_slice().len();
+        let _numbers = numbers.one.len();
+        self.drawn += draws(act);
+        self.dealt += deals(act);
+        Ok(())
+    }
+
     /// Does the act of a batch, whose lets are among the wires.
     pub(crate) fn act(
         &mut self,
@@ -204,14 +224,6 @@ impl Stage {
         ensures { OnOk result (self.new ≡ act_among (dealing masks.now numbers.now) act.now self.old) }
     {
         let mut lines = Vec::new(alloc);
-        self.append_gained(&mut lines, act, masks, numbers)?;
-        self.open(act)?;
-        self.add_lines(lines.as_slice())?;
-        // There are as many words and numbers, so a usize counts them.
-        let _words = masks.one.as_slice().len();
-        let _numbers = numbers.one.len();
-        self.drawn += draws(act);
-        self.dealt += deals(act);
-        Ok(())
+        self.gain(&mut lines, act, masks, numbers)
     }
 }

@@ -53,6 +53,7 @@ pub(crate) fn append_points(
 ) -> Result<(), AllocError>
     ensures { OnOk result (wires.new.items ≡ wires.old.items ++ shares_of lines.now at) }
 {
+    wires.reserve(lines.len())?;
     for line in lines {
         wires.push(line.at(at))?;
     }

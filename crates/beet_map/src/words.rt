@@ -69,12 +69,12 @@ fn put_back(alloc: Global, words: &[Word], numbers: &[Fe]) -> Result<WordList, A
     let mut back = WordList::with_capacity(alloc, words.len())?;
     let mut place = 0;
     for word in words {
-        if word.is_ones() {
-            back.push(*word)?;
-        } else {
-            back.push(word_of(numbers[place]))?;
+        let mut put = *word;
+        if !word.is_ones() {
+            put = word_of(numbers[place]);
             place += 1;
         }
+        back.push(put)?;
     }
     Ok(back)
 }

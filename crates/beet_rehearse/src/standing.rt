@@ -14,7 +14,7 @@ use beet_search::AuctionScript;
 use beet_world::World;
 
 /// How a server stands.
-#[derive(Clone, Copy, PartialEq, Eq, Debug)]
+#[derive(Clone, Copy)]
 pub enum Standing {
     /// It waits for messages of this round, from 0.
     Waiting(u32),

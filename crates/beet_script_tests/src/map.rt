@@ -146,14 +146,15 @@ fn product_map(
     mapped
 }
 
-/// Why there is no map to these inputs.
-fn product_fault(
+/// Compares why there is no map to these inputs.
+fn expect_fault(
     rt: &impl Abort,
     alloc: Global,
     first: (u64, u64),
     second: (u64, u64),
-) -> Option<GateFault> {
-    product_map(rt, alloc, first, second).err()
+    fault: GateFault,
+) {
+    assert!(rt; product_map(rt, alloc, first, second).err() == Some(fault));
 }
 
 /// The word at a place of a list, if there is one.
@@ -205,15 +206,13 @@ fn other_product(rt: HostRuntime) {
         first: Some(Fe::reduce(12)),
         second: Some(Fe::reduce(24)),
     };
-    assert!(rt; product_fault(&rt, rt.alloc(), SIX, (4, 2)) == Some(expected));
+    expect_fault(&rt, rt.alloc(), SIX, (4, 2), expected);
 }
 
 #[test]
 fn other_points(rt: HostRuntime) {
-    let second = product_fault(&rt, rt.alloc(), SIX, (2, 2));
-    assert!(rt; second == Some(GateFault::InputsDiffer(1)));
-    let both = product_fault(&rt, rt.alloc(), (6, 5), (2, 2));
-    assert!(rt; both == Some(GateFault::InputsDiffer(0)));
+    expect_fault(&rt, rt.alloc(), SIX, (2, 2), GateFault::InputsDiffer(1));
+    expect_fault(&rt, rt.alloc(), (6, 5), (2, 2), GateFault::InputsDiffer(0));
 }
 
 /// A world with no inputs, in which these words are dealt.

@@ -176,12 +176,17 @@ fn expect_copy(rt: &impl Abort, copy: &RoundMessage) {
     assert!(rt; copy.to == Point::One);
 }
 
-#[test]
-fn copies_and_sides(rt: HostRuntime) {
-    expect_copy(&rt, &message(Point::Three, Point::One, 5, 20, 64).copy());
+/// Compares the sides at which servers have each other.
+fn expect_sides(rt: &impl Abort) {
     assert!(rt; Side::of(Point::Two, Point::One) == Some(Side::Low));
     assert!(rt; Side::of(Point::Two, Point::Three) == Some(Side::High));
     assert!(rt; Side::of(Point::Two, Point::Two).is_none());
     assert!(rt; Side::Low.peer(Point::Three) == Point::One);
     assert!(rt; Side::High.peer(Point::Three) == Point::Two);
+}
+
+#[test]
+fn copies_and_sides(rt: HostRuntime) {
+    expect_copy(&rt, &message(Point::Three, Point::One, 5, 20, 64).copy());
+    expect_sides(&rt);
 }

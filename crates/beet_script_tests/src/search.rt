@@ -109,213 +109,32 @@ fn script_of(rt: &impl Abort, prices: u32, gates: Gates, policy: Policy) -> Auct
         .with_policy(policy)
 }
 
-/// What a policy opens beside the price, sums at one price, how many masks are rejected, the numbers that are opened, the end and the rounds.
-type Opening = (
+/// Compares the numbers that a run opened, where some are wanted.
+fn expect_opened(rt: &impl Abort, run: &ClearRun, wanted: Option<&[u64]>) {
+    if let Some(numbers) = wanted {
+        assert!(rt; are(run.opened.as_slice(), numbers));
+    }
+}
+
+/// A number of prices, what is opened, sums, how many masks are rejected, the numbers that are opened where these are compared, the
+/// end and the rounds.
+type Worked = (
+    u32,
     Policy,
     &'static [u64],
     usize,
-    &'static [u64],
+    Option<&'static [u64]>,
     Ending,
     Rounds,
 );
 
-const OPENINGS: [Opening; 6] = [
-    (
-        Policy::Volume,
-        &[20, 50],
-        0,
-        &[0, 40, 0],
-        Err(Finish::NoPrice),
-        (127, 19),
-    ),
-    (
-        Policy::Full,
-        &[20, 50],
-        0,
-        &[0, 40, 0],
-        Err(Finish::NoPrice),
-        (127, 19),
-    ),
-    (
-        Policy::Price,
-        &[40, 35],
-        0,
-        &[0, 110, 1],
-        Ok((0, None, None)),
-        (127, 19),
-    ),
-    (
-        Policy::Volume,
-        &[40, 35],
-        0,
-        &[0, 110, 1, 35],
-        Ok((0, Some(35), None)),
-        (128, 20),
-    ),
-    (
-        Policy::Full,
-        &[40, 35],
-        0,
-        &[0, 110, 1, 35, 40],
-        Ok((0, Some(35), Some(40))),
-        (128, 20),
-    ),
-    (
-        Policy::Volume,
-        &[40, 35],
-        3,
-        &[1, 1, 1],
-        Err(Finish::MasksSpent),
-        (192, 30),
-    ),
-];
-
-/// Runs the book of a case with this kind of gates.
-fn expect_opening(rt: &impl Abort, alloc: Global, gates: Gates, case: &Opening) {
-    let (policy, sums, rejected, wanted, ending, rounds) = case;
-    let script = script_of(rt, 1, gates, *policy);
-    let run = run_on(rt, alloc, &script, sums, *rejected);
-    expect_end(rt, &script, &run, *ending, rounds_with(gates, *rounds));
-    assert!(rt; are(run.opened.as_slice(), wanted));
-}
-
-/// Runs the book of each case with chains of gates, and with trees.
-fn expect_openings(rt: &impl Abort, alloc: Global, cases: &[Opening]) {
-    for case in cases {
-        expect_opening(rt, alloc, Gates::Chain, case);
-        expect_opening(rt, alloc, Gates::Tree, case);
-    }
-}
-
-#[test]
-fn opened_numbers_of_one_price(rt: HostRuntime) {
-    expect_openings(&rt, rt.alloc(), &OPENINGS);
-}
-
-/// The most that all bidders can buy at a price.
-const MOST: u64 = 562_949_953_421_310_000;
-
-/// The sums of a worked book.
-const WORKED: &[u64] = &[0, 20, 40, 60, 50, 50, 35, 10];
-
-/// Numbers of prices, what is opened, sums, how many masks are rejected, the end and the rounds.
-type Worked = (u32, Policy, &'static [u64], usize, Ending, Rounds);
-
-const BOOKS: [Worked; 15] = [
-    (4, Policy::Price, WORKED, 0, Ok((2, None, None)), (254, 38)),
-    (4, Policy::Price, WORKED, 1, Ok((2, None, None)), (318, 48)),
-    (
-        4,
-        Policy::Full,
-        WORKED,
-        0,
-        Ok((2, Some(35), Some(40))),
-        (255, 39),
-    ),
-    (
-        4,
-        Policy::Full,
-        WORKED,
-        3,
-        Err(Finish::MasksSpent),
-        (192, 30),
-    ),
-    (
-        4,
-        Policy::Volume,
-        WORKED,
-        0,
-        Ok((2, Some(35), None)),
-        (255, 39),
-    ),
-    (
-        4,
-        Policy::Volume,
-        WORKED,
-        1,
-        Ok((2, Some(35), None)),
-        (319, 49),
-    ),
-    (
-        4,
-        Policy::Volume,
-        WORKED,
-        3,
-        Err(Finish::MasksSpent),
-        (192, 30),
-    ),
-    (
-        4,
-        Policy::Volume,
-        &[0, 0, 0, 0, 0, 0, 0, 0],
-        0,
-        Ok((0, Some(0), None)),
-        (382, 58),
-    ),
-    (
-        4,
-        Policy::Volume,
-        &[0, 30, 40, 50, 50, 30, 20, 10],
-        0,
-        Ok((1, Some(30), None)),
-        (382, 58),
-    ),
-    (
-        4,
-        Policy::Volume,
-        &[0, 10, 20, 49, 50, 50, 50, 50],
-        0,
-        Err(Finish::NoPrice),
-        (254, 38),
-    ),
-    (
-        1,
-        Policy::Volume,
-        &[0, 0],
-        0,
-        Ok((0, Some(0), None)),
-        (128, 20),
-    ),
-    (
-        1,
-        Policy::Volume,
-        &[0, 1],
-        0,
-        Err(Finish::NoPrice),
-        (127, 19),
-    ),
-    (
-        1,
-        Policy::Volume,
-        &[0, MOST],
-        0,
-        Err(Finish::NoPrice),
-        (127, 19),
-    ),
-    (
-        1,
-        Policy::Volume,
-        &[MOST, MOST],
-        0,
-        Ok((0, Some(MOST), None)),
-        (128, 20),
-    ),
-    (
-        1,
-        Policy::Volume,
-        &[MOST, MOST],
-        2,
-        Ok((0, Some(MOST), None)),
-        (256, 40),
-    ),
-];
-
 /// Runs the book of a case with this kind of gates.
 fn expect_book(rt: &impl Abort, alloc: Global, gates: Gates, case: &Worked) {
-    let (prices, policy, sums, rejected, ending, rounds) = case;
+    let (prices, policy, sums, rejected, wanted, ending, rounds) = case;
     let script = script_of(rt, *prices, gates, *policy);
     let run = run_on(rt, alloc, &script, sums, *rejected);
     expect_end(rt, &script, &run, *ending, rounds_with(gates, *rounds));
+    expect_opened(rt, &run, *wanted);
 }
 
 /// Runs the book of each case with chains of gates, and with trees.
@@ -325,6 +144,213 @@ fn expect_books(rt: &impl Abort, alloc: Global, cases: &[Worked]) {
         expect_book(rt, alloc, Gates::Tree, case);
     }
 }
+
+/// Books of one price, with the numbers that are opened.
+const OPENINGS: [Worked; 6] = [
+    (
+        1,
+        Policy::Volume,
+        &[20, 50],
+        0,
+        Some(&[0, 40, 0]),
+        Err(Finish::NoPrice),
+        (127, 19),
+    ),
+    (
+        1,
+        Policy::Full,
+        &[20, 50],
+        0,
+        Some(&[0, 40, 0]),
+        Err(Finish::NoPrice),
+        (127, 19),
+    ),
+    (
+        1,
+        Policy::Price,
+        &[40, 35],
+        0,
+        Some(&[0, 110, 1]),
+        Ok((0, None, None)),
+        (127, 19),
+    ),
+    (
+        1,
+        Policy::Volume,
+        &[40, 35],
+        0,
+        Some(&[0, 110, 1, 35]),
+        Ok((0, Some(35), None)),
+        (128, 20),
+    ),
+    (
+        1,
+        Policy::Full,
+        &[40, 35],
+        0,
+        Some(&[0, 110, 1, 35, 40]),
+        Ok((0, Some(35), Some(40))),
+        (128, 20),
+    ),
+    (
+        1,
+        Policy::Volume,
+        &[40, 35],
+        3,
+        Some(&[1, 1, 1]),
+        Err(Finish::MasksSpent),
+        (192, 30),
+    ),
+];
+
+#[test]
+fn opened_numbers_of_one_price(rt: HostRuntime) {
+    expect_books(&rt, rt.alloc(), &OPENINGS);
+}
+
+/// The most that all bidders can buy at a price.
+const MOST: u64 = 562_949_953_421_310_000;
+
+/// The sums of a worked book.
+const WORKED: &[u64] = &[0, 20, 40, 60, 50, 50, 35, 10];
+
+const BOOKS: [Worked; 15] = [
+    (
+        4,
+        Policy::Price,
+        WORKED,
+        0,
+        None,
+        Ok((2, None, None)),
+        (254, 38),
+    ),
+    (
+        4,
+        Policy::Price,
+        WORKED,
+        1,
+        None,
+        Ok((2, None, None)),
+        (318, 48),
+    ),
+    (
+        4,
+        Policy::Full,
+        WORKED,
+        0,
+        None,
+        Ok((2, Some(35), Some(40))),
+        (255, 39),
+    ),
+    (
+        4,
+        Policy::Full,
+        WORKED,
+        3,
+        None,
+        Err(Finish::MasksSpent),
+        (192, 30),
+    ),
+    (
+        4,
+        Policy::Volume,
+        WORKED,
+        0,
+        None,
+        Ok((2, Some(35), None)),
+        (255, 39),
+    ),
+    (
+        4,
+        Policy::Volume,
+        WORKED,
+        1,
+        None,
+        Ok((2, Some(35), None)),
+        (319, 49),
+    ),
+    (
+        4,
+        Policy::Volume,
+        WORKED,
+        3,
+        None,
+        Err(Finish::MasksSpent),
+        (192, 30),
+    ),
+    (
+        4,
+        Policy::Volume,
+        &[0, 0, 0, 0, 0, 0, 0, 0],
+        0,
+        None,
+        Ok((0, Some(0), None)),
+        (382, 58),
+    ),
+    (
+        4,
+        Policy::Volume,
+        &[0, 30, 40, 50, 50, 30, 20, 10],
+        0,
+        None,
+        Ok((1, Some(30), None)),
+        (382, 58),
+    ),
+    (
+        4,
+        Policy::Volume,
+        &[0, 10, 20, 49, 50, 50, 50, 50],
+        0,
+        None,
+        Err(Finish::NoPrice),
+        (254, 38),
+    ),
+    (
+        1,
+        Policy::Volume,
+        &[0, 0],
+        0,
+        None,
+        Ok((0, Some(0), None)),
+        (128, 20),
+    ),
+    (
+        1,
+        Policy::Volume,
+        &[0, 1],
+        0,
+        None,
+        Err(Finish::NoPrice),
+        (127, 19),
+    ),
+    (
+        1,
+        Policy::Volume,
+        &[0, MOST],
+        0,
+        None,
+        Err(Finish::NoPrice),
+        (127, 19),
+    ),
+    (
+        1,
+        Policy::Volume,
+        &[MOST, MOST],
+        0,
+        None,
+        Ok((0, Some(MOST), None)),
+        (128, 20),
+    ),
+    (
+        1,
+        Policy::Volume,
+        &[MOST, MOST],
+        2,
+        None,
+        Ok((0, Some(MOST), None)),
+        (256, 40),
+    ),
+];
 
 #[test]
 fn worked_books(rt: HostRuntime) {

@@ -21,16 +21,12 @@ fn first_number(view: &View, round: u32, sender: Point) -> Option<u64> {
     Some(view.numbers(round, sender)?.first()?.value())
 }
 
-/// What server 2 saw of the product.
+/// What server 2 saw of the product, and the messages to it.
 fn expect_product(rt: &impl Abort, view: &View) {
     assert!(rt; view.server() == Point::Two);
     assert!(rt; view.grid().policy() == Policy::Full);
     assert!(rt; view.coefficients().len() == 1);
     assert!(rt; view.rounds() == 2);
-}
-
-/// The messages that it saw.
-fn expect_messages(rt: &impl Abort, view: &View) {
     assert!(rt; first_number(view, 0, Point::One) == Some(50));
     assert!(rt; first_number(view, 0, Point::Three) == Some(188));
     assert!(rt; first_number(view, 1, Point::One) == Some(13));
@@ -47,7 +43,5 @@ fn view_of_two(rt: &impl Abort, alloc: Global) -> View {
 
 #[test]
 fn view_of_a_product(rt: HostRuntime) {
-    let view = view_of_two(&rt, rt.alloc());
-    expect_product(&rt, &view);
-    expect_messages(&rt, &view);
+    expect_product(&rt, &view_of_two(&rt, rt.alloc()));
 }

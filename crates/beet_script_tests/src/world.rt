@@ -138,24 +138,16 @@ fn expect_played(
 /// A schedule, and how the world stands after it.
 type Played = (&'static [u8], Stand);
 
-/// Plays schedules one after another, and compares how the world stands after each.
+/// Plays schedules one after another, and compares how the world then stands.
 fn expect_all_played(
     rt: &impl Abort,
     alloc: Global,
     world: &mut World<Product>,
     schedules: &[Played],
 ) {
-    expect_stand(rt, world, AT_THE_BEGINNING);
     for (text, stand) in schedules {
         expect_played(rt, alloc, world, text, *stand);
     }
-}
-
-/// Plays schedules in a new world.
-fn expect_plays(rt: &impl Abort, alloc: Global, schedules: &[Played]) {
-    let mut world = world(rt, alloc);
-    expect_all_played(rt, alloc, &mut world, schedules);
-    drop(world);
 }
 
 /// Messages that come one by one, by sender, receiver and round, and what becomes of each.
@@ -169,15 +161,23 @@ fn expect_events(rt: &impl Abort, world: &mut World<Product>, events: &[Told]) {
     }
 }
 
-/// Delivers messages one by one in a new world.
-fn expect_deliveries(rt: &impl Abort, alloc: Global, events: &[Told]) {
+/// Delivers messages one by one in a new world, and then plays schedules.
+fn expect_course(rt: &impl Abort, alloc: Global, events: &[Told], schedules: &[Played]) {
     let mut world = world(rt, alloc);
     expect_stand(rt, &world, AT_THE_BEGINNING);
     expect_events(rt, &mut world, events);
+    expect_all_played(rt, alloc, &mut world, schedules);
     drop(world);
 }
 
-/// Compares how three servers stand that have run in lockstep.
+/// Three servers that have run in lockstep, of whom the first had not ended before.
+fn in_lockstep(rt: &impl Abort, alloc: Global) -> Trio<ServerCore<Product>> {
+    let cores = three_and_four(rt, alloc);
+    expect_core(rt, &cores.one, 0, false);
+    lockstep(cores)
+}
+
+/// Compares how they stand.
 fn expect_twelve(rt: &impl Abort, cores: &Trio<ServerCore<Product>>) {
     assert!(rt; has_twelve(&cores.one));
     assert!(rt; has_twelve(&cores.two));
@@ -186,9 +186,7 @@ fn expect_twelve(rt: &impl Abort, cores: &Trio<ServerCore<Product>>) {
 
 #[test]
 fn round_by_round(rt: HostRuntime) {
-    let cores = three_and_four(&rt, rt.alloc());
-    assert!(rt; !cores.one.ended());
-    let ended = lockstep(cores);
+    let ended = in_lockstep(&rt, rt.alloc());
     expect_twelve(&rt, &ended);
     drop(ended);
 }
@@ -215,7 +213,7 @@ const TWICE: [Told; 2] = [
 
 #[test]
 fn a_message_comes_twice(rt: HostRuntime) {
-    expect_deliveries(&rt, rt.alloc(), &TWICE);
+    expect_course(&rt, rt.alloc(), &TWICE, &[]);
 }
 
 /// Messages that are not sent: of the next round, and of a server to itself.
@@ -233,7 +231,7 @@ const NOT_SENT: [Told; 3] = [
 
 #[test]
 fn messages_that_are_not_sent(rt: HostRuntime) {
-    expect_deliveries(&rt, rt.alloc(), &NOT_SENT);
+    expect_course(&rt, rt.alloc(), &NOT_SENT, &[]);
 }
 
 /// Where server 2 has passed the first round, and the others have got nothing.
@@ -252,12 +250,12 @@ const PASSED: [Told; 3] = [
 
 #[test]
 fn a_server_passes_its_round(rt: HostRuntime) {
-    expect_deliveries(&rt, rt.alloc(), &PASSED);
+    expect_course(&rt, rt.alloc(), &PASSED, &[]);
 }
 
 #[test]
 fn messages_in_order(rt: HostRuntime) {
-    expect_plays(&rt, rt.alloc(), &[(PLAIN, AT_THE_END)]);
+    expect_course(&rt, rt.alloc(), &[], &[(PLAIN, AT_THE_END)]);
 }
 
 /// Of messages in the order of their senders, backwards, those of the first round are delivered first.
@@ -265,22 +263,22 @@ const TWICE_BACKWARDS: [Played; 2] = [(BACKWARDS, AFTER_A_ROUND), (BACKWARDS, AT
 
 #[test]
 fn messages_backwards(rt: HostRuntime) {
-    expect_plays(&rt, rt.alloc(), &TWICE_BACKWARDS);
+    expect_course(&rt, rt.alloc(), &[], &TWICE_BACKWARDS);
 }
 
 #[test]
 fn rounds_backwards(rt: HostRuntime) {
-    expect_plays(&rt, rt.alloc(), &[(ROUNDS_BACKWARDS, AT_THE_END)]);
+    expect_course(&rt, rt.alloc(), &[], &[(ROUNDS_BACKWARDS, AT_THE_END)]);
 }
 
 #[test]
 fn a_link_is_a_round_late(rt: HostRuntime) {
-    expect_plays(&rt, rt.alloc(), &[(A_ROUND_LATE, AT_THE_END)]);
+    expect_course(&rt, rt.alloc(), &[], &[(A_ROUND_LATE, AT_THE_END)]);
 }
 
 #[test]
 fn messages_three_times(rt: HostRuntime) {
-    expect_plays(&rt, rt.alloc(), &[(THRICE, AT_THE_END)]);
+    expect_course(&rt, rt.alloc(), &[], &[(THRICE, AT_THE_END)]);
 }
 
 /// A server gets nothing, then all, and then the others do.
@@ -288,10 +286,15 @@ const STARVED_AND_FED: [Played; 3] = [(STARVING, STARVED), (FEEDING, FED), (PLAI
 
 #[test]
 fn a_server_is_starved(rt: HostRuntime) {
-    expect_plays(&rt, rt.alloc(), &STARVED_AND_FED);
+    expect_course(&rt, rt.alloc(), &[], &STARVED_AND_FED);
 }
 
 #[test]
 fn a_link_is_held_back(rt: HostRuntime) {
-    expect_plays(&rt, rt.alloc(), &[(HOLDING, HELD), (PLAIN, AT_THE_END)]);
+    expect_course(
+        &rt,
+        rt.alloc(),
+        &[],
+        &[(HOLDING, HELD), (PLAIN, AT_THE_END)],
+    );
 }

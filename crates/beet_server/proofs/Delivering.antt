@@ -27,7 +27,7 @@ use Rattle.beet_round.specs.declared.sides.Side.{Side}
 use Rattle.beet_round.specs.declared.sides.Side.TheVariants.{Low, High}
 use Rattle.beet_sharing.specs.Runs.{Setup, Shared, coming, message, sent_for, shared_at, standing_at, draws_in, gained}
 use Rattle.beet_delivery.specs.Events.{Delivered, same, both_in, with_triple}
-use Rattle.beet_server.specs.Answers.{HandsOut, IsLateVerdict, Moves, other_side, verdict_on}
+use Rattle.beet_server.specs.Answers.{HandsOut, IsLateVerdict, Keeps, Moves, other_side, verdict_on}
 use Rattle.beet_server.specs.Cores.{Core, coming_at, has_ended}
 use Rattle.beet_server.specs.Fits.{Fits, IsRound, message_of, messages_to, messages_from, some_if, taken}
 use Rattle.beet_server.specs.Steps.{work_of, came_from, handed_out, messages_out, moved_on, sends, wires_given}
@@ -547,6 +547,14 @@ module _ {S : Type 0} (next : S → ℕ → List ℕ → Batch) (c : Core S) whe
   pub moves-after : (d : Core S) → HandsOut next c d → Moves c d
   moves-after d leaves =
       ⊎_elim (λ b. inl (b.0, ap (λ k. k.round) b.1, ap (λ k. k.handed) b.1)) (λ b. inr (b.0, ap (λ k. k.round) b.1, ap (λ k. k.handed) b.1)) leaves
+
+  -- and so much of it stays
+  pub keeps-after : (d : Core S) → HandsOut next c d → Keeps c d
+  keeps-after d leaves =
+      ⊎_elim
+      (λ b. rw b.1 (record { me = refl; script = refl; masks = refl; coefficients = refl }))
+      (λ b. rw b.1 (record { me = refl; script = refl; masks = refl; coefficients = refl }))
+      leaves
 
   -- the two messages that are handed out
   pub handed-messages : (o : Setup) (x : Delivered) → Fits next o x c → c.handed ≡ false → messages_out next c ≡ messages_from o c.me c.round

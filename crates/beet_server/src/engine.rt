@@ -1,7 +1,7 @@
 //! What computes in a server: its points of the wires, the opened numbers, and the batch that
 //! comes.
 
-ghost use Rattle.std.specs.Prelude.{◌≡◌, ◌<◌, ◌≤◌, ◌+◌, ◌-◌, ◌^◌, [], length, IfOk, true, false, vec_capacity};
+ghost use Rattle.std.specs.Prelude.{◌≡◌, ◌<◌, ◌≤◌, ◌+◌, ◌-◌, ◌*◌, ◌^◌, [], length, true, false, vec_capacity};
 ghost use Rattle.beet_words.specs.Tapes.{left_of};
 ghost use Rattle.beet_gates.specs.Clear.{is_end, with_lets};
 ghost use Rattle.beet_gates.specs.Scripts.{size_of};
@@ -12,9 +12,8 @@ ghost use Rattle.beet_server.specs.Steps.{Work, batch_of, sends, handing, passin
 
 use crate::parts::{Numbers, absorb, append_all, append_lets, of_sender, put_numbers};
 use beet_field::{Fe, Point};
-use beet_gates::{Act, Batch, MOST_NUMBERS, Script};
+use beet_gates::{Act, Batch, Script};
 use beet_words::Tape;
-use std::alloc::{AllocError, Global};
 use std::marker::Model;
 
 /// What computes in a server. `batch` is the one that comes, from `place` in the script; its lets are among the wires.
@@ -62,21 +61,26 @@ impl<S: Script> Model for Engine<S> {
 }
 
 impl<S: Script> Engine<S> {
-    /// Takes all the memory that the engine ever needs.
+    /// At the first batch of the script, with room for all wires and for all numbers that it may open.
     pub fn start(
-        alloc: Global,
         me: Point,
         script: S,
         inputs: &[Fe],
         masks: Tape,
         coefficients: Tape,
-    ) -> Result<Engine<S>, AllocError>
+        wires: Vec<Fe>,
+        opened: Vec<Fe>,
+    ) -> Engine<S>
         requires inputs { length inputs.now ≡ S.inputs_of script }
         requires masks_start { masks.passed ≡ 0 }
         requires coefficients_start { coefficients.passed ≡ 0 }
         requires words { S.masks_of script ≤ length masks.words }
         requires numbers { S.coefficients_of script ≤ length (left_of coefficients) }
-        ensures { IfOk result (λ e. e ≡ record {
+        requires counted { S.rounds_of script < 2 ^ 32 }
+        requires wires { (wires.items ≡ []) × (S.wires_of script ≤ vec_capacity wires) }
+        requires opened { (opened.items ≡ [])
+            × (MOST_NUMBERS * S.rounds_of script ≤ vec_capacity opened) }
+        ensures { result ≡ record {
           me = me;
           script = script;
           masks = masks;
@@ -86,15 +90,14 @@ impl<S: Script> Engine<S> {
           opened = [];
           own = [];
           handed = false;
-        }) }
+        } }
     {
-        let opened = Vec::with_capacity(alloc, MOST_NUMBERS * script.rounds() as usize)?;
-        let mut wires = Vec::with_capacity(alloc, script.wires() as usize)?;
         let place = script.begin();
         let batch = script.next(0, &[]);
+        let mut wires = wires;
         append_all(&mut wires, inputs);
         append_lets(&mut wires, batch.lets.as_slice());
-        Ok(Engine {
+        Engine {
             me,
             script,
             masks,
@@ -106,7 +109,7 @@ impl<S: Script> Engine<S> {
             handed: false,
             place,
             batch,
-        })
+        }
     }
 
     /// Takes the words and numbers of the round from the tapes. What is for the lower and for the

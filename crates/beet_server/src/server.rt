@@ -1,6 +1,6 @@
 //! One server of three.
 
-ghost use Rattle.std.specs.Prelude.{◌≡◌, ◌≢◌, ◌↔◌, ◌⊎◌, ◌<◌, ◌≤◌, ◌+◌, ◌-◌, ◌∷◌, [], ℕ, List, length, IfOk, IsNone, IfNone, IfSome, IsErrOf, option_map, true, false};
+ghost use Rattle.std.specs.Prelude.{◌≡◌, ◌≢◌, ◌↔◌, ◌⊎◌, ◌<◌, ◌≤◌, ◌+◌, ◌-◌, ◌*◌, ◌^◌, ◌∷◌, [], ℕ, List, length, IfOk, IsNone, IfNone, IfSome, IsErrOf, option_map, vec_capacity, true, false};
 ghost use Rattle.beet_words.specs.Tapes.{left_of};
 ghost use Rattle.beet_gates.specs.Scripts.{size_of};
 ghost use Rattle.beet_gates.specs.declared.TheConstants.{MOST_NUMBERS};
@@ -19,7 +19,7 @@ ghost use Rattle.beet_server.specs.declared.server.StartFault.TheVariants.{TooFe
 use crate::engine::Engine;
 use crate::kept::Kept;
 use beet_field::{Fe, Point};
-use beet_gates::Script;
+use beet_gates::{MOST_NUMBERS, Script};
 use beet_round::{RoundBox, RoundMessage, Side, Verdict};
 use beet_words::{FeList, Tape};
 use std::alloc::{AllocError, Global};
@@ -58,6 +58,48 @@ fn address(message: &mut RoundMessage, me: Point, side: Side, round: u32)
     message.from = me;
     message.to = side.peer(me);
     message.round = round;
+}
+
+/// All memory that a server ever needs: for the messages that it gets, for its wires, and for the numbers that it opens. Tapes
+/// that hold too few words are refused first.
+fn take_room<S: Script>(
+    alloc: Global,
+    me: Point,
+    script: &S,
+    masks: &Tape,
+    coefficients: &Tape,
+) -> Result<(Kept, Vec<Fe>, Vec<Fe>), StartFault>
+    requires { masks.now.passed ≡ 0 }
+    ensures words { (have : ℕ) → IsErrOf result (TooFewWords have)
+        ↔ ((have ≡ length (left_of coefficients.now)) × (have < S.coefficients_of script.now)) }
+    ensures masks { (have : ℕ) → IsErrOf result (TooFewMasks have)
+        ↔ ((S.coefficients_of script.now ≤ length (left_of coefficients.now))
+        × (have ≡ length masks.now.words) × (have < S.masks_of script.now)) }
+    ensures enough { IfOk result (λ room. (S.masks_of script.now ≤ length masks.now.words)
+        × (S.coefficients_of script.now ≤ length (left_of coefficients.now))) }
+    ensures counted { IfOk result (λ room. S.rounds_of script.now < 2 ^ 32) }
+    ensures received { IfOk result (λ room. room.0 ≡ record {
+      me = me;
+      messages = [];
+      room = S.rounds_of script.now;
+    }) }
+    ensures wires { IfOk result (λ room. (room.1.items ≡ [])
+        × (S.wires_of script.now ≤ vec_capacity room.1)) }
+    ensures opened { IfOk result (λ room. (room.2.items ≡ [])
+        × (MOST_NUMBERS * S.rounds_of script.now ≤ vec_capacity room.2)) }
+{
+    let have = coefficients.accepted_left();
+    if have < script.coefficients() {
+        return Err(StartFault::TooFewWords(have));
+    }
+    let have = masks.masks_left();
+    if have < script.masks() {
+        return Err(StartFault::TooFewMasks(have));
+    }
+    let received = Kept::new(alloc, me, script.rounds())?;
+    let opened = Vec::with_capacity(alloc, MOST_NUMBERS * script.rounds() as usize)?;
+    let wires = Vec::with_capacity(alloc, script.wires() as usize)?;
+    Ok((received, wires, opened))
 }
 
 /// A server that runs a script with two others.
@@ -107,16 +149,16 @@ impl<S: Script> ServerCore<S> {
             → OpensAt S.batch_of o me script inputs masks.words coefficients.words
             → Fits S.batch_of o nothing c) }
     {
-        let have = coefficients.accepted_left();
-        if have < script.coefficients() {
-            return Err(StartFault::TooFewWords(have));
-        }
-        let have = masks.masks_left();
-        if have < script.masks() {
-            return Err(StartFault::TooFewMasks(have));
-        }
-        let received = Kept::new(alloc, me, script.rounds())?;
-        let engine = Engine::start(alloc, me, script, inputs.as_slice(), masks, coefficients)?;
+        let (received, wires, opened) = take_room(alloc, me, &script, &masks, &coefficients)?;
+        let engine = Engine::start(
+            me,
+            script,
+            inputs.as_slice(),
+            masks,
+            coefficients,
+            wires,
+            opened,
+        );
         let mail = RoundBox::new(me, engine.size());
         Ok(ServerCore {
             engine,

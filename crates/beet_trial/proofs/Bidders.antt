@@ -1,6 +1,7 @@
 -- The bidders one after another.
 use Rattle.std.proofs.Common.{◌≡◌, ◌≤◌, ◌<◌, ◌-◌, ℕ, zero, suc, ◌+◌, ◌*◌, [], ◌∷◌, ◌++◌, length, Result, Ok, Err, arith, refl, ap, sym, ◌∙◌, length-append, append-nil, append_assoc, subst, List}
-use Rattle.std.specs.Prelude.{IsErrAnd}
+use Rattle.std.specs.Prelude.{IfOk, IsErrAnd}
+use Rattle.std.specs.Result.{result_and}
 use Rattle.std.proofs.lemmas.Result.{err_from_is_err_and}
 use Rattle.std.proofs.lemmas.List.{map-append}
 use Rattle.std.proofs.lemmas.List.FromFn.{length-map-range_with_len, map-range_with_len_more}
@@ -117,6 +118,23 @@ pub tests-first : (grid : Grid) (from few rest i count : ℕ) (stop : Stop) → 
     Tests (enough_of_each grid (from + 1) (trial_part grid from count)) (Err stop)
 tests-first grid from few rest i count stop e f t =
     same-test (enough-parts grid from few rest i count e f) (first_fails {second = enough_of_each grid (i + 1) (trial_part grid i rest)} stop t)
+
+-- both parts are tested
+pub tests-both : (grid : Grid) (from few rest i count : ℕ) (first second : Result (Unit {0}) Stop) → from + few ≡ i → few + rest ≡ count →
+    Tests (enough_of_each grid (from + 1) (trial_part grid from few)) first → Tests (enough_of_each grid (i + 1) (trial_part grid i rest)) second →
+    Tests (enough_of_each grid (from + 1) (trial_part grid from count)) (result_and first second)
+tests-both grid from few rest i count (Ok done) second e f t u = tests-second grid from few rest i count second e f t u
+tests-both grid from few rest i count (Err stop) second e f t u = tests-first grid from few rest i count stop e f t
+
+-- what the first gives where both are done, and what the second gives
+pub first-done : (P : Type 0) (first second : Result (Unit {0}) Stop) → IfOk first (λ done. P) → IfOk (result_and first second) (λ done. P)
+first-done P (Ok done) (Ok also) p = p
+first-done P (Ok done) (Err stop) p = tt
+first-done P (Err stop) second p = tt
+
+pub second-done : (P : Type 0) (first second : Result (Unit {0}) Stop) → IfOk second (λ done. P) → IfOk (result_and first second) (λ done. P)
+second-done P (Ok done) second p = p
+second-done P (Err stop) second p = tt
 
 -- no bidder is tested, and none is added
 pub tests-none : (grid : Grid) (from : ℕ) → Tests (enough_of_each grid (from + 1) (trial_part grid from 0)) (Ok tt)

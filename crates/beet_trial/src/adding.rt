@@ -115,9 +115,7 @@ fn add_both<R: Threads + Sync>(
         ensures { AddsPart grid.entry.now middle rest others.entry.now others.exit.now result }
     { add_by(rt, alloc, grid, half, middle, rest, others) };
     let (few_added, rest_added) = join_mut(rt, &mut first, &mut second);
-    few_added?;
-    rest_added?;
-    Ok(())
+    few_added.and(rest_added)
 }
 
 /// Makes and deals so many bidders, by a thread for each processor, and adds up their points. Each thread draws the words

@@ -49,11 +49,12 @@ pub(crate) fn servers_of(alloc: Global, grid: &Grid) -> Result<Trio<ServerWords>
     requires { IsGrid grid.now }
     ensures { IfOk result (λ servers. servers ≡ trial_servers grid.now) }
 {
-    Ok(Trio {
-        one: server_words(alloc, grid, 1)?,
-        two: server_words(alloc, grid, 2)?,
-        three: server_words(alloc, grid, 3)?,
-    })
+    let words = Trio {
+        one: server_words(alloc, grid, 1),
+        two: server_words(alloc, grid, 2),
+        three: server_words(alloc, grid, 3),
+    };
+    words.transpose()
 }
 
 /// The seed of bidder `i`, from 0.

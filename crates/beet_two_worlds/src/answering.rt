@@ -13,7 +13,7 @@ ghost use Rattle.beet_two_worlds.specs.Ending.{AnswersBooks};
 use crate::refusing::refusal;
 use beet_bids::{Book, Grid};
 use beet_errand::{NewFile, Reply, Stop};
-use beet_field::Point;
+use beet_field::{Point, Trio};
 use beet_kept::{SeenRun, see_whole};
 use beet_load::Whole;
 use beet_plan::Finish;
@@ -43,10 +43,13 @@ fn files_of(
     ensures { IfOk result (λ files. files.items ≡ (out.now ++ codes ".first", first.items)
         ∷ (out.now ++ codes ".second", second.items) ∷ (out.now ++ codes ".words", words.items) ∷ []) }
 {
-    let first = file_of(alloc, out, ".first", first)?;
-    let second = file_of(alloc, out, ".second", second)?;
-    let words = file_of(alloc, out, ".words", words)?;
-    Ok(vec![in alloc; first, second, words]?)
+    let files = Trio {
+        one: file_of(alloc, out, ".first", first),
+        two: file_of(alloc, out, ".second", second),
+        three: file_of(alloc, out, ".words", words),
+    };
+    let Trio { one, two, three } = files.transpose()?;
+    Ok(vec![in alloc; one, two, three]?)
 }
 
 /// The reply that tells how the first run ended, and that the transcripts are equal, and puts these files.

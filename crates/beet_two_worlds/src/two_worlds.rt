@@ -7,6 +7,7 @@ ghost use Rattle.beet_two_worlds.specs.Ending.{Compares};
 use crate::answering::answer_both;
 use beet_errand::{Reply, Stop};
 use beet_field::Point;
+use beet_forms::beside;
 use beet_load::{load_curves, load_whole};
 use beet_store::Shelf;
 use std::alloc::Global;
@@ -30,6 +31,10 @@ pub fn worlds<S: Shelf, R: Threads + Sync>(
     ensures compares { Compares (S.seen shelf.old) (S.seen shelf.new) auction.now servers.now book1.now book2.now server out.now result }
 {
     let whole = load_whole(alloc, shelf, auction, servers, book1)?;
-    let second = load_curves(alloc, shelf, whole.book.grid(), book2)?;
-    answer_both(rt, alloc, server, out, &whole, &second)
+    let second = load_curves(alloc, shelf, whole.book.grid(), book2);
+    let (whole, second) = beside(whole, second)?;
+    let reply = answer_both(rt, alloc, server, out, &whole, &second);
+    drop(second);
+    drop(whole);
+    reply
 }

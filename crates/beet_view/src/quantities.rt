@@ -11,7 +11,7 @@ use beet_words::{Allowed, BAD_NUMBER, TRUNCATED, read_number, room};
 use std::alloc::Global;
 
 /// How the quantities of a curve go on from price to price.
-#[derive(Clone, Copy, PartialEq, Eq, Debug)]
+#[derive(Clone, Copy)]
 pub(crate) enum Course {
     /// None is above the one before it.
     Falling,

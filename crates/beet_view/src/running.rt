@@ -70,11 +70,8 @@ fn rounds_of<S: Script>(alloc: Global, core: &ServerCore<S>) -> Result<Vec<Recei
 fn words_of(alloc: Global, words: &[Word]) -> Result<WordList, AllocError>
     ensures { IfOk result (λ copy. copy ≡ words.now) }
 {
-    let mut copy = WordList::with_capacity(alloc, words.len())?;
-    for word in words {
-        copy.push(*word)?;
-    }
-    Ok(copy)
+    let words = Vec::from_slice(alloc, words)?;
+    Ok(WordList::of(words))
 }
 
 /// The view of a server that has ended, with these bidders in their order, as it sees them. The view has the words and

@@ -1,18 +1,17 @@
 //! The writer of transcripts.
 
-ghost use Rattle.std.specs.Prelude.{◌≡◌, ◌≤◌, ◌++◌, Ok, IfOk, IfSome, OnOk, All, length};
+ghost use Rattle.std.specs.Prelude.{◌≡◌, ◌≤◌, ◌++◌, Ok, IfOk, OnOk, All, length};
 ghost use Rattle.std.specs.List.{flat_map};
 ghost use Rattle.beet_field.specs.Field.{IsElement};
 ghost use Rattle.beet_forms.specs.declared.faults.TheConstants.{LONGEST_FILE};
 ghost use Rattle.beet_words.specs.Fields.{number_bytes};
 ghost use Rattle.beet_bids.specs.Grids.{IsGrid};
-ghost use Rattle.beet_bids.specs.Curves.{IsCurve, IsOfGrid};
 ghost use Rattle.beet_view.specs.Views.{IsView};
 ghost use Rattle.beet_view.specs.Transcripts.{tells_policy, magic, mark_of, number_of_gates, policy_field, numbers_bytes, counted_bytes, grid_bytes, own_bytes, seen_bytes, round_bytes, view_bytes, view_in, FitsFile, HasElements, HasNumbers, AreNumbers};
 
 use crate::reading::magic;
 use crate::view::{Received, Seen, View};
-use beet_bids::{Curve, Grid, Policy};
+use beet_bids::{Grid, Policy};
 use beet_field::{Fe, Point};
 use beet_gates::Gates;
 use beet_words::{push_list, push_number};
@@ -87,54 +86,28 @@ fn push_grid(file: &mut Vec<u8>, grid: &Grid) -> Result<(), AllocError>
     push_numbers(file, policy_field(grid.policy()))
 }
 
-/// Appends what a curve buys at so many prices.
-fn push_bought(file: &mut Vec<u8>, curve: &Curve, prices: u32) -> Result<(), AllocError>
-    requires some { 1 ≤ prices }
-    requires length { length curve.now.buy ≡ prices }
-    ensures bytes { OnOk result (file.new.items ≡ file.old.items ++ numbers_bytes curve.now.buy) }
-    ensures curve { OnOk result (IsCurve curve.now) }
-{
-    for place in 0..prices {
-        push_number(file, curve.buy(place))?;
-    }
-    Ok(())
-}
-
-/// Appends what a curve sells at so many prices.
-fn push_sold(file: &mut Vec<u8>, curve: &Curve, prices: u32) -> Result<(), AllocError>
-    requires { length curve.now.sell ≡ prices }
-    ensures { OnOk result (file.new.items ≡ file.old.items ++ numbers_bytes curve.now.sell) }
-{
-    for place in 0..prices {
-        push_number(file, curve.sell(place))?;
-    }
-    Ok(())
-}
-
 /// Appends a bidder.
-fn push_seen(file: &mut Vec<u8>, grid: &Grid, seen: &Seen) -> Result<(), AllocError>
-    requires { IfSome seen.now.own (λ own. IsOfGrid grid.now own.0) }
+fn push_seen(file: &mut Vec<u8>, seen: &Seen) -> Result<(), AllocError>
     ensures bytes { OnOk result (file.new.items ≡ file.old.items ++ seen_bytes seen.now) }
     ensures numbers { OnOk result (HasNumbers seen.now) }
 {
     push_number(file, mark_of(seen.known))?;
     push_points(file, seen.points.as_slice())?;
     if let Some((curve, words)) = &seen.own {
-        push_bought(file, curve, grid.prices())?;
-        push_sold(file, curve, grid.prices())?;
+        push_numbers(file, curve.bought())?;
+        push_numbers(file, curve.sold())?;
         push_list(file, words)?;
     }
     Ok(())
 }
 
 /// Appends bidders.
-fn push_bidders(file: &mut Vec<u8>, grid: &Grid, bidders: &[Seen]) -> Result<(), AllocError>
-    requires { All (λ seen. IfSome seen.own (λ own. IsOfGrid grid.now own.0)) bidders.now }
+fn push_bidders(file: &mut Vec<u8>, bidders: &[Seen]) -> Result<(), AllocError>
     ensures bytes { OnOk result (file.new.items ≡ file.old.items ++ flat_map seen_bytes bidders.now) }
     ensures numbers { OnOk result (All HasNumbers bidders.now) }
 {
     for seen in bidders {
-        push_seen(file, grid, seen)?;
+        push_seen(file, seen)?;
     }
     Ok(())
 }
@@ -229,7 +202,7 @@ fn bytes_of(alloc: Global, view: &View) -> Result<Vec<u8>, AllocError>
     push_number(&mut file, view.server().number())?;
     push_grid(&mut file, view.grid())?;
     push_number(&mut file, view.bidders().len() as u64)?;
-    push_bidders(&mut file, view.grid(), view.bidders())?;
+    push_bidders(&mut file, view.bidders())?;
     push_list(&mut file, &view.masks)?;
     push_list(&mut file, &view.coefficients)?;
     push_number(&mut file, view.rounds() as u64)?;

@@ -1,5 +1,5 @@
 use crate::transcript::fault_of;
-use beet_errand::{Reply, Stop};
+use beet_errand::Reply;
 use beet_field::Point;
 use beet_link::FreeGate;
 use beet_record::record;
@@ -32,33 +32,26 @@ const FILES: [(&str, &str); 6] = [
     ("carl.bid", "beet-bid,1\n100,5,0\n115,0,0\n"),
 ];
 
-/// Appends a file of this name and this text.
-fn push_held(rt: &impl Abort, alloc: Global, files: &mut Vec<Held>, name: &str, text: &str) {
-    let held = Held {
+/// A file of this name and this text.
+fn held(rt: &impl Abort, alloc: Global, name: &str, text: &str) -> Held {
+    Held {
         name: String::from_str(alloc, name).expect(rt, "memory"),
         bytes: Vec::from_slice(alloc, text.as_bytes()).expect(rt, "memory"),
-    };
-    files.push(held).expect(rt, "memory");
-}
-
-/// Appends these files.
-fn push_all(rt: &impl Abort, alloc: Global, files: &mut Vec<Held>, texts: &[(&str, &str)]) {
-    for (name, text) in texts {
-        push_held(rt, alloc, files, name, text);
     }
 }
 
-/// A shelf with these files, and those of the auction.
-fn shelf(rt: &impl Abort, alloc: Global, first: &[(&str, &str)]) -> MemoryShelf {
+/// A shelf with these files.
+fn shelf(rt: &impl Abort, alloc: Global, texts: &[(&str, &str)]) -> MemoryShelf {
     let mut files = Vec::new(alloc);
-    push_all(rt, alloc, &mut files, first);
-    push_all(rt, alloc, &mut files, &FILES);
+    for (name, text) in texts {
+        files.push(held(rt, alloc, name, text)).expect(rt, "memory");
+    }
     MemoryShelf::new(files, Vec::new(alloc))
 }
 
 /// The reply of the job on the auction.
 fn recorded(rt: &(impl Abort + Threads + Wait + Sync), alloc: Global) -> Reply {
-    let mut shelf = shelf(rt, alloc, &[]);
+    let mut shelf = shelf(rt, alloc, &FILES);
     let (auction, servers, book) = ("g.auc", "s.srv", "b.book");
     record(
         rt, alloc, &mut shelf, auction, servers, book, "o", &FreeGate,
@@ -107,59 +100,5 @@ fn expect_reply(rt: &impl Abort, alloc: Global, reply: &Reply) {
 
 #[test]
 fn transcript_is_read_whole_and_cut_off(rt: HostRuntime) {
-    let reply = recorded(&rt, rt.alloc());
-    expect_reply(&rt, rt.alloc(), &reply);
-}
-
-/// A book of 2,000 bidders, of whom there is no bid.
-fn book_of_many(rt: &impl Abort, alloc: Global) -> String {
-    let mut book = String::from_str(alloc, "beet-book,1\n").expect(rt, "memory");
-    for i in 0..2_000u32 {
-        let row = format!(in alloc;
-            "b{i},0,none.bid,seed,0a0a0a0a0a0a0a0a0a0a0a0a0a0a0a0a0a0a0a0a0a0a0a0a0a0a0a0a0a0a0a0a\n"
-        ).expect(rt, "memory");
-        book.push_str(row.as_str()).expect(rt, "memory");
-    }
-    book
-}
-
-/// Auctions of 251 and of 250 prices.
-const TOO_MANY: &str = "beet-auction,1\nbase,100\ntick,5\nprices,251\ngates,chain\n";
-
-const MOST: &str = "beet-auction,1\nbase,100\ntick,5\nprices,250\ngates,chain\n";
-
-/// Whether a job is refused by this line.
-fn is_refused(end: Result<Reply, Stop>, wanted: &str) -> bool {
-    match end {
-        Err(Stop::Refused(_, line)) => line.as_slice() == wanted.as_bytes(),
-        _ => false,
-    }
-}
-
-/// Compares the line that a book of 2,000 bidders without bids is refused by, at this auction.
-fn expect_line(
-    rt: &(impl Abort + Threads + Wait + Sync),
-    alloc: Global,
-    auction: &str,
-    book: &str,
-    wanted: &str,
-) {
-    let mut shelf = shelf(rt, alloc, &[("big.auc", auction), ("big.book", book)]);
-    let end = record(
-        rt, alloc, &mut shelf, "big.auc", "s.srv", "big.book", "o", &FreeGate,
-    );
-    assert!(rt; is_refused(end, wanted));
-}
-
-/// Compares the lines at both auctions.
-fn expect_lines(rt: &(impl Abort + Threads + Wait + Sync), alloc: Global, book: &str) {
-    let refused = "bad file: big.book row 0 reason 6\n";
-    expect_line(rt, alloc, TOO_MANY, book, refused);
-    expect_line(rt, alloc, MOST, book, "read fault: none.bid\n");
-}
-
-#[test]
-fn product_of_a_book(rt: HostRuntime) {
-    let book = book_of_many(&rt, rt.alloc());
-    expect_lines(&rt, rt.alloc(), book.as_str());
+    expect_reply(&rt, rt.alloc(), &recorded(&rt, rt.alloc()));
 }

@@ -45,11 +45,6 @@ fn file_in(rt: &impl Abort, alloc: Global, (magic, policy): Form, numbers: &[u64
     file
 }
 
-/// The transcript of these numbers.
-fn file_of(rt: &impl Abort, alloc: Global, numbers: &[u64; 33]) -> Vec<u8> {
-    file_in(rt, alloc, PLAIN, numbers)
-}
-
 /// The numbers of the small transcript, of which one is another.
 fn small_with(rt: &impl Abort, place: usize, number: u64) -> [u64; 33] {
     let mut numbers = SMALL;
@@ -60,7 +55,7 @@ fn small_with(rt: &impl Abort, place: usize, number: u64) -> [u64; 33] {
 
 /// Compares the offset and the reason that the transcript of these numbers is refused with.
 fn expect_fault(rt: &impl Abort, alloc: Global, numbers: &[u64; 33], fault: Option<(u64, u32)>) {
-    let file = file_of(rt, alloc, numbers);
+    let file = file_in(rt, alloc, PLAIN, numbers);
     assert!(rt; fault_of(rt, alloc, file.as_slice()) == fault);
 }
 
@@ -84,7 +79,7 @@ fn expect_product(rt: &impl Abort, alloc: Global, bidders: u64, fault: (u64, u32
 
 /// The view of the small transcript.
 fn small(rt: &impl Abort, alloc: Global) -> View {
-    let file = file_of(rt, alloc, &SMALL);
+    let file = file_in(rt, alloc, PLAIN, &SMALL);
     assert!(rt; file.len() <= 1_000);
     read_view(alloc, file.as_slice()).expect(rt, "a view")
 }
@@ -95,17 +90,13 @@ fn first_number(view: &View, round: u32, sender: Point) -> Option<u64> {
     Some(numbers.first()?.value())
 }
 
-/// What the small view tells of its server and the run.
-fn expect_run(rt: &impl Abort, view: &View) {
+/// What the small view tells of its server, of the run and of the messages.
+fn expect_small(rt: &impl Abort, view: &View) {
     assert!(rt; view.server() == Point::Two);
     assert!(rt; view.grid().prices() == 2);
     assert!(rt; view.masks().len() == 1);
     assert!(rt; view.coefficients().len() == 2);
     assert!(rt; view.rounds() == 1);
-}
-
-/// What it tells of the messages.
-fn expect_messages(rt: &impl Abort, view: &View) {
     assert!(rt; first_number(view, 0, Point::One) == Some(11));
     assert!(rt; first_number(view, 0, Point::Three) == Some(12));
     assert!(rt; first_number(view, 0, Point::Two).is_none());
@@ -114,9 +105,7 @@ fn expect_messages(rt: &impl Abort, view: &View) {
 
 #[test]
 fn small_view(rt: HostRuntime) {
-    let view = small(&rt, rt.alloc());
-    expect_run(&rt, &view);
-    expect_messages(&rt, &view);
+    expect_small(&rt, &small(&rt, rt.alloc()));
 }
 
 /// What the bidder of a place buys at the last price and the number of its words, where the server knows it.
@@ -193,10 +182,11 @@ fn forms(rt: HostRuntime) {
     expect_forms(&rt, rt.alloc(), &FORMS);
 }
 
-/// Lengths of fronts of the small transcript in a form, with the offset and the reason that they are refused with.
+/// Lengths of fronts of the small transcript in a form with a byte more, and the offset and the reason that they are refused with.
 type Front = (Form, usize, Option<(u64, u32)>);
 
-const FRONTS: [Front; 11] = [
+const FRONTS: [Front; 12] = [
+    (PLAIN, 273, Some((272, 4))),
     (PLAIN, 272, None),
     (PLAIN, 0, Some((0, 1))),
     (PLAIN, 7, Some((0, 1))),
@@ -228,21 +218,15 @@ fn expect_front(
 /// Reads the front of each case.
 fn expect_fronts(rt: &impl Abort, alloc: Global, cases: &[Front]) {
     for (form, length, fault) in cases {
-        let file = file_in(rt, alloc, *form, &SMALL);
+        let mut file = file_in(rt, alloc, *form, &SMALL);
+        file.push(0).expect(rt, "memory");
         expect_front(rt, alloc, &file, *length, *fault);
     }
 }
 
 #[test]
-fn cut_off(rt: HostRuntime) {
+fn cut_off_and_longer(rt: HostRuntime) {
     expect_fronts(&rt, rt.alloc(), &FRONTS);
-}
-
-#[test]
-fn longer(rt: HostRuntime) {
-    let mut file = file_of(&rt, rt.alloc(), &SMALL);
-    file.push(0).expect(&rt, "memory");
-    assert!(rt; fault_of(&rt, rt.alloc(), file.as_slice()) == Some((272, 4)));
 }
 
 /// Numbers that a field may not hold.

@@ -47,21 +47,8 @@ const KNOWN: Only = (Some(Point::Two), 40, 35);
 
 const KNOWN_SELLS_MORE: Only = (Some(Point::Two), 41, 35);
 
-/// What is opened at the one price beside it: the volume, and the supply.
-type Shown = (Option<u64>, Option<u64>);
-
-/// The outcome with the one price, and this.
-fn price_and((volume, supply): Shown) -> Outcome {
-    Outcome::Price {
-        place: 0,
-        price: 100,
-        volume,
-        supply,
-    }
-}
-
 /// A book of one bidder over a grid of one price with this policy.
-fn book_with(rt: &impl Abort, alloc: Global, policy: Policy, (known, sell, buy): Only) -> Book {
+fn book(rt: &impl Abort, alloc: Global, policy: Policy, (known, sell, buy): Only) -> Book {
     let grid = Grid::new(100, 5, 1, Gates::Chain).expect(rt, "a grid");
     let grid = grid.with_policy(policy);
     let buy = vec![in alloc; buy].expect(rt, "memory");
@@ -69,11 +56,6 @@ fn book_with(rt: &impl Abort, alloc: Global, policy: Policy, (known, sell, buy):
     let curve = Curve::of(&grid, buy, sell).expect(rt, "a curve");
     let bidders = vec![in alloc; Bidder { known, curve }].expect(rt, "memory");
     Book::new(grid, bidders).expect(rt, "a book")
-}
-
-/// The same with the policy that opens the price and the volume.
-fn book(rt: &impl Abort, alloc: Global, only: Only) -> Book {
-    book_with(rt, alloc, Policy::Volume, only)
 }
 
 /// The list of these words.
@@ -88,16 +70,10 @@ fn words(rt: &impl Abort, alloc: Global, numbers: &[u64]) -> WordList {
 
 /// Whether the list holds these words.
 fn holds(list: &WordList, numbers: &[u64]) -> bool {
-    let words = list.as_slice();
-    if words.len() != numbers.len() {
-        return false;
-    }
-    for (word, number) in words.iter().zip(numbers) {
-        if word.value() != *number {
-            return false;
-        }
-    }
-    true
+    list.as_slice()
+        .iter()
+        .map(|word| word.value())
+        .eq(numbers.iter().copied())
 }
 
 /// A list of these words for each server.
@@ -141,8 +117,8 @@ fn becomes(
     before: &[u64],
     after: &[u64],
 ) -> bool {
-    let first = book(rt, alloc, UNKNOWN);
-    let second = book(rt, alloc, SELLS_MORE);
+    let first = book(rt, alloc, Policy::Volume, UNKNOWN);
+    let second = book(rt, alloc, Policy::Volume, SELLS_MORE);
     let masks = masks_of(rt, alloc, at, before);
     let mapped = mapped_masks(rt, alloc, me, &first, &second, &masks);
     let becomes = holds(mapped.get(at), after);
@@ -186,8 +162,8 @@ fn differences(
     first: Only,
     second: Only,
 ) -> [Option<MapFault>; 2] {
-    let first = book_with(rt, alloc, policy, first);
-    let second = book_with(rt, alloc, policy, second);
+    let first = book(rt, alloc, policy, first);
+    let second = book(rt, alloc, policy, second);
     assert!(rt; first.grid() == second.grid());
     let alone = agreement(Point::Two, &first, &second).err();
     let words = words_of_one(rt, alloc);
@@ -196,94 +172,110 @@ fn differences(
     [alone, mapped]
 }
 
-/// The outcome of the first bidder's book.
-const PRICE: Outcome = Outcome::Price {
+/// Outcomes with the one price: the volume of 35 is that of the first bidder's book, and of 34 that of one that buys less.
+const VOLUME: Outcome = Outcome::Price {
     place: 0,
     price: 100,
     volume: Some(35),
     supply: None,
 };
 
-/// Two books, and what tells them apart.
-type Differing = (Only, Only, Option<MapFault>);
+const LESS_VOLUME: Outcome = Outcome::Price {
+    place: 0,
+    price: 100,
+    volume: Some(34),
+    supply: None,
+};
+
+/// The same with the supply, and that of a book that sells more.
+const FULL: Outcome = Outcome::Price {
+    place: 0,
+    price: 100,
+    volume: Some(35),
+    supply: Some(40),
+};
+
+const LESS_VOLUME_FULL: Outcome = Outcome::Price {
+    place: 0,
+    price: 100,
+    volume: Some(34),
+    supply: Some(40),
+};
+
+const MORE_SUPPLY: Outcome = Outcome::Price {
+    place: 0,
+    price: 100,
+    volume: Some(35),
+    supply: Some(41),
+};
+
+/// A policy and two books, and what tells them apart.
+type Differing = (Policy, Only, Only, Option<MapFault>);
 
 const BOOKS: [Differing; 5] = [
-    (UNKNOWN, SELLS_MORE, None),
-    (KNOWN, KNOWN, None),
-    (KNOWN, UNKNOWN, Some(MapFault::ShapeDiffers(1))),
-    (KNOWN, KNOWN_SELLS_MORE, Some(MapFault::OwnBidsDiffer(1))),
+    (Policy::Volume, UNKNOWN, SELLS_MORE, None),
+    (Policy::Volume, KNOWN, KNOWN, None),
     (
+        Policy::Volume,
+        KNOWN,
+        UNKNOWN,
+        Some(MapFault::ShapeDiffers(1)),
+    ),
+    (
+        Policy::Volume,
+        KNOWN,
+        KNOWN_SELLS_MORE,
+        Some(MapFault::OwnBidsDiffer(1)),
+    ),
+    (
+        Policy::Volume,
         UNKNOWN,
         SELLS_LESS,
-        Some(MapFault::OutcomesDiffer(PRICE, Outcome::No)),
+        Some(MapFault::OutcomesDiffer(VOLUME, Outcome::No)),
     ),
 ];
 
-/// Compares what tells two books apart.
-fn expect_differences(
-    rt: &impl Abort,
-    alloc: Global,
-    policy: Policy,
-    first: Only,
-    second: Only,
-    fault: Option<MapFault>,
-) {
-    assert!(rt; differences(rt, alloc, policy, first, second) == [fault, fault]);
-}
-
-/// Compares the books of each case.
-fn expect_books(rt: &impl Abort, alloc: Global, cases: &[Differing]) {
-    for (first, second, fault) in cases {
-        expect_differences(rt, alloc, Policy::Volume, *first, *second, *fault);
+/// Compares what tells the books of each case apart.
+fn expect_differences(rt: &impl Abort, alloc: Global, cases: &[Differing]) {
+    for (policy, first, second, fault) in cases {
+        let found = differences(rt, alloc, *policy, *first, *second);
+        assert!(rt; found == [*fault, *fault]);
     }
 }
 
 #[test]
 fn differences_of_books(rt: HostRuntime) {
-    expect_books(&rt, rt.alloc(), &BOOKS);
+    expect_differences(&rt, rt.alloc(), &BOOKS);
 }
 
-/// A policy and a second book with the same price, and where that tells them apart, what is opened of the first bidder's book and of
-/// the second.
-type Opened = (Policy, Only, Option<(Shown, Shown)>);
-
-const OPENED: [Opened; 6] = [
-    (Policy::Price, BUYS_LESS, None),
+/// Books with the same price, of which only what is opened beside it may tell them apart.
+const OPENED: [Differing; 6] = [
+    (Policy::Price, UNKNOWN, BUYS_LESS, None),
     (
         Policy::Volume,
+        UNKNOWN,
         BUYS_LESS,
-        Some(((Some(35), None), (Some(34), None))),
+        Some(MapFault::OutcomesDiffer(VOLUME, LESS_VOLUME)),
     ),
     (
         Policy::Full,
+        UNKNOWN,
         BUYS_LESS,
-        Some(((Some(35), Some(40)), (Some(34), Some(40)))),
+        Some(MapFault::OutcomesDiffer(FULL, LESS_VOLUME_FULL)),
     ),
-    (Policy::Price, SELLS_MORE, None),
-    (Policy::Volume, SELLS_MORE, None),
+    (Policy::Price, UNKNOWN, SELLS_MORE, None),
+    (Policy::Volume, UNKNOWN, SELLS_MORE, None),
     (
         Policy::Full,
+        UNKNOWN,
         SELLS_MORE,
-        Some(((Some(35), Some(40)), (Some(35), Some(41)))),
+        Some(MapFault::OutcomesDiffer(FULL, MORE_SUPPLY)),
     ),
 ];
 
-/// Outcomes that differ in this.
-fn other_outcomes(shown: Option<(Shown, Shown)>) -> Option<MapFault> {
-    let (one, other) = shown?;
-    Some(MapFault::OutcomesDiffer(price_and(one), price_and(other)))
-}
-
-/// Compares the first bidder's book with that of each case.
-fn expect_opened(rt: &impl Abort, alloc: Global, cases: &[Opened]) {
-    for (policy, second, shown) in cases {
-        expect_differences(rt, alloc, *policy, UNKNOWN, *second, other_outcomes(*shown));
-    }
-}
-
 #[test]
 fn differences_that_are_opened(rt: HostRuntime) {
-    expect_opened(&rt, rt.alloc(), &OPENED);
+    expect_differences(&rt, rt.alloc(), &OPENED);
 }
 
 /// The mapped words of the one bidder of two books, for server `me`.
@@ -307,7 +299,7 @@ fn mapped_bidders(
 }
 
 /// Whether these words of a bidder become those, for server `me`, where the bidder has another mark and curve in the second world.
-fn curve_becomes(
+fn bidder_becomes(
     rt: &impl Abort,
     alloc: Global,
     me: Point,
@@ -315,63 +307,54 @@ fn curve_becomes(
     before: &[u64],
     after: &[u64],
 ) -> bool {
-    let first = book(rt, alloc, first);
-    let second = book(rt, alloc, second);
+    let first = book(rt, alloc, Policy::Volume, first);
+    let second = book(rt, alloc, Policy::Volume, second);
     let lists = vec![in alloc; words(rt, alloc, before)].expect(rt, "memory");
     let mapped = mapped_bidders(rt, alloc, me, &first, &second, &lists);
     mapped.len() == 1 && holds(&mapped[0], after)
 }
 
-/// The same, where the bidder buys and sells one more in the second world.
-fn bidder_becomes(
-    rt: &impl Abort,
-    alloc: Global,
-    me: Point,
-    known: Option<Point>,
-    before: &[u64],
-    after: &[u64],
-) -> bool {
-    let bidders = ((known, 40, 35), (known, 41, 36));
-    curve_becomes(rt, alloc, me, bidders, before, after)
-}
-
-/// The slope 1 of 45 becomes 1 + 45/2 for server 2, with which 0 has the same point, 47.
-#[test]
-fn slope_of_another_quantity(rt: HostRuntime) {
-    let bidders = ((None, 60, 45), (None, 60, 0));
-    assert!(rt;
-        curve_becomes(
-            &rt,
-            rt.alloc(),
-            Point::Two,
-            bidders,
-            &[1, 9],
-            &[HALF + 23, 9]
-        )
-    );
-}
-
-/// For a server and the server that knows the bidder the words of the bidder, and what becomes of them.
-type Moved = (Point, Option<Point>, &'static [u64], &'static [u64]);
-
-const BIDDERS: [Moved; 4] = [
-    (Point::One, None, &[3, 4, 5], &[2, 3, 5]),
-    (
-        Point::One,
-        Some(Point::Two),
-        &[0, ONES, 4, ONES, 5],
-        &[ONES - 1, ONES, 3, ONES, 5],
-    ),
-    (Point::Two, None, &[3, 4], &[HALF + 2, HALF + 3]),
-    (Point::Two, Some(Point::Two), &[3, 4], &[3, 4]),
-];
+/// For a server the bidder in both worlds, its words, and what becomes of them.
+type Moved = (Point, Only, Only, &'static [u64], &'static [u64]);
 
 /// Maps the words of the bidder of each case.
 fn expect_moved(rt: &impl Abort, alloc: Global, cases: &[Moved]) {
-    for (me, known, before, after) in cases {
-        assert!(rt; bidder_becomes(rt, alloc, *me, *known, before, after));
+    for (me, first, second, before, after) in cases {
+        assert!(rt; bidder_becomes(rt, alloc, *me, (*first, *second), before, after));
     }
 }
+
+/// The slope 1 of 45 becomes 1 + 45/2 for server 2, with which 0 has the same point, 47.
+const SLOPE: [Moved; 1] = [(
+    Point::Two,
+    (None, 60, 45),
+    (None, 60, 0),
+    &[1, 9],
+    &[HALF + 23, 9],
+)];
+
+#[test]
+fn slope_of_another_quantity(rt: HostRuntime) {
+    expect_moved(&rt, rt.alloc(), &SLOPE);
+}
+
+/// The bidder that no server knows where it buys and sells one more, and the same where server 2 knows it.
+const MORE: Only = (None, 41, 36);
+
+const KNOWN_MORE: Only = (Some(Point::Two), 41, 36);
+
+const BIDDERS: [Moved; 4] = [
+    (Point::One, UNKNOWN, MORE, &[3, 4, 5], &[2, 3, 5]),
+    (
+        Point::One,
+        KNOWN,
+        KNOWN_MORE,
+        &[0, ONES, 4, ONES, 5],
+        &[ONES - 1, ONES, 3, ONES, 5],
+    ),
+    (Point::Two, UNKNOWN, MORE, &[3, 4], &[HALF + 2, HALF + 3]),
+    (Point::Two, KNOWN, KNOWN_MORE, &[3, 4], &[3, 4]),
+];
 
 #[test]
 fn bidders_of_the_second_world(rt: HostRuntime) {
@@ -389,7 +372,7 @@ fn expect_lines(rt: &impl Abort, alloc: Global, book: &Book, lists: &[WordList])
 
 #[test]
 fn lines_of_the_inputs(rt: HostRuntime) {
-    let book = book(&rt, rt.alloc(), UNKNOWN);
+    let book = book(&rt, rt.alloc(), Policy::Volume, UNKNOWN);
     let words = words(&rt, rt.alloc(), &[ONES, 3, 4, 5]);
     let lists = vec![in rt.alloc(); words].expect(&rt, "memory");
     expect_lines(&rt, rt.alloc(), &book, &lists);
@@ -446,7 +429,7 @@ fn words_of_counts(
 
 /// Whether so many words are enough for a book of one price.
 fn are_enough(rt: &impl Abort, alloc: Global, counts: Counts) -> bool {
-    let book = book(rt, alloc, UNKNOWN);
+    let book = book(rt, alloc, Policy::Volume, UNKNOWN);
     let words = words_of_counts(rt, alloc, counts);
     let enough = enough(&book, &words);
     drop((book, words));
@@ -499,8 +482,8 @@ fn mapped_words(
 
 /// The same of the books of the first bidder and of this one.
 fn mapped(rt: &impl Abort, alloc: Global, policy: Policy, second: Only) -> Words {
-    let first = book_with(rt, alloc, policy, UNKNOWN);
-    let second = book_with(rt, alloc, policy, second);
+    let first = book(rt, alloc, policy, UNKNOWN);
+    let second = book(rt, alloc, policy, second);
     let words = words_of_one(rt, alloc);
     let mapped = mapped_words(rt, alloc, &first, &second, &words);
     drop((first, second, words));

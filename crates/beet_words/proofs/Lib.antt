@@ -1,4 +1,5 @@
 mod HexDigits
+mod Appending
 pub mod TapeRows
 pub mod TapeAgain
 pub mod Times

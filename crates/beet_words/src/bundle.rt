@@ -238,19 +238,18 @@ fn push_server(
     push_list(file, coefficients)
 }
 
-/// The bytes of the words.
-fn bytes_of(alloc: Global, words: &Words) -> Result<Vec<u8>, AllocError>
-    ensures bytes { IfOk result (λ file. file.items ≡ bundle_bytes words.now) }
+/// Appends the bundle of the words.
+fn push_bundle(file: &mut Vec<u8>, words: &Words) -> Result<(), AllocError>
+    ensures bytes { OnOk result (file.new.items ≡ file.old.items ++ bundle_bytes words.now) }
     ensures words { OnOk result (AreWords words.now) }
 {
-    let mut file = Vec::new(alloc);
+    let bidders = words.bidders.as_slice();
     file.extend_from_slice(MAGIC)?;
-    push_number(&mut file, words.bidders.len() as u64)?;
-    push_server(&mut file, &words.masks.one, &words.coefficients.one)?;
-    push_server(&mut file, &words.masks.two, &words.coefficients.two)?;
-    push_server(&mut file, &words.masks.three, &words.coefficients.three)?;
-    push_lists(&mut file, &words.bidders)?;
-    Ok(file)
+    push_number(file, bidders.len() as u64)?;
+    push_server(file, &words.masks.one, &words.coefficients.one)?;
+    push_server(file, &words.masks.two, &words.coefficients.two)?;
+    push_server(file, &words.masks.three, &words.coefficients.three)?;
+    push_lists(file, bidders)
 }
 
 /// The bundle of the words, which are at most 2,000 bidders and at most 16,384 words in each list.
@@ -260,6 +259,7 @@ pub fn write_bundle(alloc: Global, words: &Words) -> Result<Vec<u8>, AllocError>
     ensures bytes { IfOk result (λ file. file.items ≡ bundle_bytes words.now) }
     ensures again { IfOk result (λ file. bundle_of file.items ≡ Ok words.now) }
 {
-    let file = bytes_of(alloc, words)?;
+    let mut file = Vec::new(alloc);
+    push_bundle(&mut file, words)?;
     Ok(file)
 }

@@ -9,7 +9,7 @@ use std::alloc::AllocError;
 
 /// The numbers that a field may hold, and the format's reasons against a field that is cut off
 /// and against one that holds another number.
-#[derive(Clone, Copy, Debug, PartialEq, Eq)]
+#[derive(Clone, Copy)]
 pub struct Allowed {
     pub low: u64,
     pub high: u64,

@@ -27,7 +27,7 @@ pub const ONE_TOO_MANY: u32 = MOST_DELIVERIES + 2;
 pub const LATEST_ROUND: u64 = 999_999;
 
 /// The message that one server sends to another in a round is delivered.
-#[derive(Clone, Copy, PartialEq, Eq, Debug)]
+#[derive(Clone, Copy, PartialEq, Eq)]
 pub struct Delivery {
     /// The sender.
     pub from: Point,

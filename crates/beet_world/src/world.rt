@@ -28,7 +28,7 @@ use std::marker::Model;
 use std::snapshot::Snapshot;
 
 /// What became of a message that was to be delivered.
-#[derive(Clone, Copy, PartialEq, Eq, Debug)]
+#[derive(Clone, Copy, PartialEq, Eq)]
 pub enum Event {
     /// The receiver got a copy, and this is its verdict.
     Delivered(Verdict),
@@ -68,6 +68,17 @@ fn mark_place(from: Point, side: Side, round: usize) -> usize
     6 * round + (2 * (from.number() as usize - 1) + side)
 }
 
+/// The message to the peer of a side, from both messages of a round.
+fn message_to(messages: &[RoundMessage; 2], side: Side) -> &RoundMessage
+    ensures { (low high : Message) → messages.now ≡ low ∷ high ∷ [] → result.now ≡ of_side side low high }
+{
+    let [low, high] = messages;
+    match side {
+        Side::Low => low,
+        Side::High => high,
+    }
+}
+
 /// A copy of the message of a server to its peer on a side in a round, or `None` where it was not
 /// sent.
 fn sent_message(
@@ -81,11 +92,8 @@ fn sent_message(
         → slice_get (member sent.now from).items round ≡ Some (low ∷ high ∷ [])
         → m ≡ of_side side low high) }
 {
-    let [low, high] = sent.get(from).get(round as usize)?;
-    match side {
-        Side::Low => Some(low.copy()),
-        Side::High => Some(high.copy()),
-    }
+    let messages = sent.get(from).get(round as usize)?;
+    Some(message_to(messages, side).copy())
 }
 
 /// Gives a server a message, and takes what it then has to hand out.

@@ -1,9 +1,12 @@
 -- The words of all bidders, one after another.
-use Rattle.std.proofs.Common.{◌≡◌, ◌<◌, ◌+◌, ◌*◌, ℕ, zero, suc, inl, inr, List, [], ◌∷◌, ◌++◌, map, length, slice_get, Some, refl, sym, ap, ◌∙◌, arith, length-append}
+use Rattle.std.proofs.Common.{◌≡◌, ◌<◌, ◌+◌, ◌*◌, ℕ, zero, suc, inl, inr, List, [], ◌∷◌, ◌++◌, All, map, length, get_or, slice_get, Some, refl, sym, ap, subst, ◌∙◌, arith, length-append}
 use Rattle.std.proofs.lemmas.List.{length-map}
 use Rattle.std.proofs.lemmas.Bool.{cases_lt}
+use Rattle.std.proofs.lemmas.List.Elements.{All-get_or}
 use Rattle.std.proofs.lemmas.Option.{slice_get_within}
 use Rattle.beet_field.specs.declared.point.Point.{Point}
+use Rattle.beet_bids.specs.Curves.{IsOfGrid}
+use Rattle.beet_bids.specs.Grids.{Grid}
 use Rattle.beet_bids.specs.declared.book.Bidder.{Bidder}
 use Rattle.beet_gates.proofs.EachFacts.{get-append, get-append_right}
 use Rattle.beet_book.specs.Farmers.{Farmer, farmers_of}
@@ -50,6 +53,11 @@ mark-at bidders others k one other same e f =
 pub as-many : (bidders others : List Bidder) → map (λ (b : Bidder). b.known) others ≡ map (λ (b : Bidder). b.known) bidders → length others ≡ length bidders
 as-many bidders others same =
     sym (length-map others (λ (b : Bidder). b.known)) ∙ ap length same ∙ length-map bidders (λ (b : Bidder). b.known)
+
+-- the curve of a bidder at a place is of the grid
+pub curve-at : (grid : Grid) (bidders : List Bidder) (k : ℕ) (one : Bidder) → All (λ (b : Bidder). IsOfGrid grid b.curve) bidders → k < length bidders →
+    one ≡ get_or bidders k one → IsOfGrid grid one.curve
+curve-at grid bidders k one all lt is = subst (λ (b : Bidder). IsOfGrid grid b.curve) (sym is) (All-get_or (λ (b : Bidder). IsOfGrid grid b.curve) bidders k one lt all)
 
 -- bidders and their words, by place
 farmer-at : (bidders : List Bidder) (words : List (List ℕ)) (k : ℕ) (one : Farmer) → slice_get (farmers_of bidders words) k ≡ Some one →

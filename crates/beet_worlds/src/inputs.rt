@@ -1,8 +1,9 @@
 //! The lines on which the inputs of a book's auction lie.
 
-ghost use Rattle.std.specs.Prelude.{◌≡◌, ◌≢◌, ◌<◌, ◌≤◌, ◌+◌, ◌*◌, ◌%◌, ◌++◌, ℕ, length, map, slice_index, sum_by, IfOk};
+ghost use Rattle.std.specs.Prelude.{◌≡◌, ◌≢◌, ◌<◌, ◌≤◌, ◌+◌, ◌*◌, ◌%◌, ◌++◌, ℕ, length, map, slice_index, sum_by, IfOk, OnOk};
 ghost use Rattle.std.specs.List.{range_with_len};
 ghost use Rattle.beet_field.specs.Field.{p, add_of};
+ghost use Rattle.beet_words.specs.Words.{accepted};
 ghost use Rattle.beet_shamir.specs.declared.Line.{Line as Seen};
 ghost use Rattle.beet_gates.specs.Each.{each};
 ghost use Rattle.beet_bids.specs.Sums.{supply_at, demand_at};
@@ -27,14 +28,24 @@ fn add_numbers(sums: &mut [Fe], numbers: &[Fe])
     }
 }
 
+/// Adds the slopes that a bidder draws from its words to the sums, place by place.
+fn add_slopes(alloc: Global, sums: &mut [Fe], words: &WordList) -> Result<(), AllocError>
+    ensures same_length { length sums.new ≡ length sums.old }
+    ensures added { OnOk result ((k : ℕ) → k < length sums.old →
+        slice_index sums.new k ≡ add_of (slice_index sums.old k) (slice_index (accepted words.now) k)) }
+{
+    let numbers = numbers_in(alloc, words.as_slice())?;
+    add_numbers(sums, numbers.as_slice());
+    Ok(())
+}
+
 /// The sums of so many slopes of all bidders, buy first.
 fn summed_slopes(alloc: Global, words: &[WordList], count: usize) -> Result<Vec<Fe>, AllocError>
     ensures { IfOk result (λ sums. sums.items ≡ each (summed_slope words.now) count) }
 {
     let mut sums = vec![in alloc; Fe::default(); count]?;
     for list in words {
-        let numbers = numbers_in(alloc, list.as_slice())?;
-        add_numbers(&mut sums, numbers.as_slice());
+        add_slopes(alloc, &mut sums, list)?;
     }
     Ok(sums)
 }

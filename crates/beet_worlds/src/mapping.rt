@@ -23,6 +23,7 @@ use crate::inputs::input_lines;
 use crate::masks::map_masks;
 use beet_bids::{Book, Grid};
 use beet_field::{Point, Trio};
+use beet_forms::beside;
 use beet_map::{GateFault, Secrets, gate_map};
 use beet_search::AuctionScript;
 use beet_words::{WordList, Words};
@@ -41,11 +42,12 @@ fn look_at(words: &Trio<WordList>)
 fn copy_of(alloc: Global, words: &Trio<WordList>) -> Result<Trio<WordList>, AllocError>
     ensures { IfOk result (λ copy. copy ≡ words.now) }
 {
-    Ok(Trio {
-        one: words.one.copy(alloc)?,
-        two: words.two.copy(alloc)?,
-        three: words.three.copy(alloc)?,
-    })
+    let copies = Trio {
+        one: words.one.copy(alloc),
+        two: words.two.copy(alloc),
+        three: words.three.copy(alloc),
+    };
+    copies.transpose()
 }
 
 /// What the servers hold in the auction of a book, with these mask words and bidders' words.
@@ -62,7 +64,7 @@ fn secrets_with(
 {
     // A book is within its limits.
     let _grid = book.grid();
-    let inputs = input_lines(alloc, book, bidders)?;
+    let (masks, inputs) = beside(masks, input_lines(alloc, book, bidders))?;
     Ok(Secrets { inputs, masks })
 }
 
@@ -80,11 +82,16 @@ fn map_coefficients(
     requires there { HasSecrets (2 * grid.now.prices) (most_masks (auction_over grid.now)) there.now }
     requires numbers { HasWords (most_coefficients (auction_over grid.now)) (numbers_of words.now) }
     requires same { LookSameIn grid.now me here.now there.now }
-    ensures { IfOk result (CoefficientsMapped grid.now me here.now there.now words.now) }
+    ensures mapped { IfOk result (CoefficientsMapped grid.now me here.now there.now words.now) }
+    ensures below { IfOk result (λ mapped.
+        All IsWord mapped.one × All IsWord mapped.two × All IsWord mapped.three) }
 {
     let script = AuctionScript::over(grid);
     match gate_map(alloc, me, &script, here, there, words) {
-        Ok(mapped) => Ok(mapped),
+        Ok(mapped) => {
+            look_at(&mapped);
+            Ok(mapped)
+        }
         Err(GateFault::OutOfMemory) => Err(AllocError),
         Err(_) => unreachable!(),
     }
@@ -108,6 +115,39 @@ fn into_masks(secrets: Secrets) -> Trio<WordList>
     secrets.masks
 }
 
+/// The mask words and the coefficient words of the second world, whose bidders have these words. In the first the servers hold
+/// `here`.
+fn map_beside(
+    alloc: Global,
+    me: Point,
+    first: &Book,
+    second: &Book,
+    words: &Words,
+    bidders: &[WordList],
+    here: &Secrets,
+) -> Result<(Trio<WordList>, Trio<WordList>), AllocError>
+    requires enough { AreEnough first.now words.now }
+    requires agree { Agree me first.now second.now }
+    requires count { length bidders.now ≡ length words.now.bidders }
+    requires mapped { BiddersMapped me first.now.grid.prices
+        (farmers_of first.now.bidders words.now.bidders) (farmers_of second.now.bidders bidders.now) }
+    requires below { All (λ list. All IsWord list) words.now.bidders }
+    requires words { All (λ list. All IsWord list) bidders.now }
+    requires inputs { AreInputLines first.now words.now.bidders here.now.inputs }
+    requires masks { here.now.masks ≡ words.now.masks }
+    requires limits { IsBook first.now }
+    ensures { IfOk result (λ mapped. WorldsMapped me first.now words.now second.now
+        (record { masks = mapped.0; coefficients = mapped.1; bidders = bidders.now })) }
+{
+    look_at(&words.masks);
+    look_at(&words.coefficients);
+    let masks = map_masks(alloc, me, first, second, &words.masks)?;
+    look_at(&masks);
+    let there = secrets_with(alloc, second, masks, bidders)?;
+    let coefficients = map_coefficients(alloc, me, first.grid(), here, &there, &words.coefficients);
+    beside(into_masks(there), coefficients)
+}
+
 /// The mask words and the coefficient words of the second world, whose bidders have these words.
 fn map_for_servers(
     alloc: Global,
@@ -127,25 +167,10 @@ fn map_for_servers(
     ensures { IfOk result (λ mapped. WorldsMapped me first.now words.now second.now
         (record { masks = mapped.0; coefficients = mapped.1; bidders = bidders.now })) }
 {
-    look_at(&words.masks);
-    look_at(&words.coefficients);
-    let masks = map_masks(alloc, me, first, second, &words.masks)?;
-    let there = secrets_with(alloc, second, masks, bidders)?;
     let here = secrets_of(alloc, first, words)?;
-    let coefficients = map_coefficients(
-        alloc,
-        me,
-        first.grid(),
-        &here,
-        &there,
-        &words.coefficients,
-    );
+    let mapped = map_beside(alloc, me, first, second, words, bidders, &here);
     drop(here);
-    let masks = into_masks(there);
-    let coefficients = coefficients?;
-    look_at(&masks);
-    look_at(&coefficients);
-    Ok((masks, coefficients))
+    mapped
 }
 
 /// The words of the second world, of two books that agree for server `me`.

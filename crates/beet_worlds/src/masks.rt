@@ -7,8 +7,6 @@ ghost use Rattle.beet_bids.specs.Outcomes.{clearing_place};
 ghost use Rattle.beet_field.specs.Trio.{member};
 ghost use Rattle.beet_words.specs.Words.{IsWord, ones};
 ghost use Rattle.beet_plan.specs.Search.{path, mask_at, is_accepted};
-ghost use Rattle.beet_round.specs.Sides.{peer};
-ghost use Rattle.beet_round.specs.declared.sides.Side.TheVariants.{Low};
 ghost use Rattle.beet_worlds.specs.Turn.{turned};
 ghost use Rattle.beet_worlds.specs.MappedMasks.{MasksMapped, compared_in, place_after, word_mapped};
 
@@ -109,6 +107,35 @@ fn count_rejected(before: usize, mask: Word) -> usize
     if mask.is_ones() { before + 1 } else { before }
 }
 
+/// The words of one server in the second world, which turn each mask that is compared at one of these places in the first.
+fn turn_at(
+    alloc: Global,
+    places: &[u32],
+    first: &Book,
+    second: &Book,
+    masks: &Trio<WordList>,
+    server: Point,
+) -> Result<WordList, AllocError>
+    requires grids { first.now.grid.prices ≡ second.now.grid.prices }
+    requires path { places.now ≡ path first.now.grid.prices (clearing_place first.now) }
+    requires within { All (λ place. place < first.now.grid.prices) places.now }
+    ensures length { IfOk result (λ words. length words ≡ length (member masks.now server)) }
+    ensures turns { IfOk result (λ words. (i : ℕ) → i < length words →
+        slice_index words i ≡ word_mapped first.now second.now (mask_at masks.now i)
+        (slice_index (member masks.now server) i) (compared_in first.now masks.now i)) }
+{
+    let words = masks.get(server).as_slice();
+    let mut turned = WordList::with_capacity(alloc, words.len())?;
+    let mut rejected = 0;
+    for i in 0..words.len() {
+        let mask = mask(masks, i);
+        let place = place_for(places, mask, rejected, i - rejected);
+        turned.push(word_for(first, second, mask, words[i], place))?;
+        rejected = count_rejected(rejected, mask);
+    }
+    Ok(turned)
+}
+
 /// The words of one server in the second world, which turn each mask that is compared in the first.
 fn turning_words(
     alloc: Global,
@@ -124,50 +151,30 @@ fn turning_words(
         (slice_index (member masks.now server) i) (compared_in first.now masks.now i)) }
 {
     let places = path_to(alloc, first.grid(), clearing(first))?;
-    let words = masks.get(server).as_slice();
-    let mut turned = WordList::with_capacity(alloc, words.len())?;
-    let mut rejected = 0;
-    for i in 0..words.len() {
-        let mask = mask(masks, i);
-        let place = place_for(places.as_slice(), mask, rejected, i - rejected);
-        turned.push(word_for(first, second, mask, words[i], place))?;
-        rejected = count_rejected(rejected, mask);
-    }
-    Ok(turned)
+    turn_at(alloc, places.as_slice(), first, second, masks, server)
 }
 
-/// The words of the three servers where server 1 turns the masks.
-fn turned_by_one(
+/// The words of one server in the second world, where the words of `turner` turn each mask that is compared in the first.
+fn words_of(
     alloc: Global,
-    me: Point,
+    turner: Point,
     first: &Book,
     second: &Book,
     masks: &Trio<WordList>,
-) -> Result<Trio<WordList>, AllocError>
-    requires grids { first.now.grid.prices ≡ second.now.grid.prices }
-    requires lower { peer me Low ≡ Point.One }
-    ensures { IfOk result (λ mapped. MasksMapped me first.now second.now masks.now mapped) }
-{
-    let one = turning_words(alloc, first, second, masks, Point::One)?;
-    let two = masks.two.copy(alloc)?;
-    let three = masks.three.copy(alloc)?;
-    Ok(Trio { one, two, three })
-}
-
-/// The words of the three servers where server 2 turns the masks, since server 1 is the one that looks.
-fn turned_by_two(
-    alloc: Global,
-    first: &Book,
-    second: &Book,
-    masks: &Trio<WordList>,
-) -> Result<Trio<WordList>, AllocError>
+    server: Point,
+) -> Result<WordList, AllocError>
     requires { first.now.grid.prices ≡ second.now.grid.prices }
-    ensures { IfOk result (λ mapped. MasksMapped Point.One first.now second.now masks.now mapped) }
+    ensures length { IfOk result (λ words. length words ≡ length (member masks.now server)) }
+    ensures turns { IfOk result (λ words. server ≡ turner → (i : ℕ) → i < length words →
+        slice_index words i ≡ word_mapped first.now second.now (mask_at masks.now i)
+        (slice_index (member masks.now server) i) (compared_in first.now masks.now i)) }
+    ensures other { IfOk result (λ words. server ≢ turner → words ≡ member masks.now server) }
 {
-    let one = masks.one.copy(alloc)?;
-    let two = turning_words(alloc, first, second, masks, Point::Two)?;
-    let three = masks.three.copy(alloc)?;
-    Ok(Trio { one, two, three })
+    if server == turner {
+        turning_words(alloc, first, second, masks, server)
+    } else {
+        masks.get(server).copy(alloc)
+    }
 }
 
 /// The mask words of the second world, with which its comparisons open what those of the first world do. The words of the lower of
@@ -182,8 +189,11 @@ pub fn map_masks(
     requires { first.now.grid.prices ≡ second.now.grid.prices }
     ensures { IfOk result (λ mapped. MasksMapped me first.now second.now masks.now mapped) }
 {
-    match me {
-        Point::One => turned_by_two(alloc, first, second, masks),
-        Point::Two | Point::Three => turned_by_one(alloc, me, first, second, masks),
-    }
+    let [lower, _] = me.others();
+    let mapped = Trio {
+        one: words_of(alloc, lower, first, second, masks, Point::One),
+        two: words_of(alloc, lower, first, second, masks, Point::Two),
+        three: words_of(alloc, lower, first, second, masks, Point::Three),
+    };
+    mapped.transpose()
 }

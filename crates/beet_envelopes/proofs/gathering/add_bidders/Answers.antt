@@ -12,16 +12,15 @@ loop-entry-init g c = record {
   gathered = rw c.in_ok-totals.ensures (gathered_none _ _ _);
 }
 
-pub returns-in_err-dealt : goal.returns-in_err-dealt
-returns-in_err-dealt g c =
-    exits c.from_residual-in_err-dealt.ensures.1 (stopped_at _ _ c.loop-entry.entry-index _ _ _ _ _ c.loop-entry-test.true c.entry-item.is c.loop-entry.invariant.gathered _
-    c.in_err-dealt.ensures.reads)
+pub returns-in-Err : goal.returns-in-Err
+returns-in-Err g c =
+    stopped_at _ _ c.loop-entry.entry-index _ _ _ _ _ c.loop-entry-test.true c.entry-item.is c.loop-entry.invariant.gathered _ c.in-Err.ensures.reads
 
 pub loop-entry-preserved : goal.loop-entry-preserved
 loop-entry-preserved g c = record {
   prices = ap (λ totals. totals.prices) c.add.ensures.sums ∙ c.loop-entry.invariant.prices;
   gathered = gathered_at _ _ c.loop-entry.entry-index _ _ _ _ _ c.loop-entry-test.true c.entry-item.is c.loop-entry.invariant.gathered _ _
-      c.in_ok-dealt.ensures.reads c.in_ok-dealt.ensures.lengths c.add.ensures.sums;
+      c.in-Ok.ensures.reads c.in-Ok.ensures.lengths c.add.ensures.sums;
 }
 
 pub returns : goal.returns

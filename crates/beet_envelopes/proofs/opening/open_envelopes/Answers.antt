@@ -10,12 +10,6 @@ pub returns-in_err-sources-clause-reads : goal.returns-in_err-sources-clause-rea
 unfolding open_job
 returns-in_err-sources-clause-reads g c = exits c.from_residual-in_err-sources.ensures.1 (bind c.in_ok-grid.ensures (stopped c.in_err-sources.ensures))
 
-pub returns-in_err-entries-clause-reads : goal.returns-in_err-entries-clause-reads
-unfolding open_job
-returns-in_err-entries-clause-reads g c =
-    exits c.from_residual-in_err-entries.ensures.1 (bind c.in_ok-grid.ensures (bind c.in_ok-sources.ensures (stopped c.in_err-entries.ensures)))
-
 pub returns-clause-reads : goal.returns-clause-reads
 unfolding open_job
-returns-clause-reads g c =
-    bind c.in_ok-grid.ensures (bind c.in_ok-sources.ensures (bind c.in_ok-entries.ensures (rw c.as_slice.ensures.value at c.open_entries-opened.ensures.reads)))
+returns-clause-reads g c = bind c.in_ok-grid.ensures (bind c.in_ok-sources.ensures c.open_list-opened.ensures.reads)

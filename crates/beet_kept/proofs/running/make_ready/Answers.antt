@@ -5,10 +5,17 @@ use Rattle.beet_kept.proofs.running.make_ready.Goals as goal
 
 pub returns-clause-seen : goal.returns-clause-seen
 returns-clause-seen g c = λ s there.
+    rw c.in_ok-dealt-2.ensures.0 (
     c.in_ok-dealt.ensures.seen s there ∙ ap (λ (x : List (List ℕ)). map (seen_at c.args.book.now.grid s) (farmers_of c.args.book.now.bidders x))
     (c.as_slice.ensures.value ∙ ap (λ w. w.bidders) c.words.view_is)
+    )
 
 pub returns-clause-inputs : goal.returns-clause-inputs
 returns-clause-inputs g c =
+    rw c.in_ok-dealt-2.ensures.0 (
     c.in_ok-dealt.ensures.inputs ∙ ap (λ (x : List (List ℕ)). book_inputs c.args.book.now.grid.prices (farmers_of c.args.book.now.bidders x))
     (c.as_slice.ensures.value ∙ ap (λ w. w.bidders) c.words.view_is)
+    )
+
+pub returns-clause-tapes : goal.returns-clause-tapes
+returns-clause-tapes g c = rw c.in_ok-dealt-2.ensures.1 at c.cut_three.ensures

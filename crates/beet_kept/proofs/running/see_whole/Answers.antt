@@ -33,7 +33,7 @@ transcript_of-transcript-requires g c =
     let has = ran-shown c.args.book.now c.args.words.now h.book c.requires _ h.grid _ refl _ h.inputs _ h.tapes
     _ _ _ _ ran.starts ran.ended c.finish_at-finish.ensures c.round-rounds.ensures in
     can-write _ c.args.at _ _ (can-show c.args.book.now c.args.words.now h.book c.requires _ has ran.ended.at_end) c.get.ensures
-    (c.into_one.ensures ∙ h.seen c.args.at (same_self c.args.at) ∙ sym (member-trio (λ (s : Point). map (seen_at c.args.book.now.grid s) (farmers_of c.args.book.now.bidders c.args.words.now.bidders)) c.args.at))
+    (c.into_one-seen.ensures ∙ h.seen c.args.at (same_self c.args.at) ∙ sym (member-trio (λ (s : Point). map (seen_at c.args.book.now.grid s) (farmers_of c.args.book.now.bidders c.args.words.now.bidders)) c.args.at))
 
 pub returns-clause-transcript : goal.returns-clause-transcript
 returns-clause-transcript g c =
@@ -42,8 +42,8 @@ returns-clause-transcript g c =
     let has = ran-shown c.args.book.now c.args.words.now h.book c.requires _ h.grid _ refl _ h.inputs _ h.tapes
     _ _ _ _ ran.starts ran.ended c.finish_at-finish.ensures c.round-rounds.ensures in
     transcript-shown c.args.book.now c.args.words.now _ c.args.at _ _ has
-    (c.into_one.ensures ∙ h.seen c.args.at (same_self c.args.at) ∙ sym (member-trio (λ (s : Point). map (seen_at c.args.book.now.grid s) (farmers_of c.args.book.now.bidders c.args.words.now.bidders)) c.args.at))
-    (subst (λ (core : Core Auction). Writes core c.in_ok-begun.begun.grid c.into_one.result.items c.in_ok-transcript.field-0.items) c.get.ensures
+    (c.into_one-seen.ensures ∙ h.seen c.args.at (same_self c.args.at) ∙ sym (member-trio (λ (s : Point). map (seen_at c.args.book.now.grid s) (farmers_of c.args.book.now.bidders c.args.words.now.bidders)) c.args.at))
+    (subst (λ (core : Core Auction). Writes core c.in_ok-begun.begun.grid c.into_one-seen.result.items c.in_ok-transcript.field-0.items) c.get.ensures
     c.in_ok-transcript.ensures)
 
 pub returns-clause-finish : goal.returns-clause-finish

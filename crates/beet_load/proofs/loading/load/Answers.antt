@@ -9,4 +9,4 @@ returns-in_err-setting g c = exits c.from_residual.ensures.1 (stopped {rest = re
 
 pub returns : goal.returns
 unfolding loaded_errand setting_errand rest_errand
-returns g c = bind {rest = rest_errand} c.in_ok-setting.ensures.reads c.add_up.ensures
+returns g c = bind {rest = rest_errand} c.in_ok-setting.ensures.reads c.add_up-loaded.ensures

@@ -1,5 +1,6 @@
 use Rattle.std.proofs.Common.{◌∙◌, ap, refl}
 use Rattle.beet_errand.proofs.Frame.{bind, exits, given, no_memory, passed, stopped, tested}
+use Rattle.beet_load.proofs.Cuts.{bundle_cut}
 use Rattle.beet_load.proofs.ServerSteps.{cut_tested}
 use Rattle.beet_load.proofs.servers.read_bundled.Goals as goal
 
@@ -22,3 +23,6 @@ returns-clause-reads g c =
     (passed (cut_tested c.args.grid.now (ap (λ all. all.servers) (c.words.view_is ∙ c.in_ok-words-2.ensures)) c.in_ok-words-3.ensures.1
     c.check_three-checked.ensures.tests)
     (given (rw (c.in_ok-words-3.ensures.0, c.in_ok-words-2.ensures) refl)))
+
+pub returns-clause-cut : goal.returns-clause-cut
+returns-clause-cut g c = rw (c.in_ok-words-3.ensures.0, c.in_ok-words-2.ensures) (bundle_cut c.args.grid.now c.in_ok-words.words)

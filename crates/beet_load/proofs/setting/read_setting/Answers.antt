@@ -1,5 +1,5 @@
 use Rattle.std.proofs.Common.{refl}
-use Rattle.beet_errand.proofs.Frame.{bind, exits, given, stopped}
+use Rattle.beet_errand.proofs.Frame.{bind, exits, given, handed, stopped}
 use Rattle.beet_load.specs.Settings.{setting_errand}
 use Rattle.beet_load.proofs.setting.read_setting.Goals as goal
 
@@ -11,11 +11,14 @@ pub returns-in_err-sources-clause-reads : goal.returns-in_err-sources-clause-rea
 unfolding setting_errand
 returns-in_err-sources-clause-reads g c = exits c.from_residual-in_err-sources.ensures.1 (bind c.in_ok-grid.ensures (stopped c.in_err-sources.ensures))
 
-pub returns-in_err-entries-clause-reads : goal.returns-in_err-entries-clause-reads
+pub returns-in_err-sources-2-clause-reads : goal.returns-in_err-sources-2-clause-reads
 unfolding setting_errand
-returns-in_err-entries-clause-reads g c =
-    exits c.from_residual-in_err-entries.ensures.1 (bind c.in_ok-grid.ensures (bind c.in_ok-sources.ensures (stopped c.in_err-entries.ensures.reads)))
+returns-in_err-sources-2-clause-reads g c =
+    exits c.from_residual-in_err-sources-2.ensures.1 (bind c.in_ok-grid.ensures (bind c.in_ok-sources.ensures
+    (stopped (handed c.in_err-sources-2.ensures c.read_entries.ensures.reads))))
 
 pub returns-clause-reads : goal.returns-clause-reads
 unfolding setting_errand
-returns-clause-reads g c = bind c.in_ok-grid.ensures (bind c.in_ok-sources.ensures (bind c.in_ok-entries.ensures.reads (given refl)))
+returns-clause-reads g c =
+    bind c.in_ok-grid.ensures (bind c.in_ok-sources.ensures (bind (handed c.in_ok-sources-2.ensures.1 c.read_entries.ensures.reads)
+    (given (rw c.in_ok-sources-2.ensures.0 refl))))

@@ -10,4 +10,4 @@ returns-in_err-setting g c = exits c.from_residual.ensures.1 (stopped {rest = li
 
 pub returns : goal.returns
 unfolding limited_errand setting_errand rest_errand
-returns g c = bind {rest = limited_rest c.args.book.now} c.in_ok-setting.ensures.reads c.read_rest.ensures
+returns g c = bind {rest = limited_rest c.args.book.now} c.in_ok-setting.ensures.reads c.read_rest-whole.ensures

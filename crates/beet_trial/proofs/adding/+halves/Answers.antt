@@ -1,39 +1,26 @@
-use Rattle.std.proofs.Common.{◌≡◌, ◌+◌, ◌-◌, ◌/◌, Ok, Err, arith, rules, refl}
+use Rattle.std.proofs.Common.{◌≡◌, ◌+◌, ◌-◌, ◌/◌, arith, rules, refl}
 use Rattle.beet_errand.specs.Fetches.{Tests}
-use Rattle.beet_errand.proofs.Frame.{test_exits}
 use Rattle.beet_trial.specs.Adding.{enough_of_each}
 use Rattle.beet_trial.specs.Rules.{trial_part}
-use Rattle.beet_trial.proofs.Bidders.{adds-merged, stops, tests-first, tests-second}
+use Rattle.beet_trial.proofs.Bidders.{adds-merged, first-done, second-done, stops, tests-both}
 use Rattle.beet_trial.proofs.adding.+halves.Goals as goal
-
-pub add_both-returns-in_err-few_added-clause-tests : goal.add_both-returns-in_err-few_added-clause-tests
-add_both-returns-in_err-few_added-clause-tests g t c =
-    let grid = c.args.grid.now in
-    let from = c.args.from in
-    let failed : c.join_mut-few_added.result.0 ≡ Err c.in_err-few_added.field-0.0 = search rules in
-    let few : Tests (enough_of_each grid (from + 1) (trial_part grid from c.args.few)) c.join_mut-few_added.result.0 = search rules in
-    test_exits c.from_residual.ensures.1
-    (tests-first grid from c.args.few c.args.rest (from + c.args.few) (c.args.few + c.args.rest) _ refl refl (rw failed at few))
-
-pub add_both-returns-in_err-rest_added-clause-tests : goal.add_both-returns-in_err-rest_added-clause-tests
-add_both-returns-in_err-rest_added-clause-tests g t c =
-    let grid = c.args.grid.now in
-    let from = c.args.from in
-    let middle = from + c.args.few in
-    let failed : c.join_mut-few_added.result.1 ≡ Err c.in_err-rest_added.field-0.0 = search rules in
-    let few : Tests (enough_of_each grid (from + 1) (trial_part grid from c.args.few)) (Ok tt) = search rules in
-    let rest : Tests (enough_of_each grid (middle + 1) (trial_part grid middle c.args.rest)) c.join_mut-few_added.result.1 = search rules in
-    test_exits c.from_residual-in_err-rest_added.ensures.1
-    (tests-second grid from c.args.few c.args.rest middle (c.args.few + c.args.rest) _ refl refl few (rw failed at rest))
 
 pub add_both-returns-clause-tests : goal.add_both-returns-clause-tests
 add_both-returns-clause-tests g t c =
     let grid = c.args.grid.now in
     let from = c.args.from in
     let middle = from + c.args.few in
-    let few : Tests (enough_of_each grid (from + 1) (trial_part grid from c.args.few)) (Ok tt) = search rules in
-    let rest : Tests (enough_of_each grid (middle + 1) (trial_part grid middle c.args.rest)) (Ok tt) = search rules in
-    tests-second grid from c.args.few c.args.rest middle (c.args.few + c.args.rest) (Ok tt) refl refl few rest
+    let few : Tests (enough_of_each grid (from + 1) (trial_part grid from c.args.few)) c.join_mut-few_added.result.0 = search rules in
+    let rest : Tests (enough_of_each grid (middle + 1) (trial_part grid middle c.args.rest)) c.join_mut-few_added.result.1 = search rules in
+    rw c.and.ensures (tests-both grid from c.args.few c.args.rest middle (c.args.few + c.args.rest) _ _ refl refl few rest)
+
+pub add_both-returns-clause-adds : goal.add_both-returns-clause-adds
+add_both-returns-clause-adds g t c =
+    rw c.and.ensures (first-done _ c.join_mut-few_added.result.0 c.join_mut-few_added.result.1 (search rules))
+
+pub add_both-returns-clause-others : goal.add_both-returns-clause-others
+add_both-returns-clause-others g t c =
+    rw c.and.ensures (second-done _ c.join_mut-few_added.result.0 c.join_mut-few_added.result.1 (search rules))
 
 pub add_by-returns-in_err-add_both : goal.add_by-returns-in_err-add_both
 add_by-returns-in_err-add_both g t c =

@@ -1,6 +1,6 @@
 use Rattle.std.proofs.Common.{refl, ◌∙◌}
 use Rattle.std.proofs.lemmas.Result.{err_from_is_err_and}
-use Rattle.beet_errand.proofs.Frame.{bind, given, stopped}
+use Rattle.beet_errand.proofs.Frame.{bind, given, handed, stopped}
 use Rattle.beet_errand.specs.Errands.{gives}
 use Rattle.beet_two_worlds.specs.Reading.{Both, both_errand}
 use Rattle.beet_two_worlds.proofs.BookAnswers.{answered-done}
@@ -14,22 +14,25 @@ returns-in_err-whole-clause-compares g c =
     let p = err_from_is_err_and c.from_residual.result c.from_residual.ensures.1 in
     rw (p.1, p.2) (unread (stopped c.in_err-whole.ensures))
 
-pub returns-in_err-second-clause-compares : goal.returns-in_err-second-clause-compares
+pub returns-in_err-whole-2-clause-compares : goal.returns-in_err-whole-2-clause-compares
 unfolding both_errand
-returns-in_err-second-clause-compares g c =
-    let p = err_from_is_err_and c.from_residual-in_err-second.result c.from_residual-in_err-second.ensures.1 in
+returns-in_err-whole-2-clause-compares g c =
+    let p = err_from_is_err_and c.from_residual-in_err-whole-2.result c.from_residual-in_err-whole-2.ensures.1 in
     let first = loaded_of c.in_ok-whole.whole in
     rw (p.1, p.2) (unread (bind c.in_ok-whole.ensures (stopped {rest = λ second. gives {A = Both} (record { first = first; second = second })}
-    (rw c.grid.ensures.value at c.in_err-second.ensures.reads))))
+    (handed c.in_err-whole-2.ensures (rw c.grid.ensures.value at c.load_curves-second.ensures.reads)))))
 
 pub returns-clause-compares : goal.returns-clause-compares
 unfolding both_errand
 returns-clause-compares g c =
-    let first = loaded_of c.in_ok-whole.whole in
-    compared c.in_ok-whole.whole c.in_ok-second.second (c.in_ok-second.ensures.grid ∙ c.grid.ensures.value) c.answer_both.result
-    (bind c.in_ok-whole.ensures (bind {rest = λ second. gives {A = Both} (record { first = first; second = second })}
-    (rw c.grid.ensures.value at c.in_ok-second.ensures.reads) (given {value = both_of c.in_ok-whole.whole c.in_ok-second.second} refl)))
-    c.answer_both.ensures
+    let whole = c.in_ok-whole.whole in
+    let second = c.in_ok-whole-2.second in
+    let is = c.in_ok-whole-2.ensures.0 in
+    let loaded = rw c.in_ok-whole-2.ensures.1 at c.load_curves-second.ensures in
+    compared whole second (loaded.grid ∙ c.grid.ensures.value) c.answer_both-reply.result
+    (bind c.in_ok-whole.ensures (bind {rest = λ second. gives {A = Both} (record { first = loaded_of whole; second = second })}
+    (handed c.in_ok-whole-2.ensures.1 (rw c.grid.ensures.value at c.load_curves-second.ensures.reads)) (given {value = both_of whole second} refl)))
+    (rw is at c.answer_both-reply.ensures)
 
 pub returns-clause-done : goal.returns-clause-done
-returns-clause-done g c = answered-done _ _ _ _ _ c.answer_both.result c.answer_both.ensures
+returns-clause-done g c = answered-done _ _ _ _ _ c.answer_both-reply.result c.answer_both-reply.ensures

@@ -1,6 +1,7 @@
-use Rattle.std.proofs.Common.{arith}
+use Rattle.std.proofs.Common.{All, arith, subst}
 use Rattle.std.proofs.lemmas.Grind.{common_steps}
 use Rattle.std.proofs.lemmas.List.Elements.{All-more}
+use Rattle.std.proofs.lemmas.List.{take_all}
 use Rattle.beet_view.specs.Transcripts.{HasNumbers}
 use Rattle.beet_view.proofs.writing.push_bidders.Goals as goal
 
@@ -9,3 +10,7 @@ loop-seen-preserved c = record {
   file = grind (arith, common_steps);
   numbers = All-more HasNumbers c.args.bidders.now c.loop-seen.seen-index c.seen-item.result c.loop-seen-test.true c.loop-seen.invariant.numbers (rw (← c.seen-item.is) c.in_ok-push_seen.ensures.numbers);
 }
+
+pub returns-clause-numbers : goal.returns-clause-numbers
+returns-clause-numbers c =
+    subst (λ bidders. All HasNumbers bidders) (take_all c.loop-seen.seen-index c.args.bidders.now c.loop-seen-test.false) c.loop-seen.invariant.numbers

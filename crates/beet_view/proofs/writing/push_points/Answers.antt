@@ -1,6 +1,7 @@
-use Rattle.std.proofs.Common.{arith}
+use Rattle.std.proofs.Common.{All, arith, subst}
 use Rattle.std.proofs.lemmas.Grind.{common_steps}
 use Rattle.std.proofs.lemmas.List.Elements.{All-more}
+use Rattle.std.proofs.lemmas.List.{take_all}
 use Rattle.beet_field.specs.Field.{IsElement}
 use Rattle.beet_view.proofs.writing.push_points.Goals as goal
 
@@ -11,3 +12,7 @@ loop-point-preserved c =
       file = grind (arith, common_steps);
       points = All-more IsElement c.args.points.now c.loop-point.point-index c.point-item.result c.loop-point-test.true c.loop-point.invariant.points (rw (← c.point-item.is) below);
     }
+
+pub returns-clause-points : goal.returns-clause-points
+returns-clause-points c =
+    subst (λ points. All IsElement points) (take_all c.loop-point.point-index c.args.points.now c.loop-point-test.false) c.loop-point.invariant.points

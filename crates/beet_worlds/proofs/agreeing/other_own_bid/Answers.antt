@@ -2,8 +2,23 @@ use Rattle.std.proofs.Common.{◌≡◌, length, map, refl, sym, ap, ◌∙◌, 
 use Rattle.std.proofs.lemmas.Option.{slice_get_read}
 use Rattle.beet_bids.specs.declared.book.Bidder.{Bidder}
 use Rattle.beet_worlds.proofs.Disagreeing.{known-all, known-more}
-use Rattle.beet_worlds.proofs.EachMapped.{as-many}
+use Rattle.beet_worlds.proofs.EachMapped.{as-many, curve-at}
 use Rattle.beet_worlds.proofs.agreeing.other_own_bid.Goals as goal
+
+pub is_changed-requires-clause-first : goal.is_changed-requires-clause-first
+is_changed-requires-clause-first c =
+    curve-at c.grid.result.now c.bidders-bidders.result.now c.loop-i.i c.index-bidders-i.result
+    (rw (c.grid.ensures.value, c.bidders-bidders.ensures.value) c.bidders-bidders.ensures.limits.of_grid) (c.loop-i-test.true) c.index-bidders-i.is
+
+pub is_changed-requires-clause-second : goal.is_changed-requires-clause-second
+is_changed-requires-clause-second c =
+    let bidders = c.bidders-bidders.result.now in
+    let others = c.bidders-others.result.now in
+    let same : map (λ (b : Bidder). b.known) others ≡ map (λ (b : Bidder). b.known) bidders =
+    ap (map (λ (b : Bidder). b.known)) c.bidders-others.ensures.value ∙ c.requires.marks ∙ sym (ap (map (λ (b : Bidder). b.known)) c.bidders-bidders.ensures.value) in
+    let many = as-many bidders others same in
+    curve-at c.grid.result.now others c.loop-i.i c.index-others-i.result
+    (rw (c.grid.ensures.value, ← c.requires.grids, c.bidders-others.ensures.value) c.bidders-others.ensures.limits.of_grid) (omega (arith, many, c.loop-i-test.true)) c.index-others-i.is
 
 pub loop-i-preserved : goal.loop-i-preserved
 loop-i-preserved c =

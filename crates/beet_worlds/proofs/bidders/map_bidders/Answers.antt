@@ -1,9 +1,9 @@
-use Rattle.std.proofs.Common.{All, rules, ◌≡◌, map, length, refl, sym, ap, ◌∙◌, arith}
-use Rattle.std.proofs.lemmas.List.Elements.{All-more, All-push}
+use Rattle.std.proofs.Common.{All, rules, ◌≡◌, ◌≤◌, ◌*◌, map, length, refl, sym, ap, subst, ◌∙◌, arith}
+use Rattle.std.proofs.lemmas.List.Elements.{All-get_or, All-more, All-push}
 use Rattle.std.proofs.lemmas.Option.{slice_get_read}
-use Rattle.beet_words.specs.Words.{IsWord}
+use Rattle.beet_words.specs.Words.{IsWord, accepted}
 use Rattle.beet_bids.specs.declared.book.Bidder.{Bidder}
-use Rattle.beet_worlds.proofs.EachMapped.{as-many, bidders-mapped, each-mapped-more, mark-at}
+use Rattle.beet_worlds.proofs.EachMapped.{as-many, bidders-mapped, curve-at, each-mapped-more, mark-at}
 use Rattle.beet_worlds.proofs.bidders.map_bidders.Goals as goal
 
 pub words_in_second-requires-clause-mark : goal.words_in_second-requires-clause-mark
@@ -18,6 +18,27 @@ words_in_second-requires-clause-mark c =
     mark-at bidders others c.loop-i.i c.index-bidders-i.result c.index-others-i.result same
     (slice_get_read bidders (length bidders) c.loop-i.i c.index-bidders-i.result refl (omega (arith, few, lt, c.requires.count)) c.index-bidders-i.is)
     (slice_get_read others (length others) c.loop-i.i c.index-others-i.result refl (omega (arith, many, few, lt, c.requires.count)) c.index-others-i.is)
+
+pub words_in_second-requires-clause-first : goal.words_in_second-requires-clause-first
+words_in_second-requires-clause-first c =
+    curve-at c.grid-grid.result.now c.bidders-bidders.result.now c.loop-i.i c.index-bidders-i.result
+    (rw (c.grid-grid.ensures.value, c.bidders-bidders.ensures.value) c.bidders-bidders.ensures.limits.of_grid) (omega (arith, ap length c.bidders-bidders.ensures.value, c.loop-i-test.true, c.requires.count)) c.index-bidders-i.is
+
+pub words_in_second-requires-clause-second : goal.words_in_second-requires-clause-second
+words_in_second-requires-clause-second c =
+    let bidders = c.bidders-bidders.result.now in
+    let others = c.bidders-others.result.now in
+    let same : map (λ (b : Bidder). b.known) others ≡ map (λ (b : Bidder). b.known) bidders =
+    ap (map (λ (b : Bidder). b.known)) c.bidders-others.ensures.value ∙ c.requires.marks ∙ sym (ap (map (λ (b : Bidder). b.known)) c.bidders-bidders.ensures.value) in
+    let many = as-many bidders others same in
+    curve-at c.grid-grid.result.now others c.loop-i.i c.index-others-i.result
+    (rw (c.grid-grid.ensures.value, ← c.requires.grids, c.bidders-others.ensures.value) c.bidders-others.ensures.limits.of_grid) (omega (arith, many, ap length c.bidders-bidders.ensures.value, c.loop-i-test.true, c.requires.count)) c.index-others-i.is
+
+pub words_in_second-requires-clause-enough : goal.words_in_second-requires-clause-enough
+words_in_second-requires-clause-enough c =
+    subst (λ list. 2 * c.grid-grid.result.now.prices ≤ length (accepted list)) (sym c.index-words-i.is)
+    (All-get_or (λ list. 2 * c.grid-grid.result.now.prices ≤ length (accepted list)) c.args.words.now c.loop-i.i c.index-words-i.result c.loop-i-test.true
+    (rw c.grid-grid.ensures.value c.requires.enough))
 
 pub loop-i-preserved : goal.loop-i-preserved
 loop-i-preserved c =

@@ -1,5 +1,0 @@
-//! Tests of `beet_audit`, over its contract alone.
-#![tactic(auto)]
-
-#[cfg(test)]
-mod audit;

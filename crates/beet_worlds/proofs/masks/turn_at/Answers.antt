@@ -1,0 +1,14 @@
+use Rattle.std.proofs.Common.{refl, arith}
+use Rattle.beet_bids.specs.Outcomes.{clearing_place}
+use Rattle.beet_worlds.proofs.TurnedWords.{turned-more}
+use Rattle.beet_worlds.proofs.masks.turn_at.Goals as goal
+
+pub loop-i-preserved : goal.loop-i-preserved
+loop-i-preserved c =
+    let inv = c.loop-i.invariant in
+    let more = turned-more c.args.first.now c.args.second.now c.args.masks.now c.as_slice-words.result.now c.loop-i.turned c.push.new.self c.args.places.now
+    c.loop-i.i c.loop-i.rejected c.count_rejected-rejected.result c.mask-mask.result c.index-words-i.result c.word_for.result (clearing_place c.args.first.now)
+    c.place_for-place.result
+    (omega arith) (record { count = inv.count; rejected_is = inv.rejected; few = inv.few; turns = inv.turns })
+    c.requires.path refl c.mask-mask.ensures.mask c.index-words-i.is c.place_for-place.ensures c.word_for.ensures c.in_ok-push.ensures c.count_rejected-rejected.ensures in
+    record { count = more.count; rejected = more.rejected_is; few = more.few; turns = more.turns }
