@@ -8,7 +8,7 @@ use Rattle.beet_forms.specs.declared.faults.Place.TheVariants.{Row}
 use Rattle.beet_bids.specs.Grids.{Grid}
 use Rattle.beet_bids.specs.declared.auction_file.TheConstants.{NOT_ONE_PRICE}
 use Rattle.beet_words.specs.declared.bundle.TheConstants.{MOST_BIDDERS}
-use Rattle.beet_book.specs.Totals.{Totals, points_on, CarriesValues}
+use Rattle.beet_book.specs.Totals.{Totals, points_on, summed_quantities, supply_first, wires_of, CarriesValues}
 use Rattle.beet_book.specs.declared.entries.Entry.{Entry}
 use Rattle.beet_book.specs.Farmers.{Farmer}
 use Rattle.beet_errand.specs.Errands.{text_answer}
@@ -17,7 +17,12 @@ use Rattle.beet_errand.specs.declared.answer.Status.TheVariants.{Done, BadFile}
 use Rattle.beet_errand.specs.declared.answer.Stop.{Stop}
 use Rattle.beet_errand.specs.declared.answer.Stop.TheVariants.{Refused, OutOfMemory}
 use Rattle.beet_errand.proofs.Frame.{bad_cause}
-use Rattle.beet_load.specs.Collecting.{AreCollected}
+use Rattle.beet_load.specs.Collecting.{curves_of, AreCollected}
+use Rattle.beet_book.specs.Dealing.{points_at, HasLengths}
+use Rattle.beet_book.proofs.Sums.{length-first, length-points}
+use Rattle.beet_book.proofs.Summed.{length-summed}
+use Rattle.beet_field.specs.declared.point.Point.{Point}
+use Rattle.beet_field.specs.declared.point.Point.TheVariants.{One, Two, Three}
 use Rattle.beet_load.proofs.Summing.{opens_supply, opens_demand}
 use Rattle.beet_tally.specs.Tally.{one_price, prices_row, sums_text, tallied}
 
@@ -47,3 +52,17 @@ pub tells-sums : (grid : Grid) (entries : List Entry) (totals : Totals) (farmers
 tells-sums grid entries totals farmers wires one few c carries =
     let fewer : length farmers ≤ MOST_BIDDERS = rw c.many few in
     rw (opens_supply grid totals farmers wires one c.adds fewer carries, opens_demand grid totals farmers wires one c.adds fewer carries) refl
+
+-- at one price the sums have two wires at each server
+pub two-wires : (grid : Grid) (entries : List Entry) (totals : Totals) (farmers : List Farmer) (wires : Trio (List ℕ)) →
+    grid.prices ≡ 1 → AreCollected grid entries totals farmers → wires ≡ wires_of totals → HasLengths wires 2
+two-wires grid entries totals farmers wires h c e =
+    let values = summed_quantities grid.prices (curves_of farmers) in
+    let shares = c.adds.shares in
+    let long = length-summed grid.prices (curves_of farmers) in
+    let same = c.adds.prices in
+    let each : (at : Point) → length (supply_first totals.prices (points_at values shares.slopes at)) ≡ 2 = λ at.
+      (let points = length-points values shares.slopes at shares.paired in
+      let first = length-first totals.prices (points_at values shares.slopes at) (omega arith) in
+      omega arith) in
+    rw (e, shares.shares) (record { one = each One; two = each Two; three = each Three })

@@ -1,9 +1,16 @@
 -- The answer for two books.
-use Rattle.std.proofs.Common.{◌≡◌, ℕ, List, Result, Ok, Err, IfOk, IfErr, refl}
-use Rattle.std.specs.Prelude.{IsSomeAnd}
+use Rattle.std.proofs.Common.{◌≡◌, ℕ, List, [], ◌∷◌, ◌++◌, Result, Ok, Err, IfOk, IfErr, refl}
+use Rattle.std.specs.Prelude.{IsSomeAnd, codes}
 use Rattle.beet_field.specs.declared.point.Point.{Point}
-use Rattle.beet_words.specs.Bundles.{Words}
+use Rattle.beet_words.specs.Bundles.{Words, bundle_bytes}
 use Rattle.beet_bids.specs.Books.{Book}
+use Rattle.beet_bids.specs.Grids.{Grid}
+use Rattle.beet_plan.specs.declared.Finish.{Finish}
+use Rattle.beet_auction.specs.Endings.{book_finish, book_rounds}
+use Rattle.beet_store.specs.Files.{File}
+use Rattle.beet_run.specs.Outcomes.{status_of}
+use Rattle.beet_run.specs.OutcomeTexts.{outcome_text}
+use Rattle.beet_errand.specs.Texts.{line_of}
 use Rattle.beet_errand.specs.Errands.{Answer}
 use Rattle.beet_errand.specs.Fetches.{IsDone}
 use Rattle.beet_errand.specs.declared.answer.Stop.{Stop}
@@ -45,6 +52,17 @@ module _ (s : Point) (out : List ℕ) (first : Book) (words : Words) (second : B
   pub answered-done : (result : Result Answer Stop) → AnswersBooks s out first words second result → IfOk result (λ answer. IsDone answer.status)
   answered-done (Ok answer) h = rw h.is (status-done _)
   answered-done (Err stop) h = tt
+
+-- the reply for books that agree
+pub replies-agreed : (out : List ℕ) (first : Book) (words mapped : Words) (seen one two bytes : List ℕ) (finish : Finish) (rounds : ℕ)
+    (grid : Grid) (files : List File) (reply : Answer) →
+    grid ≡ first.grid → finish ≡ book_finish first words.masks → rounds ≡ book_rounds first words.masks →
+    one ≡ seen → two ≡ seen → bytes ≡ bundle_bytes mapped →
+    files ≡ (out ++ codes ".first", one) ∷ (out ++ codes ".second", two) ∷ (out ++ codes ".words", bytes) ∷ [] →
+    reply ≡ record { status = status_of finish; files = files; text = outcome_text grid finish rounds ++ line_of (codes "transcripts equal") } →
+    reply ≡ agreed_answer out first words seen mapped
+replies-agreed out first words mapped seen one two bytes finish rounds grid files reply g f r a b w fs is =
+    rw (is, fs, g, f, r, a, b, w) refl
 
 module _ (s : Point) (first second : Book) where
   -- the line of a refusal tells the books apart

@@ -13,3 +13,9 @@ returns-in_err-curve-clause-reads g c = exits c.from_residual-in_err-curve.ensur
 pub returns-clause-reads : goal.returns-clause-reads
 unfolding seal_job
 returns-clause-reads g c = bind c.in_ok-grid.ensures (bind c.in_ok-curve.ensures.reads c.seal_curve-reply.ensures.reads)
+
+pub seal_curve-reply-requires : goal.seal_curve-reply-requires
+seal_curve-reply-requires g c = c.in_ok-curve.ensures.of_grid
+
+pub returns-clause-done : goal.returns-clause-done
+returns-clause-done g c = c.seal_curve-reply.ensures.done

@@ -1,4 +1,5 @@
-use Rattle.std.proofs.Common.{◌≡◌, ◌+◌, ◌-◌, ◌/◌, arith, rules, refl}
+use Rattle.std.proofs.Common.{◌≡◌, ◌+◌, ◌-◌, ◌/◌, arith, rules, refl, sym, ap, ◌∙◌}
+use Rattle.beet_book.specs.Totals.{Totals}
 use Rattle.beet_errand.specs.Fetches.{Tests}
 use Rattle.beet_trial.specs.Adding.{enough_of_each}
 use Rattle.beet_trial.specs.Rules.{trial_part}
@@ -37,3 +38,20 @@ add_by-returns g t c =
       adds = adds-merged c.args.grid.now c.args.from few rest (c.args.from + few) c.args.count _ _ _ _ _ refl all c.in_ok-others.ensures
           c.in_ok-add_both.ensures.adds c.in_ok-add_both.ensures.others c.merge.ensures.sums c.merge.ensures.values;
     }
+
+pub add_by-add_both-requires-clause-few : goal.add_by-add_both-requires-clause-few
+add_by-add_both-requires-clause-few g t c = omega (arith, c.requires.few)
+
+pub add_by-add_both-requires-clause-others : goal.add_by-add_both-requires-clause-others
+add_by-add_both-requires-clause-others g t c = λ lifetimes outlive. rw c.in_ok-others.ensures refl
+
+pub add_by-merge-requires : goal.add_by-merge-requires
+add_by-merge-requires g t c =
+    c.in_ok-add_both.ensures.others.prices ∙ ap (λ (totals : Totals). totals.prices) c.in_ok-others.ensures
+    ∙ sym c.requires.prices ∙ sym c.in_ok-add_both.ensures.adds.prices
+
+pub add_both-first-add_by-requires-clause-few : goal.add_both-first-add_by-requires-clause-few
+add_both-first-add_by-requires-clause-few g t c = λ lifetimes outlive. c.requires.1
+
+pub add_both-second-add_by-requires-clause-few : goal.add_both-second-add_by-requires-clause-few
+add_both-second-add_by-requires-clause-few g t c = λ lifetimes outlive. c.requires.1

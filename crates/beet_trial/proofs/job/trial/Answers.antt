@@ -1,6 +1,7 @@
 use Rattle.std.proofs.Common.{◌∙◌, sym}
 use Rattle.beet_errand.proofs.Frame.{exits, no_memory, shown, stopped}
 use Rattle.beet_errand.specs.Errands.{gives}
+use Rattle.beet_run.proofs.StatusFacts.{status-done}
 use Rattle.beet_trial.proofs.Ending.{over-grid, trial-ends, trial-many}
 use Rattle.beet_trial.proofs.job.trial.Goals as goal
 
@@ -28,3 +29,6 @@ returns-clause-reads g c =
     c.in-Ok.ensures.carry c.inputs.ensures.points c.in_ok-finish.ensures.ends in
     λ seen. over-grid c.args.bidders c.args.prices c.grid_of-grid.ensures
     (shown (c.in-Ok.ensures.reads seen) (sym (c.in_ok-sized_reply.ensures ∙ ends)))
+
+pub returns-clause-done : goal.returns-clause-done
+returns-clause-done g c = rw c.in_ok-sized_reply.ensures (status-done _)
