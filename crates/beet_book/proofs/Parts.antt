@@ -1,5 +1,6 @@
 -- Two parts that are dealt, joined.
-use Rattle.std.proofs.Common.{◌≡◌, ◌≤◌, ℕ, ◌*◌, ◌-◌, List, ◌++◌, length, take, drop, arith, inl, inr, refl, sym, ◌∙◌, length-append, length-drop}
+use Rattle.std.proofs.Common.{◌≡◌, ◌≤◌, ℕ, ◌*◌, ◌-◌, List, ◌++◌, Result, Ok, Err, length, take, drop, arith, inl, inr, refl, sym, ◌∙◌, length-append, length-drop}
+use Rattle.std.specs.Prelude.{IfOk, IsOkAnd}
 use Rattle.std.proofs.lemmas.Bool.{cases_lt}
 use Rattle.std.proofs.lemmas.List.{length-take-le}
 use Rattle.std.proofs.lemmas.List.Elements.{All-append, All-take, All-drop}
@@ -40,3 +41,13 @@ module _ {few rest : List Curve} {front front_left back back_left : List Tape} {
     each = each-joined paired a.each b.each;
     lengths = All-append (λ points. HasLengths points (2 * grid.prices)) first second a.lengths b.lengths;
   }
+
+-- the list of both parts, where both are dealt
+pub over-both : {V E : Type 0} (items : V → List (Trio (List ℕ))) (grid : Grid) (few rest : List Curve) (front front_left back back_left : List Tape) (a b r : Result V E) →
+    length front ≡ length few → IfOk a (λ v. DealsOver grid few front front_left (items v)) → IfOk b (λ v. DealsOver grid rest back back_left (items v)) →
+    IfOk r (λ v. IsOkAnd a (λ x. IsOkAnd b (λ y. items v ≡ items x ++ items y))) →
+    IfOk r (λ v. DealsOver grid (few ++ rest) (front ++ back) (front_left ++ back_left) (items v))
+over-both items grid few rest front front_left back back_left (Ok x) (Ok y) (Ok v) paired f g is = rw is (over-joined grid paired f g)
+over-both items grid few rest front front_left back back_left (Ok x) (Err e) (Ok v) paired f g is = absurd is
+over-both items grid few rest front front_left back back_left (Err e) b (Ok v) paired f g is = absurd is
+over-both items grid few rest front front_left back back_left a b (Err e) paired f g is = tt

@@ -1,6 +1,6 @@
 //! Dealing the quantities of bidders.
 
-ghost use Rattle.std.specs.Prelude.{◌≡◌, ◌≤◌, ◌<◌, ◌*◌, ◌++◌, slice_index, length, All, IfOk, OnErr};
+ghost use Rattle.std.specs.Prelude.{◌≡◌, ◌≤◌, ◌<◌, ◌*◌, ◌++◌, slice_index, length, All, IfOk, IsOkAnd, OnErr};
 ghost use Rattle.std.specs.Thread.{IsSync};
 ghost use Rattle.beet_field.specs.Trio.{member};
 ghost use Rattle.beet_words.specs.Tapes.{drawn_from, left_of};
@@ -13,6 +13,7 @@ use crate::columns::Columns;
 use crate::threads::{FEWEST_FOR_TWO, workers};
 use beet_bids::{Curve, Grid};
 use beet_field::{Fe, Point, Trio};
+use beet_forms::beside;
 use beet_shamir::deal;
 use beet_words::{FeList, Tape};
 use std::alloc::{AllocError, Global};
@@ -115,6 +116,20 @@ fn deal_in_order(
     Ok(dealt)
 }
 
+/// The points of two parts as one list.
+fn joined(
+    few: Result<Vec<Dealt>, AllocError>,
+    rest: Result<Vec<Dealt>, AllocError>,
+) -> Result<Vec<Dealt>, AllocError>
+    ensures { IfOk result (λ dealt. IsOkAnd few (λ front. IsOkAnd rest (λ back.
+        dealt.items ≡ front.items ++ back.items))) }
+{
+    let (rest, dealt) = beside(rest, few)?;
+    let (mut dealt, mut others) = beside(dealt, rest)?;
+    dealt.append(&mut others)?;
+    Ok(dealt)
+}
+
 /// Deals the curves by so many threads, or one after another where they are few.
 #[cycle(halves)]
 fn deal_by<R: Threads + Sync>(
@@ -167,10 +182,7 @@ fn deal_both<R: Threads + Sync>(
             (λ dealt. DealsOver grid.entry.now rest.entry.now back.entry.now back.exit.now dealt.items) }
     { deal_by(rt, alloc, grid, half, rest, back) };
     let (few_dealt, rest_dealt) = join_mut(rt, &mut first, &mut second);
-    let mut dealt = few_dealt?;
-    let mut others = rest_dealt?;
-    dealt.append(&mut others)?;
-    Ok(dealt)
+    joined(few_dealt, rest_dealt)
 }
 
 /// Deals each curve by its own tape, as `deal_bidder` does, by a thread for each processor. Where memory runs out, nothing

@@ -19,6 +19,7 @@ use crate::whole::Whole;
 use beet_bids::{Book, Grid};
 use beet_errand::Stop;
 use beet_field::Trio;
+use beet_forms::beside;
 use beet_store::Shelf;
 use beet_words::{WordList, Words};
 use std::alloc::Global;
@@ -91,13 +92,9 @@ fn read_rest<S: Shelf>(
     let count = entries.len();
     check_product(alloc, book, grid, count)?;
     let words = read_words(alloc, shelf, grid, sources, Some(count))?;
-    match read_farmers(alloc, shelf, grid, lists_in(&words), entries.as_slice()) {
-        Ok(farmers) => Ok(whole_of(grid, words.into_servers(), farmers)),
-        Err(stop) => {
-            drop(words);
-            Err(stop)
-        }
-    }
+    let farmers = read_farmers(alloc, shelf, grid, lists_in(&words), entries.as_slice());
+    let (words, farmers) = beside(words, farmers)?;
+    Ok(whole_of(grid, words.into_servers(), farmers))
 }
 
 /// Reads an auction, its servers and its book, which is kept whole. Right after it was read, the book is refused at row 0

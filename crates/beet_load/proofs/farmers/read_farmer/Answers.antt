@@ -26,3 +26,12 @@ returns-clause-of_grid g c = c.in_ok-curve.ensures.of_grid
 
 pub returns-clause-curve : goal.returns-clause-curve
 returns-clause-curve g c = subst (λ curve. IsCurve curve) c.curve.view_is c.curve.invariant
+
+pub returns-clause-fresh : goal.returns-clause-fresh
+returns-clause-fresh g c = c.in_ok-tape.ensures.fresh
+
+pub returns-clause-enough : goal.returns-clause-enough
+returns-clause-enough g c = c.in_ok-check_words.ensures.enough
+
+pub returns-clause-cut : goal.returns-clause-cut
+returns-clause-cut g c = rw c.words_kept.ensures at c.in_ok-tape.ensures.cut
