@@ -5,7 +5,7 @@ use Rattle.std.specs.Int.{bit_at}
 use Rattle.beet_field.specs.declared.point.Point.{Point}
 use Rattle.beet_words.specs.Tapes.{Tape, left_of}
 use Rattle.beet_gates.specs.Clear.{with_lets, product_of, is_end}
-use Rattle.beet_gates.specs.Scripts.{Standing, LawFrom, BatchStands, LetsBelow, IsWithin, after, acted, revealed, deals_in, size_of, start_of}
+use Rattle.beet_gates.specs.Scripts.{ActBelow, Standing, LawFrom, BatchStands, LetsBelow, IsWithin, after, acted, revealed, deals_in, size_of, start_of}
 use Rattle.beet_gates.specs.declared.Act.{Act}
 use Rattle.beet_gates.specs.declared.Act.TheVariants.{Deal, Mul, Reveal, End}
 use Rattle.beet_gates.specs.declared.Batch.{Batch}
@@ -92,6 +92,17 @@ module _ (next : ℕ → List ℕ → Batch) (bounds : Standing) (rounds : ℕ) 
     enough h =
         let drawn = rw h at sound.drawn in
         omega (arith, drawn, now.1.2, (leads sound.standing batch).coefficients)
+
+    pub in-wires : ActBelow (length wires) batch.act
+    in-wires = rw sound.counted now.0.1
+
+    pub words-left : handed ≡ false → masks.passed + deals_in batch.act ≤ length masks.words
+    words-left h =
+        let dealt = rw h at sound.dealt in
+        omega (arith, dealt, now.1.1, (leads sound.standing batch).masks, sound.words)
+
+    pub small-act : size_of batch.act ≤ MOST_NUMBERS
+    small-act = omega (arith, now.0.2)
 
     -- the messages of the round are handed out
     pub hands-sound : handed ≡ false → (own' : List ℕ) (masks' coefficients' : Tape) → length own' ≡ size_of batch.act →

@@ -1,14 +1,47 @@
-use Rattle.std.proofs.Common.{◌≡◌, ◌<◌, subst, length, ap, ◌∙◌, false}
-use Rattle.beet_words.specs.Tapes.{left_of}
+use Rattle.std.proofs.Common.{◌≡◌, ◌+◌, ◌<◌, subst, take, length, slice_index, ap, ◌∙◌, true, false}
+use Rattle.beet_words.specs.Tapes.{drawn_from, left_of}
 use Rattle.beet_words.proofs.DrawnFrom.{left-drawn}
-use Rattle.beet_gates.specs.Scripts.{size_of}
+use Rattle.beet_gates.specs.Scripts.{deals_in, size_of}
 use Rattle.beet_sharing.specs.Runs.{draws_in}
-use Rattle.beet_server.specs.Steps.{Work}
-use Rattle.beet_server.proofs.Soundness.{hands-sound, length-numbers_for, still-going}
+use Rattle.beet_sharing.specs.Steps.{numbers_for}
+use Rattle.beet_server.proofs.Soundness.{enough, hands-sound, in-wires, length-numbers_for, small-act, still-going, words-left}
 use Rattle.beet_gates.specs.Clear.{is_end}
+use Rattle.beet_gates.specs.declared.Act.{Act}
 use Rattle.beet_gates.specs.declared.Batch.{Batch}
-use Rattle.beet_server.specs.Steps.{batch_of}
+use Rattle.beet_server.specs.Steps.{Work, batch_of, handing}
 use Rattle.beet_server.proofs.engine.Engine.hand_out.Goals as goal
+
+pub put_numbers-requires : goal.put_numbers-requires
+put_numbers-requires g c =
+    let s = c.self.invariant.0 in
+    let handed : c.self.inside.handed ≡ false = ap (λ (w : Work g.row.S.Denot). w.handed) c.self.view_is ∙ c.requires.handed in
+    record {
+      below = rw c.as_slice.ensures.value (in-wires _ _ _ _ _ _ _ _ _ _ _ _ _ s);
+      few = small-act _ _ _ _ _ _ _ _ _ _ _ _ _ s;
+      words = words-left _ _ _ _ _ _ _ _ _ _ _ _ _ s handed;
+      enough = enough _ _ _ _ _ _ _ _ _ _ _ _ _ s handed;
+    }
+
+pub returns-clause-work : goal.returns-clause-work
+returns-clause-work g c =
+    let e = c.self.inside in
+    let next = g.S.Script.batch_of in
+    let act = ap (λ (b : Batch). b.act) c.self.invariant.0.coming in
+    let dealt = c.put_numbers.ensures.dealt ∙ ap (λ (a : Act). record e.masks { passed = e.masks.passed + deals_in a }) act in
+    let drawn = c.put_numbers.ensures.drawn ∙ ap (λ (a : Act). drawn_from e.coefficients (draws_in a)) act in
+    let own = c.put_numbers.ensures.own ∙ ap (λ l. numbers_for e.batch.act l (slice_index e.masks.words e.masks.passed) (take (draws_in e.batch.act) (left_of e.coefficients)) e.me) c.as_slice.ensures.value
+        ∙ ap (λ (a : Act). numbers_for a e.wires.items (slice_index e.masks.words e.masks.passed) (take (draws_in a) (left_of e.coefficients)) e.me) act in
+    (λ i. record {
+      me = e.me;
+      script = e.script;
+      masks = dealt i;
+      coefficients = drawn i;
+      round = e.round;
+      wires = e.wires.items;
+      opened = e.opened.items;
+      own = own i;
+      handed = true;
+    }) ∙ ap (λ (w : Work g.row.S.Denot). handing next w) c.self.view_is
 
 pub invariant_of-self : goal.invariant_of-self
 invariant_of-self g c =
