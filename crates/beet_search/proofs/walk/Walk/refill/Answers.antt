@@ -13,7 +13,7 @@ returns-else-is_open c =
     ∙ sym (ap (λ (p : Plan Finish). plan_batch p c.args.step []) (facts.closed-at c.args.self.now c.in-Search.is c.is_open.result c.is_open.ensures c.if-is_open.false))
 
 pub returns-then-step-eq0 : goal.returns-then-step-eq0
-returns-then-step-eq0 c = rw (facts.batch-masked c.args.self.now c.in-Masked.is c.args.step, c.if-step-eq0.true) c.refill_comparison.ensures
+returns-then-step-eq0 c = rw (facts.batch-masked c.args.self.now c.in-Masked.is c.args.step, c.if-step-eq0.true) (search rules)
 
 pub returns-else-step-eq0 : goal.returns-else-step-eq0
 returns-else-step-eq0 c =
