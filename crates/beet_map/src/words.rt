@@ -69,11 +69,13 @@ fn put_back(alloc: Global, words: &[Word], numbers: &[Fe]) -> Result<WordList, A
     let mut back = WordList::with_capacity(alloc, words.len())?;
     let mut place = 0;
     for word in words {
-        let mut put = *word;
-        if !word.is_ones() {
-            put = word_of(numbers[place]);
+        let put = if word.is_ones() {
+            *word
+        } else {
+            let number = numbers[place];
             place += 1;
-        }
+            word_of(number)
+        };
         back.push(put)?;
     }
     Ok(back)
