@@ -91,9 +91,10 @@ pub(crate) fn all_back(
     ensures numbers { IfOk result (λ back. numbers_of back ≡ numbers.now) }
     ensures places { IfOk result (λ back. SamePlaces back words.now) }
 {
-    Ok(Trio {
-        one: put_back(alloc, words.one.as_slice(), numbers.one.as_slice())?,
-        two: put_back(alloc, words.two.as_slice(), numbers.two.as_slice())?,
-        three: put_back(alloc, words.three.as_slice(), numbers.three.as_slice())?,
-    })
+    let back = Trio {
+        one: put_back(alloc, words.one.as_slice(), numbers.one.as_slice()),
+        two: put_back(alloc, words.two.as_slice(), numbers.two.as_slice()),
+        three: put_back(alloc, words.three.as_slice(), numbers.three.as_slice()),
+    };
+    back.transpose()
 }

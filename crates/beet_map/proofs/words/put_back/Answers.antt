@@ -1,7 +1,8 @@
-use Rattle.std.proofs.Common.{◌≡◌, ◌≢◌, ◌<◌, ◌+◌, ℕ, List, [], ◌∷◌, ◌++◌, length, take, drop, sym, subst, ◌∙◌, arith, add-one}
+use Rattle.std.proofs.Common.{◌≡◌, ◌≢◌, ◌<◌, ◌+◌, ℕ, List, [], ◌∷◌, ◌++◌, length, take, drop, sym, subst, ap, ◌∙◌, arith, add-one}
 use Rattle.std.proofs.Math.Seq.{drop-cons}
-use Rattle.std.proofs.lemmas.List.{take_more}
-use Rattle.beet_words.specs.Words.{ones}
+use Rattle.std.proofs.lemmas.List.{drop_all, take_all, take_more}
+use Rattle.beet_words.specs.Words.{accepted, ones}
+use Rattle.beet_map.specs.Mapped.{ones_in}
 use Rattle.beet_map.proofs.WordLists.{Back, back_ones, back_number, has_room}
 use Rattle.beet_map.proofs.words.put_back.Goals.{then-is_ones, else-is_ones}
 use Rattle.beet_map.proofs.words.put_back.Goals as goal
@@ -36,3 +37,14 @@ loop-word-preserved c =
           (subst (λ p. Back words numbers (out ++ word ∷ []) (i + 1) p) (sym w.place-is)
           (back_ones words numbers out i place c.loop-word.invariant word behind front (c.is_ones.ensures.0 w.if-is_ones.true)))
     ]
+
+pub returns-clause-numbers : goal.returns-clause-numbers
+returns-clause-numbers c =
+    let inv = c.loop-word.invariant in
+    let numbers = c.args.numbers.now in
+    let none = drop_all c.loop-word.word-index c.args.words.now (omega arith) in
+    let left = subst (λ (l : List ℕ). c.loop-word.place + length (accepted l) ≡ length numbers) none inv.left in
+    inv.taken ∙ take_all c.loop-word.place numbers (omega (arith, left))
+
+pub returns-clause-places : goal.returns-clause-places
+returns-clause-places c = c.loop-word.invariant.flags ∙ ap ones_in (take_all c.loop-word.word-index c.args.words.now (omega arith))
