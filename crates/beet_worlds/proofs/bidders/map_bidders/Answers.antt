@@ -1,4 +1,5 @@
 use Rattle.std.proofs.Common.{All, rules, ◌≡◌, ◌≤◌, ◌*◌, map, length, refl, sym, ap, subst, ◌∙◌, arith}
+use Rattle.std.proofs.lemmas.List.{take_all}
 use Rattle.std.proofs.lemmas.List.Elements.{All-get_or, All-more, All-push}
 use Rattle.std.proofs.lemmas.Option.{slice_get_read}
 use Rattle.beet_words.specs.Words.{IsWord, accepted}
@@ -81,3 +82,9 @@ returns-clause-mapped c =
     let all = bidders-mapped c.args.me c.grid-grid.result.now.prices bidders others c.args.words.now c.loop-i.mapped.items
     (omega (arith, few, c.requires.count)) many (omega (arith, inv.count, c.loop-i-test.false)) inv.each in
     rw (← c.bidders-bidders.ensures.value, ← c.bidders-others.ensures.value, ← c.grid-grid.ensures.value) all
+
+pub returns-clause-below : goal.returns-clause-below
+returns-clause-below c = subst (All (λ list. All IsWord list)) (take_all c.loop-i.i c.args.words.now c.loop-i-test.false) c.loop-i.invariant.below
+
+pub returns-clause-words : goal.returns-clause-words
+returns-clause-words c = c.loop-i.invariant.words
