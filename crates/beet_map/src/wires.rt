@@ -61,7 +61,6 @@ pub(crate) fn append_points(
 }
 
 /// Appends the lines by which a server hides its secrets of an act.
-#[tactic(auto, using(beet_gates::proofs::EachFacts::each_steps))]
 pub(crate) fn append_hidden(
     lines: &mut Vec<Line>,
     act: &Act,
@@ -100,7 +99,6 @@ fn product(pairs: &[(u32, u32)], wires: &Numbers, numbers: &Numbers, drawn: usiz
 }
 
 /// Appends the lines of the products of pairs.
-#[tactic(auto, using(beet_gates::proofs::EachFacts::each_steps))]
 pub(crate) fn append_products(
     lines: &mut Vec<Line>,
     pairs: &[(u32, u32)],

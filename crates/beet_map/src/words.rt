@@ -69,11 +69,13 @@ fn put_back(alloc: Global, words: &[Word], numbers: &[Fe]) -> Result<WordList, A
     let mut back = WordList::with_capacity(alloc, words.len())?;
     let mut place = 0;
     for word in words {
-        let mut put = *word;
-        if !word.is_ones() {
-            put = word_of(numbers[place]);
+        let put = if word.is_ones() {
+            *word
+        } else {
+            let number = numbers[place];
             place += 1;
-        }
+            word_of(number)
+        };
         back.push(put)?;
     }
     Ok(back)
@@ -89,9 +91,10 @@ pub(crate) fn all_back(
     ensures numbers { IfOk result (λ back. numbers_of back ≡ numbers.now) }
     ensures places { IfOk result (λ back. SamePlaces back words.now) }
 {
-    Ok(Trio {
-        one: put_back(alloc, words.one.as_slice(), numbers.one.as_slice())?,
-        two: put_back(alloc, words.two.as_slice(), numbers.two.as_slice())?,
-        three: put_back(alloc, words.three.as_slice(), numbers.three.as_slice())?,
-    })
+    let back = Trio {
+        one: put_back(alloc, words.one.as_slice(), numbers.one.as_slice()),
+        two: put_back(alloc, words.two.as_slice(), numbers.two.as_slice()),
+        three: put_back(alloc, words.three.as_slice(), numbers.three.as_slice()),
+    };
+    back.transpose()
 }

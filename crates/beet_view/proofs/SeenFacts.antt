@@ -6,10 +6,10 @@ use Rattle.beet_field.specs.Point.{number_of}
 use Rattle.beet_field.specs.declared.point.Point.{Point}
 use Rattle.beet_field.specs.declared.point.Point.TheVariants.{One, Two, Three}
 use Rattle.beet_words.specs.Bundles.{up_to, word_at, words_at}
-use Rattle.beet_words.specs.Fields.{◌>>=◌, number_at, times, counted_at}
+use Rattle.beet_words.specs.Fields.{◌>>=◌, number_at, times, counted_at, ended}
 use Rattle.beet_bids.specs.Grids.{Grid}
 use Rattle.beet_bids.specs.Curves.{Curve}
-use Rattle.beet_words.specs.declared.bundle.TheConstants.{MOST_BIDDERS}
+use Rattle.beet_words.specs.declared.bundle.TheConstants.{MOST_BIDDERS, TRAILING}
 use Rattle.beet_bids.specs.declared.grid.TheConstants.{LARGEST_BASE, LARGEST_TICK, MOST_PRICES}
 use Rattle.beet_book.specs.declared.book_file.TheConstants.{MOST_PRODUCT}
 use Rattle.beet_gates.specs.declared.TheConstants.{MOST_NUMBERS}
@@ -18,7 +18,7 @@ use Rattle.beet_view.specs.declared.quantities.Course.TheVariants.{Falling, Risi
 use Rattle.beet_view.specs.declared.view.Seen.{Seen}
 use Rattle.beet_view.specs.Views.{Viewed, IsSeenAt}
 use Rattle.beet_plan.specs.Kept.{words_kept, masks_kept, coefficients_kept}
-use Rattle.beet_view.specs.Transcripts.{from_to, most_bidders, mark_of, known_of, gates_of, policy_at, grid_at, start_of, point_at, quantities_at, own_at, own_where_known, seen_at, message_at, round_at, IsMessage, FitsFile}
+use Rattle.beet_view.specs.Transcripts.{from_to, most_bidders, mark_of, known_of, gates_of, form_in, server_at, policy_at, grid_at, start_of, point_at, quantities_at, own_at, own_where_known, seen_at, message_at, round_at, view_in, IsMessage, FitsFile}
 use Rattle.beet_view.proofs.ReadFacts.{steps_of, value_has, number_at-within, times-all, counted_at-all, quantities_at-are}
 
 -- a list of any numbers was read
@@ -145,6 +145,25 @@ pub grid_at-numbers : (bytes : List ℕ) (tells : Bool) (at base tick prices gat
     ≡ (policy_at bytes tells d >>= λ policy. Ok (record { base = base; tick = tick; prices = prices; gates = gates_of gates; policy = policy.0 }, policy.1))
 unfolding grid_at
 grid_at-numbers bytes tells at base tick prices gates a b c d e f g h = rw (e, f, g, h) refl
+
+-- a transcript whose parts are read one after another, up to its bidders
+pub view_in-bidders : (bytes : List ℕ) (tells : Bool) (server : Point) (grid : Grid) (bidders : List Seen) (a b c d : ℕ) →
+    form_in bytes ≡ Ok (tells, a) →
+    server_at bytes a ≡ Ok (server, b) →
+    grid_at bytes tells b ≡ Ok (grid, c) →
+    counted_at bytes (from_to 0 (most_bidders grid.prices)) (seen_at bytes server grid.prices) c ≡ Ok (bidders, d) →
+    view_in bytes
+    ≡ (words_at bytes (masks_kept grid) d >>= λ masks. words_at bytes (coefficients_kept grid) masks.1 >>= λ coefficients.
+    counted_at bytes (from_to 0 MOST_ROUNDS) (round_at bytes) coefficients.1 >>= λ rounds. ended bytes TRAILING rounds.1 >>= λ done. Ok (record {
+      server = server;
+      grid = grid;
+      bidders = bidders;
+      masks = masks.0;
+      coefficients = coefficients.0;
+      rounds = rounds.0;
+    }))
+unfolding view_in
+view_in-bidders bytes tells server grid bidders a b c d e f g h = rw (e, f, g, h) refl
 
 -- bidders were read
 pub record AreBidders (server : Point) (grid : Grid) (bidders : List Seen) : Type 0 where

@@ -192,22 +192,22 @@ fn begin(alloc: Global, view: &View) -> Result<Vec<u8>, AllocError>
     Ok(file)
 }
 
-/// The bytes of a view.
-fn bytes_of(alloc: Global, view: &View) -> Result<Vec<u8>, AllocError>
-    ensures bytes { IfOk result (λ file. file.items ≡ view_bytes view.now) }
+/// Appends the rest of the transcript of a view.
+fn push_view(file: &mut Vec<u8>, view: &View) -> Result<(), AllocError>
+    requires { file.old.items ≡ magic (tells_policy view.now.grid.policy) }
+    ensures bytes { OnOk result (file.new.items ≡ view_bytes view.now) }
     ensures view { OnOk result (IsView view.now) }
     ensures numbers { OnOk result (AreNumbers view.now) }
 {
-    let mut file = begin(alloc, view)?;
-    push_number(&mut file, view.server().number())?;
-    push_grid(&mut file, view.grid())?;
-    push_number(&mut file, view.bidders().len() as u64)?;
-    push_bidders(&mut file, view.bidders())?;
-    push_list(&mut file, &view.masks)?;
-    push_list(&mut file, &view.coefficients)?;
-    push_number(&mut file, view.rounds() as u64)?;
-    push_rounds(&mut file, view.received())?;
-    Ok(file)
+    push_number(file, view.server().number())?;
+    push_grid(file, view.grid())?;
+    push_number(file, view.bidders().len() as u64)?;
+    push_bidders(file, view.bidders())?;
+    push_list(file, &view.masks)?;
+    push_list(file, &view.coefficients)?;
+    push_number(file, view.rounds() as u64)?;
+    push_rounds(file, view.received())?;
+    Ok(())
 }
 
 /// The transcript of a view, which [`read_view`](crate::read_view) describes. Want of memory is the only error.
@@ -219,6 +219,7 @@ pub fn write_view(alloc: Global, view: &View) -> Result<Vec<u8>, AllocError>
     ensures again { FitsFile view.now → IfOk result (λ file. view_in file.items ≡ Ok view.now) }
     ensures short { FitsFile view.now → IfOk result (λ file. length file.items ≤ LONGEST_FILE) }
 {
-    let file = bytes_of(alloc, view)?;
+    let mut file = begin(alloc, view)?;
+    push_view(&mut file, view)?;
     Ok(file)
 }

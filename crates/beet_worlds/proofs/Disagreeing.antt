@@ -4,10 +4,13 @@ use Rattle.std.proofs.lemmas.Bool.{cases_lt}
 use Rattle.std.proofs.lemmas.List.{ext_get_or, length-map}
 use Rattle.std.proofs.lemmas.Option.{slice_get_past, slice_get_within, slice_get-get_or}
 use Rattle.beet_field.specs.declared.point.Point.{Point}
+use Rattle.beet_bids.specs.Books.{Book}
 use Rattle.beet_bids.specs.Curves.{Curve}
 use Rattle.beet_bids.specs.declared.book.Bidder.{Bidder}
 use Rattle.beet_map.specs.Refused.{DifferFirst}
-use Rattle.beet_worlds.specs.Disagreement.{SameKnownBefore}
+use Rattle.beet_worlds.specs.Disagreement.{Refuses, RefusesMap, SameKnownBefore}
+use Rattle.beet_worlds.specs.declared.agreeing.MapFault.{MapFault}
+use Rattle.beet_worlds.specs.declared.agreeing.MapFault.TheVariants.{ShapeDiffers, OwnBidsDiffer, OutcomesDiffer, OutOfMemory}
 use Rattle.beet_worlds.proofs.MasksBack.{get-map, some-same}
 
 -- two lists have the same items before this place
@@ -103,3 +106,10 @@ curves-same one other n a b c d buy sell =
     let e = ext_get_or 0 other.buy one.buy (c ∙ sym a) (λ k lt. buy k (omega arith)) in
     let f = ext_get_or 0 other.sell one.sell (d ∙ sym b) (λ k lt. sell k (omega arith)) in
     λ j. record { buy = e j; sell = f j }
+
+-- books that are refused are not mapped
+pub refused-map : (s : Point) (first second : Book) (fault : MapFault) → Refuses s first second fault → RefusesMap s first second fault
+refused-map s first second (ShapeDiffers n) r = r
+refused-map s first second (OwnBidsDiffer n) r = r
+refused-map s first second (OutcomesDiffer one other) r = r
+refused-map s first second OutOfMemory r = absurd r

@@ -6,10 +6,12 @@ use Rattle.std.proofs.lemmas.List.Elements.{All-get_or}
 use Rattle.std.proofs.lemmas.Option.{slice_get_within}
 use Rattle.beet_field.specs.declared.point.Point.{Point}
 use Rattle.beet_bids.specs.Curves.{IsOfGrid}
+use Rattle.beet_bids.specs.Books.{Book}
 use Rattle.beet_bids.specs.Grids.{Grid}
 use Rattle.beet_bids.specs.declared.book.Bidder.{Bidder}
 use Rattle.beet_gates.proofs.EachFacts.{get-append, get-append_right}
 use Rattle.beet_book.specs.Farmers.{Farmer, farmers_of}
+use Rattle.beet_worlds.specs.Agreement.{marks_of}
 use Rattle.beet_worlds.specs.MappedBidders.{BiddersMapped, FarmerMapped}
 use Rattle.beet_worlds.proofs.MasksBack.{get-map, some-same}
 
@@ -53,6 +55,11 @@ mark-at bidders others k one other same e f =
 pub as-many : (bidders others : List Bidder) → map (λ (b : Bidder). b.known) others ≡ map (λ (b : Bidder). b.known) bidders → length others ≡ length bidders
 as-many bidders others same =
     sym (length-map others (λ (b : Bidder). b.known)) ∙ ap length same ∙ length-map bidders (λ (b : Bidder). b.known)
+
+-- so they are in two books with the same marks
+pub as-many-in : (first second : Book) (bidders others : List Bidder) → bidders ≡ first.bidders → others ≡ second.bidders →
+    marks_of second ≡ marks_of first → length others ≡ length bidders
+as-many-in first second bidders others e f marks = ap length f ∙ as-many first.bidders second.bidders marks ∙ sym (ap length e)
 
 -- the curve of a bidder at a place is of the grid
 pub curve-at : (grid : Grid) (bidders : List Bidder) (k : ℕ) (one : Bidder) → All (λ (b : Bidder). IsOfGrid grid b.curve) bidders → k < length bidders →

@@ -1,9 +1,9 @@
 -- The lines of a book's inputs.
-use Rattle.std.proofs.Common.{◌≡◌, ◌≤◌, ◌<◌, ◌+◌, ◌*◌, ◌%◌, ℕ, zero, suc, List, [], ◌∷◌, ◌++◌, map, take, drop, length, slice_index, refl, sym, ap, ◌∙◌, arith, append_assoc, length-drop}
+use Rattle.std.proofs.Common.{◌≡◌, ◌≤◌, ◌<◌, ◌+◌, ◌*◌, ◌%◌, ℕ, zero, suc, List, [], ◌∷◌, ◌++◌, map, take, drop, length, get_or, slice_index, refl, sym, ap, ◌∙◌, arith, append_assoc, length-drop}
 use Rattle.std.specs.Prelude.{sum_by}
 use Rattle.std.proofs.lemmas.List.{ext_get_or, map-append, take_all, get_or-drop, get_or-take, length-map, length-take-le}
-use Rattle.std.proofs.lemmas.List.Sums.{sum_by-cons}
-use Rattle.beet_field.specs.Field.{p}
+use Rattle.std.proofs.lemmas.List.Sums.{sum_by-cons, sum_by_more}
+use Rattle.beet_field.specs.Field.{p, add_of}
 use Rattle.beet_field.specs.Trio.{member}
 use Rattle.beet_field.specs.declared.point.Point.{Point}
 use Rattle.beet_shamir.specs.Line.{point_of}
@@ -31,6 +31,15 @@ sums-all items words count i long past h =
     (λ k lt.
     let l : k < count = omega (arith, long) in
     h k l ∙ ap (λ w. summed_slope w k) whole ∙ sym (item-each (summed_slope words) count k l))
+
+-- the words of one bidder more
+pub sums-more : (words : List (List ℕ)) (list : List ℕ) (i k sum more : ℕ) → i < length words → list ≡ get_or words i list →
+    sum ≡ summed_slope (take i words) k → more ≡ add_of sum (slice_index (accepted list) k) → more ≡ summed_slope (take (i + 1) words) k
+sums-more words list i k sum more lt is so_far added =
+    let slope : List ℕ → ℕ = λ l. slice_index (accepted l) k in
+    let all = sum_by_more slope words i list lt in
+    let here : slope list ≡ slope (get_or words i list) = ap slope is in
+    omega (arith, so_far, added, all, here)
 
 -- one line more
 pub lines-more : (lines after : List Line) (vs ss : List ℕ) (f g : ℕ → ℕ) (k value slope : ℕ) → map (λ (l : Line). l.value) lines ≡ vs ++ each f k →

@@ -1,5 +1,5 @@
 use Rattle.std.proofs.Common.{◌<◌, ◌++◌, ◌∷◌, [], ℕ, List, length, slice_index, take, ap, sym, subst, ◌∙◌, arith}
-use Rattle.std.proofs.lemmas.List.{map-append, take_more}
+use Rattle.std.proofs.lemmas.List.{map-append, take_all, take_more}
 use Rattle.beet_field.specs.Field.{IsElement}
 use Rattle.beet_shamir.specs.declared.Line.{Line}
 use Rattle.beet_map.specs.Secrets.{values_of}
@@ -20,3 +20,6 @@ loop-line-preserved c =
           (elements_more c.loop-line.values.items line.value c.loop-line.invariant.elements
           (subst (λ x. IsElement x) c.value-below.ensures.value c.value-below.ensures.below));
     }
+
+pub returns-clause-values : goal.returns-clause-values
+returns-clause-values c = c.loop-line.invariant.so_far ∙ ap values_of (take_all c.loop-line.line-index c.args.lines.now (omega arith))

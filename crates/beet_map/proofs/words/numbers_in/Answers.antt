@@ -1,5 +1,7 @@
-use Rattle.std.proofs.Common.{◌≡◌, ◌<◌, ◌+◌, ◌∷◌, ℕ, List, drop, length, sym, ◌∙◌, arith, add-one}
+use Rattle.std.proofs.Common.{◌≡◌, ◌<◌, ◌+◌, ◌∷◌, ◌++◌, ℕ, List, drop, length, sym, ap, ◌∙◌, arith, add-one, append-nil}
 use Rattle.std.proofs.Math.Seq.{drop-cons}
+use Rattle.std.proofs.lemmas.List.{drop_all}
+use Rattle.beet_words.specs.Words.{accepted}
 use Rattle.beet_map.proofs.WordLists.{accepted_more, words_all, words_more}
 use Rattle.beet_map.proofs.words.numbers_in.Goals as goal
 
@@ -15,6 +17,11 @@ loop-word-preserved c =
       rest = accepted_more words c.loop-word.numbers.items _ i word behind c.loop-word.invariant.rest c.in_ok-keep.ensures.kept;
       below = words_more words i word lt c.word-item.is c.keep.ensures.below c.loop-word.invariant.below;
     }
+
+pub returns-clause-numbers : goal.returns-clause-numbers
+returns-clause-numbers c =
+    let none = drop_all c.loop-word.word-index c.args.words.now (omega arith) in
+    sym (append-nil c.loop-word.numbers.items) ∙ ap (λ (l : List ℕ). c.loop-word.numbers.items ++ accepted l) (sym none) ∙ c.loop-word.invariant.rest
 
 pub returns-clause-below : goal.returns-clause-below
 returns-clause-below c = words_all c.args.words.now c.loop-word.word-index (omega arith) c.loop-word.invariant.below

@@ -1,9 +1,10 @@
-use Rattle.std.proofs.Common.{◌≡◌, ◌≢◌, ◌<◌, ◌+◌, ℕ, List, [], ◌∷◌, ◌++◌, length, take, drop, sym, subst, ◌∙◌, arith, add-one}
+use Rattle.std.proofs.Common.{◌≡◌, ◌≢◌, ◌<◌, ◌+◌, ℕ, List, [], ◌∷◌, ◌++◌, length, take, drop, sym, subst, ap, ◌∙◌, arith, add-one}
 use Rattle.std.proofs.Math.Seq.{drop-cons}
-use Rattle.std.proofs.lemmas.List.{take_more}
-use Rattle.beet_words.specs.Words.{ones}
+use Rattle.std.proofs.lemmas.List.{drop_all, take_all, take_more}
+use Rattle.beet_words.specs.Words.{accepted, ones}
+use Rattle.beet_map.specs.Mapped.{ones_in}
 use Rattle.beet_map.proofs.WordLists.{Back, back_ones, back_number, has_room}
-use Rattle.beet_map.proofs.words.put_back.Goals.{then-not-is_ones, else-not-is_ones}
+use Rattle.beet_map.proofs.words.put_back.Goals.{then-is_ones, else-is_ones}
 use Rattle.beet_map.proofs.words.put_back.Goals as goal
 
 pub loop-word-preserved : goal.loop-word-preserved
@@ -19,20 +20,31 @@ loop-word-preserved c =
     rw add-one (drop-cons words i word lt) ∙ (λ j. sym c.word-item.is j ∷ drop (i + 1) words) in
     let front : take (i + 1) words ≡ take i words ++ word ∷ [] =
     take_more words i word lt ∙ (λ j. take i words ++ sym c.word-item.is j ∷ []) in
-    elim c.if-not-is_ones.branch [
-      | then-not-is_ones w ↦
+    elim c.if-is_ones.branch [
+      | else-is_ones w ↦
           let x : ℕ = w.word_of-put.result in
-          let other : word ≢ ones = λ e. let h = c.is_ones.ensures.1 e in let k = w.if-not-is_ones.true in cc in
+          let other : word ≢ ones = λ e. let h = c.is_ones.ensures.1 e in let k = w.if-is_ones.false in cc in
           let low : place < length numbers = has_room words numbers out i place c.loop-word.invariant word behind front other in
           let more : take (place + 1) numbers ≡ take place numbers ++ x ∷ [] =
           take_more numbers place w.index-numbers-place.result low
           ∙ (λ j. take place numbers ++ sym (w.word_of-put.ensures.value ∙ w.index-numbers-place.is) j ∷ []) in
-          subst (λ o. Back words numbers o (i + 1) c.if-not-is_ones.place) (sym (c.in_ok-push.ensures ∙ (λ j. out ++ w.put-is j ∷ [])))
+          subst (λ o. Back words numbers o (i + 1) c.if-is_ones.place) (sym (c.in_ok-push.ensures ∙ (λ j. out ++ w.put-is j ∷ [])))
           (subst (λ p. Back words numbers (out ++ x ∷ []) (i + 1) p) (sym w.place-is)
           (back_number words numbers out i place c.loop-word.invariant word behind front other x
           (λ e. let s = w.word_of-put.ensures.below in absurd (omega arith)) more))
-      | else-not-is_ones w ↦
-          subst (λ o. Back words numbers o (i + 1) c.if-not-is_ones.place) (sym (c.in_ok-push.ensures ∙ (λ j. out ++ w.put-is j ∷ [])))
+      | then-is_ones w ↦
+          subst (λ o. Back words numbers o (i + 1) c.if-is_ones.place) (sym (c.in_ok-push.ensures ∙ (λ j. out ++ w.put-is j ∷ [])))
           (subst (λ p. Back words numbers (out ++ word ∷ []) (i + 1) p) (sym w.place-is)
-          (back_ones words numbers out i place c.loop-word.invariant word behind front (c.is_ones.ensures.0 w.if-not-is_ones.false)))
+          (back_ones words numbers out i place c.loop-word.invariant word behind front (c.is_ones.ensures.0 w.if-is_ones.true)))
     ]
+
+pub returns-clause-numbers : goal.returns-clause-numbers
+returns-clause-numbers c =
+    let inv = c.loop-word.invariant in
+    let numbers = c.args.numbers.now in
+    let none = drop_all c.loop-word.word-index c.args.words.now (omega arith) in
+    let left = subst (λ (l : List ℕ). c.loop-word.place + length (accepted l) ≡ length numbers) none inv.left in
+    inv.taken ∙ take_all c.loop-word.place numbers (omega (arith, left))
+
+pub returns-clause-places : goal.returns-clause-places
+returns-clause-places c = c.loop-word.invariant.flags ∙ ap ones_in (take_all c.loop-word.word-index c.args.words.now (omega arith))

@@ -12,3 +12,7 @@ invariant_of-result g c = record {
 pub returns-clause-run : goal.returns-clause-run
 returns-clause-run g c o x fits =
     rw (c.me.ensures, c.in_ok-words_of.ensures, c.words.ensures.value, c.masks.ensures, c.in_ok-words_of-2.ensures, c.words-2.ensures.value, c.coefficients.ensures, c.in_ok-rounds_of.ensures.rounds, rounds-fit g.S.Script.batch_of o x c.args.core.now fits) refl
+
+pub returns-clause-core : goal.returns-clause-core
+returns-clause-core g c =
+    rw (c.me.ensures, c.in_ok-words_of.ensures, c.words.ensures.value, c.masks.ensures, c.in_ok-words_of-2.ensures, c.words-2.ensures.value, c.coefficients.ensures, c.in_ok-rounds_of.ensures.rounds) refl

@@ -1,8 +1,9 @@
-use Rattle.std.proofs.Common.{All, arith, subst}
+use Rattle.std.proofs.Common.{All, ◌++◌, ap, subst, ◌∙◌, arith}
+use Rattle.std.specs.List.{flat_map}
 use Rattle.std.proofs.lemmas.Grind.{common_steps}
 use Rattle.std.proofs.lemmas.List.Elements.{All-more}
 use Rattle.std.proofs.lemmas.List.{take_all}
-use Rattle.beet_view.specs.Transcripts.{HasNumbers}
+use Rattle.beet_view.specs.Transcripts.{seen_bytes, HasNumbers}
 use Rattle.beet_view.proofs.writing.push_bidders.Goals as goal
 
 pub loop-seen-preserved : goal.loop-seen-preserved
@@ -14,3 +15,7 @@ loop-seen-preserved c = record {
 pub returns-clause-numbers : goal.returns-clause-numbers
 returns-clause-numbers c =
     subst (λ bidders. All HasNumbers bidders) (take_all c.loop-seen.seen-index c.args.bidders.now c.loop-seen-test.false) c.loop-seen.invariant.numbers
+
+pub returns-clause-bytes : goal.returns-clause-bytes
+returns-clause-bytes c =
+    c.loop-seen.invariant.file ∙ ap (λ items. c.args.file.now.items ++ flat_map seen_bytes items) (take_all c.loop-seen.seen-index c.args.bidders.now c.loop-seen-test.false)

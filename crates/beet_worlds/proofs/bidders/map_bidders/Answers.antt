@@ -1,10 +1,21 @@
 use Rattle.std.proofs.Common.{All, rules, ◌≡◌, ◌≤◌, ◌*◌, map, length, refl, sym, ap, subst, ◌∙◌, arith}
+use Rattle.std.proofs.lemmas.List.{take_all}
 use Rattle.std.proofs.lemmas.List.Elements.{All-get_or, All-more, All-push}
 use Rattle.std.proofs.lemmas.Option.{slice_get_read}
 use Rattle.beet_words.specs.Words.{IsWord, accepted}
 use Rattle.beet_bids.specs.declared.book.Bidder.{Bidder}
-use Rattle.beet_worlds.proofs.EachMapped.{as-many, bidders-mapped, curve-at, each-mapped-more, mark-at}
+use Rattle.beet_worlds.proofs.EachMapped.{as-many, as-many-in, bidders-mapped, curve-at, each-mapped-more, mark-at}
 use Rattle.beet_worlds.proofs.bidders.map_bidders.Goals as goal
+
+pub bounds-bidders-i : goal.bounds-bidders-i
+bounds-bidders-i c = omega (arith, ap length c.bidders-bidders.ensures.value, c.loop-i-test.true, c.requires.count)
+
+pub bounds-others-i : goal.bounds-others-i
+bounds-others-i c =
+    let bidders = c.bidders-bidders.result.now in
+    let others = c.bidders-others.result.now in
+    let many = as-many-in c.args.first.now c.args.second.now bidders others c.bidders-bidders.ensures.value c.bidders-others.ensures.value c.requires.marks in
+    omega (arith, many, ap length c.bidders-bidders.ensures.value, c.loop-i-test.true, c.requires.count)
 
 pub words_in_second-requires-clause-mark : goal.words_in_second-requires-clause-mark
 words_in_second-requires-clause-mark c =
@@ -28,9 +39,7 @@ pub words_in_second-requires-clause-second : goal.words_in_second-requires-claus
 words_in_second-requires-clause-second c =
     let bidders = c.bidders-bidders.result.now in
     let others = c.bidders-others.result.now in
-    let same : map (λ (b : Bidder). b.known) others ≡ map (λ (b : Bidder). b.known) bidders =
-    ap (map (λ (b : Bidder). b.known)) c.bidders-others.ensures.value ∙ c.requires.marks ∙ sym (ap (map (λ (b : Bidder). b.known)) c.bidders-bidders.ensures.value) in
-    let many = as-many bidders others same in
+    let many = as-many-in c.args.first.now c.args.second.now bidders others c.bidders-bidders.ensures.value c.bidders-others.ensures.value c.requires.marks in
     curve-at c.grid-grid.result.now others c.loop-i.i c.index-others-i.result
     (rw (c.grid-grid.ensures.value, ← c.requires.grids, c.bidders-others.ensures.value) c.bidders-others.ensures.limits.of_grid) (omega (arith, many, ap length c.bidders-bidders.ensures.value, c.loop-i-test.true, c.requires.count)) c.index-others-i.is
 
@@ -46,9 +55,7 @@ loop-i-preserved c =
     let bidders = c.bidders-bidders.result.now in
     let others = c.bidders-others.result.now in
     let words = c.args.words.now in
-    let same : map (λ (b : Bidder). b.known) others ≡ map (λ (b : Bidder). b.known) bidders =
-    ap (map (λ (b : Bidder). b.known)) c.bidders-others.ensures.value ∙ c.requires.marks ∙ sym (ap (map (λ (b : Bidder). b.known)) c.bidders-bidders.ensures.value) in
-    let many = as-many bidders others same in
+    let many = as-many-in c.args.first.now c.args.second.now bidders others c.bidders-bidders.ensures.value c.bidders-others.ensures.value c.requires.marks in
     let few = ap length c.bidders-bidders.ensures.value in
     let lt = c.loop-i-test.true in
     let items = c.in_ok-push.ensures.items in
@@ -70,9 +77,14 @@ returns-clause-mapped c =
     let inv = c.loop-i.invariant in
     let bidders = c.bidders-bidders.result.now in
     let others = c.bidders-others.result.now in
-    let same : map (λ (b : Bidder). b.known) others ≡ map (λ (b : Bidder). b.known) bidders =
-    ap (map (λ (b : Bidder). b.known)) c.bidders-others.ensures.value ∙ c.requires.marks ∙ sym (ap (map (λ (b : Bidder). b.known)) c.bidders-bidders.ensures.value) in
+    let many = as-many-in c.args.first.now c.args.second.now bidders others c.bidders-bidders.ensures.value c.bidders-others.ensures.value c.requires.marks in
     let few = ap length c.bidders-bidders.ensures.value in
     let all = bidders-mapped c.args.me c.grid-grid.result.now.prices bidders others c.args.words.now c.loop-i.mapped.items
-    (omega (arith, few, c.requires.count)) (as-many bidders others same) (omega (arith, inv.count, c.loop-i-test.false)) inv.each in
+    (omega (arith, few, c.requires.count)) many (omega (arith, inv.count, c.loop-i-test.false)) inv.each in
     rw (← c.bidders-bidders.ensures.value, ← c.bidders-others.ensures.value, ← c.grid-grid.ensures.value) all
+
+pub returns-clause-below : goal.returns-clause-below
+returns-clause-below c = subst (All (λ list. All IsWord list)) (take_all c.loop-i.i c.args.words.now c.loop-i-test.false) c.loop-i.invariant.below
+
+pub returns-clause-words : goal.returns-clause-words
+returns-clause-words c = c.loop-i.invariant.words

@@ -55,3 +55,19 @@ loop-place-2-preserved c =
     c.in_ok-push-2.ensures.items (reduced c.reduce-value-in-loop-place-2.result c.demand.result (f k) c.reduce-value-in-loop-place-2.ensures c.demand.ensures.value c.demand.ensures.below)
     (c.index-slopes-place.is ∙ get_or_default c.args.slopes.now k c.index-slopes-place.result 0 within) in
     record { values = more.0; slopes = more.1 }
+
+pub returns-clause-values : goal.returns-clause-values
+returns-clause-values c =
+    let f = supply_at c.args.book.now.bidders in
+    let g = demand_at c.args.book.now.bidders in
+    let end : c.loop-place-2.place ≡ c.prices-prices.result = omega (arith, c.loop-place-2.auto.place-end, c.loop-place-2-test.false) in
+    let all = c.prices-prices.ensures.value ∙ ap (λ (x : Grid). x.prices) c.grid.ensures.value in
+    c.loop-place-2.invariant.values ∙ ap (λ k. each f c.prices-prices.result ++ each g k) end ∙ ap (λ k. each f k ++ each g k) all
+
+pub returns-clause-slopes : goal.returns-clause-slopes
+returns-clause-slopes c =
+    let f = slice_index c.args.slopes.now in
+    let end : c.loop-place-2.place ≡ c.prices-prices.result = omega (arith, c.loop-place-2.auto.place-end, c.loop-place-2-test.false) in
+    let all = c.prices-prices.ensures.value ∙ ap (λ (x : Grid). x.prices) c.grid.ensures.value in
+    c.loop-place-2.invariant.slopes ∙ ap (λ n. each (λ k. f (c.prices-prices.result + k)) c.prices-prices.result ++ each f n) end
+    ∙ ap (λ n. each (λ k. f (n + k)) n ++ each f n) all

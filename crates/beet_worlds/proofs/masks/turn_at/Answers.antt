@@ -1,4 +1,4 @@
-use Rattle.std.proofs.Common.{refl, arith}
+use Rattle.std.proofs.Common.{length, refl, ap, ◌∙◌, arith}
 use Rattle.beet_bids.specs.Outcomes.{clearing_place}
 use Rattle.beet_worlds.proofs.TurnedWords.{turned-more}
 use Rattle.beet_worlds.proofs.masks.turn_at.Goals as goal
@@ -12,3 +12,12 @@ loop-i-preserved c =
     (omega arith) (record { count = inv.count; rejected_is = inv.rejected; few = inv.few; turns = inv.turns })
     c.requires.path refl c.mask-mask.ensures.mask c.index-words-i.is c.place_for-place.ensures c.word_for.ensures c.in_ok-push.ensures c.count_rejected-rejected.ensures in
     record { count = more.count; rejected = more.rejected_is; few = more.few; turns = more.turns }
+
+pub returns-clause-length : goal.returns-clause-length
+returns-clause-length c =
+    let same = ap length (c.as_slice-words.ensures.value ∙ c.get.ensures) in
+    omega (arith, same, c.loop-i.invariant.count, c.loop-i.auto.i-end, c.loop-i-test.false)
+
+pub returns-clause-turns : goal.returns-clause-turns
+returns-clause-turns c = λ i lt.
+    rw (← c.get.ensures, ← c.as_slice-words.ensures.value) (c.loop-i.invariant.turns i (omega (arith, lt, c.loop-i.invariant.count)))

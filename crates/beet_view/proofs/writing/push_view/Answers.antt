@@ -7,7 +7,7 @@ use Rattle.beet_bids.specs.Grids.{Grid, IsGrid}
 use Rattle.beet_view.specs.declared.view.Seen.{Seen}
 use Rattle.beet_view.specs.Views.{Viewed}
 use Rattle.beet_view.specs.Transcripts.{tells_policy, magic, counted_bytes, grid_bytes, seen_bytes, round_bytes, HasNumbers, HasElements}
-use Rattle.beet_view.proofs.writing.bytes_of.Goals as goal
+use Rattle.beet_view.proofs.writing.push_view.Goals as goal
 
 -- texts that were appended one after another
 appended : (a b c d e f g h i : List ℕ) → (((((((a ++ b) ++ c) ++ d) ++ e) ++ f) ++ g) ++ h) ++ i ≡ a ++ (b ++ (c ++ ((d ++ e) ++ (f ++ (g ++ (h ++ i))))))
@@ -27,7 +27,7 @@ returns-clause-bytes c =
       c.in_ok-push_number-2.ensures,
       c.in_ok-push_grid.ensures.bytes,
       c.in_ok-push_number.ensures,
-      c.in_ok-file.ensures,
+      c.requires,
       c.number.ensures,
       c.server.ensures.value,
       c.grid.ensures.value,
