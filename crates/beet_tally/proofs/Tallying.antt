@@ -62,7 +62,7 @@ two-wires grid entries totals farmers wires h c e =
     let long = length-summed grid.prices (curves_of farmers) in
     let same = c.adds.prices in
     let each : (at : Point) → length (supply_first totals.prices (points_at values shares.slopes at)) ≡ 2 = λ at.
-      (let points = length-points values shares.slopes at shares.paired in
-      let first = length-first totals.prices (points_at values shares.slopes at) (omega arith) in
-      omega arith) in
+    (let points = length-points values shares.slopes at shares.paired in
+    let first = length-first totals.prices (points_at values shares.slopes at) (omega arith) in
+    omega arith) in
     rw (e, shares.shares) (record { one = each One; two = each Two; three = each Three })

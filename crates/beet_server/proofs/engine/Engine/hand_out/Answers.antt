@@ -30,7 +30,7 @@ returns-clause-work g c =
     let dealt = c.put_numbers.ensures.dealt ∙ ap (λ (a : Act). record e.masks { passed = e.masks.passed + deals_in a }) act in
     let drawn = c.put_numbers.ensures.drawn ∙ ap (λ (a : Act). drawn_from e.coefficients (draws_in a)) act in
     let own = c.put_numbers.ensures.own ∙ ap (λ l. numbers_for e.batch.act l (slice_index e.masks.words e.masks.passed) (take (draws_in e.batch.act) (left_of e.coefficients)) e.me) c.as_slice.ensures.value
-        ∙ ap (λ (a : Act). numbers_for a e.wires.items (slice_index e.masks.words e.masks.passed) (take (draws_in a) (left_of e.coefficients)) e.me) act in
+    ∙ ap (λ (a : Act). numbers_for a e.wires.items (slice_index e.masks.words e.masks.passed) (take (draws_in a) (left_of e.coefficients)) e.me) act in
     (λ i. record {
       me = e.me;
       script = e.script;
