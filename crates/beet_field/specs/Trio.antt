@@ -1,4 +1,5 @@
 -- One value for each of the three points.
+use Rattle.std.specs.Prelude.{◌⊎◌, Err, Ok, Result}
 use Rattle.beet_field.specs.declared.point.Point.{Point}
 use Rattle.beet_field.specs.declared.point.Point.TheVariants.{One, Two, Three}
 use Rattle.beet_field.specs.declared.trio.Trio.{Trio}
@@ -22,3 +23,11 @@ of_each f t = record { one = f t.one; two = f t.two; three = f t.three }
 -- the value of a function at each of the three points
 abbrev pub trio_of : {A : Type 0} → (Point → A) → Trio A
 trio_of f = record { one = f One; two = f Two; three = f Three }
+
+-- of the answers at the three points, in order, the first that is no value is this fault
+abbrev pub IsFirstFault : {T E : Type 0} → (Point → Result T E → Type 0) → E → Type 0
+IsFirstFault {T} Answers fault =
+    let HasValue = λ at. (value : T) × Answers at (Ok value) in
+    Answers One (Err fault)
+    ⊎ (HasValue One × Answers Two (Err fault))
+    ⊎ (HasValue One × HasValue Two × Answers Three (Err fault))

@@ -1,9 +1,8 @@
 //! One value for each point.
 
-ghost use Rattle.std.specs.Prelude.{◌≡◌, ◌⊎◌, Err, IfErr, IfOk, MatchResult, Ok};
+ghost use Rattle.std.specs.Prelude.{◌≡◌, IfErr, IfOk, MatchResult, Ok};
 ghost use Rattle.std.specs.Borrow.{sem};
-ghost use Rattle.beet_field.specs.Trio.{member};
-ghost use Rattle.beet_field.specs.declared.point.Point.{Point as Server};
+ghost use Rattle.beet_field.specs.Trio.{IsFirstFault, member};
 ghost use Rattle.beet_field.specs.TrioLends.{LendsMember};
 
 use crate::point::Point;
@@ -76,7 +75,7 @@ impl<T: Drop> Trio<T> {
         ensures one { IfOk result (λ made. F.post f Point.One (Ok made.one)) }
         ensures two { IfOk result (λ made. F.post f Point.Two (Ok made.two)) }
         ensures three { IfOk result (λ made. F.post f Point.Three (Ok made.three)) }
-        ensures fault { IfErr result (λ fault. (at : Server) × F.post f at (Err fault)) }
+        ensures fault { IfErr result (IsFirstFault (F.post f)) }
     {
         Ok(Trio {
             one: f(Point::One)?,
@@ -87,11 +86,11 @@ impl<T: Drop> Trio<T> {
 }
 
 impl<T: Drop, E: Drop> Trio<Result<T, E>> {
-    /// All three values, or the fault of one.
+    /// All three values, or the fault of the first that has none.
     pub fn transpose(self) -> Result<Trio<T>, E>
         ensures { MatchResult result
             (λ all. (self.one ≡ Ok all.one) × (self.two ≡ Ok all.two) × (self.three ≡ Ok all.three))
-            (λ fault. (self.one ≡ Err fault) ⊎ (self.two ≡ Err fault) ⊎ (self.three ≡ Err fault)) }
+            (IsFirstFault (λ at answer. member self at ≡ answer)) }
     {
         Ok(Trio {
             one: self.one?,

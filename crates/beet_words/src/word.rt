@@ -1,6 +1,6 @@
 //! Words, and lists of words and of field numbers.
 
-ghost use Rattle.std.specs.Prelude.{◌≡◌, ◌↔◌, ◌≤◌, ◌<◌, ◌^◌, ◌/◌, ◌%◌, ◌++◌, ◌∷◌, [], length, take, IsNone, IfSome, IfOk, OnOk, IsTrue, All, bit_xor};
+ghost use Rattle.std.specs.Prelude.{◌≡◌, ◌↔◌, ◌≤◌, ◌<◌, ◌^◌, ◌/◌, ◌%◌, ◌++◌, ◌∷◌, [], length, take, IsNone, IfSome, IfOk, IsTrue, All, bit_xor, is_ok};
 ghost use Rattle.beet_words.specs.Words.{IsWord, ones};
 
 use beet_field::{Fe, P};
@@ -133,9 +133,9 @@ impl WordList {
         WordList { items }
     }
 
-    /// Appends a word. Want of memory is the only error.
+    /// Appends a word. Want of memory is the only error, and leaves the list as it was.
     pub fn push(&mut self, word: Word) -> Result<(), AllocError>
-        ensures { OnOk result (self.new ≡ self.old ++ word ∷ []) }
+        ensures { self.new ≡ (if is_ok result then self.old ++ word ∷ [] else self.old) }
     {
         let number = word.number;
         self.items.push(Word { number })?;

@@ -1,5 +1,5 @@
-use Rattle.std.proofs.Common.{◌≡◌, Result, Ok, Err, IfOk, IfErr, MatchResult, ◌⊎◌, inl, inr, subst}
-use Rattle.beet_field.specs.Trio.{of_each}
+use Rattle.std.proofs.Common.{◌≡◌, Result, Ok, Err, IfOk, IfErr, MatchResult, inl, inr, subst}
+use Rattle.beet_field.specs.Trio.{IsFirstFault, member, of_each}
 use Rattle.beet_field.specs.declared.trio.Trio.{Trio}
 use Rattle.beet_load.specs.Servers.{ServerWords}
 use Rattle.beet_view.specs.Views.{Viewed}
@@ -10,19 +10,19 @@ use Rattle.beet_audit.proofs.running.copy_all_words.Goals as goal
 
 -- one of three copies is refused for want of memory alone
 refused : (one two three : Result ServerWords AuditFault) (all : Result (Trio ServerWords) AuditFault) →
-    MatchResult all (λ made. (one ≡ Ok made.one) × (two ≡ Ok made.two) × (three ≡ Ok made.three)) (λ fault. (one ≡ Err fault) ⊎ (two ≡ Err fault) ⊎ (three ≡ Err fault)) →
+    MatchResult all (λ made. (one ≡ Ok made.one) × (two ≡ Ok made.two) × (three ≡ Ok made.three)) (IsFirstFault (λ at answer. member (record { one = one; two = two; three = three }) at ≡ answer)) →
     IfErr one (λ fault. fault ≡ OutOfMemory) →
     IfErr two (λ fault. fault ≡ OutOfMemory) →
     IfErr three (λ fault. fault ≡ OutOfMemory) →
     IfErr all (λ fault. fault ≡ OutOfMemory)
 refused one two three (Ok made) is a b c = tt
 refused one two three (Err fault) (inl is) a b c = subst (λ answer. IfErr answer (λ fault. fault ≡ OutOfMemory)) is a
-refused one two three (Err fault) (inr (inl is)) a b c = subst (λ answer. IfErr answer (λ fault. fault ≡ OutOfMemory)) is b
-refused one two three (Err fault) (inr (inr is)) a b c = subst (λ answer. IfErr answer (λ fault. fault ≡ OutOfMemory)) is c
+refused one two three (Err fault) (inr (inl is)) a b c = subst (λ answer. IfErr answer (λ fault. fault ≡ OutOfMemory)) is.1 b
+refused one two three (Err fault) (inr (inr is)) a b c = subst (λ answer. IfErr answer (λ fault. fault ≡ OutOfMemory)) is.2 c
 
 -- three copies
 copied : (views : Trio Viewed) (one two three : Result ServerWords AuditFault) (all : Result (Trio ServerWords) AuditFault) →
-    MatchResult all (λ made. (one ≡ Ok made.one) × (two ≡ Ok made.two) × (three ≡ Ok made.three)) (λ fault. (one ≡ Err fault) ⊎ (two ≡ Err fault) ⊎ (three ≡ Err fault)) →
+    MatchResult all (λ made. (one ≡ Ok made.one) × (two ≡ Ok made.two) × (three ≡ Ok made.three)) (IsFirstFault (λ at answer. member (record { one = one; two = two; three = three }) at ≡ answer)) →
     IfOk one (λ words. words ≡ words_in views.one) →
     IfOk two (λ words. words ≡ words_in views.two) →
     IfOk three (λ words. words ≡ words_in views.three) →
