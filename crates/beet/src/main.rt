@@ -7,20 +7,36 @@ use beet_store::{HostDesk, HostShelf};
 use std::process::ExitCode;
 use std::{env, io};
 
+/// What standard error tells where nothing on standard output tells why the run ended.
+fn cause_of(status: u8) -> Option<&'static str> {
+    if status == Status::OutOfMemory.code() {
+        Some("memory ran out")
+    } else if status == Status::WriteFault.code() {
+        Some("a file or the text could not be written")
+    } else {
+        None
+    }
+}
+
 fn main(rt: HostRuntime) -> ExitCode {
     let alloc = rt.alloc();
     let words = match env::args(&rt) {
-        Ok(args) => args.skip(1).collect::<Vec<String>>(alloc),
-        Err(error) if error.kind() == io::ErrorKind::OutOfMemory => {
-            return ExitCode::from(Status::OutOfMemory.code());
-        }
+        Ok(args) => args.skip(1).collect::<Vec<String>>(alloc).ok(),
+        Err(error) if error.kind() == io::ErrorKind::OutOfMemory => None,
         // A word that is not UTF-8 names no job, and neither do no words.
-        Err(_) => Ok(Vec::new(alloc)),
+        Err(_) => Some(Vec::new(alloc)),
     };
-    let Ok(words) = words else {
-        return ExitCode::from(Status::OutOfMemory.code());
+    let status = match words {
+        Some(words) => {
+            let mut shelf = HostShelf::new(&rt);
+            let mut desk = HostDesk::new(&rt);
+            beet_app::run(&rt, alloc, &words, &mut shelf, &mut desk, &FreeGate)
+        }
+        None => Status::OutOfMemory.code(),
     };
-    let mut shelf = HostShelf::new(&rt);
-    let mut desk = HostDesk::new(&rt);
-    ExitCode::from(beet_app::run(&rt, alloc, &words, &mut shelf, &mut desk, &FreeGate))
+    if let Some(cause) = cause_of(status) {
+        // Where standard error takes nothing either, the status alone tells it.
+        let _told = eprintln!(rt; "beet: {cause}");
+    }
+    ExitCode::from(status)
 }

@@ -1,11 +1,10 @@
 -- What an auction file reads as once its first five rows are taken.
 use Rattle.std.proofs.Common.{◌≡◌, ℕ, Bool, List, ◌∷◌, slice_get, codes, Ok, refl}
-use Rattle.beet_forms.specs.Faults.{reading_of, row_reading}
+use Rattle.beet_forms.specs.Faults.{first_fault, reading_of, row_reading}
 use Rattle.beet_forms.specs.declared.row.Row.{Row}
 use Rattle.beet_gates.specs.declared.Gates.{Gates}
 use Rattle.beet_gates.specs.declared.Gates.TheVariants.{Chain}
 use Rattle.beet_bids.specs.declared.grid.TheConstants.{LARGEST_BASE, LARGEST_TICK, MOST_PRICES}
-use Rattle.beet_bids.specs.Reasons.{first_fault}
 use Rattle.beet_bids.specs.AuctionFiles.{auction_in, gates_named, last_reasons, name_reason, named_in, number_in, number_reason, policy_in, tells_policy, value_of, version_reason}
 use Rattle.beet_bids.proofs.LineFacts.{row_read}
 

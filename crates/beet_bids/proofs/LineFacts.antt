@@ -6,7 +6,7 @@ use Rattle.std.proofs.lemmas.Bool.{cases_lt, ltb-false, leb-false, eqb-true, lt-
 use Rattle.std.proofs.lemmas.Nat.{mul-le}
 use Rattle.std.proofs.lemmas.List.Elements.{All-nil, All-cons, All-weaker}
 use Rattle.std.proofs.lemmas.List.Kept.{AllPairs-cons}
-use Rattle.beet_forms.specs.Faults.{Fault, Reading, Answers, at_row, reading_of, row_reading}
+use Rattle.beet_forms.specs.Faults.{Answers, Fault, Reading, at_row, first_fault, reading_of, row_reading}
 use Rattle.beet_forms.specs.declared.faults.ReadFault.{ReadFault}
 use Rattle.beet_forms.specs.declared.faults.ReadFault.TheVariants.{Bad, OutOfMemory}
 use Rattle.beet_forms.specs.declared.row.Row.{Row}
@@ -15,7 +15,6 @@ use Rattle.beet_forms.specs.Rows.{begins_with}
 use Rattle.beet_bids.specs.declared.curve.TheConstants.{LARGEST_QUANTITY}
 use Rattle.beet_bids.specs.Curves.{Curve}
 use Rattle.beet_bids.specs.declared.lines.TheConstants.{OFF_GRID, NOT_ASCENDING, BUY_RISES, SELL_FALLS, TOO_LARGE, NO_BASE}
-use Rattle.beet_bids.specs.Reasons.{first_fault}
 use Rattle.beet_bids.specs.Lines.{cut_line, Precedes, AreLines}
 use Rattle.beet_bids.specs.BidFiles.{bid_in, curve_in, first_reason, next_reason, line_reason, line_reasons, line_of, is_large}
 use Rattle.beet_bids.specs.declared.lines.Line.{Line}

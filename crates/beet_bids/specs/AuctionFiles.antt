@@ -1,8 +1,8 @@
 -- The auction file: a header, and four rows of a key and a value; in version 2 a fifth one says what is opened.
-use Rattle.std.specs.Prelude.{ℕ, Bool, true, false, ◌||◌, if◌then◌else◌, List, [], ◌∷◌, Option, None, Some, Result, Ok, Err, is_some, nat_le, drop, slice_get, option_and_then, unwrap_or, codes}
-use Rattle.beet_forms.specs.Faults.{Reading, reading_of}
+use Rattle.std.specs.Prelude.{ℕ, Bool, true, false, ◌||◌, if◌then◌else◌, List, [], ◌∷◌, Option, None, Some, Result, Ok, Err, is_some, nat_le, drop, slice_get, option_and_then, unwrap_or, bytes_eq, codes}
+use Rattle.beet_forms.specs.Faults.{Reading, first_fault, reading_of}
 use Rattle.beet_forms.specs.Numbers.{number_of, decimal_value}
-use Rattle.beet_forms.specs.Rows.{rows_of, same_bytes, two_of}
+use Rattle.beet_forms.specs.Rows.{rows_of, two_of}
 use Rattle.beet_forms.specs.declared.decimals.NumberFault.{NumberFault}
 use Rattle.beet_forms.specs.declared.row.Row.{Row}
 use Rattle.beet_gates.specs.declared.Gates.{Gates}
@@ -13,12 +13,11 @@ use Rattle.beet_forms.specs.declared.faults.TheConstants.{BAD_HEADER}
 use Rattle.beet_bids.specs.declared.auction_file.TheConstants.{BAD_KEY, BAD_VALUE, WRONG_VERSION}
 use Rattle.beet_bids.specs.declared.grid.TheConstants.{LARGEST_BASE, LARGEST_TICK, MOST_PRICES}
 use Rattle.beet_bids.specs.Grids.{Grid}
-use Rattle.beet_bids.specs.Reasons.{first_fault}
 
 -- the second of two fields, where the first is the key
 abbrev pub value_in : List ℕ → Option (List ℕ × List ℕ) → Option (List ℕ)
 value_in key None = None
-value_in key (Some fields) = if same_bytes fields.0 key then Some fields.1 else None
+value_in key (Some fields) = if bytes_eq fields.0 key then Some fields.1 else None
 
 -- the value of a row that is there, has two fields and has the key
 abbrev pub value_of : List ℕ → Option Row → Option (List ℕ)
@@ -28,12 +27,12 @@ value_of key row = value_in key (option_and_then two_of row)
 abbrev pub version_reason : Option (List ℕ) → Option ℕ
 version_reason None = Some BAD_HEADER
 version_reason (Some version) =
-    if same_bytes version (codes "1") || same_bytes version (codes "2") then None else Some WRONG_VERSION
+    if bytes_eq version (codes "1") || bytes_eq version (codes "2") then None else Some WRONG_VERSION
 
 -- whether it is version 2, whose last row says what is opened
 abbrev pub tells_policy : Option (List ℕ) → Bool
 tells_policy None = false
-tells_policy (Some version) = same_bytes version (codes "2")
+tells_policy (Some version) = bytes_eq version (codes "2")
 
 -- whether there is a number that is not below this one
 abbrev pub is_from : ℕ → Result ℕ NumberFault → Bool
@@ -48,14 +47,14 @@ number_reason low high (Some digits) = if is_from low (number_of digits high) th
 -- the kind of gates of this name
 abbrev pub gates_named : List ℕ → Option Gates
 gates_named name =
-    if same_bytes name (codes "chain") then Some Chain else if same_bytes name (codes "tree") then Some Tree else None
+    if bytes_eq name (codes "chain") then Some Chain else if bytes_eq name (codes "tree") then Some Tree else None
 
 -- what is opened by this name
 abbrev pub policy_named : List ℕ → Option Policy
 policy_named name =
-    if same_bytes name (codes "price") then Some Price
-    else if same_bytes name (codes "volume") then Some Volume
-    else if same_bytes name (codes "full") then Some Full
+    if bytes_eq name (codes "price") then Some Price
+    else if bytes_eq name (codes "volume") then Some Volume
+    else if bytes_eq name (codes "full") then Some Full
     else None
 
 -- the row of a name: no such row, or nothing has this name

@@ -1,6 +1,6 @@
 -- The bid file: a header, and a line for each price from which the quantities change.
 use Rattle.std.specs.Prelude.{ℕ, Bool, not, ◌==◌, ◌&&◌, ◌||◌, nat_lt, nat_le, if◌then◌else◌, List, [], ◌∷◌, map, drop, reverse, find, filter_map, zip, Option, None, Some, is_none, is_ok, unwrap_or, codes}
-use Rattle.beet_forms.specs.Faults.{Reading, reading_of}
+use Rattle.beet_forms.specs.Faults.{Reading, first_fault, reading_of}
 use Rattle.beet_forms.specs.Numbers.{number_of, decimal_value}
 use Rattle.beet_forms.specs.Rows.{rows_of, begins_with, three_of}
 use Rattle.beet_forms.specs.declared.row.Row.{Row}
@@ -9,7 +9,6 @@ use Rattle.beet_bids.specs.declared.curve.TheConstants.{LARGEST_QUANTITY}
 use Rattle.beet_bids.specs.Curves.{Curve}
 use Rattle.beet_forms.specs.declared.faults.TheConstants.{BAD_HEADER, BAD_ROW}
 use Rattle.beet_bids.specs.declared.lines.TheConstants.{OFF_GRID, NOT_ASCENDING, BUY_RISES, SELL_FALLS, TOO_LARGE, NO_BASE}
-use Rattle.beet_bids.specs.Reasons.{first_fault}
 use Rattle.beet_bids.specs.declared.lines.Line.{Line}
 
 -- whether a text is a number, however large

@@ -3,7 +3,6 @@ pub mod Curves
 pub mod Books
 pub mod Sums
 pub mod Outcomes
-pub mod Reasons
 pub mod AuctionFiles
 pub mod Lines
 pub mod BidFiles

@@ -1,5 +1,5 @@
 -- A read of a record gives the first of the rows that are left.
-use Rattle.std.proofs.Common.{◌≡◌, ℕ, Bool, true, false, List, [], Option, Some, None, IsSome, Bor, Result, Ok, Err, IfOk, IfErr, IsErrAnd, MatchResult, OnOk, refl, sym, subst, ◌∙◌, inl}
+use Rattle.std.proofs.Common.{◌≡◌, ℕ, Bool, true, false, List, [], Option, Some, None, IsSome, Bor, Result, Ok, Err, IfOk, IfErr, IsErrAnd, MatchResult, OnErr, OnOk, refl, sym, subst, ◌∙◌, inl}
 use Rattle.std.proofs.lemmas.Bool.{true≢false}
 use Rattle.csv.specs.Machine.{next_record}
 use Rattle.csv.specs.Reading.{default_config, has_failed, stops_reader, error_kind, is_flexible, reader_trim, took_first, Ready, ReadsNext, ReadRecord, ExplainsRead}
@@ -39,7 +39,7 @@ pub read_on : (old new : Reader (Bor (List ℕ))) (result : Result Bool Error) (
     OnOk result (has_failed new ≡ has_failed old) →
     IfErr result (λ e. has_failed new ≡ stops_reader (error_kind e)) →
     IfErr result (λ e. Ready old → ExplainsRead (λ s. Some s.now) old new false (error_kind e)) →
-    IsReading new × IfOk result (λ found. Gives found (rows_left old) fields (rows_left new))
+    IsReading new × IfOk result (λ found. Gives found (rows_left old) fields (rows_left new)) × OnErr result (rows_left new ≡ [])
 read_on old new result fields reading failed ready reads flexible goes fails why = by (has_failed old) refl result refl failed ready reads flexible goes fails why where
   by : (f : Bool) → has_failed old ≡ f → (r : Result Bool Error) → result ≡ r →
       (has_failed old ≡ true → r ≡ Ok false) →
@@ -49,14 +49,15 @@ read_on old new result fields reading failed ready reads flexible goes fails why
       OnOk r (has_failed new ≡ has_failed old) →
       IfErr r (λ e. has_failed new ≡ stops_reader (error_kind e)) →
       IfErr r (λ e. Ready old → ExplainsRead (λ s. Some s.now) old new false (error_kind e)) →
-      IsReading new × IfOk r (λ found. Gives found (rows_left old) fields (rows_left new))
+      IsReading new × IfOk r (λ found. Gives found (rows_left old) fields (rows_left new)) × OnErr r (rows_left new ≡ [])
   by true f (Ok true) is failed ready reads flexible goes fails why = cc (failed f)
   by true f (Ok false) is failed ready reads flexible goes fails why =
-      ((λ g. absurd (true≢false (sym f ∙ (sym goes ∙ g)))), rw f refl)
+      ((λ g. absurd (true≢false (sym f ∙ (sym goes ∙ g)))), rw f refl, tt)
   by true f (Err e) is failed ready reads flexible goes fails why = cc (failed f)
   by false f (Err e) is failed ready reads flexible goes fails why =
       let here = reading f in
-      ((λ g. absurd (true≢false (sym (stops (λ s. Some s.now) old new (error_kind e) here.flexible (why here.ready)) ∙ (sym fails ∙ g)))), tt)
+      let failed_now : has_failed new ≡ true = fails ∙ stops (λ s. Some s.now) old new (error_kind e) here.flexible (why here.ready) in
+      ((λ g. absurd (true≢false (sym failed_now ∙ g))), tt, rw failed_now refl)
   by false f (Ok found) is failed ready reads flexible goes fails why =
       let here = reading f in
       let read = reads here.trim here.ready in
@@ -69,6 +70,7 @@ read_on old new result fields reading failed ready reads flexible goes fails why
           known = known.0;
         }),
         known.1,
+        tt,
       )
 
 -- what a reader fails of, where it reads rows, is the reader underneath or memory
@@ -92,6 +94,13 @@ pub ok_kept : {T E D : Type 0} (P : T → Type 0) (Told : E → D → Type 0) (r
 ok_kept P Told (Ok x) told is h = rw is h
 ok_kept P Told (Err e) (Ok x) is h = absurd is
 ok_kept P Told (Err e) (Err d) is h = tt
+
+-- so does what holds wherever there is an error
+pub err_kept : {T E D : Type 0} (P : Type 0) (Told : E → D → Type 0) (result : Result T E) (told : Result T D) →
+    MatchResult result (λ x. told ≡ Ok x) (λ e. IsErrAnd told (Told e)) → OnErr result P → OnErr told P
+err_kept P Told (Ok x) told is h = rw is tt
+err_kept P Told (Err e) (Ok x) is h = absurd is
+err_kept P Told (Err e) (Err d) is h = h
 
 -- a row that is taken and is the header, or another one
 pub passes : (same found : Bool) (old new : List (List (List ℕ))) (row header : List (List ℕ)) → Gives found old row new → found ≡ true → same ≡ same_row row header →

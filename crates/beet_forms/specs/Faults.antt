@@ -27,6 +27,11 @@ reading_of (Some fault) value = Err fault
 abbrev pub row_reading : {A : Type 0} → ℕ → Option ℕ → A → Reading A
 row_reading number reason value = reading_of (option_map (at_row number) reason) value
 
+-- the fault of the first row that is refused, where the rows from this number on have these reasons
+abbrev pub first_fault : ℕ → List (Option ℕ) → Option Fault
+first_fault number [] = None
+first_fault number (reason ∷ reasons) = option_or (option_map (at_row number) reason) (first_fault (number + 1) reasons)
+
 -- the fault of the first row for which the judge has a reason; the judge is told each row's number, counted on from the first
 abbrev pub first_row_fault : (ℕ → Row → Option ℕ) → ℕ → List Row → Option Fault
 first_row_fault judge number [] = None

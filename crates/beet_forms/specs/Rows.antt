@@ -1,5 +1,5 @@
 -- The rows of a text file: csv's records, with comma, without a header row, of any lengths.
-use Rattle.std.specs.Prelude.{ℕ, Bool, false, List, [], ◌∷◌, Option, Some, None, nat_eq}
+use Rattle.std.specs.Prelude.{ℕ, Bool, false, List, [], ◌∷◌, Option, Some, None, bytes_eq}
 use Rattle.std.specs.Cmp.Lexicographic.{pointwise}
 use Rattle.csv.specs.Reading.{default_config, strip_bom, records}
 use Rattle.beet_forms.specs.declared.row.Row.{Row}
@@ -8,13 +8,9 @@ use Rattle.beet_forms.specs.declared.row.Row.{Row}
 abbrev pub rows_of : List ℕ → List Row
 rows_of bytes = records default_config (strip_bom bytes)
 
--- whether two texts are the same, byte for byte
-abbrev pub same_bytes : List ℕ → List ℕ → Bool
-same_bytes = pointwise nat_eq
-
 -- whether two rows have the same fields
 abbrev pub same_row : Row → Row → Bool
-same_row = pointwise same_bytes
+same_row = pointwise bytes_eq
 
 -- whether the first of the rows is there and is this one
 abbrev pub begins_with : List Row → Row → Bool

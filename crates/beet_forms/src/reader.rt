@@ -1,6 +1,6 @@
 //! The rows of a text file, one at a time.
 
-ghost use Rattle.std.specs.Prelude.{◌≡◌, ◌≤◌, ◌∷◌, [], true, IfOk, length};
+ghost use Rattle.std.specs.Prelude.{◌≡◌, ◌≤◌, ◌∷◌, [], true, IfOk, OnErr, MatchResult, length};
 ghost use Rattle.beet_forms.specs.Rows.{rows_of};
 ghost use Rattle.beet_forms.specs.RowReaders.{Gives, Passes, IsReading, rows_left};
 ghost use Rattle.csv.specs.Reading.{stops_reader, error_kind};
@@ -27,6 +27,7 @@ fn read(reader: &mut Reader<&[u8]>, row: &mut ByteRecord) -> Result<bool, AllocE
     requires { IsReading reader.old }
     ensures reading { IsReading reader.new }
     ensures gives { IfOk result (λ found. Gives found (rows_left reader.old) (fields_of row.new) (rows_left reader.new)) }
+    ensures failed { OnErr result (rows_left reader.new ≡ []) }
 {
     reader.read_byte_record(row).map_err(want_of_memory)
 }
@@ -62,21 +63,25 @@ impl<'a> RowReader<'a> {
         }
     }
 
-    /// Puts the next row in the place of `row`, and answers whether there was one. Want of memory is the only error.
+    /// Puts the next row in the place of `row`, and answers whether there was one. Want of memory is the only error. It ends the
+    /// reading: each later call answers that no row is left.
     pub fn next(&mut self, row: &mut Row) -> Result<bool, AllocError>
-        ensures { IfOk result (λ found. Gives found self.old row.new self.new) }
+        ensures { MatchResult result (λ found. Gives found self.old row.new self.new) (λ _. self.new ≡ []) }
     {
         read(&mut self.reader, &mut row.record)
     }
 
-    /// Takes the next row, and answers whether there is one and it is these two fields, byte for byte.
+    /// Takes the next row, and answers whether there is one and it is these two fields, byte for byte. Want of memory is the only
+    /// error, and ends the reading.
     pub fn begins_with(
         &mut self,
         row: &mut Row,
         kind: &[u8],
         version: &[u8],
     ) -> Result<bool, AllocError>
-        ensures { IfOk result (λ same. Passes same self.old (kind.now ∷ version.now ∷ []) self.new) }
+        ensures { MatchResult result
+            (λ same. Passes same self.old (kind.now ∷ version.now ∷ []) self.new)
+            (λ _. self.new ≡ []) }
     {
         Ok(self.next(row)? && is_header(row, kind, version))
     }

@@ -7,7 +7,7 @@ use Rattle.std.specs.Result.{result_err, result_ok}
 use Rattle.std.proofs.lemmas.Bool.{ltb-true}
 use Rattle.std.proofs.lemmas.List.Elements.{All-cons, All-map, All-nil, All-take}
 use Rattle.std.proofs.lemmas.Result.{IfOk-at_ok, IfOk-weaker}
-use Rattle.beet_forms.specs.Faults.{Fault, Reading, at_row, first_row_fault, reading_of}
+use Rattle.beet_forms.specs.Faults.{Fault, Reading, at_row, first_fault, first_row_fault, reading_of}
 use Rattle.beet_forms.specs.Rows.{begins_with, rows_of}
 use Rattle.beet_forms.specs.declared.row.Row.{Row}
 use Rattle.beet_words.specs.Bundles.{AreWords, Words, bundle_of, list_at, magic, server_at, up_to, word_at, words_at}
@@ -21,7 +21,6 @@ use Rattle.beet_words.specs.declared.tape_file.TheConstants.{TOO_LARGE}
 use Rattle.beet_bids.specs.BidFiles.{bid_of, curve_in, header_reason, line_of, line_reasons}
 use Rattle.beet_bids.specs.Curves.{Curve, IsCurve, IsOfGrid}
 use Rattle.beet_bids.specs.Grids.{Grid}
-use Rattle.beet_bids.specs.Reasons.{first_fault}
 use Rattle.beet_bids.proofs.HeldFacts.{curve_in-is, curve_in-of_grid}
 use Rattle.beet_bids.proofs.LineFacts.{rows_accepted}
 use Rattle.beet_book.specs.BookFiles.{book_of}

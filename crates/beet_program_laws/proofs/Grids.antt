@@ -4,14 +4,13 @@ use Rattle.std.specs.Prelude.{codes}
 use Rattle.std.specs.Char.{is_ascii_digit}
 use Rattle.std.specs.List.{list_all}
 use Rattle.std.proofs.lemmas.Bool.{leb-true, ltb-false}
-use Rattle.beet_forms.specs.Faults.{Fault, reading_of}
+use Rattle.beet_forms.specs.Faults.{Fault, first_fault, reading_of}
 use Rattle.beet_forms.specs.Numbers.{decimal_value, number_of}
 use Rattle.beet_forms.specs.Rows.{rows_of}
 use Rattle.beet_forms.specs.declared.decimals.NumberFault.TheVariants.{Empty, NotDigit, LeadingZero, TooLarge}
 use Rattle.beet_gates.specs.declared.Gates.TheVariants.{Chain}
 use Rattle.beet_bids.specs.AuctionFiles.{auction_of, gates_named, is_from, last_reasons, name_reason, named_in, number_in, number_reason, policy_in, tells_policy, value_of, version_reason}
 use Rattle.beet_bids.specs.Grids.{Grid, IsGrid}
-use Rattle.beet_bids.specs.Reasons.{first_fault}
 use Rattle.beet_bids.specs.declared.auction_file.TheConstants.{BAD_VALUE}
 use Rattle.beet_bids.specs.declared.grid.TheConstants.{LARGEST_BASE, LARGEST_TICK, MOST_PRICES}
 

@@ -1,7 +1,6 @@
 -- Files by name, and what a fetch of one answers.
-use Rattle.std.specs.Prelude.{◌≡◌, ◌≤◌, ◌<◌, ℕ, nat_eq, List, [], ◌∷◌, ◌++◌, Option, Some, None, if◌then◌else◌, Result, Ok, Err, Vec, Bool, true, false, vec_len, IsErrOf, IsSomeAnd, length, ⊤}
+use Rattle.std.specs.Prelude.{◌≡◌, ◌≤◌, ◌<◌, ℕ, List, [], ◌∷◌, ◌++◌, Option, Some, None, if◌then◌else◌, Result, Ok, Err, Vec, Bool, true, false, vec_len, bytes_eq, IsErrOf, IsSomeAnd, length, ⊤}
 use Rattle.std.specs.Global.{Global}
-use Rattle.std.specs.Cmp.Lexicographic.{pointwise}
 use Rattle.beet_store.specs.Causes.{Rose}
 use Rattle.beet_store.specs.declared.shelf.FetchFault.{FetchFault}
 use Rattle.beet_store.specs.declared.shelf.FetchFault.TheVariants.{Failed, TooLong, OutOfMemory}
@@ -13,7 +12,7 @@ File = List ℕ × List ℕ
 -- the bytes that are held under the name; of two files with one name the first
 abbrev pub bytes_of : List File → List ℕ → Option (List ℕ)
 bytes_of [] name = None
-bytes_of (file ∷ files) name = if pointwise nat_eq file.0 name then Some file.1 else bytes_of files name
+bytes_of (file ∷ files) name = if bytes_eq file.0 name then Some file.1 else bytes_of files name
 
 -- what a fetch answers
 abbrev pub Fetched : Type 0

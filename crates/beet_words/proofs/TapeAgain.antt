@@ -8,7 +8,8 @@ use Rattle.std.proofs.lemmas.Nat.{from_be_bytes-to_be_bytes_8}
 use Rattle.hex.specs.Hex.{encode_lower, lower_digits}
 use Rattle.hex.proofs.HexLemmas.{length-encode_with, decode_of-encode_lower}
 use Rattle.beet_words.specs.Words.{IsWord}
-use Rattle.beet_words.specs.TapeFiles.{line_at, lines_of, number_in, word_in, reason_against, first_fault, tape_of, line_of, tape_bytes}
+use Rattle.beet_words.specs.TapeFiles.{line_at, lines_of, number_in, word_in, reason_against, tape_of, line_of, tape_bytes}
+use Rattle.beet_forms.specs.Faults.{first_fault}
 
 -- a rest by 256 is a byte
 rest_below : (n : ℕ) → n % 256 < 256

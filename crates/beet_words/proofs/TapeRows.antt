@@ -3,8 +3,8 @@ use Rattle.std.proofs.Common.{◌≡◌, ℕ, zero, suc, ◌+◌, ◌-◌, ◌<�
 use Rattle.std.proofs.lemmas.List.{map_push}
 use Rattle.std.proofs.lemmas.List.FromFn.{map-range_with_len_more}
 use Rattle.std.specs.List.{range_with_len}
-use Rattle.beet_forms.specs.Faults.{at_row}
-use Rattle.beet_words.specs.TapeFiles.{line_at, word_in, reason_against, first_fault}
+use Rattle.beet_forms.specs.Faults.{at_row, first_fault}
+use Rattle.beet_words.specs.TapeFiles.{line_at, word_in, reason_against}
 
 -- the reasons against n lines from the k-th on
 abbrev pub rows_from : List ℕ → ℕ → ℕ → List (Option ℕ)

@@ -3,7 +3,7 @@ use Rattle.std.specs.Prelude.{ℕ, ◌++◌, ◌+◌, ◌*◌, ◌/◌, ◌^◌,
 use Rattle.std.specs.List.{range_with_len, flat_map}
 use Rattle.std.specs.Int.{w64, from_be_bytes, to_be_bytes}
 use Rattle.hex.specs.Hex.{decode_of, encode_lower}
-use Rattle.beet_forms.specs.Faults.{Fault, Reading, reading_of, at_row}
+use Rattle.beet_forms.specs.Faults.{Reading, first_fault, reading_of}
 use Rattle.beet_words.specs.declared.tape_file.TheConstants.{BAD_LINE, TOO_LARGE}
 use Rattle.beet_words.specs.Seeds.{bytes_in}
 
@@ -34,12 +34,6 @@ reason_of_number (Some n) = if nat_lt n (2 ^ 61) then None else Some TOO_LARGE
 -- the reason against a line
 abbrev pub reason_against : List ℕ → Option ℕ
 reason_against line = reason_of_number (number_in line)
-
--- the first row with a reason against it, the rows being counted from n
-abbrev pub first_fault : ℕ → List (Option ℕ) → Option Fault
-first_fault n [] = None
-first_fault n (None ∷ rows) = first_fault (n + 1) rows
-first_fault n (Some reason ∷ rows) = Some (at_row n reason)
 
 -- what a tape file reads as: its first `keep` words, or the fault of the first line that is none
 abbrev pub tape_of : List ℕ → ℕ → Reading (List ℕ)

@@ -1,6 +1,6 @@
 //! Fields of binary files: numbers of 8 bytes, the highest byte first.
 
-ghost use Rattle.std.specs.Prelude.{◌≡◌, ◌≤◌, ◌-◌, ◌/◌, ◌++◌, min, length, IfOk, OnOk};
+ghost use Rattle.std.specs.Prelude.{◌≡◌, ◌≤◌, ◌-◌, ◌/◌, ◌++◌, if◌then◌else◌, is_ok, min, length, IfOk};
 ghost use Rattle.beet_forms.specs.Faults.{Answers};
 ghost use Rattle.beet_words.specs.Fields.{number_at, number_bytes, after_magic, ended};
 
@@ -41,9 +41,9 @@ pub fn read_number(bytes: &[u8], allowed: Allowed, at: usize) -> Result<(u64, us
     Ok((number, at + WIDTH))
 }
 
-/// Appends the field of a number.
+/// Appends the field of a number. Want of memory is the only error, and leaves the file as it was.
 pub fn push_number(file: &mut Vec<u8>, number: u64) -> Result<(), AllocError>
-    ensures { OnOk result (file.new.items ≡ file.old.items ++ number_bytes number) }
+    ensures { file.new.items ≡ (if is_ok result then file.old.items ++ number_bytes number else file.old.items) }
 {
     file.extend_from_slice(&number.to_be_bytes())
 }

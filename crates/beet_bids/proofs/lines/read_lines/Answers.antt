@@ -2,10 +2,10 @@ use Rattle.std.proofs.Common.{◌≡◌, ◌+◌, ◌<◌, [], ◌∷◌, arith,
 use Rattle.std.specs.Global.{Global}
 use Rattle.std.proofs.lemmas.Result.{err_from_is_err_and}
 use Rattle.beet_bids.specs.declared.lines.Line.{Line}
-use Rattle.beet_bids.specs.Reasons.{first_fault}
 use Rattle.beet_bids.specs.BidFiles.{line_of, line_reason, line_reasons}
 use Rattle.beet_bids.proofs.LineFacts.{rows_accepted, turn_reasons, turn_goes_on, lines_more, some_rows, row_read, row_refuses}
 use Rattle.beet_bids.proofs.lines.read_lines.Goals as goal
+use Rattle.beet_forms.specs.Faults.{first_fault}
 
 pub returns-in_err-line-clause-reads : goal.returns-in_err-line-clause-reads
 returns-in_err-line-clause-reads c =

@@ -1,8 +1,8 @@
 use Rattle.std.proofs.Common.{◌≡◌, ◌+◌, ◌++◌, None, length, map, filter_map}
-use Rattle.beet_bids.specs.Reasons.{first_fault}
 use Rattle.beet_bids.specs.BidFiles.{line_of}
 use Rattle.beet_bids.proofs.LineFacts.{reasons_after}
 use Rattle.beet_bids.proofs.lines.read_lines.Given as goal
+use Rattle.beet_forms.specs.Faults.{first_fault}
 
 abbrev pub invariant-loop-lines : goal.invariant-loop-lines
 invariant-loop-lines l = record {

@@ -1,8 +1,9 @@
 use Rattle.std.proofs.Common.{◌≡◌, ◌+◌, ◌-◌, map, take}
 use Rattle.std.specs.List.{range_with_len}
-use Rattle.beet_words.specs.TapeFiles.{line_at, lines_of, word_in, reason_against, first_fault}
+use Rattle.beet_words.specs.TapeFiles.{line_at, lines_of, word_in, reason_against}
 use Rattle.beet_words.proofs.TapeRows.{rows_from}
 use Rattle.beet_words.proofs.tape_file.read_tape.Given as goal
+use Rattle.beet_forms.specs.Faults.{first_fault}
 
 abbrev pub invariant-loop-k : goal.invariant-loop-k
 invariant-loop-k l = record {
