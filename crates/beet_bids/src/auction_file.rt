@@ -1,8 +1,7 @@
 //! The reader of an auction file.
 
 ghost use Rattle.std.specs.Prelude.{◌≡◌, ◌≤◌, ◌∷◌, IfOk, OnOk, length, option_map, slice_get, codes};
-ghost use Rattle.beet_bids.specs.Reasons.{first_fault};
-ghost use Rattle.beet_forms.specs.Faults.{Answers, reading_of, row_reading};
+ghost use Rattle.beet_forms.specs.Faults.{Answers, first_fault, reading_of, row_reading};
 ghost use Rattle.beet_forms.specs.Rows.{two_of};
 ghost use Rattle.beet_bids.specs.AuctionFiles.{auction_in, auction_of, gates_named, last_reasons, name_reason, named_in, number_in, number_reason, policy_in, policy_named, tells_policy, value_in, value_of, version_reason};
 

@@ -1,10 +1,9 @@
 //! The lines of a bid.
 
 ghost use Rattle.std.specs.Prelude.{◌≡◌, ◌<◌, ◌≤◌, ◌+◌, ◌^◌, length, min, Some, None, if◌then◌else◌, option_map, map, filter_map, IfOk};
-ghost use Rattle.beet_forms.specs.Faults.{Answers, reading_of, row_reading};
+ghost use Rattle.beet_forms.specs.Faults.{Answers, first_fault, reading_of, row_reading};
 ghost use Rattle.beet_forms.specs.Numbers.{decimal_value};
 ghost use Rattle.beet_bids.specs.Curves.{IsOfGrid};
-ghost use Rattle.beet_bids.specs.Reasons.{first_fault};
 ghost use Rattle.beet_bids.specs.Lines.{AreLines, begin_at, cut_line};
 ghost use Rattle.beet_bids.specs.BidFiles.{curve_in, first_reason, is_large, is_number, line_of, line_reason, line_reasons, next_reason};
 
