@@ -1,16 +1,12 @@
 -- Whether a server has enough words.
-use Rattle.std.proofs.Common.{◌≡◌, ◌≤◌, ◌<◌, ℕ, Result, length, Ok, Err, refl, codes, subst}
+use Rattle.std.proofs.Common.{◌≡◌, ◌≤◌, ℕ, Result, length, Ok, refl, subst}
 use Rattle.beet_field.specs.declared.trio.Trio.{Trio}
 use Rattle.beet_words.specs.Words.{accepted}
 use Rattle.beet_bids.specs.Grids.{Grid}
-use Rattle.beet_errand.specs.Fetches.{Tests, Refuses}
-use Rattle.beet_errand.proofs.Frame.{few_cause}
+use Rattle.beet_errand.specs.Fetches.{Tests}
 use Rattle.beet_load.specs.Servers.{ServerWords, masks_wanted, coefficients_wanted, enough_of, enough_of_all}
-use Rattle.beet_load.specs.WordTexts.{server_short_text}
-use Rattle.beet_errand.specs.declared.answer.Status.TheVariants.{TooFewWords}
 use Rattle.beet_errand.specs.declared.answer.Stop.{Stop}
-use Rattle.beet_errand.specs.declared.answer.Stop.TheVariants.{Refused, OutOfMemory}
-use Rattle.beet_load.proofs.Farming.{lt_false, lt_true}
+use Rattle.beet_load.proofs.Farming.{lt_false}
 
 -- both counts are enough
 pub counts_pass : (grid : Grid) (server : ℕ) (words : ServerWords) → coefficients_wanted grid ≤ length (accepted words.coefficients) →

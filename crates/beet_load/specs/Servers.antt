@@ -1,5 +1,5 @@
 -- The words of the servers: how many each wants, and where they are read.
-use Rattle.std.specs.Prelude.{ℕ, ◌≤◌, ◌+◌, ◌*◌, ◌==◌, List, length, take, nat_lt, if◌then◌else◌, Option, Some, None, Ok, Err, codes}
+use Rattle.std.specs.Prelude.{ℕ, ◌≤◌, ◌==◌, List, length, take, nat_lt, if◌then◌else◌, Option, Some, None, Ok, Err, codes}
 use Rattle.beet_field.specs.declared.trio.Trio.{Trio}
 use Rattle.beet_forms.specs.Faults.{Fault, Reading}
 use Rattle.beet_forms.specs.declared.faults.Place.TheVariants.{At}

@@ -7,7 +7,6 @@ use Rattle.beet_book.specs.ServerFiles.{servers_of}
 use Rattle.beet_book.specs.declared.entries.Entry.{Entry}
 use Rattle.beet_book.specs.declared.sources.Servers.{Servers}
 use Rattle.beet_errand.specs.Errands.{Step, ◌>>=◌, gives, reads}
-use Rattle.beet_load.specs.declared.setting.Setting.{Setting as Held}
 use Rattle.beet_bids.specs.declared.auction_file.TheConstants.{AUCTION_LIMIT}
 use Rattle.beet_book.specs.declared.server_file.TheConstants.{SERVERS_LIMIT}
 use Rattle.beet_book.specs.declared.book_file.TheConstants.{BOOK_LIMIT}
@@ -25,7 +24,3 @@ setting_errand auction servers book = do
   sources ← reads servers SERVERS_LIMIT servers_of
   entries ← reads book BOOK_LIMIT book_of
   gives (record { grid = grid; sources = sources; entries = entries })
-
--- the setting, by what the program holds of it
-abbrev pub setting_of : Held → Setting
-setting_of held = record { grid = held.grid; sources = held.sources; entries = held.entries.items }

@@ -1,10 +1,7 @@
 //! Reading the files of an auction, of its servers and of its book.
 
-ghost use Rattle.std.specs.Prelude.{◌≤◌, IfOk, length};
-ghost use Rattle.beet_bids.specs.Grids.{IsGrid};
 ghost use Rattle.beet_errand.specs.Fetches.{Reads};
-ghost use Rattle.beet_load.specs.Settings.{setting_errand, setting_of};
-ghost use Rattle.beet_words.specs.declared.bundle.TheConstants.{MOST_BIDDERS};
+ghost use Rattle.beet_load.specs.Settings.{setting_errand};
 
 use crate::books::{read_entries, read_grid};
 use crate::servers::read_sources;
@@ -14,6 +11,7 @@ use beet_errand::Stop;
 use beet_forms::beside;
 use beet_store::Shelf;
 use std::alloc::Global;
+use std::marker::Model;
 
 /// The grid of an auction, where the words of its servers come from, and the entries of its book.
 #[derive(Drop)]
@@ -21,6 +19,19 @@ pub(crate) struct Setting {
     pub(crate) grid: Grid,
     pub(crate) sources: Servers,
     pub(crate) entries: Vec<Entry>,
+}
+
+impl Model for Setting {
+    ghost use Rattle.std.specs.Prelude.{◌≤◌, length};
+    ghost use Rattle.beet_bids.specs.Grids.{IsGrid};
+    ghost use Rattle.beet_load.specs.Settings.{Setting as Seen};
+    ghost use Rattle.beet_words.specs.declared.bundle.TheConstants.{MOST_BIDDERS};
+
+    ghost Value = { Seen };
+
+    ghost view = { λ a. record { grid = a.grid; sources = a.sources; entries = a.entries.items } };
+
+    ghost invariant = { λ a. IsGrid a.grid × (length a.entries.items ≤ MOST_BIDDERS) };
 }
 
 /// Reads the files of an auction, of its servers and of its book.
@@ -31,9 +42,7 @@ pub(crate) fn read_setting<S: Shelf>(
     servers: &str,
     book: &str,
 ) -> Result<Setting, Stop>
-    ensures is_grid { IfOk result (λ setting. IsGrid setting.grid) }
-    ensures few { IfOk result (λ setting. length setting.entries.items ≤ MOST_BIDDERS) }
-    ensures reads { Reads setting_of (S.seen shelf.old) (S.seen shelf.new)
+    ensures { Reads (λ setting. setting) (S.seen shelf.old) (S.seen shelf.new)
         (setting_errand auction.now servers.now book.now) result }
 {
     let grid = read_grid(alloc, shelf, auction)?;

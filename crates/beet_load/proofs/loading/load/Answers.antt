@@ -5,8 +5,8 @@ use Rattle.beet_load.proofs.loading.load.Goals as goal
 
 pub returns-in_err-setting : goal.returns-in_err-setting
 unfolding loaded_errand setting_errand rest_errand
-returns-in_err-setting g c = exits c.from_residual.ensures.1 (stopped {rest = rest_errand} c.in_err-setting.ensures.reads)
+returns-in_err-setting g c = exits c.from_residual.ensures.1 (stopped {rest = rest_errand} c.in_err-setting.ensures)
 
 pub returns : goal.returns
 unfolding loaded_errand setting_errand rest_errand
-returns g c = bind {rest = rest_errand} c.in_ok-setting.ensures.reads c.add_up-loaded.ensures
+returns g c = bind {rest = rest_errand} c.in_ok-setting.ensures c.add_up-loaded.ensures
