@@ -76,7 +76,7 @@ fn append_lets(wires: &mut Vec<Fe>, lets: &[Linear]) -> Result<(), AllocError>
 }
 
 /// The product of two wires.
-fn multiply(wires: &[Fe], pair: (u32, u32)) -> Fe
+pub fn multiply(wires: &[Fe], pair: (u32, u32)) -> Fe
     requires first { pair.0 < length wires.now }
     requires second { pair.1 < length wires.now }
     ensures { result ≡ product_of wires.now pair }
@@ -97,7 +97,7 @@ fn append_products(wires: &mut Vec<Fe>, pairs: &[(u32, u32)]) -> Result<(), Allo
 }
 
 /// The bit of a word at the place, as a number.
-fn bit_of(word: Word, k: u32) -> Fe
+pub fn bit_of(word: Word, k: u32) -> Fe
     requires { k < 61 }
     ensures { result ≡ bit_at word k }
 {

@@ -17,7 +17,7 @@ mod product;
 
 use arrayvec::ArrayVec;
 use beet_field::Fe;
-pub use clear::{ClearRun, clear_run, evaluate};
+pub use clear::{ClearRun, bit_of, clear_run, evaluate, multiply};
 pub use levels::{LevelItems, level_law, level_pairs};
 pub use product::Product;
 
