@@ -6,7 +6,7 @@ ghost use Rattle.beet_field.specs.Field.{p};
 ghost use Rattle.beet_gates.specs.Each.{each};
 ghost use Rattle.beet_gates.specs.Deals.{dealt_bits, deals_of};
 ghost use Rattle.beet_gates.specs.Scripts.{TermsBelow, LetsBelow, PairsBelow, WiresBelow, ActBelow, deals_in, HasWords};
-ghost use Rattle.beet_gates.specs.Clear.{weighed, let_of, with_lets, product_of, is_end, batch_on, clear_at, start_values, EndsAfter};
+ghost use Rattle.beet_gates.specs.Clear.{weighed, let_of, with_lets, product_of, batch_on, clear_at, start_values, EndsAfter};
 
 use crate::{Act, Batch, Linear, Script};
 use beet_field::{Fe, Trio};
@@ -136,13 +136,6 @@ fn append_opened(wires: &[Fe], opened: &mut Vec<Fe>, shown: &[u32]) -> Result<()
     Ok(())
 }
 
-/// Whether an act is the end.
-fn is_last(act: &Act) -> bool
-    ensures { result ≡ is_end act.now }
-{
-    matches!(act, Act::End)
-}
-
 impl Run {
     /// The start of a run, with room for so many wires.
     fn start(alloc: Global, inputs: &[Fe], room: u32) -> Result<Run, AllocError>
@@ -228,7 +221,7 @@ pub fn clear_run<S: Script>(
     for done in 0..rounds {
         script.refill(done, run.opened(), &mut place, &mut batch);
         run.step(&batch, masks)?;
-        if is_last(&batch.act) {
+        if batch.act.is_end() {
             return Ok(run.finish(done));
         }
     }

@@ -8,7 +8,9 @@
 
 ghost use Rattle.std.specs.Prelude.{◌≡◌, ◌≤◌, ◌++◌, ℕ, List, []};
 ghost use Rattle.beet_gates.specs.declared.Batch.{Batch};
-ghost use Rattle.beet_gates.specs.Scripts.{LawFrom, start_of, bounds_of};
+ghost use Rattle.beet_gates.specs.declared.TheConstants.{MOST_NUMBERS};
+ghost use Rattle.beet_gates.specs.Clear.{is_end};
+ghost use Rattle.beet_gates.specs.Scripts.{LawFrom, start_of, bounds_of, size_of};
 
 mod clear;
 mod filling;
@@ -61,6 +63,28 @@ pub enum Act {
     Reveal(ArrayVec<u32, MOST_NUMBERS>),
     /// The run is over.
     End,
+}
+
+impl Act {
+    /// How many numbers a server sends another for it.
+    pub fn size(&self) -> u32
+        ensures size { result ≡ size_of self.now }
+        ensures few { result ≤ MOST_NUMBERS }
+    {
+        match self {
+            Act::Deal => 61,
+            Act::Mul(pairs) => pairs.len() as u32,
+            Act::Reveal(shown) => shown.len() as u32,
+            Act::End => 0,
+        }
+    }
+
+    /// Whether it is the end.
+    pub fn is_end(&self) -> bool
+        ensures { result ≡ is_end self.now }
+    {
+        matches!(self, Act::End)
+    }
 }
 
 /// One batch of a script: the lets are appended, and then the act is done.
