@@ -16,10 +16,9 @@ ghost use Rattle.beet_gates.specs.Linears.{three_terms, two_terms};
 ghost use Rattle.beet_compare.specs.Compare.{compare_rounds_of, compare_wires_of, masked_batch, same_let, lowest_batch, bit_batch, low_bit_batch, answer_batch, last_let, chain_batches, borrow_lets, level_products, level_lets, bits_less, bits_same, level_less, level_same, borrow_batches, compare_batches, doubled, is_doubled_even, BeforeCompare, AfterCompare};
 
 use arrayvec::ArrayVec;
-use beet_field::{Fe, MINUS_ONE, MINUS_TWO};
+use beet_field::{Fe, MINUS_ONE, MINUS_TWO, MOST_NUMBERS};
 use beet_gates::{
-    Act, Batch, Gates, LevelItems, Linear, MASK_WIRES, MOST_LETS, MOST_NUMBERS, WIRES_BEFORE_BITS,
-    level_pairs,
+    Act, Batch, Gates, LevelItems, Linear, MASK_WIRES, MOST_LETS, WIRES_BEFORE_BITS, level_pairs,
 };
 
 /// The rounds of a block with chain gates: the opening of the masked difference, one for each bit, and the opening of the answer.

@@ -19,6 +19,9 @@ pub use trio::Trio;
 /// The modulus, `2^61 - 1`.
 pub const P: u64 = 2_305_843_009_213_693_951;
 
+/// The most numbers of one message, so also the most pairs or wires of a batch.
+pub const MOST_NUMBERS: usize = 64;
+
 /// 1 less than the modulus, the factor that takes a number away.
 pub const MINUS_ONE: u128 = P as u128 - 1;
 

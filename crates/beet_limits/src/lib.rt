@@ -4,12 +4,13 @@
 #![tactic(auto)]
 
 ghost use Rattle.std.specs.Prelude.{◌≡◌, ◌*◌, ◌^◌, ◌+◌, ◌-◌};
+ghost use Rattle.beet_field.specs.declared.TheConstants.{MOST_NUMBERS};
 ghost use Rattle.beet_forms.specs.declared.faults.TheConstants.{BAD_HEADER, BAD_ROW, LONGEST_FILE};
 ghost use Rattle.beet_forms.specs.declared.names.TheConstants.{LONGEST_NAME};
 ghost use Rattle.beet_words.specs.declared.bundle.TheConstants.{BAD_MAGIC, BAD_NUMBER, BUNDLE_LIMIT, MOST_BIDDERS, MOST_WORDS, TRAILING, TRUNCATED, WRONG_COUNT};
 ghost use Rattle.beet_words.specs.declared.tape_file.TheConstants.{BAD_LINE, TAPE_LIMIT, TOO_LARGE};
 ghost use Rattle.beet_gates.specs.declared.Gates.TheVariants.{Chain, Tree};
-ghost use Rattle.beet_gates.specs.declared.TheConstants.{MOST_LETS, MOST_NUMBERS, WIRES_BEFORE_BITS};
+ghost use Rattle.beet_gates.specs.declared.TheConstants.{MOST_LETS, WIRES_BEFORE_BITS};
 ghost use Rattle.beet_bids.specs.declared.auction_file.TheConstants.{AUCTION_LIMIT, BAD_KEY, BAD_VALUE, NOT_ONE_PRICE, WRONG_VERSION};
 ghost use Rattle.beet_bids.specs.declared.bid_file.TheConstants.{BID_LIMIT};
 ghost use Rattle.beet_bids.specs.declared.curve.TheConstants.{LARGEST_QUANTITY};

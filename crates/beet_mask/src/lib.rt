@@ -5,20 +5,19 @@
 
 ghost use Rattle.std.specs.Prelude.{◌≡◌, ◌<◌, ◌≤◌, ◌+◌, ◌-◌, ◌*◌, ◌^◌, ◌↔◌, ℕ, List, [], ◌∷◌, length, slice_get, IsNone};
 ghost use Rattle.beet_field.specs.Field.{p};
+ghost use Rattle.beet_field.specs.declared.TheConstants.{MOST_NUMBERS};
 ghost use Rattle.beet_gates.specs.Batches.{mul_batch};
 ghost use Rattle.beet_gates.specs.Plans.{batch_at};
 ghost use Rattle.beet_gates.specs.Clear.{Values, batches_on};
 ghost use Rattle.beet_gates.specs.Deals.{dealt_bits};
 ghost use Rattle.beet_gates.specs.Each.{each};
 ghost use Rattle.beet_gates.specs.Levels.{places_of_pair, wire_of};
-ghost use Rattle.beet_gates.specs.declared.TheConstants.{MOST_NUMBERS};
 ghost use Rattle.beet_mask.specs.Mask.{bit_wire_of, level_wire, mask_rounds_of, mask_wires_of, bit_lets, chain_batches, product_batches, mask_batches, mask_of, xor_let, AfterMask};
 
 use arrayvec::ArrayVec;
-use beet_field::{Fe, MINUS_TWO};
+use beet_field::{Fe, MINUS_TWO, MOST_NUMBERS};
 use beet_gates::{
-    Act, Batch, Gates, LevelItems, Linear, MASK_WIRES, MOST_LETS, MOST_NUMBERS, WIRES_BEFORE_BITS,
-    level_pairs,
+    Act, Batch, Gates, LevelItems, Linear, MASK_WIRES, MOST_LETS, WIRES_BEFORE_BITS, level_pairs,
 };
 
 /// The rounds of a block with chain gates: the deal, two products of words, one for each bit from the second on, and the opening.

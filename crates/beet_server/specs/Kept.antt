@@ -1,7 +1,7 @@
 -- The messages of the rounds that a server has passed, by their numbers.
 use Rattle.std.specs.Prelude.{◌≡◌, ◌≤◌, ◌*◌, ◌+◌, ℕ, List, [], ◌∷◌, length, Option, option_map, option_and_then, slice_get}
 use Rattle.beet_field.specs.declared.point.Point.{Point}
-use Rattle.beet_gates.specs.declared.TheConstants.{MOST_NUMBERS}
+use Rattle.beet_field.specs.declared.TheConstants.{MOST_NUMBERS}
 use Rattle.beet_round.specs.Sides.{peer}
 use Rattle.beet_round.specs.declared.message.RoundMessage.{RoundMessage}
 use Rattle.beet_round.specs.declared.sides.Side.{Side}

@@ -2,10 +2,10 @@
 //! comes.
 
 ghost use Rattle.std.specs.Prelude.{◌≡◌, ◌<◌, ◌≤◌, ◌+◌, ◌-◌, ◌*◌, ◌^◌, [], length, true, false, vec_capacity};
+ghost use Rattle.beet_field.specs.declared.TheConstants.{MOST_NUMBERS};
 ghost use Rattle.beet_words.specs.Tapes.{left_of};
 ghost use Rattle.beet_gates.specs.Clear.{is_end, with_lets};
 ghost use Rattle.beet_gates.specs.Scripts.{size_of};
-ghost use Rattle.beet_gates.specs.declared.TheConstants.{MOST_NUMBERS};
 ghost use Rattle.beet_round.specs.Sides.{peer};
 ghost use Rattle.beet_round.specs.declared.sides.Side.TheVariants.{Low, High};
 ghost use Rattle.beet_server.specs.Steps.{Work, batch_of, sends, handing, passing};

@@ -2,11 +2,11 @@
 
 ghost use Rattle.std.specs.Prelude.{◌≡◌, ◌≤◌, ◌+◌, ◌++◌, take, map, length, slice_index, vec_capacity};
 ghost use Rattle.std.specs.Int.{bit_at};
+ghost use Rattle.beet_field.specs.declared.TheConstants.{MOST_NUMBERS};
 ghost use Rattle.beet_shamir.specs.Line.{recombined, reshared};
 ghost use Rattle.beet_words.specs.Tapes.{drawn_from, left_of};
 ghost use Rattle.beet_gates.specs.Each.{each};
 ghost use Rattle.beet_gates.specs.Scripts.{LetsBelow, PairsBelow, WiresBelow, ActBelow, deals_in, revealed, size_of};
-ghost use Rattle.beet_gates.specs.declared.TheConstants.{MOST_NUMBERS};
 ghost use Rattle.beet_gates.specs.Clear.{with_lets, product_of};
 ghost use Rattle.beet_round.specs.Sides.{peer, side_of};
 ghost use Rattle.beet_round.specs.declared.sides.Side.TheVariants.{Low, High};
@@ -15,8 +15,8 @@ ghost use Rattle.beet_server.specs.Steps.{at_side};
 ghost use Rattle.beet_sharing.specs.Steps.{hidden, numbers_for, three_at, points_given, numbers_opened, gained_in};
 
 use arrayvec::ArrayVec;
-use beet_field::{Fe, Point, Trio};
-use beet_gates::{Act, Linear, MOST_NUMBERS, bit_of, evaluate, multiply};
+use beet_field::{Fe, MOST_NUMBERS, Point, Trio};
+use beet_gates::{Act, Linear, bit_of, evaluate, multiply};
 use beet_round::Side;
 use beet_shamir::{Line, recombine, reshare};
 use beet_words::{Tape, Word};

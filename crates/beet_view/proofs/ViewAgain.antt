@@ -9,6 +9,7 @@ use Rattle.beet_field.specs.Field.{p, IsElement}
 use Rattle.beet_field.specs.Point.{number_of}
 use Rattle.beet_field.specs.declared.point.Point.{Point}
 use Rattle.beet_field.specs.declared.point.Point.TheVariants.{One, Two, Three}
+use Rattle.beet_field.specs.declared.TheConstants.{MOST_NUMBERS}
 use Rattle.beet_words.specs.Words.{IsWord, ones}
 use Rattle.beet_words.specs.Bundles.{up_to, word_at, words_at}
 use Rattle.beet_words.specs.Fields.{Part, number_bytes, number_at, times, counted_at, ended}
@@ -23,7 +24,6 @@ use Rattle.beet_bids.specs.declared.grid.TheConstants.{LARGEST_BASE, LARGEST_TIC
 use Rattle.beet_bids.specs.declared.outcomes.Policy.{Policy}
 use Rattle.beet_bids.specs.declared.outcomes.Policy.TheVariants.{Price, Volume, Full}
 use Rattle.beet_book.specs.declared.book_file.TheConstants.{MOST_PRODUCT}
-use Rattle.beet_gates.specs.declared.TheConstants.{MOST_NUMBERS}
 use Rattle.beet_words.specs.declared.bundle.TheConstants.{TRAILING}
 use Rattle.beet_view.specs.declared.reading.TheConstants.{MOST_ROUNDS}
 use Rattle.beet_view.specs.declared.quantities.Course.{Course}
