@@ -3,7 +3,7 @@
 
 use beet_field::Fe;
 
-/// The most numbers that each server draws for a mask and the comparison with it, whatever the gates.
+/// Room for the numbers that each server draws for a mask and the comparison with it, whatever the gates.
 pub const MASK_COEFFICIENTS: u32 = 512;
 
 /// Masks that may be rejected in a run, beside those that are used.
