@@ -237,7 +237,7 @@ impl Walk {
         requires open { (0 < self.left) × (self.lo < self.hi) }
         requires search { self.stage ≡ Stage.Search }
         ensures fits { Fits result }
-        ensures plan { plan_at result ≡ after_product (blocks_of self.gates) self.policy self.prices (self.left - 1) self.lo self.hi self.first self.rejected product }
+        ensures plan { plan_at result ≡ after_product (blocks_of self.gates) self.prices (search_plan (blocks_of self.gates) self.policy self.prices (self.left - 1)) self.lo self.hi self.first self.rejected product }
     {
         let mut walk = self;
         walk.left = self.left - 1;
@@ -257,7 +257,7 @@ impl Walk {
         requires fits { Fits self }
         requires busy { (self.lo < self.hi) × (self.first + widest self.gates * (self.left + 1) < 2 ^ 32) }
         ensures fits { Fits result }
-        ensures plan { plan_at result ≡ after_answer (blocks_of self.gates) self.policy self.prices self.left self.lo self.hi self.first self.rejected answer }
+        ensures plan { plan_at result ≡ after_answer (blocks_of self.gates) (search_plan (blocks_of self.gates) self.policy self.prices self.left) self.lo self.hi self.first self.rejected answer }
     {
         let mid = (self.lo + self.hi) / 2;
         let mut walk = self;
