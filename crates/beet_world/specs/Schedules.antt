@@ -5,7 +5,7 @@ use Rattle.std.specs.Option.{ok_or}
 use Rattle.std.specs.Result.{result_err}
 use Rattle.beet_field.specs.declared.point.Point.{Point}
 use Rattle.beet_field.specs.declared.point.Point.TheVariants.{One, Two, Three}
-use Rattle.beet_field.specs.Point.{number_of as number_at}
+use Rattle.beet_field.specs.Point.{number_of as number_of_server}
 use Rattle.beet_forms.specs.declared.row.Row.{Row}
 use Rattle.beet_forms.specs.declared.decimals.NumberFault.{NumberFault}
 use Rattle.beet_forms.specs.Faults.{Reading, at_row, reading_of, first_row_fault}
@@ -25,7 +25,7 @@ server_of text =
 -- the delivery of a row's parts, or none where a part is none or the sender is the receiver
 abbrev pub delivery_of : Option Point → Option Point → Result ℕ NumberFault → Option Delivery
 delivery_of (Some from) (Some to) (Ok round) =
-    if number_at from == number_at to then None else Some (record { from = from; to = to; round = round })
+    if number_of_server from == number_of_server to then None else Some (record { from = from; to = to; round = round })
 delivery_of _ _ _ = None
 
 -- the delivery of a row's three fields, or none; a row of another width has none
