@@ -1,19 +1,18 @@
 //! Envelopes: the points of a bidder for one server.
 
-ghost use Rattle.std.specs.Prelude.{◌≡◌, ◌≤◌, ◌+◌, ◌*◌, ◌++◌, length, All, IfOk, OnOk, Ok};
-ghost use Rattle.std.specs.List.{flat_map};
+ghost use Rattle.std.specs.Prelude.{◌≡◌, ◌≤◌, ◌+◌, ◌*◌, length, All, IfOk, OnOk, Ok};
 ghost use Rattle.beet_field.specs.Field.{IsElement};
 ghost use Rattle.beet_forms.specs.Faults.{Answers};
 ghost use Rattle.beet_forms.specs.declared.faults.TheConstants.{LONGEST_FILE};
-ghost use Rattle.beet_words.specs.Fields.{number_bytes};
 ghost use Rattle.beet_bids.specs.Grids.{IsGrid};
 ghost use Rattle.beet_farmer.specs.Envelopes.{only as only_number, below_p, after_header, envelope_of, header_bytes, envelope_bytes};
 
 use beet_bids::Grid;
-use beet_field::{Fe, P, Point};
+use beet_field::{P, Point};
 use beet_forms::ReadFault;
 use beet_words::{
-    Allowed, BAD_MAGIC, FeList, push_number, read_end, read_magic, read_number, read_points,
+    Allowed, BAD_MAGIC, FeList, push_number, push_points, read_end, read_magic, read_number,
+    read_points,
 };
 use std::alloc::{AllocError, Global};
 
@@ -112,17 +111,6 @@ pub fn read_envelope(
     let (points, at) = read_points(alloc, bytes, point(), 2 * grid.prices() as u64, at)?;
     read_end(bytes, TRAILING, at)?;
     Ok(Envelope { server, points })
-}
-
-/// Appends points.
-fn push_points(file: &mut Vec<u8>, points: &[Fe]) -> Result<(), AllocError>
-    ensures bytes { OnOk result (file.new.items ≡ file.old.items ++ flat_map number_bytes points.now) }
-    ensures points { OnOk result (All IsElement points.now) }
-{
-    for point in points {
-        push_number(file, point.value())?;
-    }
-    Ok(())
 }
 
 /// A file that has what stands before the points, and room for these.
