@@ -7,7 +7,7 @@ ghost use Rattle.beet_words.specs.Words.{IsWord};
 ghost use Rattle.beet_words.specs.Fields.{times, number_bytes};
 ghost use Rattle.beet_words.specs.Bundles.{up_to as allowed_up_to, word_at, words_at, list_at, server_at, bundle_of, list_bytes, server_bytes, bundle_bytes, AreWords, FitsBundle};
 
-use crate::fields::{Allowed, push_number, read_end, read_magic, read_number, room};
+use crate::fields::{Allowed, push_number, read_end, read_magic, read_number};
 use crate::many::read_many;
 use crate::word::{Word, WordList};
 use beet_field::{P, Trio};
@@ -94,14 +94,8 @@ fn read_words(
     ensures words { Answers (λ read. read) (times count (word_at bytes.now) at) result }
     ensures within { IfOk result (λ read. read.1 ≤ length bytes.now) }
 {
-    let mut words = WordList::with_capacity(alloc, room(bytes, at, count))?;
-    let mut next = at;
-    for _k in 0..count {
-        let (word, after) = read_word(bytes, next)?;
-        words.push(word)?;
-        next = after;
-    }
-    Ok((words, next))
+    let (words, at) = read_many(alloc, bytes, count, at, |from| read_word(bytes, from))?;
+    Ok((WordList::of(words), at))
 }
 
 /// A count, at most `most`, and so many words.
