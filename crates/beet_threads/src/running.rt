@@ -87,11 +87,7 @@ fn runs<S: Script>(cores: &Trio<ServerCore<S>>) -> Runs<S>
     ensures two { result.two.value ≡ cores.now }
     ensures three { result.three.value ≡ cores.now }
 {
-    Trio {
-        one: Snapshot::of(cores),
-        two: Snapshot::of(cores),
-        three: Snapshot::of(cores),
-    }
+    Trio::of(|_| Snapshot::of(cores))
 }
 
 /// The three servers with their ends, as they are to run.
