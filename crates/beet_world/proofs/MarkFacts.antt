@@ -4,6 +4,7 @@ use Rattle.std.specs.Prelude.{slice_index_or, replicate}
 use Rattle.std.proofs.lemmas.Bool.{cases_eq, cases_lt, and_parts, or_cases, or_left, or_right, eq-eqb, eqb-true}
 use Rattle.std.proofs.lemmas.List.{get_or-set_same, get_or-set_other, get_or-replicate, length-replicate}
 use Rattle.std.proofs.Math.ListN.{get_or-eq_default}
+use Rattle.beet_field.proofs.Points.{point_low, point_high}
 use Rattle.beet_field.specs.Point.{number_of}
 use Rattle.beet_field.specs.declared.point.Point.{Point}
 use Rattle.beet_field.specs.declared.point.Point.TheVariants.{One, Two, Three}
@@ -19,16 +20,6 @@ use Rattle.beet_world.specs.Marks.{mark_at, marked_to, number_at, set_of, unmark
 one_place : (f g a b r t : ℕ) → 1 ≤ f → f ≤ 3 → 1 ≤ g → g ≤ 3 → a < 2 → b < 2 → 6 * r + (2 * (f - 1) + a) ≡ 6 * t + (2 * (g - 1) + b) →
     (r ≡ t) × (f ≡ g) × (a ≡ b)
 one_place f g a b r t f1 f3 g1 g3 a2 b2 e = (omega arith, omega arith, omega arith)
-
-point_low : (s : Point) → 1 ≤ number_of s
-point_low One = omega arith
-point_low Two = omega arith
-point_low Three = omega arith
-
-point_high : (s : Point) → number_of s ≤ 3
-point_high One = omega arith
-point_high Two = omega arith
-point_high Three = omega arith
 
 side_small : (s : Side) → number_at s < 2
 side_small Low = omega arith
