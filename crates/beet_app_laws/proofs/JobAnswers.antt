@@ -1,6 +1,7 @@
 -- The ends of the errand of each job.
 use Rattle.std.proofs.Common.{◌≡◌, inl, inr, ℕ, List, [], ◌∷◌, ◌++◌, Option, Some, None, Bool, true, false, if◌then◌else◌, option_map, IfSome, ap, refl, subst, sym}
 use Rattle.std.specs.Prelude.{◌&&◌, codes, ◌==◌, ◌+◌, map}
+use Rattle.beet_field.specs.Point.{server_of}
 use Rattle.beet_field.specs.declared.point.Point.{Point}
 use Rattle.beet_field.specs.declared.point.Point.TheVariants.{One, Two, Three as ThreeAt}
 use Rattle.beet_field.specs.Trio.{of_each}
@@ -32,7 +33,7 @@ use Rattle.beet_plan.specs.Kept.{words_kept}
 use Rattle.beet_plan.specs.declared.Finish.{Finish}
 use Rattle.beet_plan.specs.declared.Finish.TheVariants.{Price, NoPrice, MasksSpent}
 use Rattle.beet_view.specs.Transcripts.{view_in}
-use Rattle.beet_world.specs.Schedules.{schedule_of, server_of}
+use Rattle.beet_world.specs.Schedules.{schedule_of}
 use Rattle.beet_world.specs.declared.schedule.TheConstants.{SCHEDULE_LIMIT}
 use Rattle.beet_worlds.specs.declared.agreeing.MapFault.{MapFault}
 use Rattle.beet_errand.specs.Errands.{Answer, Errand, Ends, bad_file, reads}

@@ -6,10 +6,10 @@
 #![tactic(auto)]
 
 ghost use Rattle.std.specs.Prelude.{◌≡◌, ◌⊎◌, ℕ, List, [], ◌∷◌, codes, Option, Some};
+ghost use Rattle.beet_field.specs.Point.{server_of};
 ghost use Rattle.beet_field.specs.declared.point.Point.{Point};
 ghost use Rattle.beet_store.specs.Files.{Told};
 ghost use Rattle.beet_store.specs.Desks.{Given};
-ghost use Rattle.beet_world.specs.Schedules.{server_of};
 ghost use Rattle.beet_answer.specs.Runs.{Runs};
 ghost use Rattle.beet_app.specs.Doing.{OfJob};
 ghost use Rattle.beet_app.specs.Jobs.{job_of};

@@ -1,11 +1,10 @@
 -- The file of a schedule: the row beet-schedule,1 and then a row FROM,TO,ROUND for each delivery.
-use Rattle.std.specs.Prelude.{ℕ, ◌==◌, if◌then◌else◌, List, [], ◌∷◌, drop, Option, Some, None, Result, Ok, Err, bytes_eq, codes}
+use Rattle.std.specs.Prelude.{ℕ, ◌==◌, if◌then◌else◌, List, [], ◌∷◌, drop, Option, Some, None, Result, Ok, Err, codes}
 use Rattle.std.specs.List.{filter_map}
 use Rattle.std.specs.Option.{ok_or}
 use Rattle.std.specs.Result.{result_err}
 use Rattle.beet_field.specs.declared.point.Point.{Point}
-use Rattle.beet_field.specs.declared.point.Point.TheVariants.{One, Two, Three}
-use Rattle.beet_field.specs.Point.{number_of as number_at}
+use Rattle.beet_field.specs.Point.{number_of as number_at, server_of}
 use Rattle.beet_forms.specs.declared.row.Row.{Row}
 use Rattle.beet_forms.specs.declared.decimals.NumberFault.{NumberFault}
 use Rattle.beet_forms.specs.Faults.{Reading, at_row, reading_of, first_row_fault}
@@ -13,14 +12,6 @@ use Rattle.beet_forms.specs.Numbers.{number_of}
 use Rattle.beet_forms.specs.Rows.{rows_of, begins_with, three_of}
 use Rattle.beet_world.specs.declared.schedule.TheConstants.{BAD_ROW, TOO_MANY, ONE_TOO_MANY, LATEST_ROUND}
 use Rattle.beet_world.specs.declared.schedule.Delivery.{Delivery}
-
--- the server of a digit, or none where the text is no server's
-abbrev pub server_of : List ℕ → Option Point
-server_of text =
-    if bytes_eq text (codes "1") then Some One
-    else if bytes_eq text (codes "2") then Some Two
-    else if bytes_eq text (codes "3") then Some Three
-    else None
 
 -- the delivery of a row's parts, or none where a part is none or the sender is the receiver
 abbrev pub delivery_of : Option Point → Option Point → Result ℕ NumberFault → Option Delivery

@@ -2,7 +2,7 @@
 
 ghost use Rattle.std.specs.Prelude.{◌≡◌, ◌≤◌, length};
 ghost use Rattle.beet_forms.specs.Faults.{Answers};
-ghost use Rattle.beet_world.specs.Schedules.{server_of, delivery_in, delivery_at, deliveries_of, schedule_in, schedule_of};
+ghost use Rattle.beet_world.specs.Schedules.{delivery_in, delivery_at, deliveries_of, schedule_in, schedule_of};
 
 use beet_field::Point;
 use beet_forms::{LONGEST_FILE, ReadFault, Row, RowReader, number, three_fields};
@@ -37,18 +37,6 @@ pub struct Delivery {
     pub round: u32,
 }
 
-/// The server of a digit.
-fn read_server(text: &[u8]) -> Option<Point>
-    ensures { result ≡ server_of text.now }
-{
-    match text {
-        b"1" => Some(Point::One),
-        b"2" => Some(Point::Two),
-        b"3" => Some(Point::Three),
-        _ => None,
-    }
-}
-
 /// The delivery of a row, or none where the row is not of its form.
 fn read_delivery(row: &Row) -> Option<Delivery>
     ensures { result ≡ delivery_in row.now }
@@ -56,7 +44,7 @@ fn read_delivery(row: &Row) -> Option<Delivery>
     let Some((from, to, round)) = three_fields(row) else {
         return None;
     };
-    let (Some(from), Some(to)) = (read_server(from), read_server(to)) else {
+    let (Some(from), Some(to)) = (Point::of_digit(from), Point::of_digit(to)) else {
         return None;
     };
     let Ok(round) = number(round, LATEST_ROUND) else {
