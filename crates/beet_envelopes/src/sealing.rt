@@ -7,8 +7,9 @@ ghost use Rattle.beet_book.specs.Dealing.{HasLengths};
 ghost use Rattle.beet_farmer.specs.Envelopes.{envelope_bytes};
 ghost use Rattle.beet_farmer.specs.Sealing.{points_in};
 ghost use Rattle.beet_load.specs.Farmers.{words_wanted, words_errand};
+ghost use Rattle.beet_errand.specs.Errands.{file_for};
 ghost use Rattle.beet_errand.specs.Fetches.{Reads};
-ghost use Rattle.beet_envelopes.specs.Seal.{name_for, own_words_errand, seal_job, sealed_answer, sealed_text};
+ghost use Rattle.beet_envelopes.specs.Seal.{own_words_errand, seal_job, sealed_answer, sealed_text};
 ghost use Rattle.beet_envelopes.specs.SourceWords.{named_source};
 
 use crate::source_word::SourceWord;
@@ -67,13 +68,10 @@ fn envelope_file(
 ) -> Result<NewFile, AllocError>
     requires { length envelope.now.points ≡ 2 * grid.now.prices }
     ensures { IfOk result (λ file. file ≡
-        (name_for out.now envelope.now.server, envelope_bytes grid.now envelope.now)) }
+        (file_for out.now envelope.now.server, envelope_bytes grid.now envelope.now)) }
 {
-    let number = envelope.server.number();
-    Ok(NewFile {
-        name: format!(in alloc; "{out}.{number}")?,
-        bytes: write_envelope(alloc, grid, envelope)?,
-    })
+    let bytes = write_envelope(alloc, grid, envelope)?;
+    NewFile::of_server(alloc, out, envelope.server, bytes)
 }
 
 /// The files of the envelopes, in the order of the servers.
@@ -85,9 +83,9 @@ fn envelope_files(
 ) -> Result<Vec<NewFile>, AllocError>
     requires { HasLengths (points_in envelopes.now) (2 * grid.now.prices) }
     ensures { IfOk result (λ files. files.items ≡
-        (name_for out.now envelopes.now.one.server, envelope_bytes grid.now envelopes.now.one)
-        ∷ (name_for out.now envelopes.now.two.server, envelope_bytes grid.now envelopes.now.two)
-        ∷ (name_for out.now envelopes.now.three.server, envelope_bytes grid.now envelopes.now.three)
+        (file_for out.now envelopes.now.one.server, envelope_bytes grid.now envelopes.now.one)
+        ∷ (file_for out.now envelopes.now.two.server, envelope_bytes grid.now envelopes.now.two)
+        ∷ (file_for out.now envelopes.now.three.server, envelope_bytes grid.now envelopes.now.three)
         ∷ []) }
 {
     let files = Trio {

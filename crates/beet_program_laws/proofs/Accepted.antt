@@ -22,7 +22,7 @@ use Rattle.beet_auction.specs.Endings.{book_finish, book_rounds}
 use Rattle.beet_view.specs.BookViews.{transcript_of_book, view_for}
 use Rattle.beet_view.specs.Transcripts.{view_bytes, view_in}
 use Rattle.beet_view.specs.Views.{Viewed}
-use Rattle.beet_errand.specs.Errands.{Answer, Errand, answers, reads}
+use Rattle.beet_errand.specs.Errands.{Answer, Errand, answers, file_for, reads}
 use Rattle.beet_errand.specs.Fetches.{IsDone}
 use Rattle.beet_errand.specs.Statuses.{code_of}
 use Rattle.beet_errand.specs.declared.answer.Status.{Status}
@@ -31,7 +31,7 @@ use Rattle.beet_load.specs.Loading.{Loaded}
 use Rattle.beet_load.specs.Servers.{coefficients_of, masks_of}
 use Rattle.beet_load.specs.Wholes.{CanStart, limited_errand}
 use Rattle.beet_run.specs.Outcomes.{outcome_answer}
-use Rattle.beet_record.specs.Records.{file_for, record_errand, recorded_answer, transcript_file}
+use Rattle.beet_record.specs.Records.{record_errand, recorded_answer, transcript_file}
 use Rattle.beet_kept.proofs.FittingViews.{view-again, view-short}
 use Rattle.beet_audit.specs.OneRuns.{OneRun}
 use Rattle.beet_audit.specs.declared.fault.AuditFault.{AuditFault}

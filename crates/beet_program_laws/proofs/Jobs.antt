@@ -44,7 +44,7 @@ use Rattle.beet_world.specs.declared.schedule.TheConstants.{SCHEDULE_LIMIT}
 use Rattle.beet_worlds.specs.ViewsWith.{transcript_with}
 use Rattle.beet_headline.specs.Halves.{AllHaveEnded, standing}
 use Rattle.beet_headline.proofs.Standings.{all-ended, ends}
-use Rattle.beet_errand.specs.Errands.{Answer, Step, ◌>>=◌, gives, reads}
+use Rattle.beet_errand.specs.Errands.{Answer, Step, ◌>>=◌, file_for, gives, reads}
 use Rattle.beet_errand.specs.Statuses.{code_of}
 use Rattle.beet_load.specs.Loading.{Loaded, loaded_errand}
 use Rattle.beet_load.specs.Servers.{AllWords, all_words_errand, coefficients_of, masks_of}
@@ -54,7 +54,7 @@ use Rattle.beet_clear.specs.Clear.{clear_errand, cleared}
 use Rattle.beet_rehearse.specs.Rehearse.{rehearse_errand, rehearse_job, rehearsed}
 use Rattle.beet_rehearse.specs.Standings.{rehearsal_of, standing_of}
 use Rattle.beet_rehearse.specs.declared.standing.Standing.TheVariants.{Waiting, Ended}
-use Rattle.beet_record.specs.Records.{file_for, record_errand, recorded_answer}
+use Rattle.beet_record.specs.Records.{record_errand, recorded_answer}
 use Rattle.beet_envelopes.specs.Gather.{bidders_errand, envelopes_errand}
 use Rattle.beet_envelopes.specs.Open.{entries_job, open_errand, open_job, opened_answer}
 use Rattle.beet_envelopes.specs.SealedBooks.{HaveWords, HoldEachSealed, envelope_fetches, sealed_points}

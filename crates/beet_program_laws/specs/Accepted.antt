@@ -3,7 +3,7 @@ use Rattle.std.specs.Prelude.{◌≡◌, ◌≢◌, ◌⊎◌, ◌++◌, ℕ, Li
 use Rattle.beet_field.specs.declared.point.Point.TheVariants.{One, Two, Three}
 use Rattle.beet_store.specs.Files.{File, Told, bytes_of}
 use Rattle.beet_store.specs.Desks.{Given}
-use Rattle.beet_record.specs.Records.{file_for}
+use Rattle.beet_errand.specs.Errands.{file_for}
 use Rattle.beet_answer.specs.Runs.{Runs, Said}
 use Rattle.beet_app.specs.Doing.{OfJob}
 use Rattle.beet_app.specs.Jobs.{job_of}

@@ -16,7 +16,7 @@ use Rattle.beet_auction.specs.Endings.{book_rounds}
 use Rattle.beet_load.specs.Loading.{Loaded}
 use Rattle.beet_load.specs.Wholes.{by_server}
 use Rattle.beet_run.specs.OutcomeTexts.{outcome_text}
-use Rattle.beet_record.specs.Records.{file_for}
+use Rattle.beet_errand.specs.Errands.{file_for}
 use Rattle.beet_rehearse.specs.declared.standing.Standing.{Standing}
 use Rattle.beet_rehearse.specs.declared.standing.Standing.TheVariants.{Waiting, Ended}
 use Rattle.beet_worlds.specs.ViewsWith.{transcript_with}
