@@ -24,7 +24,7 @@ use Rattle.beet_view.specs.Transcripts.{view_bytes, view_in}
 use Rattle.beet_view.specs.Views.{Viewed}
 use Rattle.beet_errand.specs.Errands.{Answer, Errand, answers, file_for, reads}
 use Rattle.beet_errand.specs.Fetches.{IsDone}
-use Rattle.beet_errand.specs.Statuses.{code_of}
+use Rattle.beet_errand.specs.Statuses.{IsDoneCode, code_of}
 use Rattle.beet_errand.specs.declared.answer.Status.{Status}
 use Rattle.beet_errand.specs.declared.answer.Status.TheVariants.{AuditRefused}
 use Rattle.beet_load.specs.Loading.{Loaded}
@@ -49,7 +49,7 @@ use Rattle.beet_app_laws.proofs.Reading.{reads-to}
 use Rattle.beet_app_laws.proofs.Telling.{one-value, told-views}
 use Rattle.beet_program_laws.specs.Accepted.{HoldsRun, IsAccepted, audit_words}
 use Rattle.beet_program_laws.proofs.Audits.{not-refused}
-use Rattle.beet_program_laws.proofs.Ends.{Found, IsWhole, Ran, WentOut, answer-ends, found, named, run-ends}
+use Rattle.beet_program_laws.proofs.Ends.{Found, Ran, WentOut, answer-ends, found, named, run-ends}
 use Rattle.beet_program_laws.proofs.Grids.{grid-is}
 use Rattle.beet_program_laws.proofs.Read.{IsLimited, can-run, can-run-cut, farmers-back, is-book, limited, the_book, the_words}
 
@@ -164,7 +164,7 @@ module _ (told : Told) (told_now : Option Told) (given now : Option Given) (end 
   finding other same (Some fault) not put = absurd (not (subst (λ (v : ReadViews). OneRun v.grid v.views) (sym same) one_run))
 
   -- an audit that is done says how the run ended
-  says-it : (w : IsWhole end) → Ran told told_now given now end w (Some (Auditing name one two three)) → Said given now (run_answer views).text
+  says-it : (w : IsDoneCode end) → Ran told told_now given now end w (Some (Auditing name one two three)) → Said given now (run_answer views).text
   says-it w (inl (answer, shows, r)) =
       let put : WentOut answer given now end = answer-ends told_now told_now answer given now end w r in
       finding shows.read (only shows.read (read-to told told_now (read_errand name one two three) shows.read shows.are_read)) shows.tells.found shows.tells.one_run
@@ -187,7 +187,7 @@ like ended status end is (inr other) = inr other
 
 -- ---- the whole
 
-module _ (told : Told) (told_now : Option Told) (before after : Given) (status : ℕ) (w : IsWhole status) (auction servers list out : List ℕ) where
+module _ (told : Told) (told_now : Option Told) (before after : Given) (status : ℕ) (w : IsDoneCode status) (auction servers list out : List ℕ) where
   abbrev Recorded : Type 0
   Recorded = Found told told_now (Some before) (Some after) status w (limited_errand auction servers list) (recorded_answer out) (IsLimited told.files auction)
 
@@ -212,8 +212,8 @@ module _ (told : Told) (told_now : Option Told) (before after : Given) (status :
               ends = like (run_answer read).status status end (ap (λ (x : Answer). code_of x.status) ended ∙ sym f.out.code)
                   (led (audit_words name one two three) told' told_now' given now end (run_answer read).status ran due);
               says = λ same. subst (Said given now) (ap (λ (x : Answer). x.text) ended)
-                  (says-it told' told_now' given now end name one two three read reads one_run (subst IsWhole (sym same) w)
-                  (subst (λ (j : Option Job). Ran told' told_now' given now end (subst IsWhole (sym same) w) j) job ran));
+                  (says-it told' told_now' given now end name one two three read reads one_run (subst IsDoneCode (sym same) w)
+                  (subst (λ (j : Option Job). Ran told' told_now' given now end (subst IsDoneCode (sym same) w) j) job ran));
             });
       }
 

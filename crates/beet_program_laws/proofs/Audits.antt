@@ -36,6 +36,7 @@ use Rattle.beet_headline.specs.Halves.{CanRun}
 use Rattle.beet_errand.specs.Errands.{Answer, Errand, answers, reads}
 use Rattle.beet_errand.specs.Fetches.{IsDone}
 use Rattle.beet_errand.specs.declared.answer.Status.TheVariants.{AuditRefused, Done}
+use Rattle.beet_errand.specs.Statuses.{IsDoneCode}
 use Rattle.beet_load.specs.Servers.{coefficients_wanted}
 use Rattle.beet_audit.specs.Audits.{HaveElements, curve_of, points_of_bidder, recombined_bidder, recombined_book, run_of}
 use Rattle.beet_audit.specs.OneRuns.{OneRun}
@@ -51,7 +52,7 @@ use Rattle.beet_app_laws.specs.Dues.{ReadsTo}
 use Rattle.beet_app_laws.proofs.Led.{read-to}
 use Rattle.beet_app_laws.proofs.Telling.{one-value, told-views}
 use Rattle.beet_program_laws.specs.Commands.{AuditsOneRun}
-use Rattle.beet_program_laws.proofs.Ends.{IsWhole, Ran, WentOut, answer-ends, named, run-ends, servers-open, tells}
+use Rattle.beet_program_laws.proofs.Ends.{Ran, WentOut, answer-ends, named, run-ends, servers-open, tells}
 use Rattle.beet_program_laws.proofs.Files.{AreFew, any-reads, counted-are, then-reads, words-are}
 use Rattle.beet_program_laws.proofs.Read.{farmers-back, has-accepted}
 use Rattle.beet_program_laws.proofs.Steps.{Yields, any-yield, gives-yield, reads-yield, then-yields}
@@ -223,7 +224,7 @@ pub not-refused : IsDone AuditRefused → ⊥
 not-refused (inl e) = cc
 not-refused (inr e) = cc
 
-module _ (told : Told) (told_now : Option Told) (given now : Option Given) (status : ℕ) (w : IsWhole status) (auction one two three : List ℕ) where
+module _ (told : Told) (told_now : Option Told) (given now : Option Given) (status : ℕ) (w : IsDoneCode status) (auction one two three : List ℕ) where
   abbrev Audited : Type 0
   Audited = AuditsOneRun told.files auction one two three status given now
 

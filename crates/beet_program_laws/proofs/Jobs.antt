@@ -45,7 +45,7 @@ use Rattle.beet_worlds.specs.ViewsWith.{transcript_with}
 use Rattle.beet_headline.specs.Halves.{AllHaveEnded, standing}
 use Rattle.beet_headline.proofs.Standings.{all-ended, ends}
 use Rattle.beet_errand.specs.Errands.{Answer, Step, ◌>>=◌, file_for, gives, reads}
-use Rattle.beet_errand.specs.Statuses.{code_of}
+use Rattle.beet_errand.specs.Statuses.{IsDoneCode, code_of}
 use Rattle.beet_load.specs.Loading.{Loaded, loaded_errand}
 use Rattle.beet_load.specs.Servers.{AllWords, all_words_errand, coefficients_of, masks_of}
 use Rattle.beet_load.specs.Wholes.{CanDeal, all_words, limited_errand}
@@ -68,7 +68,7 @@ use Rattle.beet_app_laws.proofs.Led.{NoneFailed, lead-over}
 use Rattle.beet_app_laws.proofs.Telling.{one-value, told-each, told-list, told-trio}
 use Rattle.beet_program_laws.specs.Commands.{Clears, OpensEnvelopes, RecordsRun, ShowsStandings}
 use Rattle.beet_program_laws.specs.Outcomes.{IsShown, ServersOpen, TellsTheEnd, loaded_with, transcript_files}
-use Rattle.beet_program_laws.proofs.Ends.{IsWhole, Ran, WentOut, found, named, servers-open, tells}
+use Rattle.beet_program_laws.proofs.Ends.{Ran, WentOut, found, named, servers-open, tells}
 use Rattle.beet_program_laws.proofs.Grids.{grid-is}
 use Rattle.beet_program_laws.proofs.Read.{AreLists, CanServeAll, IsLoaded, IsRead, all-words-yield, back, can-run, can-run-cut, farmers-back, is-book, limited-yield, loaded-yield, the_book, the_words}
 use Rattle.beet_program_laws.proofs.Steps.{Yields, any-yield, gives-yield, reads-yield, then-told, then-yields}
@@ -100,7 +100,7 @@ module _ (loaded : Loaded) (h : IsLoaded loaded) where
   same-files out = λ i.
       (file_for out One, same-transcript One i) ∷ (file_for out Two, same-transcript Two i) ∷ (file_for out Three, same-transcript Three i) ∷ []
 
-module _ (told : Told) (told_now : Option Told) (given now : Option Given) (status : ℕ) (w : IsWhole status) where
+module _ (told : Told) (told_now : Option Told) (given now : Option Given) (status : ℕ) (w : IsDoneCode status) where
   abbrev files : List File
   files = told.files
 
@@ -313,7 +313,7 @@ farmers-read grid farmers b each = λ k d lt.
       words = (each k d lt).1;
     }
 
-module _ (told : Told) (told_now : Option Told) (given now : Option Given) (status : ℕ) (w : IsWhole status) where
+module _ (told : Told) (told_now : Option Told) (given now : Option Given) (status : ℕ) (w : IsDoneCode status) where
   rehearsed-by : (auction servers list name : List ℕ) (answer : Answer) → IsRehearsed told.files auction servers list name answer →
       WentOut answer given now status → ShowsStandings told.files auction servers list name status given now
   rehearsed-by auction servers list name answer t o =

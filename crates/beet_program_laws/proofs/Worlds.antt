@@ -15,7 +15,7 @@ use Rattle.beet_headline.specs.Halves.{AreOnePair, AreTwoBooks}
 use Rattle.beet_headline.proofs.Pairing.{mapped-pair}
 use Rattle.beet_errand.specs.Errands.{Answer, Errand, Ends, answers, gives}
 use Rattle.beet_errand.specs.Fetches.{IsDone}
-use Rattle.beet_errand.specs.Statuses.{code_of}
+use Rattle.beet_errand.specs.Statuses.{IsDoneCode, code_of}
 use Rattle.beet_errand.specs.declared.answer.Status.TheVariants.{Done, WorldsRefused}
 use Rattle.beet_load.specs.Loading.{Loaded}
 use Rattle.beet_load.specs.Wholes.{curves_errand, limited_errand}
@@ -31,7 +31,7 @@ use Rattle.beet_app_laws.specs.Dues.{ReadsTo, answer_over}
 use Rattle.beet_app_laws.proofs.Led.{read-to}
 use Rattle.beet_app_laws.proofs.Telling.{one-value, told-both}
 use Rattle.beet_program_laws.specs.Commands.{PutsBothWorlds}
-use Rattle.beet_program_laws.proofs.Ends.{IsWhole, Ran, WentOut, answer-ends, named, no-job, run-ends, tells}
+use Rattle.beet_program_laws.proofs.Ends.{Ran, WentOut, answer-ends, named, no-job, run-ends, tells}
 use Rattle.beet_program_laws.proofs.Jobs.{runs-in}
 use Rattle.beet_program_laws.proofs.Read.{IsLoaded, back, can-run-cut, curves-yield, limited-yield}
 use Rattle.beet_program_laws.proofs.Steps.{Yields, gives-yield, then-yields}
@@ -66,7 +66,7 @@ refused : (files : List File) (difference : Option MapFault) → IsDone (answer_
 refused files None done = not-refused done
 refused files (Some difference) done = not-refused done
 
-module _ (told : Told) (told_now : Option Told) (given now : Option Given) (status : ℕ) (w : IsWhole status)
+module _ (told : Told) (told_now : Option Told) (given now : Option Given) (status : ℕ) (w : IsDoneCode status)
     (auction servers list1 list2 : List ℕ) (s : Point) (out : List ℕ) where
   abbrev Compared : Type 0
   Compared = PutsBothWorlds told.files auction servers list1 list2 s out status given now
@@ -119,7 +119,7 @@ module _ (told : Told) (told_now : Option Told) (given now : Option Given) (stat
   compares (inl (answer, shows, r)) = shown answer shows r
   compares (inr f) = stopped (f (λ both. answers WorldsRefused []))
 
-module _ (told : Told) (told_now : Option Told) (given now : Option Given) (status : ℕ) (w : IsWhole status) (auction servers list1 list2 server out : List ℕ) where
+module _ (told : Told) (told_now : Option Told) (given now : Option Given) (status : ℕ) (w : IsDoneCode status) (auction servers list1 list2 server out : List ℕ) where
   by-server : (at : Option Point) → server_of server ≡ at →
       Ran told told_now given now status w (option_map (λ s. Comparing auction servers list1 list2 s out) at) →
       (s : Point) × (server_of server ≡ Some s) × PutsBothWorlds told.files auction servers list1 list2 s out status given now
