@@ -24,10 +24,13 @@ of_each f t = record { one = f t.one; two = f t.two; three = f t.three }
 abbrev pub trio_of : {A : Type 0} → (Point → A) → Trio A
 trio_of f = record { one = f One; two = f Two; three = f Three }
 
--- of the answers at the three points, in order, the first that is no value is this fault
+-- what is answered at the point is a value
+abbrev pub HasValue : {T E : Type 0} → (Point → Result T E → Type 0) → Point → Type 0
+HasValue {T} Answers at = (value : T) × Answers at (Ok value)
+
+-- of what is answered at the three points, in order, the first that is no value is this fault
 abbrev pub IsFirstFault : {T E : Type 0} → (Point → Result T E → Type 0) → E → Type 0
-IsFirstFault {T} Answers fault =
-    let HasValue = λ at. (value : T) × Answers at (Ok value) in
+IsFirstFault Answers fault =
     Answers One (Err fault)
-    ⊎ (HasValue One × Answers Two (Err fault))
-    ⊎ (HasValue One × HasValue Two × Answers Three (Err fault))
+    ⊎ (HasValue Answers One × Answers Two (Err fault))
+    ⊎ (HasValue Answers One × HasValue Answers Two × Answers Three (Err fault))
