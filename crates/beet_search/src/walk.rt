@@ -17,7 +17,7 @@ use beet_gates::{Act, Batch, Gates};
 use beet_mask::{mask_rounds, mask_wires, refill_mask};
 use beet_plan::{Finish, SPARE_MASKS};
 
-/// The block that comes next.
+/// What comes next.
 #[derive(Clone, Copy)]
 pub enum Stage {
     /// A mask, or the opening, or nothing more.
@@ -26,9 +26,9 @@ pub enum Stage {
     Masked,
     /// The rest of a comparison.
     Borrow(Fe),
-    /// None; of the last batch the volume was read, and the supply comes next.
+    /// The second number of the opening, the supply; its first was this volume.
     Supply(Fe),
-    /// None.
+    /// Nothing: the script has ended so.
     Ended(Finish),
 }
 
@@ -79,7 +79,8 @@ impl Walk {
 
     /// What is shown of the place at which the search has ended, or none where that is no place of the grid.
     fn shown(&self) -> Option<Policy>
-        ensures { MatchOption result (self.now.prices ≤ self.now.lo) (λ policy. (self.now.lo < self.now.prices) × (policy ≡ self.now.policy)) }
+        ensures { MatchOption result (self.now.prices ≤ self.now.lo)
+            (λ policy. (self.now.lo < self.now.prices) × (policy ≡ self.now.policy)) }
     {
         if self.lo < self.prices {
             Some(self.policy)
@@ -101,7 +102,8 @@ impl Walk {
     /// Makes a batch that of the end of the search at this step.
     fn refill_end(&self, step: u32, batch: &mut Batch)
         requires { Fits self.now }
-        ensures { batch.new ≡ plan_batch (end_plan self.now.policy self.now.prices self.now.lo) step [] }
+        ensures { batch.new
+            ≡ plan_batch (end_plan self.now.policy self.now.prices self.now.lo) step [] }
     {
         if step > 0 {
             batch.set_end();
@@ -124,7 +126,8 @@ impl Walk {
 
     /// The stage after a number that comes at the end of the search: the demand there, where it is opened.
     fn after_end(&self, number: Fe) -> Stage
-        ensures { plan_at (record self.now { stage = result }) ≡ plan_after (end_plan self.now.policy self.now.prices self.now.lo) number }
+        ensures { plan_at (record self.now { stage = result })
+            ≡ plan_after (end_plan self.now.policy self.now.prices self.now.lo) number }
     {
         match self.shown() {
             None => Stage::Ended(Finish::NoPrice),
@@ -183,7 +186,9 @@ impl Walk {
     fn refill_comparison(&self, step: u32, c: Fe, batch: &mut Batch)
         requires fits { Fits self.now }
         requires busy { busy self.now.stage ≡ 1 }
-        ensures { batch.new ≡ batch_at (compare_batches self.now.gates (self.now.first + mask_wires_of self.now.gates) self.now.first ((self.now.lo + self.now.hi) / 2)
+        ensures { batch.new ≡ batch_at (compare_batches self.now.gates
+            (self.now.first + mask_wires_of self.now.gates) self.now.first
+            ((self.now.lo + self.now.hi) / 2)
             (self.now.prices + (self.now.lo + self.now.hi) / 2) c) step }
     {
         let mid = (self.lo + self.hi) / 2;
@@ -255,7 +260,8 @@ impl Walk {
     /// The place after an answer.
     fn after_answer(self, answer: Fe) -> Walk
         requires fits { Fits self }
-        requires busy { (self.lo < self.hi) × (self.first + widest self.gates * (self.left + 1) < 2 ^ 32) }
+        requires busy { (self.lo < self.hi)
+            × (self.first + widest self.gates * (self.left + 1) < 2 ^ 32) }
         ensures fits { Fits result }
         ensures plan { plan_at result ≡ after_answer (blocks_of self.gates) self.policy self.prices self.left self.lo self.hi self.first self.rejected answer }
     {
