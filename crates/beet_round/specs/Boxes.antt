@@ -101,7 +101,7 @@ JudgedFrom old new s m Ready =
     IsDue old s m × (array_vec_len m.numbers ≡ old.want) × HasBoth new.now
     × (new ≡ record old { now = with_place old.now s m })
 JudgedFrom old new s m Stored =
-    (IsDue old s m × (array_vec_len m.numbers ≡ old.want) × (HasBoth new.now → ⊥)
+    (IsDue old s m × (array_vec_len m.numbers ≡ old.want) × ¬ (HasBoth new.now)
     × (new ≡ record old { now = with_place old.now s m }))
     ⊎ (IsEarly old s m × (new ≡ record old { next = with_place old.next s m }))
 
