@@ -26,7 +26,7 @@ use Rattle.beet_farmer.specs.Lists.{list_of}
 use Rattle.beet_farmer.specs.declared.envelope.TheConstants.{ENVELOPE_LIMIT}
 use Rattle.beet_farmer.specs.declared.list_file.ListEntry.{ListEntry}
 use Rattle.beet_farmer.specs.declared.list_file.TheConstants.{LIST_LIMIT}
-use Rattle.beet_forms.specs.declared.faults.TheConstants.{LONGEST_FILE as TRANSCRIPT_LIMIT}
+use Rattle.beet_forms.specs.declared.faults.TheConstants.{LONGEST_FILE}
 use Rattle.beet_plan.specs.Auction.{auction_over}
 use Rattle.beet_plan.specs.Kept.{words_kept}
 use Rattle.beet_plan.specs.declared.Finish.{Finish}
@@ -159,9 +159,9 @@ module _ (out : List ℕ) where
   unfolding read_errand
   read-well auction one two three next h =
       reads-well out auction AUCTION_LIMIT auction_of _ (λ grid.
-      reads-well out one TRANSCRIPT_LIMIT view_in _ (λ first.
-      reads-well out two TRANSCRIPT_LIMIT view_in _ (λ second.
-      reads-well out three TRANSCRIPT_LIMIT view_in _ (λ third. h _))))
+      reads-well out one LONGEST_FILE view_in _ (λ first.
+      reads-well out two LONGEST_FILE view_in _ (λ second.
+      reads-well out three LONGEST_FILE view_in _ (λ third. h _))))
 
   -- the errand of a job ends so; what compares two worlds or audits transcripts has none of its own, and names its files after this word
   abbrev pub JobEndsWell : Option Job → Type 0

@@ -11,7 +11,6 @@ ghost use Rattle.beet_plan.specs.Kept.{coefficients_kept};
 ghost use Rattle.beet_load.specs.Servers.{masks_wanted, coefficients_wanted, seeded, source_errand, enough_of, enough_of_all, HasEnough, HaveEnough, IsCut, AreCut, server_errand, three_errand, counted, cut_server, cut_servers, all_words_errand};
 ghost use Rattle.beet_load.specs.WordTexts.{server_short_text};
 ghost use Rattle.beet_forms.specs.declared.faults.TheConstants.{LONGEST_FILE};
-ghost use Rattle.beet_words.specs.declared.bundle.TheConstants.{BUNDLE_LIMIT};
 ghost use Rattle.beet_book.specs.declared.server_file.TheConstants.{SERVERS_LIMIT};
 ghost use Rattle.beet_plan.specs.declared.TheConstants.{MASK_COEFFICIENTS};
 
@@ -20,10 +19,10 @@ use beet_bids::Grid;
 use beet_book::{SERVERS_LIMIT, ServerSource, Servers, read_servers};
 use beet_errand::{Status, Stop, fetch_file, judge};
 use beet_field::Trio;
-use beet_forms::{Name, ReadFault, beside};
+use beet_forms::{LONGEST_FILE, Name, ReadFault, beside};
 use beet_plan::{MASK_COEFFICIENTS, SPARE_MASKS, SPARE_WORDS};
 use beet_store::Shelf;
-use beet_words::{BUNDLE_LIMIT, Tape, WRONG_COUNT, WordList, Words, read_bundle};
+use beet_words::{Tape, WRONG_COUNT, WordList, Words, read_bundle};
 use std::alloc::{AllocError, Global};
 use std::marker::Model;
 
@@ -68,7 +67,10 @@ impl Model for AllWords {
 
     ghost Value = { Shown };
 
-    ghost view = { λ a. record { servers = a.servers; bidders = option_map (λ lists. lists.items) a.bidders } };
+    ghost view = { λ a. record {
+      servers = a.servers;
+      bidders = option_map (λ lists. lists.items) a.bidders;
+    } };
 }
 
 impl AllWords {
@@ -276,9 +278,9 @@ fn fetch_bundle<S: Shelf>(
     count: Option<usize>,
 ) -> Result<Words, Stop>
     ensures { Reads (λ words. words) (S.seen shelf.old) (S.seen shelf.new)
-        (reads name.now BUNDLE_LIMIT (λ bytes. counted count (bundle_of bytes))) result }
+        (reads name.now LONGEST_FILE (λ bytes. counted count (bundle_of bytes))) result }
 {
-    let bytes = fetch_file(alloc, shelf, name, BUNDLE_LIMIT)?;
+    let bytes = fetch_file(alloc, shelf, name, LONGEST_FILE)?;
     judge(alloc, name, counted_bundle(alloc, bytes.as_slice(), count))
 }
 

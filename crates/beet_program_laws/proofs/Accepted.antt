@@ -10,7 +10,7 @@ use Rattle.beet_field.specs.declared.point.Point.TheVariants.{One, Two, Three}
 use Rattle.beet_store.specs.Files.{File, Told, bytes_of}
 use Rattle.beet_store.specs.Desks.{Given}
 use Rattle.beet_forms.specs.Names.{is_name_of}
-use Rattle.beet_forms.specs.declared.faults.TheConstants.{LONGEST_FILE as TRANSCRIPT_LIMIT}
+use Rattle.beet_forms.specs.declared.faults.TheConstants.{LONGEST_FILE}
 use Rattle.beet_words.specs.Bundles.{AreWords, Words}
 use Rattle.beet_bids.specs.AuctionFiles.{auction_of}
 use Rattle.beet_bids.specs.Books.{Book, IsBook}
@@ -113,7 +113,7 @@ module _ (files : List File) (auction out : List ℕ) (loaded : Loaded) (h : IsL
   -- a file with these bytes reads to the view
   transcript-held : (held : List File) (name : List ℕ) (s : Point) →
       bytes_of held name ≡ Some (transcript_of_book loaded.grid loaded.farmers (masks_of loaded.servers) (coefficients_of loaded.servers) s) →
-      IsHeld held name TRANSCRIPT_LIMIT view_in (view s)
+      IsHeld held name LONGEST_FILE view_in (view s)
   transcript-held held name s e = record {
     bytes = view_bytes (view s);
     held = e ∙ ap Some (same-transcript s);
@@ -131,12 +131,12 @@ module _ (files : List File) (auction out : List ℕ) (loaded : Loaded) (h : IsL
         let all : Grid → Viewed → Viewed → Viewed → Errand = λ grid first second third. next (record { grid = grid; views = record { one = first; two = second; three = third } }) in
         reads-to held name AUCTION_LIMIT auction_of loaded.grid
         (record { bytes = h.grid.bytes; held = r.auction_file ∙ h.grid.held; short = h.grid.short; is = h.grid.is })
-        (λ grid. reads one TRANSCRIPT_LIMIT view_in (λ first. reads two TRANSCRIPT_LIMIT view_in (λ second. reads three TRANSCRIPT_LIMIT view_in (λ third. all grid first second third))))
-        ∙ reads-to held one TRANSCRIPT_LIMIT view_in (view One) (transcript-held held one One (r.first ∙ hold.one))
-        (λ first. reads two TRANSCRIPT_LIMIT view_in (λ second. reads three TRANSCRIPT_LIMIT view_in (λ third. all loaded.grid first second third)))
-        ∙ reads-to held two TRANSCRIPT_LIMIT view_in (view Two) (transcript-held held two Two (r.second ∙ hold.two))
-        (λ second. reads three TRANSCRIPT_LIMIT view_in (λ third. all loaded.grid (view One) second third))
-        ∙ reads-to held three TRANSCRIPT_LIMIT view_in (view Three) (transcript-held held three Three (r.third ∙ hold.three))
+        (λ grid. reads one LONGEST_FILE view_in (λ first. reads two LONGEST_FILE view_in (λ second. reads three LONGEST_FILE view_in (λ third. all grid first second third))))
+        ∙ reads-to held one LONGEST_FILE view_in (view One) (transcript-held held one One (r.first ∙ hold.one))
+        (λ first. reads two LONGEST_FILE view_in (λ second. reads three LONGEST_FILE view_in (λ third. all loaded.grid first second third)))
+        ∙ reads-to held two LONGEST_FILE view_in (view Two) (transcript-held held two Two (r.second ∙ hold.two))
+        (λ second. reads three LONGEST_FILE view_in (λ third. all loaded.grid (view One) second third))
+        ∙ reads-to held three LONGEST_FILE view_in (view Three) (transcript-held held three Three (r.third ∙ hold.three))
         (λ third. all loaded.grid (view One) (view Two) third)
 
 -- ---- how an audit of views of one run ends

@@ -10,7 +10,7 @@ use Rattle.beet_store.specs.Files.{File, Told}
 use Rattle.beet_store.specs.Desks.{Given}
 use Rattle.beet_forms.specs.Faults.{Reading}
 use Rattle.beet_forms.specs.Names.{is_name_of}
-use Rattle.beet_forms.specs.declared.faults.TheConstants.{LONGEST_FILE as TRANSCRIPT_LIMIT}
+use Rattle.beet_forms.specs.declared.faults.TheConstants.{LONGEST_FILE}
 use Rattle.beet_words.specs.Bundles.{Words, words_at}
 use Rattle.beet_words.specs.Fields.{counted_at, ended}
 use Rattle.beet_words.specs.Words.{IsWord}
@@ -102,9 +102,9 @@ views-yield : (files : List File) (auction one two three : List ℕ) → Yields 
 unfolding read_errand
 views-yield files auction one two three =
     then-yields files (reads auction AUCTION_LIMIT auction_of) _ (λ grid. Unit {0}) AreReadViews (any-yield files auction AUCTION_LIMIT auction_of) (λ grid h.
-    then-yields files (reads one TRANSCRIPT_LIMIT view_in) _ IsReadView AreReadViews (reads-yield files one TRANSCRIPT_LIMIT view_in IsReadView view-is) (λ first h1.
-    then-yields files (reads two TRANSCRIPT_LIMIT view_in) _ IsReadView AreReadViews (reads-yield files two TRANSCRIPT_LIMIT view_in IsReadView view-is) (λ second h2.
-    then-yields files (reads three TRANSCRIPT_LIMIT view_in) _ IsReadView AreReadViews (reads-yield files three TRANSCRIPT_LIMIT view_in IsReadView view-is) (λ third h3.
+    then-yields files (reads one LONGEST_FILE view_in) _ IsReadView AreReadViews (reads-yield files one LONGEST_FILE view_in IsReadView view-is) (λ first h1.
+    then-yields files (reads two LONGEST_FILE view_in) _ IsReadView AreReadViews (reads-yield files two LONGEST_FILE view_in IsReadView view-is) (λ second h2.
+    then-yields files (reads three LONGEST_FILE view_in) _ IsReadView AreReadViews (reads-yield files three LONGEST_FILE view_in IsReadView view-is) (λ third h3.
     gives-yield files AreReadViews (record { grid = grid; views = record { one = first; two = second; three = third } })
     (three-read first second third h1 h2 h3)))))
 

@@ -17,7 +17,7 @@ use Rattle.beet_words.specs.TapeFiles.{first_fault as first_line_fault, lines_of
 use Rattle.beet_words.specs.Words.{IsWord, ones}
 use Rattle.beet_words.specs.declared.bundle.TheConstants.{BAD_MAGIC, MOST_BIDDERS, MOST_WORDS, TRAILING}
 use Rattle.beet_words.specs.declared.fields.Allowed.{Allowed}
-use Rattle.beet_words.specs.declared.tape_file.TheConstants.{TOO_LARGE}
+use Rattle.beet_words.specs.declared.tape_file.TheConstants.{WORD_TOO_LARGE}
 use Rattle.beet_bids.specs.BidFiles.{bid_of, curve_in, header_reason, line_of, line_reasons}
 use Rattle.beet_bids.specs.Curves.{Curve, IsCurve, IsOfGrid}
 use Rattle.beet_bids.specs.Grids.{Grid}
@@ -112,7 +112,7 @@ seed-are seed stream n = All-map IsWord (seed_word seed stream) (range_with_len 
 number-is : (n : Option ℕ) → reason_of_number n ≡ None → IsWord (unwrap_or n 0)
 number-is None e = absurd cc
 number-is (Some n) e = go (nat_lt n (2 ^ 61)) refl e where
-  go : (b : Bool) → nat_lt n (2 ^ 61) ≡ b → (if b then None else Some TOO_LARGE) ≡ None → IsWord n
+  go : (b : Bool) → nat_lt n (2 ^ 61) ≡ b → (if b then None else Some WORD_TOO_LARGE) ≡ None → IsWord n
   go true is none = ltb-true n (2 ^ 61) is
   go false is none = absurd cc
 
