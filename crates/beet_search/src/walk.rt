@@ -66,14 +66,14 @@ impl Walk {
         self.left > 0 && self.lo < self.hi
     }
 
-    /// A price at the place at which the search has ended, of which the volume alone may be opened.
-    fn price_with(&self, volume: Option<Fe>) -> Finish
-        ensures { result ≡ Finish.Price self.now.lo volume None }
+    /// A price at the place at which the search has ended, of which these numbers were opened.
+    fn price_with(&self, volume: Option<Fe>, supply: Option<Fe>) -> Finish
+        ensures { result ≡ Finish.Price self.now.lo volume supply }
     {
         Finish::Price {
             place: self.lo,
             volume,
-            supply: None,
+            supply,
         }
     }
 
@@ -128,23 +128,9 @@ impl Walk {
     {
         match self.shown() {
             None => Stage::Ended(Finish::NoPrice),
-            Some(Policy::Price) => Stage::Ended(self.price_with(None)),
-            Some(Policy::Volume) => Stage::Ended(self.price_with(Some(number))),
+            Some(Policy::Price) => Stage::Ended(self.price_with(None, None)),
+            Some(Policy::Volume) => Stage::Ended(self.price_with(Some(number), None)),
             Some(Policy::Full) => Stage::Supply(number),
-        }
-    }
-
-    /// The stage after the supply, where the volume was read before it.
-    fn after_supply(&self, supply: Fe) -> Stage
-        ensures { (volume : ℕ) → self.now.stage ≡ Stage.Supply volume → result ≡ Stage.Ended (Finish.Price self.now.lo (Some volume) (Some supply)) }
-    {
-        match self.stage {
-            Stage::Supply(volume) => Stage::Ended(Finish::Price {
-                place: self.lo,
-                volume: Some(volume),
-                supply: Some(supply),
-            }),
-            stage => stage,
         }
     }
 
@@ -154,7 +140,7 @@ impl Walk {
     {
         match self.shown() {
             None => Some(Finish::NoPrice),
-            Some(Policy::Price) => Some(self.price_with(None)),
+            Some(Policy::Price) => Some(self.price_with(None, None)),
             Some(Policy::Volume) => None,
             Some(Policy::Full) => None,
         }
@@ -277,27 +263,26 @@ impl Walk {
         ensures fits { Fits result }
         ensures plan { plan_at result ≡ plan_after (plan_at self) number }
     {
-        match self.stage {
+        match &self.stage {
             Stage::Search => {
                 if self.is_open() {
                     self.after_product(number)
                 } else {
-                    let mut walk = self;
-                    walk.stage = self.after_end(number);
-                    walk
+                    Walk {
+                        stage: self.after_end(number),
+                        ..self
+                    }
                 }
             }
-            Stage::Masked => {
-                let mut walk = self;
-                walk.stage = Stage::Borrow(number);
-                walk
-            }
+            Stage::Masked => Walk {
+                stage: Stage::Borrow(number),
+                ..self
+            },
             Stage::Borrow(_) => self.after_answer(number),
-            Stage::Supply(_) => {
-                let mut walk = self;
-                walk.stage = self.after_supply(number);
-                walk
-            }
+            Stage::Supply(volume) => Walk {
+                stage: Stage::Ended(self.price_with(Some(*volume), Some(number))),
+                ..self
+            },
             Stage::Ended(_) => self,
         }
     }
