@@ -17,6 +17,6 @@ pub use bid_file::{BID_LIMIT, read_bid};
 pub use book::{Bidder, Book};
 pub use clearing::outcome;
 pub use curve::{Curve, LARGEST_QUANTITY};
-pub use grid::{Grid, LARGEST_BASE, LARGEST_TICK, MOST_PRICES};
+pub use grid::{Grid, LARGEST_BASE, LARGEST_TICK, MOST_COMPARISONS, MOST_PRICES, comparisons};
 pub use lines::{BUY_RISES, NO_BASE, NOT_ASCENDING, OFF_GRID, SELL_FALLS, TOO_LARGE};
 pub use outcomes::{Outcome, Policy};

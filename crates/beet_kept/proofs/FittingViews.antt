@@ -22,7 +22,7 @@ use Rattle.beet_bids.specs.Grids.{Grid, IsGrid}
 use Rattle.beet_bids.specs.declared.outcomes.Policy.{Policy}
 use Rattle.beet_bids.specs.declared.book.Bidder.{Bidder}
 use Rattle.beet_bids.specs.declared.grid.TheConstants.{MOST_PRICES}
-use Rattle.beet_bids.proofs.GridFacts.{comparisons-le}
+use Rattle.beet_bids.proofs.GridFacts.{few_comparisons}
 use Rattle.beet_plan.specs.Auction.{Auction, most_rounds, most_wires, most_masks as most_dealt, most_coefficients as most_drawn, auction_over}
 use Rattle.beet_bids.specs.Sums.{sums_of}
 use Rattle.beet_plan.proofs.AuctionLaw.{auction-law}
@@ -82,8 +82,8 @@ sent-elements o s End from to small = All-nil IsElement
 
 -- an auction has no more rounds than a transcript holds
 rounds-few : (prices : ℕ) (gates : Gates) (policy : Policy) → prices ≤ MOST_PRICES → most_rounds (record { prices = prices; gates = gates; policy = policy }) ≤ MOST_ROUNDS
-rounds-few prices Chain policy few = let comparisons = comparisons-le prices 13 (omega (arith, few)) in omega (arith, comparisons)
-rounds-few prices Tree policy few = let comparisons = comparisons-le prices 13 (omega (arith, few)) in omega (arith, comparisons)
+rounds-few prices Chain policy few = omega (arith, few_comparisons prices few)
+rounds-few prices Tree policy few = omega (arith, few_comparisons prices few)
 
 module _ (book : Book) (words : Words) (g : IsGrid book.grid) (b : IsBook book) (can : CanStart book words) where
   abbrev auction : Auction

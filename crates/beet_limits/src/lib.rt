@@ -13,7 +13,7 @@ ghost use Rattle.beet_gates.specs.declared.TheConstants.{MOST_LETS, MOST_NUMBERS
 ghost use Rattle.beet_bids.specs.declared.auction_file.TheConstants.{AUCTION_LIMIT, BAD_KEY, BAD_VALUE, NOT_ONE_PRICE, WRONG_VERSION};
 ghost use Rattle.beet_bids.specs.declared.bid_file.TheConstants.{BID_LIMIT};
 ghost use Rattle.beet_bids.specs.declared.curve.TheConstants.{LARGEST_QUANTITY};
-ghost use Rattle.beet_bids.specs.declared.grid.TheConstants.{LARGEST_BASE, LARGEST_TICK, MOST_PRICES};
+ghost use Rattle.beet_bids.specs.declared.grid.TheConstants.{LARGEST_BASE, LARGEST_TICK, MOST_COMPARISONS, MOST_PRICES};
 ghost use Rattle.beet_bids.specs.declared.lines.TheConstants.{BUY_RISES, NO_BASE, NOT_ASCENDING, OFF_GRID, SELL_FALLS, TOO_LARGE as QUANTITY_TOO_LARGE};
 ghost use Rattle.beet_mask.specs.Mask.{mask_rounds_of, mask_wires_of};
 ghost use Rattle.beet_compare.specs.Compare.{compare_rounds_of, compare_wires_of};
@@ -49,6 +49,7 @@ pub fn auctions_have_these_limits()
     ensures base { LARGEST_BASE ≡ 10 ^ 12 }
     ensures tick { LARGEST_TICK ≡ 10 ^ 9 }
     ensures prices { MOST_PRICES ≡ 4096 }
+    ensures comparisons { MOST_COMPARISONS ≡ 13 }
     ensures bidders { MOST_BIDDERS ≡ 2000 }
     ensures product { MOST_PRODUCT ≡ 500000 }
     ensures quantity { LARGEST_QUANTITY ≡ 2 ^ 48 - 1 }

@@ -17,7 +17,7 @@ pub use books::{read_entries, read_grid};
 pub use collecting::add_farmers;
 pub use curves::load_curves;
 pub use farmers::{
-    Farmer, check_words, front, read_curve, read_farmer, read_tape_file, too_few_words, words_kept,
+    Farmer, check_words, front, read_curve, read_farmer, read_tape_file, too_few_words,
 };
 pub use limits::check_product;
 pub use loading::{Loaded, load};

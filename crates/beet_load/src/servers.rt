@@ -7,13 +7,11 @@ ghost use Rattle.beet_bids.specs.Grids.{IsGrid};
 ghost use Rattle.beet_book.specs.ServerFiles.{servers_of};
 ghost use Rattle.beet_errand.specs.Errands.{reads};
 ghost use Rattle.beet_errand.specs.Fetches.{Reads, Refuses, Tests};
-ghost use Rattle.beet_plan.specs.Kept.{coefficients_kept};
-ghost use Rattle.beet_load.specs.Servers.{masks_wanted, coefficients_wanted, seeded, source_errand, enough_of, enough_of_all, HasEnough, HaveEnough, IsCut, AreCut, server_errand, three_errand, counted, cut_server, cut_servers, all_words_errand};
+ghost use Rattle.beet_load.specs.Servers.{seeded, source_errand, enough_of, enough_of_all, HasEnough, HaveEnough, IsCut, AreCut, server_errand, three_errand, counted, cut_server, cut_servers, all_words_errand};
 ghost use Rattle.beet_load.specs.WordTexts.{server_short_text};
 ghost use Rattle.beet_forms.specs.declared.faults.TheConstants.{LONGEST_FILE};
 ghost use Rattle.beet_words.specs.declared.bundle.TheConstants.{BUNDLE_LIMIT};
 ghost use Rattle.beet_book.specs.declared.server_file.TheConstants.{SERVERS_LIMIT};
-ghost use Rattle.beet_plan.specs.declared.TheConstants.{MASK_COEFFICIENTS};
 
 use crate::farmers::{front, read_tape_file};
 use beet_bids::Grid;
@@ -21,7 +19,7 @@ use beet_book::{SERVERS_LIMIT, ServerSource, Servers, read_servers};
 use beet_errand::{Status, Stop, fetch_file, judge};
 use beet_field::Trio;
 use beet_forms::{Name, ReadFault, beside};
-use beet_plan::{MASK_COEFFICIENTS, SPARE_MASKS, SPARE_WORDS};
+use beet_plan::{coefficients_kept, masks_kept, most_coefficients, most_masks};
 use beet_store::Shelf;
 use beet_words::{BUNDLE_LIMIT, Tape, WRONG_COUNT, WordList, Words, read_bundle};
 use std::alloc::{AllocError, Global};
@@ -80,40 +78,14 @@ impl AllWords {
     }
 }
 
-/// How many mask words a server wants.
-fn wanted_masks(grid: &Grid) -> u32
-    requires { IsGrid grid.now }
-    ensures value { result ≡ masks_wanted grid.now }
-    ensures few { result ≤ 15 }
-{
-    grid.comparisons() + SPARE_MASKS
-}
-
-/// How many numbers a server has to be able to draw.
-fn wanted_coefficients(grid: &Grid) -> u32
-    requires { IsGrid grid.now }
-    ensures value { result ≡ coefficients_wanted grid.now }
-    ensures few { result ≤ 15 * MASK_COEFFICIENTS }
-{
-    MASK_COEFFICIENTS * wanted_masks(grid)
-}
-
-/// How many words for these numbers are kept.
-fn kept_coefficients(grid: &Grid) -> u32
-    requires { IsGrid grid.now }
-    ensures { result ≡ coefficients_kept grid.now }
-{
-    wanted_coefficients(grid) + SPARE_WORDS
-}
-
 /// The words of a seed.
 pub fn seed_words(alloc: Global, grid: &Grid, seed: &[u8; 32]) -> Result<ServerWords, AllocError>
     requires { IsGrid grid.now }
     ensures { IfOk result (λ words. words ≡ seeded grid.now seed.now) }
 {
     Ok(ServerWords {
-        masks: Tape::of_seed(alloc, seed, 1, wanted_masks(grid))?,
-        coefficients: Tape::of_seed(alloc, seed, 0, kept_coefficients(grid))?,
+        masks: Tape::of_seed(alloc, seed, 1, masks_kept(grid))?,
+        coefficients: Tape::of_seed(alloc, seed, 0, coefficients_kept(grid))?,
     })
 }
 
@@ -130,8 +102,8 @@ fn read_tapes<S: Shelf>(
     ensures reads { Reads (λ words. words) (S.seen shelf.old) (S.seen shelf.new)
         (source_errand grid.now (ServerSource.Tapes coefficients.now masks.now)) result }
 {
-    let coefficients = read_tape_file(alloc, shelf, coefficients, kept_coefficients(grid))?;
-    let masks = read_tape_file(alloc, shelf, masks, wanted_masks(grid))?;
+    let coefficients = read_tape_file(alloc, shelf, coefficients, coefficients_kept(grid))?;
+    let masks = read_tape_file(alloc, shelf, masks, masks_kept(grid))?;
     Ok(ServerWords {
         masks,
         coefficients,
@@ -192,12 +164,12 @@ fn check_counts(alloc: Global, grid: &Grid, server: u32, words: &ServerWords) ->
     ensures tests { Tests (enough_of grid.now server words.now) result }
     ensures enough { IfOk result (λ done. HasEnough grid.now words.now) }
 {
-    let wanted = wanted_coefficients(grid);
+    let wanted = most_coefficients(grid.prices());
     let held = words.coefficients.accepted_left();
     if held < wanted {
         return Err(too_few_words(alloc, server, "coefficients", held, wanted));
     }
-    let wanted = wanted_masks(grid);
+    let wanted = most_masks(grid.prices());
     let held = words.masks.masks_left();
     if held < wanted {
         return Err(too_few_words(alloc, server, "masks", held, wanted));
@@ -293,8 +265,8 @@ fn cut(
     ensures { IfOk result (λ words. words ≡ cut_server grid.now masks.now coefficients.now) }
 {
     Ok(ServerWords {
-        masks: front(alloc, masks, wanted_masks(grid))?,
-        coefficients: front(alloc, coefficients, kept_coefficients(grid))?,
+        masks: front(alloc, masks, masks_kept(grid))?,
+        coefficients: front(alloc, coefficients, coefficients_kept(grid))?,
     })
 }
 

@@ -86,18 +86,24 @@ auction_plan a = search_plan (blocks_of a.gates) a.policy a.prices (comparisons_
 abbrev pub auction_batch : Auction → ℕ → List ℕ → Batch
 auction_batch a done opened = plan_batch (auction_plan a) done opened
 
--- the bounds of the script: rounds, mask words and coefficients of each server, and wires; for each comparison there is room for the
--- wires of a tree, whatever the gates
+-- the bounds of the script: rounds, mask words and coefficients of each server, which the number of prices tells, and wires; for each
+-- comparison there is room for the wires of a tree, whatever the gates
 abbrev pub most_rounds : Auction → ℕ
 most_rounds a =
     let blocks = blocks_of a.gates in
     comparisons_of a.prices * (blocks.mask_rounds + blocks.compare_rounds) + SPARE_MASKS * blocks.mask_rounds + 1
 
+abbrev pub most_masks_of : ℕ → ℕ
+most_masks_of prices = comparisons_of prices + SPARE_MASKS
+
+abbrev pub most_coefficients_of : ℕ → ℕ
+most_coefficients_of prices = MASK_COEFFICIENTS * most_masks_of prices
+
 abbrev pub most_masks : Auction → ℕ
-most_masks a = comparisons_of a.prices + SPARE_MASKS
+most_masks a = most_masks_of a.prices
 
 abbrev pub most_coefficients : Auction → ℕ
-most_coefficients a = MASK_COEFFICIENTS * most_masks a
+most_coefficients a = most_coefficients_of a.prices
 
 abbrev pub most_wires : Auction → ℕ
 most_wires a = 2 * a.prices + (blocks_of a.gates).mask_wires * most_masks a + compare_wires_of Tree * comparisons_of a.prices

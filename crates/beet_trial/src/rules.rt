@@ -11,7 +11,8 @@ ghost use Rattle.beet_bids.specs.declared.grid.TheConstants.{MOST_PRICES};
 use beet_bids::{Curve, Grid};
 use beet_field::Trio;
 use beet_gates::Gates;
-use beet_load::{ServerWords, seed_words, words_kept};
+use beet_load::{ServerWords, seed_words};
+use beet_plan::words_kept;
 use beet_words::Tape;
 use std::alloc::{AllocError, Global};
 
