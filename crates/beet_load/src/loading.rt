@@ -1,7 +1,6 @@
 //! Reading an auction, its servers and its book: what three servers begin with.
 
 ghost use Rattle.std.specs.Prelude.{◌≡◌, ◌≤◌, length, option_map};
-ghost use Rattle.beet_bids.specs.Grids.{IsGrid};
 ghost use Rattle.beet_errand.specs.Fetches.{ReadsFor};
 ghost use Rattle.beet_load.specs.Loading.{IsKeptOf, loaded_errand, rest_errand};
 ghost use Rattle.beet_load.specs.Settings.{setting_of};
@@ -50,8 +49,7 @@ pub(crate) fn lists_in(words: &AllWords) -> Option<&[WordList]>
 
 /// Reads what stands after the setting: the words of the servers, and the bidders, whose points are added up.
 fn add_up<S: Shelf>(alloc: Global, shelf: &mut S, setting: &Setting) -> Result<Loaded, Stop>
-    requires is_grid { IsGrid setting.now.grid }
-    requires few { length setting.now.entries.items ≤ MOST_BIDDERS }
+    requires { length setting.now.entries.items ≤ MOST_BIDDERS }
     ensures { ReadsFor IsKeptOf (S.seen shelf.old) (S.seen shelf.new) (rest_errand (setting_of setting.now)) result }
 {
     let Setting {

@@ -3,7 +3,6 @@
 ghost use Rattle.std.specs.Prelude.{◌≡◌, ◌≤◌, ◌*◌, IfOk, length, take, Ok, Option, Some, None, option_map, codes};
 ghost use Rattle.beet_forms.specs.Faults.{Answers};
 ghost use Rattle.beet_words.specs.Bundles.{bundle_of};
-ghost use Rattle.beet_bids.specs.Grids.{IsGrid};
 ghost use Rattle.beet_book.specs.ServerFiles.{servers_of};
 ghost use Rattle.beet_errand.specs.Errands.{reads};
 ghost use Rattle.beet_errand.specs.Fetches.{Reads, Refuses, Tests};
@@ -80,7 +79,6 @@ impl AllWords {
 
 /// The words of a seed.
 pub fn seed_words(alloc: Global, grid: &Grid, seed: &[u8; 32]) -> Result<ServerWords, AllocError>
-    requires { IsGrid grid.now }
     ensures { IfOk result (λ words. words ≡ seeded grid.now seed.now) }
 {
     Ok(ServerWords {
@@ -97,7 +95,6 @@ fn read_tapes<S: Shelf>(
     coefficients: &str,
     masks: &str,
 ) -> Result<ServerWords, Stop>
-    requires { IsGrid grid.now }
     ensures cut { IfOk result (IsCut grid.now) }
     ensures reads { Reads (λ words. words) (S.seen shelf.old) (S.seen shelf.new)
         (source_errand grid.now (ServerSource.Tapes coefficients.now masks.now)) result }
@@ -117,7 +114,6 @@ fn read_source<S: Shelf>(
     grid: &Grid,
     source: &ServerSource,
 ) -> Result<ServerWords, Stop>
-    requires { IsGrid grid.now }
     ensures cut { IfOk result (IsCut grid.now) }
     ensures reads { Reads (λ words. words) (S.seen shelf.old) (S.seen shelf.new)
         (source_errand grid.now source.now) result }
@@ -160,7 +156,6 @@ fn too_few_words(alloc: Global, server: u32, kind: &str, held: u32, wanted: u32)
 
 /// Refuses the server of this number where it has too few words, of which those for numbers are counted first.
 fn check_counts(alloc: Global, grid: &Grid, server: u32, words: &ServerWords) -> Result<(), Stop>
-    requires { IsGrid grid.now }
     ensures tests { Tests (enough_of grid.now server words.now) result }
     ensures enough { IfOk result (λ done. HasEnough grid.now words.now) }
 {
@@ -185,7 +180,6 @@ fn read_server<S: Shelf>(
     server: u32,
     source: &ServerSource,
 ) -> Result<ServerWords, Stop>
-    requires { IsGrid grid.now }
     ensures enough { IfOk result (HasEnough grid.now) }
     ensures cut { IfOk result (IsCut grid.now) }
     ensures reads { Reads (λ words. words) (S.seen shelf.old) (S.seen shelf.new)
@@ -204,7 +198,6 @@ fn read_three<S: Shelf>(
     grid: &Grid,
     sources: &Trio<ServerSource>,
 ) -> Result<Trio<ServerWords>, Stop>
-    requires { IsGrid grid.now }
     ensures enough { IfOk result (HaveEnough grid.now) }
     ensures cut { IfOk result (AreCut grid.now) }
     ensures reads { Reads (λ servers. servers) (S.seen shelf.old) (S.seen shelf.new)
@@ -261,7 +254,6 @@ fn cut(
     masks: &WordList,
     coefficients: &WordList,
 ) -> Result<ServerWords, AllocError>
-    requires { IsGrid grid.now }
     ensures { IfOk result (λ words. words ≡ cut_server grid.now masks.now coefficients.now) }
 {
     Ok(ServerWords {
@@ -272,7 +264,6 @@ fn cut(
 
 /// The words of the servers in a bundle, cut as those of tape files are, at their first words.
 pub fn cut_three(alloc: Global, grid: &Grid, words: &Words) -> Result<Trio<ServerWords>, AllocError>
-    requires { IsGrid grid.now }
     ensures { IfOk result (λ servers. servers ≡ cut_servers grid.now words.now) }
 {
     Trio::try_of(|at| { cut(alloc, grid, words.masks.get(at), words.coefficients.get(at)) })
@@ -280,7 +271,6 @@ pub fn cut_three(alloc: Global, grid: &Grid, words: &Words) -> Result<Trio<Serve
 
 /// Refuses the first server that has too few words.
 pub fn check_three(alloc: Global, grid: &Grid, servers: &Trio<ServerWords>) -> Result<(), Stop>
-    requires { IsGrid grid.now }
     ensures tests { Tests (enough_of_all grid.now servers.now) result }
     ensures enough { IfOk result (λ done. HaveEnough grid.now servers.now) }
 {
@@ -298,7 +288,6 @@ fn into_bidders(words: Words) -> Vec<WordList>
 
 /// The words of a bundle: those of the servers, cut as those of tape files are, and those of the bidders.
 fn cut_bundle(alloc: Global, grid: &Grid, words: Words) -> Result<AllWords, AllocError>
-    requires { IsGrid grid.now }
     ensures { IfOk result (λ all. all ≡ record {
       servers = cut_servers grid.now words;
       bidders = Some words.bidders;
@@ -320,7 +309,6 @@ fn read_bundled<S: Shelf>(
     name: &Name,
     count: Option<usize>,
 ) -> Result<AllWords, Stop>
-    requires { IsGrid grid.now }
     ensures enough { IfOk result (λ words. HaveEnough grid.now words.servers) }
     ensures cut { IfOk result (λ words. AreCut grid.now words.servers) }
     ensures reads { Reads (λ words. words) (S.seen shelf.old) (S.seen shelf.new)
@@ -341,7 +329,6 @@ pub fn read_words<S: Shelf>(
     servers: &Servers,
     count: Option<usize>,
 ) -> Result<AllWords, Stop>
-    requires { IsGrid grid.now }
     ensures enough { IfOk result (λ words. HaveEnough grid.now words.servers) }
     ensures cut { IfOk result (λ words. AreCut grid.now words.servers) }
     ensures reads { Reads (λ words. words) (S.seen shelf.old) (S.seen shelf.new)

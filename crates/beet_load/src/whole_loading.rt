@@ -1,7 +1,6 @@
 //! Reading an auction, its servers and its book, and keeping the whole book.
 
 ghost use Rattle.std.specs.Prelude.{◌≡◌, ◌≤◌, ◌*◌, All, length};
-ghost use Rattle.beet_bids.specs.Grids.{IsGrid};
 ghost use Rattle.beet_errand.specs.Fetches.{Reads};
 ghost use Rattle.beet_load.specs.Servers.{AreCut, HaveEnough};
 ghost use Rattle.beet_load.specs.Settings.{setting_of};
@@ -79,8 +78,7 @@ fn read_rest<S: Shelf>(
     book: &str,
     setting: &Setting,
 ) -> Result<Whole, Stop>
-    requires is_grid { IsGrid setting.now.grid }
-    requires few { length setting.now.entries.items ≤ MOST_BIDDERS }
+    requires { length setting.now.entries.items ≤ MOST_BIDDERS }
     ensures { Reads loaded_of (S.seen shelf.old) (S.seen shelf.new)
         (limited_rest book.now (setting_of setting.now)) result }
 {

@@ -1,7 +1,6 @@
 //! The book of a trial, by rule.
 
 ghost use Rattle.std.specs.Prelude.{◌≡◌, ◌≤◌, IfOk};
-ghost use Rattle.beet_bids.specs.Grids.{IsGrid};
 ghost use Rattle.beet_words.specs.Seeds.{seed_words as words_of_seed};
 ghost use Rattle.beet_plan.specs.Kept.{words_kept as kept_of};
 ghost use Rattle.beet_load.specs.Servers.{seeded};
@@ -39,7 +38,6 @@ pub(crate) fn grid_of(prices: u32) -> Grid
 
 /// The words of the server with this number.
 fn server_words(alloc: Global, grid: &Grid, server: u8) -> Result<ServerWords, AllocError>
-    requires { IsGrid grid.now }
     ensures { IfOk result (λ words. words ≡ seeded grid.now (server_seed server)) }
 {
     seed_words(alloc, grid, &[server; 32])
@@ -47,7 +45,6 @@ fn server_words(alloc: Global, grid: &Grid, server: u8) -> Result<ServerWords, A
 
 /// The words of the three servers.
 pub(crate) fn servers_of(alloc: Global, grid: &Grid) -> Result<Trio<ServerWords>, AllocError>
-    requires { IsGrid grid.now }
     ensures { IfOk result (λ servers. servers ≡ trial_servers grid.now) }
 {
     let words = Trio {
