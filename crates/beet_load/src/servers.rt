@@ -1,6 +1,6 @@
 //! Reading the words of the servers.
 
-ghost use Rattle.std.specs.Prelude.{◌≡◌, ◌≤◌, ◌*◌, IfOk, length, take, Ok, Option, Some, None, option_map, codes};
+ghost use Rattle.std.specs.Prelude.{◌≡◌, ◌≤◌, IfOk, length, take, Ok, Option, Some, None, option_map, codes};
 ghost use Rattle.beet_forms.specs.Faults.{Answers};
 ghost use Rattle.beet_words.specs.Bundles.{bundle_of};
 ghost use Rattle.beet_book.specs.ServerFiles.{servers_of};

@@ -1,6 +1,6 @@
 //! A place in the auction's script.
 
-ghost use Rattle.std.specs.Prelude.{◌≡◌, ◌↔◌, ◌<◌, ◌≤◌, ◌+◌, ◌-◌, ◌*◌, ◌/◌, ◌^◌, IsTrue, MatchOption, None, Some, ℕ, [], ◌∷◌};
+ghost use Rattle.std.specs.Prelude.{◌≡◌, ◌↔◌, ◌<◌, ◌≤◌, ◌+◌, ◌-◌, ◌*◌, ◌/◌, ◌^◌, IsTrue, MatchOption, [], ◌∷◌};
 ghost use Rattle.beet_gates.specs.Plans.{plan_length, plan_after, plan_batch, plan_finish, batch_at};
 ghost use Rattle.beet_plan.specs.Auction.{search_plan, end_plan, after_answer, after_product};
 ghost use Rattle.beet_gates.specs.declared.Act.TheVariants.{Reveal};

@@ -1,6 +1,6 @@
 //! Whether there are words enough.
 
-ghost use Rattle.std.specs.Prelude.{◌≡◌, ◌≤◌, ◌↔◌, ◌<◌, length, IsTrue};
+ghost use Rattle.std.specs.Prelude.{◌≤◌, ◌↔◌, ◌<◌, length, IsTrue};
 ghost use Rattle.beet_words.specs.declared.bundle.TheConstants.{MOST_WORDS};
 ghost use Rattle.beet_gates.specs.Scripts.{HasWords};
 ghost use Rattle.beet_worlds.specs.Enough.{AreEnough, HasAccepted};
