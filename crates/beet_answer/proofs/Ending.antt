@@ -1,5 +1,5 @@
 -- How the end of a job goes out.
-use Rattle.std.proofs.Common.{◌≡◌, ◌≤◌, ◌⊎◌, inl, inr, ℕ, List, [], Option, Result, Ok, Err, ap, refl, sym, ◌∙◌, arith}
+use Rattle.std.proofs.Common.{◌≡◌, ◌≤◌, ◌⊎◌, inl, inr, ℕ, List, [], Option, Result, Ok, Err, ap, sym, ◌∙◌, arith}
 use Rattle.beet_store.specs.Causes.{Rose}
 use Rattle.beet_store.specs.Files.{Told}
 use Rattle.beet_store.specs.Desks.{Given, DeskSeen, Done}

@@ -6,20 +6,20 @@ use Rattle.beet_store.specs.Files.{Seen, Told}
 use Rattle.beet_store.specs.Desks.{DeskSeen}
 use Rattle.beet_errand.specs.Errands.{Answer, Errand, Ends, Step, answers, text_answer}
 use Rattle.beet_errand.specs.Fetches.{Reads, Refuses, Causes, IsDone}
-use Rattle.beet_errand.specs.Statuses.{code_of}
+use Rattle.beet_errand.specs.Statuses.{IsDoneCode, code_of}
 use Rattle.beet_errand.specs.declared.answer.Status.{Status}
 use Rattle.beet_errand.specs.declared.answer.Status.TheVariants.{Done as JobDone, OutOfMemory as NoMemory, Usage, ReadFault, WriteFault, BadFile, MasksSpent, WorldsRefused, AuditRefused, TooFewWords}
 use Rattle.beet_errand.specs.declared.answer.Stop.{Stop}
 use Rattle.beet_errand.specs.declared.answer.Stop.TheVariants.{Refused, OutOfMemory}
 use Rattle.beet_errand.proofs.Frame.{does}
 use Rattle.beet_errand.proofs.Steps.{went_none}
-use Rattle.beet_answer.specs.Runs.{Runs, Said, EndGoesOut}
+use Rattle.beet_answer.specs.Runs.{Said, EndGoesOut}
 use Rattle.beet_answer.proofs.Ending.{due_of, end_cases, runs_of, text_said}
 use Rattle.beet_two_worlds.specs.Ending.{CausesOfWorlds, Compares}
 use Rattle.beet_app.specs.Texts.{usage_text}
 use Rattle.beet_auditor.specs.Ending.{Audits, CausesOfAudit}
 use Rattle.beet_app.specs.Jobs.{Job, Answering, Comparing, Auditing}
-use Rattle.beet_app.specs.Doing.{AuditsTranscripts, ComparesWorlds, OfJob, DoesJob, EndsFor, CausesFor}
+use Rattle.beet_app.specs.Doing.{AuditsTranscripts, ComparesWorlds, OfJob, RunsJob, DoesJob, EndsFor, CausesFor}
 
 -- the job that words name, whose answer is given
 pub answers_job : {named : Option Job} (job : Step Answer) {old now : Seen} (result : Result Answer Stop) → named ≡ Some (Answering (job Ends)) →
@@ -86,7 +86,7 @@ of_more (Some (Auditing auction one two three)) old now f (inr h) = inr (λ next
 -- a run ends as its job does
 pub run_does : (job : Option Job) (old now : Seen) (desk desk_now : DeskSeen) (result : Result Answer Stop) (end : Status) →
     DoesJob job old now result → EndGoesOut desk desk_now result end →
-    OfJob job old.told now.told (λ told errand. Runs errand told now.told desk.given desk_now.given (code_of end))
+    RunsJob job old.told now.told desk.given desk_now.given (code_of end)
 run_does job old now desk desk_now result end d out =
     of_more job old.told now.told (λ told errand f. runs_of errand told now.told desk desk_now result end f out) d.finishes
 
@@ -175,7 +175,7 @@ codes_for (Comparing auction servers first second s out) before now status text 
 codes_for (Auditing auction one two three) before now status text c =
     codes_of_audit (Auditing auction one two three) tt before now status text (cause_of_audit before now status text c)
 
-pub done_code : (status : Status) → IsDone status → (code_of status ≡ 0) ⊎ (code_of status ≡ 6)
+pub done_code : (status : Status) → IsDone status → IsDoneCode (code_of status)
 done_code status (inl e) = inl (ap code_of e)
 done_code status (inr e) = inr (ap code_of e)
 
@@ -189,7 +189,7 @@ due_codes None before now (Err (Refused status text)) f = go (code_of status) (a
 due_codes None before now (Err OutOfMemory) f =
     (λ t. refl, λ t. omega (arith, t), λ t. absurd (omega (arith, t)), λ t. absurd (omega (arith, t)), λ t. absurd (omega (arith, t)))
 due_codes (Some job) before now (Ok answer) f = go (code_of answer.status) (done_code answer.status f) where
-  go : (n : ℕ) → (n ≡ 0) ⊎ (n ≡ 6) → CodesFor (Some job) (Rose before now) ⊥ n
+  go : (n : ℕ) → IsDoneCode n → CodesFor (Some job) (Rose before now) ⊥ n
   go n (inl z) = (
     λ t. absurd (omega (arith, z, t)),
     λ t. omega (arith, z, t),

@@ -9,7 +9,7 @@ use Rattle.beet_store.specs.Desks.{Given, DeskSeen, Done, GivesCall, Say, Replac
 use Rattle.beet_store.specs.declared.desk.PutFault.TheVariants.{Failed, OutOfMemory as NoMemoryToPut}
 use Rattle.beet_words.specs.Bundles.{bundle_bytes}
 use Rattle.beet_errand.specs.Errands.{Answer}
-use Rattle.beet_errand.specs.Statuses.{code_of}
+use Rattle.beet_errand.specs.Statuses.{IsDoneCode, code_of}
 use Rattle.beet_errand.specs.declared.answer.Status.{Status}
 use Rattle.beet_errand.specs.declared.answer.Status.TheVariants.{Done as JobDone, OutOfMemory as NoMemory, Usage, ReadFault, WriteFault, BadFile, MasksSpent, WorldsRefused, AuditRefused, TooFewWords}
 use Rattle.beet_errand.specs.declared.answer.Stop.{Stop}
@@ -22,7 +22,7 @@ use Rattle.beet_two_worlds.specs.Ending.{ShowsWorlds}
 use Rattle.beet_two_worlds.specs.Reading.{first_book, words_read}
 use Rattle.beet_audit.specs.OneRuns.{OneRun}
 use Rattle.beet_audit.specs.declared.fault.AuditFault.{AuditFault}
-use Rattle.beet_auditor.specs.Ending.{ShowsAudit, audit_answer, run_answer}
+use Rattle.beet_auditor.specs.Ending.{ShowsAudit, audit_answer}
 use Rattle.beet_auditor.specs.Reading.{AreRead}
 use Rattle.beet_auditor.specs.declared.reading.ReadViews.{ReadViews}
 use Rattle.beet_app.specs.Jobs.{Job, Answering, Comparing, Auditing}
@@ -82,22 +82,18 @@ first-words out = apart out (codes ".first") (codes ".words") (λ (e : 102 ≡ 1
 second-words : (out : List ℕ) → (out ++ codes ".second") ≢ (out ++ codes ".words")
 second-words out = apart out (codes ".second") (codes ".words") (λ (e : 115 ≡ 119). absurd (omega (arith, e)))
 
--- the end of a run that is done
-abbrev IsEnd : ℕ → Type 0
-IsEnd code = (code ≡ 0) ⊎ (code ≡ 6)
-
-not-end : (n : ℕ) → n ≢ 0 → n ≢ 6 → IsEnd n → ⊥
+not-end : (n : ℕ) → n ≢ 0 → n ≢ 6 → IsDoneCode n → ⊥
 not-end n z s (inl e) = z e
 not-end n z s (inr e) = s e
 
 -- a desk that refused a call ends no run so
-all_taken : (due end : Status) (done : Done) → end ≡ status_after due done → IsEnd (code_of end) → done ≡ Ok tt
+all_taken : (due end : Status) (done : Done) → end ≡ status_after due done → IsDoneCode (code_of end) → done ≡ Ok tt
 all_taken due end (Ok tt) e h = refl
 all_taken due end (Err Failed) e h = absurd (not-end 4 (λ z. absurd (omega (arith, z))) (λ z. absurd (omega (arith, z))) (rw e at h))
 all_taken due end (Err NoMemoryToPut) e h = absurd (not-end 1 (λ z. absurd (omega (arith, z))) (λ z. absurd (omega (arith, z))) (rw e at h))
 
 -- nor does a job that is refused
-refused_else : (before now : ℕ) (status : Status) (text : Vec ℕ Global) → Causes before now (Refused status text) → IsEnd (code_of status) → ⊥
+refused_else : (before now : ℕ) (status : Status) (text : Vec ℕ Global) → Causes before now (Refused status text) → IsDoneCode (code_of status) → ⊥
 refused_else before now JobDone text c h = absurd c
 refused_else before now NoMemory text c h = absurd c
 refused_else before now Usage text c h = absurd c
@@ -109,15 +105,15 @@ refused_else before now WorldsRefused text c h = absurd c
 refused_else before now AuditRefused text c h = absurd c
 refused_else before now TooFewWords text c h = not-end 9 (λ z. absurd (omega (arith, z))) (λ z. absurd (omega (arith, z))) h
 
-refused_or : (own : Status) → (IsEnd (code_of own) → ⊥) → (before now : ℕ) (status : Status) (text : Vec ℕ Global) →
-    (status ≡ own) ⊎ Causes before now (Refused status text) → IsEnd (code_of status) → ⊥
+refused_or : (own : Status) → (IsDoneCode (code_of own) → ⊥) → (before now : ℕ) (status : Status) (text : Vec ℕ Global) →
+    (status ≡ own) ⊎ Causes before now (Refused status text) → IsDoneCode (code_of status) → ⊥
 refused_or own never before now status text (inl e) h = never (rw e at h)
 refused_or own never before now status text (inr c) h = refused_else before now status text c h
 
 -- whatever comes of its answer
-refusal_else : (own : Status) → (IsEnd (code_of own) → ⊥) → (before now : ℕ) (status : Status) (text : Vec ℕ Global) →
+refusal_else : (own : Status) → (IsDoneCode (code_of own) → ⊥) → (before now : ℕ) (status : Status) (text : Vec ℕ Global) →
     (status ≡ own) ⊎ Causes before now (Refused status text) → (desk desk_now : DeskSeen) (end : Status) →
-    EndGoesOut desk desk_now (Err (Refused status text)) end → IsEnd (code_of end) → ⊥
+    EndGoesOut desk desk_now (Err (Refused status text)) end → IsDoneCode (code_of end) → ⊥
 refusal_else own never before now status text c desk desk_now end goes h = go (end_cases desk desk_now (Err (Refused status text)) end goes) where
   go : (end ≡ status) ⊎ ((end ≡ WriteFault) × Rose desk.faults desk_now.faults) ⊎ (end ≡ NoMemory) → ⊥
   go (inl e) = refused_or own never before now status text c (rw e at h)
@@ -125,7 +121,7 @@ refusal_else own never before now status text c desk desk_now end goes h = go (e
   go (inr (inr e)) = not-end 1 (λ z. absurd (omega (arith, z))) (λ z. absurd (omega (arith, z))) (rw e at h)
 
 -- nor one that ran out of memory
-no_memory_else : (desk desk_now : DeskSeen) (end : Status) → EndGoesOut desk desk_now (Err OutOfMemory) end → IsEnd (code_of end) → ⊥
+no_memory_else : (desk desk_now : DeskSeen) (end : Status) → EndGoesOut desk desk_now (Err OutOfMemory) end → IsDoneCode (code_of end) → ⊥
 no_memory_else desk desk_now end goes h = not-end 1 (λ z. absurd (omega (arith, z))) (λ z. absurd (omega (arith, z))) (rw goes.0 at h)
 
 module _ (auction servers first second : List ℕ) (s : Point) (out : List ℕ) (old now : Seen) where
@@ -156,14 +152,14 @@ module _ (auction servers first second : List ℕ) (s : Point) (out : List ℕ) 
 
   -- an answer that went out
   answer_shows : (answer : Answer) (desk desk_now : DeskSeen) (end : Status) → ShowsWorlds old.told now.told auction servers first second s out answer →
-      AnswersBy answer desk desk_now end → IsEnd (code_of end) →
+      AnswersBy answer desk desk_now end → IsDoneCode (code_of end) →
       (given : Option Given) → desk.given ≡ given → Shows (Some (Comparing auction servers first second s out)) old.told now.told given desk_now.given
   answer_shows answer desk desk_now end w a h None e = tt
   answer_shows answer desk desk_now end w a h (Some given) e =
       files_stand answer given desk_now.given w (rw (all_taken answer.status end a.done a.status h, e) at a.gives.calls)
 
   compared : (desk desk_now : DeskSeen) (result : Result Answer Stop) (end : Status) →
-      DoesJob (Some (Comparing auction servers first second s out)) old now result → EndGoesOut desk desk_now result end → IsEnd (code_of end) →
+      DoesJob (Some (Comparing auction servers first second s out)) old now result → EndGoesOut desk desk_now result end → IsDoneCode (code_of end) →
       Shows (Some (Comparing auction servers first second s out)) old.told now.told desk.given desk_now.given
   compared desk desk_now (Ok answer) end d goes h = answer_shows answer desk desk_now end d.shows goes h desk.given refl
   compared desk desk_now (Err (Refused status text)) end d goes h =
@@ -184,7 +180,7 @@ module _ (auction one two three : List ℕ) (old now : Seen) where
       absurd (not-end 8 (λ z. absurd (omega (arith, z))) (λ z. absurd (omega (arith, z))) (done_code AuditRefused d))
 
   finding_shows : (answer : Answer) (desk desk_now : DeskSeen) (end : Status) → ShowsAudit old.told now.told auction one two three answer →
-      IsDone answer.status → AnswersBy answer desk desk_now end → IsEnd (code_of end) → (given : Option Given) → desk.given ≡ given →
+      IsDone answer.status → AnswersBy answer desk desk_now end → IsDoneCode (code_of end) → (given : Option Given) → desk.given ≡ given →
       Shows (Some (Auditing auction one two three)) old.told now.told given desk_now.given
   finding_shows answer desk desk_now end w d a h None e = tt
   finding_shows answer desk desk_now end w d a h (Some given) e =
@@ -192,7 +188,7 @@ module _ (auction one two three : List ℕ) (old now : Seen) where
       (rw w.tells.is at (rw (all_taken answer.status end a.done a.status h, e) at a.gives.calls))
 
   audited : (desk desk_now : DeskSeen) (result : Result Answer Stop) (end : Status) →
-      DoesJob (Some (Auditing auction one two three)) old now result → EndGoesOut desk desk_now result end → IsEnd (code_of end) →
+      DoesJob (Some (Auditing auction one two three)) old now result → EndGoesOut desk desk_now result end → IsDoneCode (code_of end) →
       Shows (Some (Auditing auction one two three)) old.told now.told desk.given desk_now.given
   audited desk desk_now (Ok answer) end d goes h = finding_shows answer desk desk_now end d.shows d.ends goes h desk.given refl
   audited desk desk_now (Err (Refused status text)) end d goes h =
@@ -202,7 +198,7 @@ module _ (auction one two three : List ℕ) (old now : Seen) where
 
 -- a run that has compared two worlds and is done shows them, and one that has audited transcripts shows that they are of one run
 pub run_shows : (job : Option Job) (old now : Seen) (desk desk_now : DeskSeen) (result : Result Answer Stop) (end : Status) →
-    DoesJob job old now result → EndGoesOut desk desk_now result end → IsEnd (code_of end) →
+    DoesJob job old now result → EndGoesOut desk desk_now result end → IsDoneCode (code_of end) →
     Shows job old.told now.told desk.given desk_now.given
 run_shows None old now desk desk_now result end d out h = tt
 run_shows (Some (Answering errand)) old now desk desk_now result end d out h = tt

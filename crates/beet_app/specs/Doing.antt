@@ -1,11 +1,13 @@
 -- What a job does: its errand, and the causes of its refusals.
 use Rattle.std.specs.Prelude.{◌≡◌, ◌≤◌, ℕ, Option, Some, None, Result, Ok, Err}
+use Rattle.beet_store.specs.Desks.{Given}
 use Rattle.beet_store.specs.Files.{Seen, Told}
 use Rattle.beet_errand.specs.Errands.{Answer, Errand, answers}
 use Rattle.beet_errand.specs.Fetches.{Causes, Finishes, IsDone}
 use Rattle.beet_errand.specs.declared.answer.Status.TheVariants.{Usage}
 use Rattle.beet_errand.specs.declared.answer.Stop.{Stop}
 use Rattle.beet_errand.specs.declared.answer.Stop.TheVariants.{Refused, OutOfMemory}
+use Rattle.beet_answer.specs.Runs.{Runs}
 use Rattle.beet_two_worlds.specs.Ending.{CausesOfWorlds, WithMapped}
 use Rattle.beet_auditor.specs.Ending.{CausesOfAudit, WithAudited}
 use Rattle.beet_app.specs.Jobs.{Job, Answering, Comparing, Auditing}
@@ -21,6 +23,11 @@ OfJob None old now P = P old (answers Usage usage_text)
 OfJob (Some (Answering errand)) old now P = P old errand
 OfJob (Some (Comparing auction servers first second s out)) old now P = WithMapped old now auction servers first second s out P
 OfJob (Some (Auditing auction one two three)) old now P = WithAudited old now auction one two three P
+
+-- the errand of a job runs to this exit status
+abbrev pub RunsJob : Option Job → Option Told → Option Told → Option Given → Option Given → ℕ → Type 0
+RunsJob job told told_now given given_now status =
+    OfJob job told told_now (λ before errand. Runs errand before told_now given given_now status)
 
 -- why a job is refused: two books that differ for a server are a cause in the job that compares two worlds, and in no other; and what is
 -- wrong with three transcripts is one in the audit alone

@@ -1,9 +1,9 @@
 -- The table of commands: a row for each, with its words and the job that they name.
 use Rattle.std.specs.Prelude.{ℕ, List, [], ◌∷◌, Option, Some, None, option_map, Bool, ◌&&◌, if◌then◌else◌, codes, nat_eq, true}
 use Rattle.std.specs.Cmp.Lexicographic.{pointwise}
+use Rattle.beet_field.specs.Point.{server_of}
 use Rattle.beet_field.specs.declared.point.Point.{Point}
 use Rattle.beet_forms.specs.Names.{is_name_of}
-use Rattle.beet_world.specs.Schedules.{server_of}
 use Rattle.beet_errand.specs.Errands.{Errand}
 use Rattle.beet_tally.specs.Tally.{tally_errand}
 use Rattle.beet_clear.specs.Clear.{clear_errand}

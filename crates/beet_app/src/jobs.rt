@@ -2,7 +2,6 @@
 
 ghost use Rattle.std.specs.Prelude.{◌≡◌, map, string_bytes};
 ghost use Rattle.beet_forms.specs.Names.{is_name_of};
-ghost use Rattle.beet_world.specs.Schedules.{server_of};
 ghost use Rattle.beet_errand.specs.Fetches.{Refuses};
 ghost use Rattle.beet_app.specs.Texts.{usage_text};
 ghost use Rattle.beet_app.specs.Doing.{DoesJob, DoesNamed};
@@ -111,18 +110,6 @@ fn do_four<S: Shelf, R: Threads + Wait + Sync, G: Gate>(
     }
 }
 
-/// The server of a word.
-fn server_in(word: &str) -> Option<Point>
-    ensures { result ≡ server_of word.now }
-{
-    match word.as_bytes() {
-        b"1" => Some(Point::One),
-        b"2" => Some(Point::Two),
-        b"3" => Some(Point::Three),
-        _ => None,
-    }
-}
-
 /// Does the job of a command with six words, if they name one.
 fn do_six<S: Shelf, R: Threads + Sync>(
     rt: &R,
@@ -147,7 +134,7 @@ fn do_six<S: Shelf, R: Threads + Sync>(
     if !(command == "worlds" && named) {
         return None;
     }
-    let server = server_in(server)?;
+    let server = Point::of_digit(server.as_bytes())?;
     let answer = worlds(
         rt, alloc, shelf, auction, servers, first, second, server, out,
     );

@@ -3,8 +3,8 @@
 
 ghost use Rattle.std.specs.Prelude.{◌≡◌, ◌≤◌, ◌⊎◌, map, string_bytes, None};
 ghost use Rattle.beet_store.specs.Causes.{Rose};
-ghost use Rattle.beet_answer.specs.Runs.{IsStatus, Runs, Said};
-ghost use Rattle.beet_app.specs.Doing.{AuditsTranscripts, ComparesWorlds, OfJob};
+ghost use Rattle.beet_answer.specs.Runs.{IsStatus, Said};
+ghost use Rattle.beet_app.specs.Doing.{AuditsTranscripts, ComparesWorlds, RunsJob};
 ghost use Rattle.beet_app.specs.Jobs.{job_of};
 ghost use Rattle.beet_app.specs.Showing.{Shows};
 ghost use Rattle.beet_app.specs.Texts.{usage_text};
@@ -73,8 +73,8 @@ pub fn run<S: Shelf, K: Desk, R: Threads + Wait + Sync, G: Gate>(
     ensures audit { result ≡ 8 → AuditsTranscripts (job_of (map string_bytes words.now)) }
 
     // The files fetched, the files put, the text said and the status are those of the job.
-    ensures runs { OfJob (job_of (map string_bytes words.now)) (S.seen shelf.old).told (S.seen shelf.new).told
-        (λ told errand. Runs errand told (S.seen shelf.new).told (K.seen desk.old).given (K.seen desk.new).given result) }
+    ensures runs { RunsJob (job_of (map string_bytes words.now)) (S.seen shelf.old).told (S.seen shelf.new).told
+        (K.seen desk.old).given (K.seen desk.new).given result }
 
     // Two worlds that were compared are shown to look the same to the server, and three transcripts to be of one run.
     ensures shows { (result ≡ 0) ⊎ (result ≡ 6) → Shows (job_of (map string_bytes words.now))

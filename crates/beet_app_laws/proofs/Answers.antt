@@ -27,7 +27,7 @@ use Rattle.beet_bids.specs.declared.bid_file.TheConstants.{BID_LIMIT}
 use Rattle.beet_words.specs.TapeFiles.{tape_of}
 use Rattle.beet_words.specs.Seeds.{seed_words}
 use Rattle.beet_words.specs.declared.tape_file.TheConstants.{TAPE_LIMIT}
-use Rattle.beet_words.specs.declared.bundle.TheConstants.{BUNDLE_LIMIT}
+use Rattle.beet_forms.specs.declared.faults.TheConstants.{LONGEST_FILE}
 use Rattle.beet_plan.specs.Kept.{coefficients_kept, words_kept}
 use Rattle.beet_errand.specs.Errands.{Answer, Errand, Ends, Wants, Step, FetchAnswer, Bytes, Longer, Nothing, after_answer, after_fetch, answers, bad_file, judged, reads, too_long, with_bytes}
 use Rattle.beet_errand.specs.Fetches.{IsDone, Leads, LeadsBy, Went}
@@ -164,7 +164,7 @@ module _ (out : List ℕ) where
   pub all-words-well : (grid : Grid) (count : Option ℕ) (sources : Servers) → StepsWell (all_words_errand grid count sources)
   all-words-well grid count (Three sources) next h = three-well grid sources _ (λ servers. h (record { servers = servers; bidders = None }))
   all-words-well grid count (Bundle name) next h =
-      reads-well name BUNDLE_LIMIT (λ bytes. counted count (bundle_of bytes)) _ (λ words. servers-enough grid (cut_servers grid words) _ (h _))
+      reads-well name LONGEST_FILE (λ bytes. counted count (bundle_of bytes)) _ (λ words. servers-enough grid (cut_servers grid words) _ (h _))
 
   pub product-well : (book : List ℕ) (grid : Grid) (count : ℕ) (next : Errand) → EndsWell next → EndsWell (within_product book grid count next)
   product-well book grid count next h =

@@ -1,6 +1,7 @@
 -- The ends of the errand of each job.
 use Rattle.std.proofs.Common.{◌≡◌, inl, inr, ℕ, List, [], ◌∷◌, ◌++◌, Option, Some, None, Bool, true, false, if◌then◌else◌, option_map, IfSome, ap, refl, subst, sym}
 use Rattle.std.specs.Prelude.{◌&&◌, codes, ◌==◌, ◌+◌, map}
+use Rattle.beet_field.specs.Point.{server_of}
 use Rattle.beet_field.specs.declared.point.Point.{Point}
 use Rattle.beet_field.specs.declared.point.Point.TheVariants.{One, Two, Three as ThreeAt}
 use Rattle.beet_field.specs.Trio.{of_each}
@@ -26,13 +27,11 @@ use Rattle.beet_farmer.specs.Lists.{list_of}
 use Rattle.beet_farmer.specs.declared.envelope.TheConstants.{ENVELOPE_LIMIT}
 use Rattle.beet_farmer.specs.declared.list_file.ListEntry.{ListEntry}
 use Rattle.beet_farmer.specs.declared.list_file.TheConstants.{LIST_LIMIT}
-use Rattle.beet_forms.specs.declared.faults.TheConstants.{LONGEST_FILE as TRANSCRIPT_LIMIT}
+use Rattle.beet_forms.specs.declared.faults.TheConstants.{LONGEST_FILE}
 use Rattle.beet_plan.specs.Auction.{auction_over}
 use Rattle.beet_plan.specs.Kept.{words_kept}
-use Rattle.beet_plan.specs.declared.Finish.{Finish}
-use Rattle.beet_plan.specs.declared.Finish.TheVariants.{Price, NoPrice, MasksSpent}
 use Rattle.beet_view.specs.Transcripts.{view_in}
-use Rattle.beet_world.specs.Schedules.{schedule_of, server_of}
+use Rattle.beet_world.specs.Schedules.{schedule_of}
 use Rattle.beet_world.specs.declared.schedule.TheConstants.{SCHEDULE_LIMIT}
 use Rattle.beet_worlds.specs.declared.agreeing.MapFault.{MapFault}
 use Rattle.beet_errand.specs.Errands.{Answer, Errand, Ends, bad_file, reads}
@@ -41,6 +40,7 @@ use Rattle.beet_errand.specs.declared.answer.Status.TheVariants.{Done, MasksSpen
 use Rattle.beet_load.specs.Farmers.{farmers_errand, words_wanted}
 use Rattle.beet_load.specs.Servers.{masks_of}
 use Rattle.beet_run.specs.Outcomes.{status_of}
+use Rattle.beet_run.proofs.StatusFacts.{status-done}
 use Rattle.beet_tally.specs.Tally.{not_one_price, tally_errand, tally_job, tallied}
 use Rattle.beet_clear.specs.Clear.{clear_errand}
 use Rattle.beet_rehearse.specs.Rehearse.{rehearse_errand}
@@ -67,11 +67,6 @@ use Rattle.beet_app_laws.specs.Leavings.{last_word}
 use Rattle.beet_app_laws.proofs.Faults.{HasLine, difference-line, finds-never}
 use Rattle.beet_app_laws.proofs.Answers.{EndsWell, IsAnswer, StepsWell, all-words-well, bidders-well, curves-well, either, enough-well, limited-well, loaded-well, reads-well, servers-enough, words-well}
 
-pub finish-done : (finish : Finish) → IsDone (status_of finish)
-finish-done (Price place volume supply) = inl refl
-finish-done NoPrice = inl refl
-finish-done MasksSpent = inr refl
-
 rehearsal-done : (one : Bool) → IsDone (if one then Spent else Done)
 rehearsal-done true = inr refl
 rehearsal-done false = inl refl
@@ -89,7 +84,7 @@ module _ (out : List ℕ) where
 
   clear-well : (auction servers book : List ℕ) → EndsWell out (clear_errand auction servers book)
   clear-well auction servers book = loaded-well out auction servers book _ (λ loaded.
-      inl (finish-done (book_finish (book_with loaded.grid loaded.farmers) (masks_of loaded.servers)), inl refl))
+      inl (status-done (book_finish (book_with loaded.grid loaded.farmers) (masks_of loaded.servers)), inl refl))
 
   rehearse-well : (auction servers book schedule : List ℕ) → EndsWell out (rehearse_errand auction servers book schedule)
   rehearse-well auction servers book schedule = loaded-well out auction servers book _ (λ loaded.
@@ -97,7 +92,7 @@ module _ (out : List ℕ) where
 
   record-well : (auction servers book : List ℕ) → EndsWell out (record_errand auction servers book out)
   record-well auction servers book = limited-well out auction servers book _ (λ loaded.
-      inl (finish-done (book_finish (book_with loaded.grid loaded.farmers) (masks_of loaded.servers)), inr (inl refl)))
+      inl (status-done (book_finish (book_with loaded.grid loaded.farmers) (masks_of loaded.servers)), inr (inl refl)))
 
   seal-well : (auction bid : List ℕ) (source : BidderSource) → EndsWell out (seal_errand auction bid source out)
   unfolding seal_job
@@ -122,7 +117,7 @@ module _ (out : List ℕ) where
   unfolding entries_job
   entries-well grid sources entries =
       all-words-well out grid None sources _ (λ words. sealed-well grid [] entries _ (λ bidders.
-      inl (finish-done (points_finish (auction_over grid) (inputs_at grid.prices bidders) (masks_of words.servers)), inl refl)))
+      inl (status-done (points_finish (auction_over grid) (inputs_at grid.prices bidders) (masks_of words.servers)), inl refl)))
 
   open-well : (auction servers list : List ℕ) → EndsWell out (open_errand auction servers list)
   unfolding open_job
@@ -139,7 +134,7 @@ module _ (out : List ℕ) where
   trial-well : (bidders prices : ℕ) → EndsWell out (trial_errand bidders prices)
   trial-well bidders prices =
       let grid = trial_grid prices in
-      servers-enough out grid (trial_servers grid) _ (each-enough grid 1 (trial_farmers grid bidders) _ (inl (finish-done (book_finish (trial_book grid bidders) (masks_of (trial_servers grid))), inl refl)))
+      servers-enough out grid (trial_servers grid) _ (each-enough grid 1 (trial_farmers grid bidders) _ (inl (status-done (book_finish (trial_book grid bidders) (masks_of (trial_servers grid))), inl refl)))
 
   differing-well : (difference : Option MapFault) → IfSome difference HasLine → (next : Errand) → EndsWell out next → EndsWell out (unless_differing difference next)
   differing-well None t next h = h
@@ -159,9 +154,9 @@ module _ (out : List ℕ) where
   unfolding read_errand
   read-well auction one two three next h =
       reads-well out auction AUCTION_LIMIT auction_of _ (λ grid.
-      reads-well out one TRANSCRIPT_LIMIT view_in _ (λ first.
-      reads-well out two TRANSCRIPT_LIMIT view_in _ (λ second.
-      reads-well out three TRANSCRIPT_LIMIT view_in _ (λ third. h _))))
+      reads-well out one LONGEST_FILE view_in _ (λ first.
+      reads-well out two LONGEST_FILE view_in _ (λ second.
+      reads-well out three LONGEST_FILE view_in _ (λ third. h _))))
 
   -- the errand of a job ends so; what compares two worlds or audits transcripts has none of its own, and names its files after this word
   abbrev pub JobEndsWell : Option Job → Type 0
@@ -270,11 +265,11 @@ module _ (out : List ℕ) where
   shown-well answer w =
       let end = book_finish (first_book w.both) (words_read w.both).masks in
       let is : answer.status ≡ status_of end = ap (λ (a : Answer). a.status) w.same.is in
-      inl (subst IsDone (sym is) (finish-done end), inr (inr (ap (λ (a : Answer). map (λ file. file.0) a.files) w.same.is)))
+      inl (subst IsDone (sym is) (status-done end), inr (inr (ap (λ (a : Answer). map (λ file. file.0) a.files) w.same.is)))
 
   found-well : (read : ReadViews) (found : Option AuditFault) → Finds read.grid read.views found → IsAnswer out (audit_answer read found)
   found-well read None finds =
-      inl (finish-done (book_finish (recombined_book read.grid read.views) (of_each (λ view. view.masks) read.views)), inl refl)
+      inl (status-done (book_finish (recombined_book read.grid read.views) (of_each (λ view. view.masks) read.views)), inl refl)
   found-well read (Some fault) finds =
       inr ((fault, (λ e. finds-never read.grid read.views (subst (λ f. Finds read.grid read.views (Some f)) e finds)), refl), refl)
 

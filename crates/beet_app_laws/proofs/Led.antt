@@ -14,6 +14,7 @@ use Rattle.beet_errand.specs.Statuses.{code_of}
 use Rattle.beet_errand.specs.Texts.{read_fault_text}
 use Rattle.beet_errand.specs.declared.answer.Status.{Status}
 use Rattle.beet_errand.specs.declared.answer.Status.TheVariants.{Done as JobDone, Usage, ReadFault, BadFile}
+use Rattle.beet_run.proofs.StatusFacts.{status-done}
 use Rattle.beet_audit.specs.OneRuns.{OneRun}
 use Rattle.beet_audit.specs.declared.fault.AuditFault.{AuditFault}
 use Rattle.beet_auditor.specs.Ending.{ShowsAudit, audit_answer}
@@ -25,11 +26,10 @@ use Rattle.beet_two_worlds.specs.Ending.{ShowsWorlds, compared_errand, unless_di
 use Rattle.beet_two_worlds.specs.Reading.{Both, first_book, second_book, words_read}
 use Rattle.beet_two_worlds.proofs.DifferenceFacts.{no-difference}
 use Rattle.beet_answer.specs.Runs.{EndsBy, Runs, status_after}
-use Rattle.beet_app.specs.Doing.{OfJob}
+use Rattle.beet_app.specs.Doing.{RunsJob}
 use Rattle.beet_app.specs.Jobs.{Job, Answering, Comparing, Auditing, job_of}
 use Rattle.beet_app.specs.Texts.{usage_text}
 use Rattle.beet_app_laws.specs.Dues.{EndsAsDue, IsDue, IsDueOfAudit, IsDueOfViews, ReadsTo, answer_over, answer_with, status_of_first}
-use Rattle.beet_app_laws.proofs.JobAnswers.{finish-done}
 
 module _ (files : List File) where
   chosen : (b : Bool) (one : Answer) (errand : Errand) → answer_over files (if b then Ends one else errand) ≡ (if b then one else answer_over files errand)
@@ -156,7 +156,7 @@ module _ (auction servers first second : List ℕ) (s : Point) (out : List ℕ) 
 
     go : (status_of_first w.both ≡ ReadFault) ⊎ (answer_over told.files (compared_errand auction servers first second s after_both) ≡ text_answer (status_of_first w.both) []) →
         due ≡ answer.status
-    go (inl e) = absurd (not-unread (status_of_first w.both) (finish-done (book_finish (first_book w.both) (words_read w.both).masks)) e)
+    go (inl e) = absurd (not-unread (status_of_first w.both) (status-done (book_finish (first_book w.both) (words_read w.both).masks)) e)
     go (inr e) = is ∙ ap (λ (a : Answer). a.status) e ∙ sym (ap (λ (a : Answer). a.status) w.same.is)
 
 module _ (told : Told) (told_now : Option Told) where
@@ -190,7 +190,7 @@ module _ (auction one two three : List ℕ) (told : Told) (told_now : Option Tol
       views-due w.read w.tells.found due w.tells.one_run (d.views w.read (read-to told told_now (read_errand auction one two three) w.read w.are_read)) ∙ sym (ap (λ (a : Answer). a.status) w.tells.is)
 
 job-led : (job : Option Job) (told : Told) (told_now : Option Told) (given now : Option Given) (status : ℕ) (due : Status) →
-    OfJob job (Some told) told_now (λ before errand. Runs errand before told_now given now status) → IsDue told.files job due → EndsAsDue due status
+    RunsJob job (Some told) told_now given now status → IsDue told.files job due → EndsAsDue due status
 job-led None told told_now given now status due r is = run-led told told_now (answers Usage usage_text) given now status due is r
 job-led (Some (Answering errand)) told told_now given now status due r is = run-led told told_now errand given now status due is r
 job-led (Some (Comparing auction servers first second s out)) told told_now given now status due (inl (answer, shows, r)) is =
@@ -204,6 +204,6 @@ job-led (Some (Auditing auction one two three)) told told_now given now status d
     run-led told told_now (read_errand auction one two three (λ read. answers due [])) given now status due is.read (f (λ read. answers due []))
 
 pub led : (words : List (List ℕ)) (told : Told) (told_now : Option Told) (given now : Option Given) (status : ℕ) (due : Status) →
-    OfJob (job_of words) (Some told) told_now (λ before errand. Runs errand before told_now given now status) →
+    RunsJob (job_of words) (Some told) told_now given now status →
     IsDue told.files (job_of words) due → EndsAsDue due status
 led words told told_now given now status due r is = job-led (job_of words) told told_now given now status due r is

@@ -11,7 +11,7 @@ use Rattle.beet_errand.specs.Statuses.{code_of}
 use Rattle.beet_errand.specs.declared.answer.Status.{Status}
 use Rattle.beet_errand.specs.declared.answer.Status.TheVariants.{Done as JobDone, OutOfMemory as NoMemory, Usage, ReadFault, WriteFault, BadFile, MasksSpent, WorldsRefused, AuditRefused, TooFewWords}
 use Rattle.beet_answer.specs.Runs.{EndsBy, GivesAll, Runs, RunsOut, Said, status_after}
-use Rattle.beet_app.specs.Doing.{OfJob}
+use Rattle.beet_app.specs.Doing.{RunsJob}
 use Rattle.beet_app.specs.Jobs.{Job, Answering, Comparing, Auditing, job_of}
 use Rattle.beet_app.specs.Texts.{usage_text}
 use Rattle.beet_two_worlds.specs.Ending.{ShowsWorlds, compared_errand}
@@ -158,7 +158,7 @@ module _ (out : List ℕ) (status : ℕ) (given now : Option Given) where
 
   -- any answer stands for what comes after a step that ends well
   job-left : (job : Option Job) (told told_now : Option Told) → JobEndsWell out job →
-      OfJob job told told_now (λ before errand. Runs errand before told_now given now status) → LeavesBy out status given now
+      RunsJob job told told_now given now status → LeavesBy out status given now
   job-left None told told_now w r = run-left (answers Usage usage_text) told told_now (inr (refl, refl)) r
   job-left (Some (Answering errand)) told told_now w r = run-left errand told told_now w r
   job-left (Some (Comparing auction servers first second s name)) told told_now w (inl (answer, shows, r)) =
@@ -173,5 +173,5 @@ module _ (out : List ℕ) (status : ℕ) (given now : Option Given) where
       (read-well out auction one two three (λ read. answers JobDone []) (λ read. inl (inl refl, inl refl))) (f (λ read. answers JobDone []))
 
 pub left : (words : List (List ℕ)) (told told_now : Option Told) (given now : Option Given) (status : ℕ) →
-    OfJob (job_of words) told told_now (λ before errand. Runs errand before told_now given now status) → LeavesBy (last_word words) status given now
+    RunsJob (job_of words) told told_now given now status → LeavesBy (last_word words) status given now
 left words told told_now given now status r = job-left (last_word words) status given now (job_of words) told told_now (job-well words) r

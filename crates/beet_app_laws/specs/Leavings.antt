@@ -6,7 +6,7 @@ use Rattle.beet_store.specs.Desks.{Given}
 use Rattle.beet_store.specs.declared.desk.PutFault.TheVariants.{Failed, OutOfMemory}
 use Rattle.beet_errand.specs.Statuses.{code_of}
 use Rattle.beet_errand.specs.declared.answer.Status.{Status}
-use Rattle.beet_record.specs.Records.{file_for}
+use Rattle.beet_errand.specs.Errands.{file_for}
 use Rattle.beet_answer.specs.Runs.{GivesAll, Said}
 use Rattle.beet_app_laws.specs.Refusals.{IsLineOf}
 

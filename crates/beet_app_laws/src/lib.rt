@@ -6,8 +6,7 @@ ghost use Rattle.std.specs.Prelude.{ℕ, List, Option, Some};
 ghost use Rattle.beet_store.specs.Files.{Told};
 ghost use Rattle.beet_store.specs.Desks.{Given};
 ghost use Rattle.beet_errand.specs.declared.answer.Status.{Status};
-ghost use Rattle.beet_answer.specs.Runs.{Runs};
-ghost use Rattle.beet_app.specs.Doing.{OfJob};
+ghost use Rattle.beet_app.specs.Doing.{RunsJob};
 ghost use Rattle.beet_app.specs.Jobs.{job_of};
 ghost use Rattle.beet_app_laws.specs.Dues.{EndsAsDue, IsDue};
 ghost use Rattle.beet_app_laws.specs.Leavings.{LeavesBy, last_word};
@@ -19,7 +18,7 @@ ghost use Rattle.beet_app_laws.specs.Leavings.{LeavesBy, last_word};
 /// which name, number or cause stands in a line, the clause `runs` says.
 pub fn statuses_tell_what_is_left()
     ensures { (words : List (List ℕ)) (told told_now : Option Told) (given given_now : Option Given) (status : ℕ) →
-        OfJob (job_of words) told told_now (λ before errand. Runs errand before told_now given given_now status) →
+        RunsJob (job_of words) told told_now given given_now status →
         LeavesBy (last_word words) status given given_now }
 {}
 
@@ -29,6 +28,6 @@ pub fn statuses_tell_what_is_left()
 /// comes where its cause is the first in the order in which the files are read.
 pub fn files_lead_to_the_status()
     ensures { (words : List (List ℕ)) (told : Told) (told_now : Option Told) (given given_now : Option Given) (status : ℕ) (due : Status) →
-        OfJob (job_of words) (Some told) told_now (λ before errand. Runs errand before told_now given given_now status) →
+        RunsJob (job_of words) (Some told) told_now given given_now status →
         IsDue told.files (job_of words) due → EndsAsDue due status }
 {}

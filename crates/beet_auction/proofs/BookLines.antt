@@ -7,9 +7,9 @@ use Rattle.std.proofs.lemmas.List.Elements.{All-head, All-tail, All-get_or}
 use Rattle.std.proofs.lemmas.List.Sums.{sum_by-cons}
 use Rattle.std.proofs.Math.ListN.{get_or-eq_default}
 use Rattle.beet_field.specs.Field.{p, IsElement}
-use Rattle.beet_field.specs.Point.{number_of}
 use Rattle.beet_field.specs.declared.point.Point.{Point}
 use Rattle.beet_shamir.specs.Line.{point_of}
+use Rattle.beet_shamir.proofs.Laws.{zero-point}
 use Rattle.beet_gates.specs.Each.{each}
 use Rattle.beet_gates.proofs.EachFacts.{length-each, item-each}
 use Rattle.beet_bids.specs.Books.{IsBook}
@@ -59,9 +59,6 @@ module _ (grid : Grid) where
   past : (xs : List ℕ) (w : ℕ) → length xs ≡ 2 * grid.prices → 2 * grid.prices ≤ w → slice_index xs w ≡ 0
   past xs w h le = get_or-eq_default xs 0 (omega arith)
 
-  zero-point : (i : ℕ) → 0 ≡ (0 + (0 * i) % p) % p
-  zero-point i = omega arith
-
   module _ (farmers : List Farmer) (b : IsBook (book_with grid farmers)) where
     on-line : (i : Point) (w : ℕ) →
         slice_index (supply_first grid.prices (each (summed_point farmers i) (2 * grid.prices))) w
@@ -92,7 +89,7 @@ module _ (grid : Grid) where
                 ∙ ap (λ s. point_of (slice_index (sums_of (book_with grid farmers)) w) s i)
                 (sym (item-each (λ n. sum_by (λ farmer. slope_for farmer n) farmers % p) (2 * prices) k (omega arith)) ∙ sym (item-demand prices ss w many high within))
             | inr beyond ↦
-                past (supply_first prices xs) w (length-first grid.prices xs long) beyond ∙ zero-point (number_of i)
+                past (supply_first prices xs) w (length-first grid.prices xs long) beyond ∙ zero-point i
                 ∙ ap (λ v. point_of v 0 i) (sym (past (sums_of (book_with grid farmers)) w (length-sums (book_with grid farmers)) beyond))
                 ∙ ap (λ s. point_of (slice_index (sums_of (book_with grid farmers)) w) s i) (sym (past (supply_first prices ss) w (length-first grid.prices ss many) beyond))
           ]

@@ -179,12 +179,12 @@ module _ (o : Setup) (points : List ℕ) where
         let next = after_mask g first in
         let both = after_both g first in
         let spent = if rej == 2 then Ended MasksSpent else search_plan g policy prices n lo hi next (rej + 1) in
-        let compares = compare_plan g prices next first mid (after_answer g policy prices n lo hi first rej) in
-        let answers : ℕ → Plan Finish = λ c. Block (g.answer next first c) (after_answer g policy prices n lo hi first rej) in
+        let compares = compare_plan g prices next first mid (after_answer g (search_plan g policy prices n) lo hi first rej) in
+        let answers : ℕ → Plan Finish = λ c. Block (g.answer next first c) (after_answer g (search_plan g policy prices n) lo hi first rej) in
         let masked = g.masked next first mid (prices + mid) in
         let middle = wires_after_all next (masked ∷ []) in
-        follows-if o.next t (shared_at o t).opened (nat_lt lo hi) (Block (g.mask first) (after_product g policy prices n lo hi first rej)) (end_plan policy prices lo) f
-        (λ f. block-goes first first (g.mask first) (after_product g policy prices n lo hi first rej) t (own.mask first).0 a f
+        follows-if o.next t (shared_at o t).opened (nat_lt lo hi) (Block (g.mask first) (after_product g prices (search_plan g policy prices n) lo hi first rej)) (end_plan policy prices lo) f
+        (λ f. block-goes first first (g.mask first) (after_product g prices (search_plan g policy prices n) lo hi first rej) t (own.mask first).0 a f
         (λ product u b h.
         let b' : AlikeAt first next u = subst (λ m. AlikeAt first m u) (own.mask first).1 b in
         follows-if o.next u (shared_at o u).opened (product == 1) spent compares h
@@ -194,7 +194,7 @@ module _ (o : Setup) (points : List ℕ) where
         (λ h'. block-goes first next (masked ∷ []) answers u (own.masked first mid (prices + mid)) b' h'
         (λ c v d i.
         let answer = own.answer first mid (prices + mid) c in
-        block-goes first middle (g.answer next first c) (after_answer g policy prices n lo hi first rej) v answer.0 d i
+        block-goes first middle (g.answer next first c) (after_answer g (search_plan g policy prices n) lo hi first rej) v answer.0 d i
         (λ reached w x y.
         let x' : AlikeAt both both w = renew first both _ _ (subst (λ m. AlikeAt first m w) answer.1 x) in
         follows-if o.next w (shared_at o w).opened (reached == 1) (search_plan g policy prices n lo mid both rej) (search_plan g policy prices n (mid + 1) hi both rej) y

@@ -1,4 +1,4 @@
--- How a server stands in a world that runs an auction.
+-- How a server stands in a `World` that runs an auction.
 use Rattle.std.proofs.Common.{◌≡◌, ℕ, List, refl, sym, ◌∙◌, ap, subst}
 use Rattle.beet_field.specs.declared.point.Point.{Point}
 use Rattle.beet_field.specs.declared.trio.Trio.{Trio}

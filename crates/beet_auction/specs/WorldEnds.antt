@@ -10,11 +10,11 @@ use Rattle.beet_sharing.specs.Runs.{Setup}
 use Rattle.beet_world.specs.Worlds.{IsCoreOf, World, delivered_in, setup_in}
 use Rattle.beet_auction.specs.Setups.{inputs_of}
 
--- the setup of a world that runs an auction
+-- the setup of a `World` that runs an auction
 abbrev pub auction_in : World Auction → Setup
 auction_in w = setup_in auction_batch inputs_of most_rounds w
 
--- this is the core of a server in a world that runs an auction, as it is lent after some list of events
+-- this is the core of a server in a `World` that runs an auction, as it is lent after some list of events
 abbrev pub IsAuctionCore : World Auction → Point → Core Auction → Type 0
 IsAuctionCore w s c = IsCoreOf auction_batch inputs_of most_rounds w s c
 

@@ -29,7 +29,8 @@ ghost use Rattle.beet_auction.specs.WorldEnds.{IsAuctionCore, StandsBy, auction_
 pub fn runs_end_with_the_outcome()
     ensures { (book : Book) (o : Setup) (slopes : List ℕ) → IsBook book → AreMasks o.masks →
         o.next ≡ auction_batch (auction_over book.grid) → OnLines (sums_of book) slopes o.inputs →
-        AuctionEnds (auction_over book.grid) o (book_rounds book o.masks) (book_finish book o.masks) }
+        AuctionEnds (auction_over book.grid) o
+        (book_rounds book o.masks) (book_finish book o.masks) }
 {}
 
 /// The same of the points that the bidders of a book deal, and after every list of events: a server that does not wait has
@@ -45,19 +46,21 @@ pub fn an_opened_outcome_is_the_books()
         (book_rounds (book_with grid farmers) masks) (book_finish (book_with grid farmers) masks) }
 {}
 
-/// After every list of events the core of a server in a world of the auction waits, or has ended, and then the script names the book's
-/// outcome after the numbers that it has opened, or spent exactly where the third of the first masks that it may want is rejected. So it
-/// is on all points of lines with the book's sums, and on those that the bidders of a book deal.
+/// After every list of events the core of a server in a `World` of the auction waits, or has ended, and then the script names
+/// the book's outcome after the numbers that it has opened, or spent exactly where the third of the first masks that it may
+/// want is rejected. So it is on all points of lines with the book's sums, and on those that the bidders of a book deal.
 pub fn cores_open_the_books_outcome()
-    ensures lines { (book : Book) (slopes : List ℕ) (w : World Auction) (s : Point) (c : Core Auction) →
-        IsBook book → AreMasks (auction_in w).masks → w.start.one.script ≡ auction_over book.grid →
+    ensures lines { (book : Book) (slopes : List ℕ) (w : World Auction) (s : Point)
+        (c : Core Auction) → IsBook book → AreMasks (auction_in w).masks → w.start.one.script ≡ auction_over book.grid →
         OnLines (sums_of book) slopes (auction_in w).inputs → IsAuctionCore w s c →
-        StandsBy (book_rounds book (auction_in w).masks) (book_finish book (auction_in w).masks) w s c }
-    ensures dealt { (grid : Grid) (farmers : List Farmer) (masks coefficients : Trio (List ℕ)) (w : World Auction)
-        (s : Point) (c : Core Auction) → IsBook (book_with grid farmers) → AreMasks masks →
-        w.start.one.script ≡ auction_over grid → auction_in w ≡ book_setup grid farmers masks coefficients →
-        IsAuctionCore w s c →
-        StandsBy (book_rounds (book_with grid farmers) masks) (book_finish (book_with grid farmers) masks) w s c }
+        StandsBy (book_rounds book (auction_in w).masks)
+        (book_finish book (auction_in w).masks) w s c }
+    ensures dealt { (grid : Grid) (farmers : List Farmer) (masks coefficients : Trio (List ℕ))
+        (w : World Auction) (s : Point) (c : Core Auction) → IsBook (book_with grid farmers) → AreMasks masks →
+        w.start.one.script ≡ auction_over grid →
+        auction_in w ≡ book_setup grid farmers masks coefficients → IsAuctionCore w s c →
+        StandsBy (book_rounds (book_with grid farmers) masks)
+        (book_finish (book_with grid farmers) masks) w s c }
 {}
 
 /// The points of the inputs need lie on no line: on any points below p the run ends with what the search over them finds,
@@ -94,9 +97,12 @@ pub fn points_of_a_book_end_with_its_outcome()
 pub fn totals_are_the_inputs()
     ensures none { (prices : ℕ) → summed_points prices [] ≡ (none_of prices).points }
     ensures more { (prices : ℕ) (farmers : List Farmer) (farmer : Farmer) →
-        length (quantities farmer.bidder.curve) ≡ 2 * prices → 2 * prices ≤ length (accepted farmer.words) →
+        length (quantities farmer.bidder.curve) ≡ 2 * prices →
+        2 * prices ≤ length (accepted farmer.words) →
         summed_points prices (farmers ++ farmer ∷ [])
-        ≡ added (summed_points prices farmers) (dealt_points farmer.bidder.curve (accepted farmer.words)) }
+        ≡ added (summed_points prices farmers)
+        (dealt_points farmer.bidder.curve (accepted farmer.words)) }
     ensures inputs { (prices : ℕ) (farmers : List Farmer) →
-        book_inputs prices farmers ≡ wires_of (record { prices = prices; points = summed_points prices farmers }) }
+        book_inputs prices farmers
+        ≡ wires_of (record { prices = prices; points = summed_points prices farmers }) }
 {}

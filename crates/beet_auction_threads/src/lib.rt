@@ -29,11 +29,7 @@ type Servers = Trio<ServerCore<AuctionScript>>;
 fn copy_points(alloc: Global, points: &Trio<FeList>) -> Result<Trio<FeList>, AllocError>
     ensures { IfOk result (λ copies. copies ≡ points.now) }
 {
-    Ok(Trio {
-        one: points.one.copy(alloc)?,
-        two: points.two.copy(alloc)?,
-        three: points.three.copy(alloc)?,
-    })
+    Trio::try_of(|at| points.get(at).copy(alloc))
 }
 
 /// The same words of a server, in memory of their own.
@@ -50,11 +46,7 @@ fn copy_tapes(alloc: Global, tapes: &ServerWords) -> Result<ServerWords, AllocEr
 fn copy_words(alloc: Global, words: &Trio<ServerWords>) -> Result<Trio<ServerWords>, AllocError>
     ensures { IfOk result (λ copies. copies ≡ words.now) }
 {
-    Ok(Trio {
-        one: copy_tapes(alloc, &words.one)?,
-        two: copy_tapes(alloc, &words.two)?,
-        three: copy_tapes(alloc, &words.three)?,
-    })
+    Trio::try_of(|at| copy_tapes(alloc, words.get(at)))
 }
 
 /// Starts three servers with copies of these points and words.

@@ -1,7 +1,7 @@
 -- Points of three views on lines.
 use Rattle.std.proofs.Common.{◌≡◌, ◌<◌, ◌≤◌, ◌+◌, ◌*◌, ◌-◌, ◌%◌, ℕ, List, [], length, get_or, slice_index, map, None, Option, inl, inr, arith, sym, ◌∙◌, ap, subst, length-append}
 use Rattle.std.proofs.lemmas.Bool.{cases_lt}
-use Rattle.std.proofs.lemmas.List.{get_or-map, length-map, get_or_read, get_or_past, ext_get_or, get_or_append_left, get_or-append_right}
+use Rattle.std.proofs.lemmas.List.{get_or-map, length-map, ext_get_or, get_or_append_left, get_or-append_right}
 use Rattle.std.proofs.lemmas.Grind.{same_number_lists}
 use Rattle.beet_field.specs.Field.{p, add_of, mul_of, sub_of}
 use Rattle.beet_field.specs.Trio.{member}
@@ -19,7 +19,7 @@ use Rattle.beet_book.specs.Totals.{points_on}
 use Rattle.beet_book.proofs.Pairs.{length-pairwise, item-pairwise}
 use Rattle.beet_view.specs.declared.view.Seen.{Seen}
 use Rattle.beet_view.specs.Views.{Viewed, IsSeenAt, IsView}
-use Rattle.beet_audit.specs.Audits.{HavePlace, HeaderFits, bidder_at, curve_of, points_of_bidder, value_at}
+use Rattle.beet_audit.specs.Audits.{HeaderFits, bidder_at, curve_of, points_of_bidder, value_at}
 
 -- the field: the line through the points at 1 and 2
 pub line-one : (a b : ℕ) → a < p → b < p → add_of (sub_of (mul_of 2 a) b) (mul_of (sub_of b a) 1) ≡ a

@@ -15,23 +15,11 @@ use crate::fault::AuditFault;
 use crate::points::{points_at, value_at};
 use beet_bids::Curve;
 use beet_field::{Fe, Trio};
+use beet_map::numbers_in;
 use beet_shamir::deal;
 use beet_view::View;
-use beet_words::{Word, WordList};
+use beet_words::WordList;
 use std::alloc::{AllocError, Global};
-
-/// The numbers that are drawn from words, in order.
-fn numbers_of(alloc: Global, words: &[Word]) -> Result<Vec<Fe>, AllocError>
-    ensures { IfOk result (λ numbers. numbers.items ≡ accepted words.now) }
-{
-    let mut numbers = Vec::new(alloc);
-    for word in words {
-        if let Some(number) = word.field() {
-            numbers.push(number)?;
-        }
-    }
-    Ok(numbers)
-}
 
 /// Whether a curve is what the points of a bidder recombine to.
 fn is_recombined(views: &Trio<View>, bidder: u32, prices: u32, curve: &Curve) -> bool
@@ -106,7 +94,7 @@ fn is_known(
     ensures { IfOk result (λ known. IsTrue known ↔ IsKnown prices (points_of_bidder views.now bidder) own.now) }
 {
     let (curve, words) = own;
-    let slopes = numbers_of(alloc, words.as_slice())?;
+    let slopes = numbers_in(alloc, words.as_slice())?;
     if slopes.len() < 2 * prices as usize {
         return Ok(false);
     }

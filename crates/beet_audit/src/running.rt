@@ -94,10 +94,7 @@ fn copy_all_words(alloc: Global, views: &Trio<View>) -> Result<Trio<ServerWords>
     ensures memory { IfErr result (λ fault. fault ≡ Memory) }
     ensures words { IfOk result (λ words. words ≡ of_each words_in views.now) }
 {
-    let one = copy_words(alloc, &views.one);
-    let two = copy_words(alloc, &views.two);
-    let three = copy_words(alloc, &views.three);
-    Trio { one, two, three }.transpose()
+    Trio::try_of(|at| copy_words(alloc, views.get(at)))
 }
 
 /// Runs three fresh servers on the points and the tapes of three views to the end of the auction. The messages of the views

@@ -2,14 +2,15 @@
 use Rattle.std.proofs.Common.{◌≡◌, ◌<◌, ℕ, List, [], map, length, get_or, None, All, arith, sym, subst}
 use Rattle.std.specs.Prelude.{IfSome}
 use Rattle.std.proofs.lemmas.List.{get_or-map, length-map}
+use Rattle.beet_field.proofs.Trios.{at-each}
 use Rattle.beet_field.specs.Trio.{member, trio_of}
 use Rattle.beet_field.specs.declared.point.Point.{Point}
-use Rattle.beet_field.specs.declared.point.Point.TheVariants.{One, Two, Three}
 use Rattle.beet_words.specs.Bundles.{Words, AreWords}
 use Rattle.beet_words.specs.Words.{IsWord}
 use Rattle.beet_bids.specs.Books.{Book, IsBook}
 use Rattle.beet_bids.specs.Curves.{IsOfGrid}
 use Rattle.beet_book.specs.Farmers.{Farmer, farmers_of}
+use Rattle.beet_plan.proofs.AuctionRuns.{word-small}
 use Rattle.beet_book.proofs.FarmerLists.{farmers-words}
 use Rattle.beet_sharing.proofs.Lined.{member-trio}
 use Rattle.beet_load.specs.Wholes.{CanStart}
@@ -19,21 +20,11 @@ use Rattle.beet_kept.proofs.FittingViews.{own-kept}
 use Rattle.beet_kept.proofs.HasRuns.{seen-all}
 use Rattle.beet_audit.specs.Audits.{bidder_at}
 use Rattle.beet_audit_laws.proofs.KeptWords.{IsKeptAt}
-use Rattle.beet_audit_laws.proofs.ThirdFacts.{IsSound, each-word, kept-from}
+use Rattle.beet_audit_laws.proofs.ThirdFacts.{IsSound, kept-from}
 
 module _ (book : Book) (words : Words) (b : IsBook book) (can : CanStart book words) (are : AreWords words) where
   abbrev farmers : List Farmer
   farmers = farmers_of book.bidders words.bidders
-
-  mask-words : (s : Point) → All IsWord (member words.masks s)
-  mask-words One = are.masks.0
-  mask-words Two = are.masks.1
-  mask-words Three = are.masks.2
-
-  coefficient-words : (s : Point) → All IsWord (member words.coefficients s)
-  coefficient-words One = are.coefficients.0
-  coefficient-words Two = are.coefficients.1
-  coefficient-words Three = are.coefficients.2
 
   -- the words of each bidder
   farmer-words : (n : ℕ) (d : Farmer) → n < length farmers → All IsWord (get_or farmers n d).words
@@ -60,7 +51,7 @@ module _ (book : Book) (words : Words) (b : IsBook book) (can : CanStart book wo
   sound-for s =
       subst IsSound (sym (member-trio (view_for book words) s))
       (record {
-        masks = each-word (member words.masks s) (mask-words s);
-        coefficients = each-word (member words.coefficients s) (coefficient-words s);
+        masks = word-small (member words.masks s) (at-each (All IsWord) words.masks are.masks s);
+        coefficients = word-small (member words.coefficients s) (at-each (All IsWord) words.coefficients are.coefficients s);
         kept = kept-at s;
       })

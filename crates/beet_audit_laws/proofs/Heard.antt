@@ -2,11 +2,9 @@
 use Rattle.std.proofs.Common.{◌≡◌, ◌≢◌, ◌<◌, ◌+◌, ℕ, List, length, get_or, slice_index, sym, ap, subst, ◌∙◌, ⊎_elim, arith}
 use Rattle.std.specs.Int.{bit_at}
 use Rattle.std.proofs.lemmas.Nat.Bits.{same_from_bits_below}
-use Rattle.beet_field.specs.Field.{IsElement}
 use Rattle.beet_field.specs.Trio.{member}
 use Rattle.beet_field.specs.declared.point.Point.{Point}
 use Rattle.beet_field.specs.declared.trio.Trio.{Trio}
-use Rattle.beet_words.specs.Words.{IsWord}
 use Rattle.beet_gates.specs.Each.{each}
 use Rattle.beet_gates.specs.Scripts.{deals_in}
 use Rattle.beet_gates.specs.declared.Act.{Act}
@@ -14,7 +12,9 @@ use Rattle.beet_gates.specs.declared.Act.TheVariants.{Deal, Mul, Reveal, End}
 use Rattle.beet_gates.specs.declared.Batch.{Batch}
 use Rattle.beet_gates.proofs.EachFacts.{get_or-each}
 use Rattle.beet_sharing.specs.Runs.{Setup, Shared, coming, draws_in, hidden_at, message, secret_hidden, sent_for, shared_at, standing_at, with_batch_lets}
+use Rattle.beet_map.specs.Mapped.{AreWords}
 use Rattle.beet_map.proofs.Moves.{same_or, secret_small}
+use Rattle.beet_map.proofs.Symmetry.{AreElements}
 use Rattle.beet_audit_laws.proofs.CommonPoints.{same-line, same-slope}
 use Rattle.beet_audit_laws.proofs.SameRuns.{UseSame, first, second}
 
@@ -23,15 +23,8 @@ pub each-item : {A : Type 0} (f g : ℕ → A) (n m k : ℕ) → each f n ≡ ea
 each-item {A = A} f g n m k e lt lt' =
     sym (get_or-each f n k (f k) lt) ∙ ap (λ (l : List A). get_or l k (f k)) e ∙ get_or-each g m k (f k) lt'
 
--- numbers of the field for each server
-abbrev pub AllElements : Trio (List ℕ) → Type 0
-AllElements numbers = (s : Point) (n : ℕ) → IsElement (slice_index (member numbers s) n)
-
-abbrev pub AllWords : Trio (List ℕ) → Type 0
-AllWords words = (s : Point) (n : ℕ) → IsWord (slice_index (member words s) n)
-
-module _ (next : ℕ → List ℕ → Batch) (inputs masks masks' numbers numbers' : Trio (List ℕ)) (words : AllWords masks) (words' : AllWords masks')
-    (elements : AllElements numbers) (elements' : AllElements numbers') where
+module _ (next : ℕ → List ℕ → Batch) (inputs masks masks' numbers numbers' : Trio (List ℕ)) (words : AreWords masks) (words' : AreWords masks')
+    (elements : AreElements numbers) (elements' : AreElements numbers') where
   abbrev o : Setup
   o = first next inputs masks masks' numbers numbers'
 

@@ -1,9 +1,6 @@
 -- Three views of one run, of which two are those of another, agree with it in the third.
-use Rattle.std.proofs.Common.{◌≡◌, ◌≢◌, ◌<◌, ◌*◌, ℕ, List, [], length, slice_index, Option, Some, None, All, inl, inr, arith, refl, sym, ◌∙◌, ap, subst}
+use Rattle.std.proofs.Common.{◌≡◌, ◌≢◌, ◌<◌, ◌*◌, ℕ, List, [], length, slice_index, Option, Some, None, All, refl, sym, ◌∙◌, ap, subst}
 use Rattle.std.specs.Prelude.{IfSome, MatchOption}
-use Rattle.std.proofs.lemmas.Bool.{cases_lt}
-use Rattle.std.proofs.lemmas.List.Elements.{All-get_or}
-use Rattle.std.proofs.Math.ListN.{get_or-eq_default}
 use Rattle.beet_field.specs.Field.{p}
 use Rattle.beet_field.specs.Trio.{member}
 use Rattle.beet_field.specs.declared.point.Point.{Point}
@@ -13,6 +10,7 @@ use Rattle.beet_words.specs.Words.{IsWord, accepted}
 use Rattle.beet_gates.proofs.EachFacts.{each-same, length-each}
 use Rattle.beet_bids.specs.Curves.{Curve, IsCurve, IsOfGrid}
 use Rattle.beet_bids.specs.Grids.{Grid}
+use Rattle.beet_plan.proofs.AuctionRuns.{word-small}
 use Rattle.beet_book.specs.Dealing.{quantities}
 use Rattle.beet_round.specs.Sides.{peer}
 use Rattle.beet_round.specs.declared.sides.Side.TheVariants.{Low, High}
@@ -39,22 +37,15 @@ pub record IsSound (view : Viewed) : Type 0 where
   pub coefficients : (n : ℕ) → IsWord (slice_index view.coefficients n)
   pub kept : (n : ℕ) → n < length view.bidders → IsKeptAt view.server (bidder_at view n).known (bidder_at view n).own
 
--- words of a list, and 0 behind it
-pub each-word : (words : List ℕ) → All IsWord words → (n : ℕ) → IsWord (slice_index words n)
-each-word words all n = elim (cases_lt n (length words)) [
-  | inl within ↦ All-get_or IsWord words n 0 within all
-  | inr past ↦ let none : slice_index words n ≡ 0 = get_or-eq_default words 0 past in subst IsWord (sym none) (omega arith)
-]
-
 pub kept-from : (s : Point) (mark : Option Point) (own : Option (Curve × List ℕ)) (P : Curve × List ℕ → Type 0) →
     MatchOption own (mark ≢ Some s) (λ kept. (mark ≡ Some s) × P kept) → IfSome own (λ kept. All IsWord kept.1) → IsKeptAt s mark own
 kept-from s mark None P h words = h
-kept-from s mark (Some own) P h words = (h.0, each-word own.1 words)
+kept-from s mark (Some own) P h words = (h.0, word-small own.1 words)
 
 pub sound-view : (view : Viewed) → IsView view → AreNumbers view → IsSound view
 sound-view view is are = record {
-  masks = each-word view.masks are.masks;
-  coefficients = each-word view.coefficients are.coefficients;
+  masks = word-small view.masks are.masks;
+  coefficients = word-small view.coefficients are.coefficients;
   kept = λ n lt.
       let nobody : Seen = record { known = None; points = []; own = None } in
       let seen = is.seen n nobody lt in

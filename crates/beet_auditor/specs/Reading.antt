@@ -1,7 +1,7 @@
 -- What is read for an audit: an auction, and then three transcripts.
 use Rattle.std.specs.Prelude.{ℕ, List, Option}
 use Rattle.beet_store.specs.Files.{Told}
-use Rattle.beet_forms.specs.declared.faults.TheConstants.{LONGEST_FILE as TRANSCRIPT_LIMIT}
+use Rattle.beet_forms.specs.declared.faults.TheConstants.{LONGEST_FILE}
 use Rattle.beet_bids.specs.AuctionFiles.{auction_of}
 use Rattle.beet_bids.specs.declared.auction_file.TheConstants.{AUCTION_LIMIT}
 use Rattle.beet_view.specs.Transcripts.{view_in}
@@ -13,9 +13,9 @@ use Rattle.beet_auditor.specs.declared.reading.ReadViews.{ReadViews}
 unfoldable pub read_errand : List ℕ → List ℕ → List ℕ → List ℕ → Step ReadViews
 read_errand auction one two three = do
   grid ← reads auction AUCTION_LIMIT auction_of
-  first ← reads one TRANSCRIPT_LIMIT view_in
-  second ← reads two TRANSCRIPT_LIMIT view_in
-  third ← reads three TRANSCRIPT_LIMIT view_in
+  first ← reads one LONGEST_FILE view_in
+  second ← reads two LONGEST_FILE view_in
+  third ← reads three LONGEST_FILE view_in
   gives (record { grid = grid; views = record { one = first; two = second; three = third } })
 
 -- all of it is read: the fetches lead through it, whatever comes next

@@ -1,6 +1,6 @@
 //! Reading an auction and three transcripts.
 
-ghost use Rattle.beet_forms.specs.declared.faults.TheConstants.{LONGEST_FILE as TRANSCRIPT_LIMIT};
+ghost use Rattle.beet_forms.specs.declared.faults.TheConstants.{LONGEST_FILE};
 ghost use Rattle.beet_errand.specs.Errands.{reads};
 ghost use Rattle.beet_errand.specs.Fetches.{Reads};
 ghost use Rattle.beet_view.specs.Transcripts.{view_in};
@@ -25,7 +25,7 @@ pub struct ReadViews {
 /// The view of a transcript.
 fn read_transcript<S: Shelf>(alloc: Global, shelf: &mut S, name: &str) -> Result<View, Stop>
     ensures { Reads (λ view. view) (S.seen shelf.old) (S.seen shelf.new)
-        (reads name.now TRANSCRIPT_LIMIT view_in) result }
+        (reads name.now LONGEST_FILE view_in) result }
 {
     let bytes = fetch_file(alloc, shelf, name, LONGEST_FILE)?;
     judge(alloc, name, read_view(alloc, bytes.as_slice()))

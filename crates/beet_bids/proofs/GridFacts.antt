@@ -4,9 +4,10 @@ use Rattle.std.specs.List.{range_with_len}
 use Rattle.std.specs.Int.Digits.{digits_of}
 use lib.Count.{count_leading_zeros}
 use Rattle.std.proofs.lemmas.Bool.{cases_lt, cases_eq, cases_Bool, eq-eqb, ne_eqb, cond-true, cond-false}
-use Rattle.std.proofs.lemmas.Int.Digits.{number_lt, number_digits_of, all_below_base_digits_of, length-digits_of-le, length-digits_of_step}
+use Rattle.std.proofs.lemmas.Int.Digits.{number_lt, number_digits_of, all_below_base_digits_of, length-digits_of-le}
 use Rattle.std.proofs.Math.Nat.{pow-le-pow_right, pow-suc}
 use Rattle.std.proofs.lemmas.Nat.{mod-mul-add, div-mul-add, leading_length}
+use Rattle.beet_bids.specs.declared.grid.TheConstants.{MOST_COMPARISONS, MOST_PRICES}
 use Rattle.beet_bids.specs.Grids.{Grid, price_of, place_of, comparisons_of}
 
 pub below_comparisons : (n : ℕ) → n < 2 ^ comparisons_of n
@@ -20,13 +21,9 @@ pub comparisons-le : (n k : ℕ) → n < 2 ^ k → comparisons_of n ≤ k
 unfolding comparisons_of
 comparisons-le n k h = length-digits_of-le 2 k n (omega arith) h
 
-pub comparisons-zero : comparisons_of 0 ≡ 0
-unfolding comparisons_of
-comparisons-zero = refl
-
-pub comparisons-half : (n : ℕ) → 0 < n → comparisons_of n ≡ comparisons_of (n / 2) + 1
-unfolding comparisons_of
-comparisons-half n h = length-digits_of_step 2 n (omega arith) h
+-- a grid has few
+pub few_comparisons : (prices : ℕ) → prices ≤ MOST_PRICES → comparisons_of prices ≤ MOST_COMPARISONS
+few_comparisons prices h = comparisons-le prices MOST_COMPARISONS (omega arith)
 
 -- the bits of a number from its highest one
 pub bits_left : (n above m : ℕ) → above + m ≡ 32 → n < 2 ^ m → 2 ^ m ≤ 2 * n + 1 → 32 - above ≡ comparisons_of n

@@ -14,7 +14,7 @@ use Rattle.beet_bids.specs.Grids.{Grid, price_of, place_of}
 use Rattle.beet_forms.specs.Rows.{begins_with}
 use Rattle.beet_bids.specs.declared.curve.TheConstants.{LARGEST_QUANTITY}
 use Rattle.beet_bids.specs.Curves.{Curve}
-use Rattle.beet_bids.specs.declared.lines.TheConstants.{OFF_GRID, NOT_ASCENDING, BUY_RISES, SELL_FALLS, TOO_LARGE, NO_BASE}
+use Rattle.beet_bids.specs.declared.lines.TheConstants.{OFF_GRID, NOT_ASCENDING, BUY_RISES, SELL_FALLS, QUANTITY_TOO_LARGE, NO_BASE}
 use Rattle.beet_bids.specs.Lines.{cut_line, Precedes, AreLines}
 use Rattle.beet_bids.specs.BidFiles.{bid_in, curve_in, first_reason, next_reason, line_reason, line_reasons, line_of, is_large}
 use Rattle.beet_bids.specs.declared.lines.Line.{Line}
@@ -97,8 +97,8 @@ accepted_from grid line on small =
 first_accepted : (grid : Grid) (line : Line) → line_reason grid None (Some line) ≡ None → IsAccepted grid line × (line.price ≡ grid.base)
 first_accepted grid line none =
     let on = not_refused (is_none (place_of grid line.price)) OFF_GRID (first_reason grid line) none in
-    let base = not_refused (not (line.price == grid.base)) NO_BASE (if is_large line then Some TOO_LARGE else None) on.1 in
-    let small = not_refused (is_large line) TOO_LARGE None base.1 in
+    let base = not_refused (not (line.price == grid.base)) NO_BASE (if is_large line then Some QUANTITY_TOO_LARGE else None) on.1 in
+    let small = not_refused (is_large line) QUANTITY_TOO_LARGE None base.1 in
     (accepted_from grid line on.0 small.0, eqb-true _ _ (not-false _ base.0))
 
 -- a further line, where it is accepted
@@ -107,8 +107,8 @@ next_accepted grid before line none =
     let sells : Option ℕ = if nat_lt line.sell before.sell then Some SELL_FALLS else None in
     let buys : Option ℕ = if nat_lt before.buy line.buy then Some BUY_RISES else sells in
     let on = not_refused (is_none (place_of grid line.price)) OFF_GRID (next_reason before line) none in
-    let above = not_refused (nat_le line.price before.price) NOT_ASCENDING (if is_large line then Some TOO_LARGE else buys) on.1 in
-    let small = not_refused (is_large line) TOO_LARGE buys above.1 in
+    let above = not_refused (nat_le line.price before.price) NOT_ASCENDING (if is_large line then Some QUANTITY_TOO_LARGE else buys) on.1 in
+    let small = not_refused (is_large line) QUANTITY_TOO_LARGE buys above.1 in
     let buy = not_refused (nat_lt before.buy line.buy) BUY_RISES sells small.1 in
     let sell = not_refused (nat_lt line.sell before.sell) SELL_FALLS None buy.1 in
     (accepted_from grid line on.0 small.0, record { price = leb-false _ _ above.0; buy = ltb-false _ _ buy.0; sell = ltb-false _ _ sell.0 })

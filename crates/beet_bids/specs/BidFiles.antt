@@ -8,7 +8,7 @@ use Rattle.beet_bids.specs.Grids.{Grid, price_of, place_of, places_of}
 use Rattle.beet_bids.specs.declared.curve.TheConstants.{LARGEST_QUANTITY}
 use Rattle.beet_bids.specs.Curves.{Curve}
 use Rattle.beet_forms.specs.declared.faults.TheConstants.{BAD_HEADER, BAD_ROW}
-use Rattle.beet_bids.specs.declared.lines.TheConstants.{OFF_GRID, NOT_ASCENDING, BUY_RISES, SELL_FALLS, TOO_LARGE, NO_BASE}
+use Rattle.beet_bids.specs.declared.lines.TheConstants.{OFF_GRID, NOT_ASCENDING, BUY_RISES, SELL_FALLS, QUANTITY_TOO_LARGE, NO_BASE}
 use Rattle.beet_bids.specs.declared.lines.Line.{Line}
 
 -- whether a text is a number, however large
@@ -35,14 +35,14 @@ is_large line = nat_lt LARGEST_QUANTITY line.buy || nat_lt LARGEST_QUANTITY line
 abbrev pub first_reason : Grid → Line → Option ℕ
 first_reason grid line =
     if not (line.price == grid.base) then Some NO_BASE
-    else if is_large line then Some TOO_LARGE
+    else if is_large line then Some QUANTITY_TOO_LARGE
     else None
 
 -- each further line is above the line before it, buys no more and sells no less
 abbrev pub next_reason : Line → Line → Option ℕ
 next_reason before line =
     if nat_le line.price before.price then Some NOT_ASCENDING
-    else if is_large line then Some TOO_LARGE
+    else if is_large line then Some QUANTITY_TOO_LARGE
     else if nat_lt before.buy line.buy then Some BUY_RISES
     else if nat_lt line.sell before.sell then Some SELL_FALLS
     else None

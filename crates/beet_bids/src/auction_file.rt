@@ -14,6 +14,9 @@ use std::alloc::Global;
 /// The most bytes of an auction file.
 pub const AUCTION_LIMIT: u64 = 4_096;
 
+/// The row of the number of prices.
+pub const PRICES_ROW: u32 = 4;
+
 /// The reason against a row that is missing, has not two fields, has another key, or comes after the last.
 pub const BAD_KEY: u32 = 2;
 
@@ -37,7 +40,8 @@ fn value<'a>(row: &'a Row, key: &[u8]) -> Option<&'a [u8]>
 /// Takes row 1, and tells whether it names version 2, which says what is opened.
 fn read_version(rows: &mut RowReader, row: &mut Row) -> Result<bool, ReadFault>
     ensures reads { let version = value_of (codes "beet-auction") (slice_get rows.old 0) in
-        Answers (λ tells. tells) (row_reading 1 (version_reason version) (tells_policy version)) result }
+        Answers (λ tells. tells)
+        (row_reading 1 (version_reason version) (tells_policy version)) result }
     ensures row { OnOk result (rows.old ≡ row.new ∷ rows.new) }
 {
     if !rows.next(row)? {
@@ -81,7 +85,8 @@ fn read_number(
 /// Takes row 5, which has the kind of gates.
 fn read_gates(rows: &mut RowReader, row: &mut Row) -> Result<Gates, ReadFault>
     ensures reads { let kind = value_of (codes "gates") (slice_get rows.old 0) in
-        Answers (λ gates. gates) (row_reading 5 (name_reason gates_named kind) (named_in gates_named Gates.Chain kind)) result }
+        Answers (λ gates. gates) (row_reading 5
+        (name_reason gates_named kind) (named_in gates_named Gates.Chain kind)) result }
     ensures row { OnOk result (rows.old ≡ row.new ∷ rows.new) }
 {
     if !rows.next(row)? {
@@ -102,7 +107,9 @@ fn read_gates(rows: &mut RowReader, row: &mut Row) -> Result<Gates, ReadFault>
 /// Takes row 6, which says what is opened.
 fn read_policy(rows: &mut RowReader, row: &mut Row) -> Result<Policy, ReadFault>
     ensures reads { let policy = value_of (codes "opens") (slice_get rows.old 0) in
-        Answers (λ policy. policy) (row_reading 6 (name_reason policy_named policy) (named_in policy_named Policy.Volume policy)) result }
+        Answers (λ policy. policy) (row_reading 6
+        (name_reason policy_named policy)
+        (named_in policy_named Policy.Volume policy)) result }
     ensures row { OnOk result (rows.old ≡ row.new ∷ rows.new) }
 {
     if !rows.next(row)? {
@@ -144,7 +151,7 @@ fn read_grid(rows: &mut RowReader, row: &mut Row) -> Result<Grid, ReadFault>
     let tells = read_version(rows, row)?;
     let base = read_number(rows, row, 2, b"base", 0, LARGEST_BASE)?;
     let tick = read_number(rows, row, 3, b"tick", 1, LARGEST_TICK)?;
-    let prices = read_number(rows, row, 4, b"prices", 1, MOST_PRICES as u64)?;
+    let prices = read_number(rows, row, PRICES_ROW, b"prices", 1, MOST_PRICES as u64)?;
     let gates = read_gates(rows, row)?;
     let policy = read_rest(rows, row, tells)?;
     match Grid::new(base, tick, prices as u32, gates) {

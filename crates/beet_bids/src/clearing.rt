@@ -1,6 +1,7 @@
 //! The outcome of a book, in plain sums.
 
 ghost use Rattle.std.specs.Prelude.{◌≡◌, ◌<◌};
+ghost use Rattle.beet_field.specs.Field.{IsElement};
 ghost use Rattle.beet_bids.specs.Sums.{supply_at, demand_at};
 ghost use Rattle.beet_bids.specs.Outcomes.{outcome_of};
 
@@ -8,9 +9,10 @@ use crate::book::Book;
 use crate::outcomes::{Outcome, Policy};
 
 /// What all bidders together sell at a place.
-fn supply(book: &Book, place: u32) -> u64
+pub fn supply(book: &Book, place: u32) -> u64
     requires { place < book.now.grid.prices }
-    ensures { result ≡ supply_at book.now.bidders place }
+    ensures value { result ≡ supply_at book.now.bidders place }
+    ensures below { IsElement result }
 {
     let mut sum = 0;
     for bidder in book.bidders() {
@@ -20,9 +22,10 @@ fn supply(book: &Book, place: u32) -> u64
 }
 
 /// What all bidders together buy at a place.
-fn demand(book: &Book, place: u32) -> u64
+pub fn demand(book: &Book, place: u32) -> u64
     requires { place < book.now.grid.prices }
-    ensures { result ≡ demand_at book.now.bidders place }
+    ensures value { result ≡ demand_at book.now.bidders place }
+    ensures below { IsElement result }
 {
     let mut sum = 0;
     for bidder in book.bidders() {

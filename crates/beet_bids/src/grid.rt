@@ -16,6 +16,9 @@ pub const LARGEST_TICK: u64 = 1_000_000_000;
 /// The largest number of prices.
 pub const MOST_PRICES: u32 = 4_096;
 
+/// The most comparisons that a search among so many prices makes.
+pub const MOST_COMPARISONS: u32 = 13;
+
 /// The prices of an auction: a base, and each further price a tick above the one before.
 #[derive(Clone, Copy, PartialEq, Eq, Debug)]
 pub struct Grid {
@@ -39,6 +42,17 @@ impl Model for Grid {
 
     ghost inverse = { λ n.
         record { base = n.base; tick = n.tick; prices = n.prices; gates = n.gates; policy = n.policy } };
+}
+
+/// How many comparisons a search among so many prices makes at most: the logarithm to base 2 of one more than their
+/// number, rounded up.
+pub fn comparisons(prices: u32) -> u32
+    ensures value { result ≡ comparisons_of prices }
+    ensures enough { prices < 2 ^ result }
+    ensures least { (n : ℕ) → prices < 2 ^ n → result ≤ n }
+    ensures few { prices ≤ MOST_PRICES → result ≤ MOST_COMPARISONS }
+{
+    u32::BITS - prices.leading_zeros()
 }
 
 impl Grid {
@@ -134,13 +148,12 @@ impl Grid {
         Some(place as u32)
     }
 
-    /// How many comparisons a search among the prices makes at most: the logarithm to base 2 of one more than their
-    /// number, rounded up.
+    /// How many comparisons a search among the prices makes at most.
     pub fn comparisons(&self) -> u32
         ensures value { result ≡ comparisons_of self.now.prices }
         ensures enough { self.now.prices < 2 ^ result }
         ensures least { (n : ℕ) → self.now.prices < 2 ^ n → result ≤ n }
     {
-        u32::BITS - self.prices.leading_zeros()
+        comparisons(self.prices)
     }
 }

@@ -11,12 +11,12 @@ mod lines;
 mod outcomes;
 
 pub use auction_file::{
-    AUCTION_LIMIT, BAD_KEY, BAD_VALUE, NOT_ONE_PRICE, WRONG_VERSION, read_auction,
+    AUCTION_LIMIT, BAD_KEY, BAD_VALUE, NOT_ONE_PRICE, PRICES_ROW, WRONG_VERSION, read_auction,
 };
 pub use bid_file::{BID_LIMIT, read_bid};
 pub use book::{Bidder, Book};
-pub use clearing::outcome;
+pub use clearing::{demand, outcome, supply};
 pub use curve::{Curve, LARGEST_QUANTITY};
-pub use grid::{Grid, LARGEST_BASE, LARGEST_TICK, MOST_PRICES};
-pub use lines::{BUY_RISES, NO_BASE, NOT_ASCENDING, OFF_GRID, SELL_FALLS, TOO_LARGE};
+pub use grid::{Grid, LARGEST_BASE, LARGEST_TICK, MOST_COMPARISONS, MOST_PRICES, comparisons};
+pub use lines::{BUY_RISES, NO_BASE, NOT_ASCENDING, OFF_GRID, QUANTITY_TOO_LARGE, SELL_FALLS};
 pub use outcomes::{Outcome, Policy};

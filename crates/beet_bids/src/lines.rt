@@ -25,7 +25,7 @@ pub const BUY_RISES: u32 = 5;
 pub const SELL_FALLS: u32 = 6;
 
 /// The reason against a quantity above the largest.
-pub const TOO_LARGE: u32 = 7;
+pub const QUANTITY_TOO_LARGE: u32 = 7;
 
 /// The reason against row 2 where it is missing or not at the base.
 pub const NO_BASE: u32 = 8;
@@ -76,7 +76,7 @@ fn first_reason(grid: &Grid, line: Line) -> Option<u32>
     if line.price != grid.base() {
         Some(NO_BASE)
     } else if is_large(line) {
-        Some(TOO_LARGE)
+        Some(QUANTITY_TOO_LARGE)
     } else {
         None
     }
@@ -89,7 +89,7 @@ fn next_reason(before: Line, line: Line) -> Option<u32>
     if line.price <= before.price {
         Some(NOT_ASCENDING)
     } else if is_large(line) {
-        Some(TOO_LARGE)
+        Some(QUANTITY_TOO_LARGE)
     } else if line.buy > before.buy {
         Some(BUY_RISES)
     } else if line.sell < before.sell {

@@ -1,6 +1,5 @@
 -- Blocks of bidders, added to sums.
 use Rattle.std.proofs.Common.{◌≡◌, ℕ, suc, ◌*◌, List, [], ◌∷◌, ◌++◌, arith, refl, sym, ◌∙◌, ap, All, append-nil, append_assoc}
-use Rattle.std.proofs.lemmas.List.Sums.{fold-append}
 use Rattle.beet_field.specs.declared.trio.Trio.{Trio}
 use Rattle.beet_book.specs.Dealing.{HasLengths}
 use Rattle.beet_book.specs.PointSums.{sums_at, AddsBlock}

@@ -1,14 +1,13 @@
 -- Two parts that are dealt, joined.
-use Rattle.std.proofs.Common.{◌≡◌, ◌≤◌, ℕ, ◌*◌, ◌-◌, List, ◌++◌, Result, Ok, Err, length, take, drop, arith, inl, inr, refl, sym, ◌∙◌, length-append, length-drop}
+use Rattle.std.proofs.Common.{◌≡◌, ℕ, ◌*◌, ◌-◌, List, ◌++◌, Result, Ok, Err, length, arith, inl, inr, refl, sym, ◌∙◌, length-append}
 use Rattle.std.specs.Prelude.{IfOk, IsOkAnd}
 use Rattle.std.proofs.lemmas.Bool.{cases_lt}
-use Rattle.std.proofs.lemmas.List.{length-take-le}
-use Rattle.std.proofs.lemmas.List.Elements.{All-append, All-take, All-drop}
+use Rattle.std.proofs.lemmas.List.Elements.{All-append}
 use Rattle.beet_field.specs.declared.trio.Trio.{Trio}
-use Rattle.beet_words.specs.Tapes.{Tape, left_of}
-use Rattle.beet_bids.specs.Curves.{Curve, IsOfGrid}
+use Rattle.beet_words.specs.Tapes.{Tape}
+use Rattle.beet_bids.specs.Curves.{Curve}
 use Rattle.beet_bids.specs.Grids.{Grid}
-use Rattle.beet_book.specs.Dealing.{CanDealEach, DealsEach, DealsOver, HasLengths}
+use Rattle.beet_book.specs.Dealing.{DealsEach, DealsOver, HasLengths}
 use Rattle.beet_book.proofs.Items.{get-append_left, get-append_right}
 
 module _ {few rest : List Curve} {front front_left back back_left : List Tape} {first second : List (Trio (List ℕ))} where

@@ -6,11 +6,11 @@ use Rattle.std.proofs.lemmas.List.FromFn.{get_or-map-range_with_len, length-map-
 use Rattle.std.proofs.lemmas.List.Sums.{sum_by-append}
 use Rattle.std.proofs.lemmas.Grind.{same_number_lists}
 use Rattle.beet_field.specs.Field.{p}
-use Rattle.beet_field.specs.Point.{number_of}
 use Rattle.beet_field.specs.declared.point.Point.{Point}
 use Rattle.beet_field.specs.declared.point.Point.TheVariants.{One, Two, Three}
 use Rattle.beet_field.specs.declared.trio.Trio.{Trio}
 use Rattle.beet_shamir.specs.Line.{point_of, recombined}
+use Rattle.beet_shamir.proofs.Laws.{zero-point}
 use Rattle.beet_bids.specs.Curves.{Curve, quantity}
 use Rattle.beet_book.specs.Dealing.{points_at, quantities, AreShares}
 use Rattle.beet_book.specs.Totals.{Totals, plain_sums, none_of, supply_first, points_on, summed_quantities, CarriesValues}
@@ -62,9 +62,7 @@ zeros n at =
     let within : k < n = omega arith in
     let here : get_or none k 0 ≡ 0 = get_or-replicate n k 0 0 within in
     here ∙ sym (item-pairwise (λ value slope. point_of value slope at) none none k (omega arith) (omega arith)
-    ∙ rw here (zero-point (number_of at)))) where
-      zero-point : (i : ℕ) → (0 + (0 * i) % p) % p ≡ 0
-      zero-point i = omega arith
+    ∙ rw here (sym (zero-point at))))
 
 -- the totals of no bidder carry the sums of no curve
 pub shares-none : (prices : ℕ) → AreShares (summed_quantities prices []) (none_of prices).points

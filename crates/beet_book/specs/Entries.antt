@@ -2,7 +2,7 @@
 use Rattle.std.specs.Prelude.{ℕ, if◌then◌else◌, List, Option, Some, None, option_map, Result, Err, bytes_eq, codes}
 use Rattle.std.specs.Option.{ok_or}
 use Rattle.beet_field.specs.declared.point.Point.{Point}
-use Rattle.beet_field.specs.declared.point.Point.TheVariants.{One, Two, Three}
+use Rattle.beet_field.specs.Point.{server_of}
 use Rattle.beet_forms.specs.declared.row.Row.{Row}
 use Rattle.beet_forms.specs.Names.{is_name_of}
 use Rattle.beet_forms.specs.Rows.{five_of}
@@ -19,12 +19,7 @@ name_of text = if is_name_of text then Some text else None
 
 -- the server that knows the bidder, where 0 stands for none; or none where the text is neither
 abbrev pub known_of : List ℕ → Option (Option Point)
-known_of text =
-    if bytes_eq text (codes "0") then Some None
-    else if bytes_eq text (codes "1") then Some (Some One)
-    else if bytes_eq text (codes "2") then Some (Some Two)
-    else if bytes_eq text (codes "3") then Some (Some Three)
-    else None
+known_of text = if bytes_eq text (codes "0") then Some None else option_map Some (server_of text)
 
 -- where a bidder's words come from, by the kind and the text; or none where the kind is unknown or the text is not of it
 abbrev pub source_of : List ℕ → List ℕ → Option BidderSource

@@ -1,17 +1,15 @@
 -- Bidders with the words that they deal their quantities with, and the points that come of them.
-use Rattle.std.specs.Prelude.{ℕ, ◌*◌, ◌%◌, List, [], ◌∷◌, map, slice_index, sum_by}
+use Rattle.std.specs.Prelude.{ℕ, ◌%◌, List, [], ◌∷◌, map, slice_index, sum_by}
 use Rattle.beet_field.specs.Field.{p}
-use Rattle.beet_field.specs.Trio.{trio_of}
 use Rattle.beet_field.specs.declared.point.Point.{Point}
 use Rattle.beet_field.specs.declared.trio.Trio.{Trio}
 use Rattle.beet_shamir.specs.Line.{point_of}
 use Rattle.beet_words.specs.Words.{accepted}
-use Rattle.beet_gates.specs.Each.{each}
 use Rattle.beet_bids.specs.Books.{Book}
 use Rattle.beet_bids.specs.Curves.{quantity}
 use Rattle.beet_bids.specs.Grids.{Grid}
 use Rattle.beet_bids.specs.declared.book.Bidder.{Bidder}
-use Rattle.beet_book.specs.Totals.{supply_first}
+use Rattle.beet_book.specs.Totals.{inputs_by, sums_by}
 
 -- a bidder and the words that it deals its quantities with
 pub record Farmer : Type 0 where
@@ -42,8 +40,8 @@ summed_point farmers i n = sum_by (λ farmer. point_for farmer i n) farmers % p
 
 -- the sums at each server, over so many prices: buy first
 abbrev pub summed_points : ℕ → List Farmer → Trio (List ℕ)
-summed_points prices farmers = trio_of (λ i. each (summed_point farmers i) (2 * prices))
+summed_points prices farmers = sums_by (summed_point farmers) prices
 
 -- the inputs at each server: supply at each place, and then demand at each place
 abbrev pub book_inputs : ℕ → List Farmer → Trio (List ℕ)
-book_inputs prices farmers = trio_of (λ i. supply_first prices (each (summed_point farmers i) (2 * prices)))
+book_inputs prices farmers = inputs_by (summed_point farmers) prices

@@ -1,9 +1,12 @@
 -- Totals: the points of several bidders added up, and put in the order of an auction's input wires.
 use Rattle.std.specs.Prelude.{◌≡◌, ℕ, ◌+◌, ◌*◌, ◌%◌, ◌<◌, List, ◌++◌, length, map, take, drop, slice_index, sum_by, replicate, Some}
 use Rattle.std.specs.List.{fold, range_with_len, slice_get}
+use Rattle.beet_field.specs.Trio.{trio_of}
+use Rattle.beet_field.specs.declared.point.Point.{Point}
 use Rattle.beet_field.specs.declared.trio.Trio.{Trio}
 use Rattle.beet_field.specs.Field.{p, add_of}
 use Rattle.beet_shamir.specs.Line.{recombined}
+use Rattle.beet_gates.specs.Each.{each}
 use Rattle.beet_bids.specs.Curves.{Curve, quantity}
 use Rattle.beet_book.specs.Dealing.{pairwise, quantities, AreShares}
 
@@ -34,6 +37,14 @@ none_of prices = record {
 -- supply at each place and then demand at each place, of a list that has buy first
 abbrev pub supply_first : ℕ → List ℕ → List ℕ
 supply_first prices xs = drop prices xs ++ take prices xs
+
+-- by the n-th sum at each server, the sums over so many prices: buy first
+abbrev pub sums_by : (Point → ℕ → ℕ) → ℕ → Trio (List ℕ)
+sums_by sum prices = trio_of (λ s. each (sum s) (2 * prices))
+
+-- and the inputs: supply at each place, and then demand at each place
+abbrev pub inputs_by : (Point → ℕ → ℕ) → ℕ → Trio (List ℕ)
+inputs_by sum prices = trio_of (λ s. supply_first prices (each (sum s) (2 * prices)))
 
 -- the inputs of the servers, wire by wire
 abbrev pub wires_of : Totals → Trio (List ℕ)

@@ -13,7 +13,7 @@ use std::alloc::Global;
 /// The most bytes of a book file.
 pub const BOOK_LIMIT: u64 = 4_194_304;
 
-/// The most bidders of a book of which everything is kept, where each is counted once for each price.
+/// The largest product of bidders and prices of a book of which everything is kept.
 pub const MOST_PRODUCT: u64 = 500_000;
 
 /// The reason against a book above that limit, at row 0.

@@ -38,13 +38,10 @@ pub struct Entry {
 fn read_known(text: &[u8]) -> Option<Option<Point>>
     ensures { result ≡ known_of text.now }
 {
-    match text {
-        b"0" => Some(None),
-        b"1" => Some(Some(Point::One)),
-        b"2" => Some(Some(Point::Two)),
-        b"3" => Some(Some(Point::Three)),
-        _ => None,
+    if text == b"0".as_slice() {
+        return Some(None);
     }
+    Point::of_digit(text).map(Some)
 }
 
 /// Where a bidder's words come from, by the kind and the text.

@@ -87,6 +87,8 @@ fn values(numbers: &Trio<Fe>) -> (u64, u64, u64) {
 fn one_value_for_each_point(rt: HostRuntime) {
     assert!(rt; Point::of_number(2) == Some(Point::Two));
     assert!(rt; Point::of_number(4).is_none());
+    assert!(rt; Point::of_digit(b"2") == Some(Point::Two));
+    assert!(rt; Point::of_digit(b"0").is_none());
     assert!(rt; Point::Two.number() == 2);
     let mut numbers = trio(4, 5, 6);
     write_others(&mut numbers, Point::Two);

@@ -16,9 +16,9 @@ ghost use Rattle.beet_gates.specs.Linears.{three_terms, two_terms};
 ghost use Rattle.beet_compare.specs.Compare.{compare_rounds_of, compare_wires_of, masked_batch, same_let, lowest_batch, bit_batch, low_bit_batch, answer_batch, last_let, chain_batches, borrow_lets, level_products, level_lets, bits_less, bits_same, level_less, level_same, borrow_batches, compare_batches, doubled, is_doubled_even, BeforeCompare, AfterCompare};
 
 use arrayvec::ArrayVec;
-use beet_field::{Fe, MINUS_ONE, MINUS_TWO};
+use beet_field::{Fe, MINUS_ONE, MINUS_TWO, MOST_NUMBERS};
 use beet_gates::{
-    Act, Batch, Gates, LevelItems, Linear, MASK_WIRES, WIRES_BEFORE_BITS, level_pairs,
+    Act, Batch, Gates, LevelItems, Linear, MASK_WIRES, MOST_LETS, WIRES_BEFORE_BITS, level_pairs,
 };
 
 /// The rounds of a block with chain gates: the opening of the masked difference, one for each bit, and the opening of the answer.
@@ -112,7 +112,7 @@ fn set_product_of_two(batch: &mut Batch, first: Linear, second: Linear, start: u
 
 /// The combinations of the mask's high bits, from place 58 down.
 #[tactic(auto, using(beet_gates::proofs::EachFacts::each_steps))]
-fn high_bits(first: u32, mask: u32, lets: &mut ArrayVec<Linear, 128>)
+fn high_bits(first: u32, mask: u32, lets: &mut ArrayVec<Linear, MOST_LETS>)
     requires room { length lets.old.items ≤ 1 }
     requires first { first + 60 < 2 ^ 32 }
     requires mask { mask + MASK_WIRES < 2 ^ 32 }
@@ -290,7 +290,7 @@ fn level_same(first: u32, products: u32, results: u32) -> LevelItems
 }
 
 /// The borrow of each bit, and whether c and the mask have it the same.
-fn add_bits(mask: u32, c: Fe, lets: &mut ArrayVec<Linear, 128>)
+fn add_bits(mask: u32, c: Fe, lets: &mut ArrayVec<Linear, MOST_LETS>)
     requires none { lets.old.items ≡ [] }
     requires mask { mask + MASK_WIRES < 2 ^ 32 }
     ensures { lets.new.items ≡ borrow_lets mask c }
@@ -302,7 +302,10 @@ fn add_bits(mask: u32, c: Fe, lets: &mut ArrayVec<Linear, 128>)
 }
 
 /// The products of `K` pairs of borrows and equalities.
-fn level_products<const K: usize>(less: LevelItems, same: LevelItems) -> ArrayVec<(u32, u32), 64>
+fn level_products<const K: usize>(
+    less: LevelItems,
+    same: LevelItems,
+) -> ArrayVec<(u32, u32), MOST_NUMBERS>
     requires few { K ≤ 32 }
     requires less { less.start + less.step * less.results ≤ 2 ^ 32 }
     requires same { same.start + same.step * same.results ≤ 2 ^ 32 }
@@ -319,7 +322,11 @@ fn level_products<const K: usize>(less: LevelItems, same: LevelItems) -> ArrayVe
 }
 
 /// Appends the borrows of `K` pairs, whose products begin at a wire.
-fn add_level_lets<const K: usize>(less: LevelItems, products: u32, lets: &mut ArrayVec<Linear, 128>)
+fn add_level_lets<const K: usize>(
+    less: LevelItems,
+    products: u32,
+    lets: &mut ArrayVec<Linear, MOST_LETS>,
+)
     requires none { lets.old.items ≡ [] }
     requires few { K ≤ 32 }
     requires less { less.start + less.step * less.results ≤ 2 ^ 32 }

@@ -3,6 +3,7 @@ use Rattle.std.proofs.Common.{◌≡◌, ◌∷◌, ◌==◌, ◌≤◌, ◌+◌
 use Rattle.std.specs.Prelude.{◌||◌, codes, option_map}
 use Rattle.std.proofs.lemmas.Bool.{eq-eqb}
 use Rattle.std.proofs.lemmas.List.Elements.{All-head, All-tail}
+use Rattle.beet_field.specs.Point.{server_of}
 use Rattle.beet_field.specs.declared.point.Point.{Point}
 use Rattle.beet_field.specs.declared.point.Point.TheVariants.{One, Two, Three}
 use Rattle.beet_field.specs.declared.trio.Trio.{Trio}
@@ -31,7 +32,7 @@ use Rattle.beet_plan.specs.Auction.{auction_over}
 use Rattle.beet_plan.specs.Runs.{finish_of}
 use Rattle.beet_delivery.specs.Events.{Delivered, after, passed}
 use Rattle.beet_auction.specs.Endings.{book_rounds}
-use Rattle.beet_world.specs.Schedules.{schedule_of, server_of}
+use Rattle.beet_world.specs.Schedules.{schedule_of}
 use Rattle.beet_world.specs.Worlds.{named_in}
 use Rattle.beet_world.specs.declared.schedule.Delivery.{Delivery}
 use Rattle.beet_world.specs.declared.schedule.TheConstants.{SCHEDULE_LIMIT}

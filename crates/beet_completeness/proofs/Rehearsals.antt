@@ -23,7 +23,7 @@ use Rattle.beet_rehearse.specs.Rehearse.{rehearse_errand, rehearsed}
 use Rattle.beet_rehearse.specs.Standings.{ended_alike}
 use Rattle.beet_rehearse.specs.StandingTexts.{rehearsal_text}
 use Rattle.beet_rehearse.proofs.AllEnded.{all-ended}
-use Rattle.beet_app.specs.Doing.{OfJob}
+use Rattle.beet_app.specs.Doing.{RunsJob}
 use Rattle.beet_app.specs.Jobs.{Answering, Job, are_names, job_of}
 use Rattle.beet_app_laws.specs.Dues.{answer_over}
 use Rattle.beet_app_laws.proofs.Led.{lead-end}
@@ -57,12 +57,9 @@ module _ (told : Told) (told_now : Option Told) (given now : Option Given) (stat
       let over = answer_over told.files errand in GivesAll given now over.files over.text (Ok tt)
   runs-whole errand r = ends-whole errand r.rest r.went r.ends
 
-  abbrev Ran : Option Job → Type 0
-  Ran job = OfJob job (Some told) told_now (λ before errand. Runs errand before told_now given now status)
-
-  pub job-whole : (job : Option Job) (errand : Errand) → job ≡ Some (Answering errand) → Ran job →
+  pub job-whole : (job : Option Job) (errand : Errand) → job ≡ Some (Answering errand) → RunsJob job (Some told) told_now given now status →
       let over = answer_over told.files errand in GivesAll given now over.files over.text (Ok tt)
-  job-whole job errand e r = runs-whole errand (subst Ran e r)
+  job-whole job errand e r = runs-whole errand (subst (λ job. RunsJob job (Some told) told_now given now status) e r)
 
 -- ---- a rehearsal
 

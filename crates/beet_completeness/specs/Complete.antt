@@ -1,6 +1,7 @@
 -- What is right for a job over these files: each file that it reads is held, in its grammar and within its limits, and tapes hold the words that are
 -- wanted, so that the job reads a value; and its masks suffice.
 use Rattle.std.specs.Prelude.{◌≡◌, ℕ, List, [], length, None, Some, false}
+use Rattle.beet_field.specs.Point.{server_of}
 use Rattle.beet_field.specs.declared.point.Point.{Point}
 use Rattle.beet_field.specs.declared.trio.Trio.{Trio}
 use Rattle.beet_field.specs.Trio.{of_each}
@@ -29,7 +30,7 @@ use Rattle.beet_plan.specs.Auction.{auction_over}
 use Rattle.beet_plan.specs.Search.{is_spent, mask_at, path}
 use Rattle.beet_auction.specs.AnyPoints.{points_place}
 use Rattle.beet_worlds.specs.Agreement.{Agree}
-use Rattle.beet_world.specs.Schedules.{schedule_of, server_of}
+use Rattle.beet_world.specs.Schedules.{schedule_of}
 use Rattle.beet_world.specs.declared.schedule.Delivery.{Delivery}
 use Rattle.beet_world.specs.declared.schedule.TheConstants.{SCHEDULE_LIMIT}
 use Rattle.beet_errand.specs.Errands.{Step, reads}

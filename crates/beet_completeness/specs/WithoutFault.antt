@@ -3,8 +3,7 @@ use Rattle.std.specs.Prelude.{◌≡◌, ◌⊎◌, ℕ, List, Option, Some}
 use Rattle.beet_store.specs.Causes.{Rose}
 use Rattle.beet_store.specs.Desks.{Given}
 use Rattle.beet_store.specs.Files.{File, Told}
-use Rattle.beet_answer.specs.Runs.{Runs}
-use Rattle.beet_app.specs.Doing.{OfJob}
+use Rattle.beet_app.specs.Doing.{RunsJob}
 use Rattle.beet_app.specs.Jobs.{Job, job_of}
 
 -- a run on words that name a job, over a shelf that holds these files, in which neither the count of faults of the shelf nor that of the desk
@@ -15,7 +14,7 @@ pub record RunsWithoutFault (words : List (List ℕ)) (files : List File) (given
   pub told : Told
   pub holds : told.files ≡ files
   pub told_now : Option Told
-  pub runs : OfJob (job_of words) (Some told) told_now (λ before errand. Runs errand before told_now given now status)
+  pub runs : RunsJob (job_of words) (Some told) told_now given now status
   pub shelf_faults : ℕ
   pub shelf_faults_now : ℕ
   pub read : status ≡ 3 → Rose shelf_faults shelf_faults_now

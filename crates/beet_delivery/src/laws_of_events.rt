@@ -1,6 +1,6 @@
 //! What holds of every set of delivered messages, and after every list of events: any order, with
 //! repeats, and with messages that come late or never.
-ghost use Rattle.std.specs.Prelude.{◌≡◌, ◌≢◌, ◌<◌, ◌≤◌, ◌+◌, ◌==◌, ◌&&◌, not, cond, ℕ, List, ◌∷◌, ◌++◌, Bool, true, false, All, AllPairs, count_by};
+ghost use Rattle.std.specs.Prelude.{◌≡◌, ◌≢◌, ◌<◌, ◌≤◌, ◌+◌, ◌==◌, ◌&&◌, not, if◌then◌else◌, ℕ, List, ◌∷◌, ◌++◌, Bool, true, false, All, AllPairs, count_by};
 ghost use Rattle.beet_field.specs.declared.point.Point.{Point};
 ghost use Rattle.beet_field.specs.declared.point.Point.TheVariants.{One, Two, Three};
 ghost use Rattle.beet_round.specs.Sides.{peer};
@@ -77,7 +77,7 @@ pub fn repeats_change_nothing()
 pub fn a_set_is_told_by_its_list()
     ensures once { (rounds : ℕ) (x : Delivered) (e : Triple) → e.from ≢ e.to → e.round < rounds →
         count_by (λ d. same d.from e.from && same d.to e.to && (d.round == e.round))
-        (listed rounds x) ≡ cond (has x e) 1 0 }
+        (listed rounds x) ≡ (if has x e then 1 else 0) }
     ensures only { (rounds : ℕ) (x : Delivered) → All (λ d. has x d ≡ true) (listed rounds x) }
     ensures told { (rounds : ℕ) (es others : List Triple) →
         listed rounds (after rounds es) ≡ listed rounds (after rounds others) →

@@ -12,11 +12,12 @@ use Rattle.beet_book.specs.Dealing.{DealsBidder, dealt_points}
 use Rattle.beet_farmer.specs.declared.envelope.Envelope.{Envelope}
 use Rattle.beet_farmer.specs.Envelopes.{envelope_bytes}
 use Rattle.beet_farmer.specs.Sealing.{AreAddressed, points_in}
+use Rattle.beet_errand.specs.Errands.{file_for}
 use Rattle.beet_errand.specs.declared.answer.Status.TheVariants.{Done}
-use Rattle.beet_envelopes.specs.Seal.{name_for, sealed_text, sealed_files, sealed_answer}
+use Rattle.beet_envelopes.specs.Seal.{sealed_text, sealed_files, sealed_answer}
 
 abbrev file_of : Grid → List ℕ → Envelope → File
-file_of grid out envelope = (name_for out envelope.server, envelope_bytes grid envelope)
+file_of grid out envelope = (file_for out envelope.server, envelope_bytes grid envelope)
 
 same-envelope : (envelope : Envelope) (s : Point) (points : List ℕ) → envelope.server ≡ s → envelope.points ≡ points →
     envelope ≡ record { server = s; points = points }

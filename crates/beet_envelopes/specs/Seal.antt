@@ -1,6 +1,5 @@
 -- The job `seal`: a bid in three envelopes, one for each server.
 use Rattle.std.specs.Prelude.{ℕ, List, [], ◌∷◌, ◌++◌, codes, decimal, None}
-use Rattle.beet_field.specs.Point.{number_of}
 use Rattle.beet_field.specs.Trio.{member}
 use Rattle.beet_field.specs.declared.point.Point.{Point}
 use Rattle.beet_field.specs.declared.point.Point.TheVariants.{One, Two, Three}
@@ -14,17 +13,13 @@ use Rattle.beet_book.specs.Dealing.{dealt_points}
 use Rattle.beet_book.specs.declared.entries.BidderSource.{BidderSource}
 use Rattle.beet_farmer.specs.declared.envelope.Envelope.{Envelope}
 use Rattle.beet_farmer.specs.Envelopes.{envelope_bytes}
-use Rattle.beet_errand.specs.Errands.{Answer, Errand, Ends, Step, ◌>>=◌, ◌>>◌, gives, reads}
+use Rattle.beet_errand.specs.Errands.{Answer, Errand, Ends, Step, ◌>>=◌, ◌>>◌, file_for, gives, reads}
 use Rattle.beet_errand.specs.Texts.{line_of}
 use Rattle.beet_errand.specs.declared.answer.Status.TheVariants.{Done}
 use Rattle.beet_plan.specs.Kept.{words_kept}
 use Rattle.beet_load.specs.Farmers.{words_wanted, words_errand, enough_words}
 use Rattle.beet_bids.specs.declared.auction_file.TheConstants.{AUCTION_LIMIT}
 use Rattle.beet_bids.specs.declared.bid_file.TheConstants.{BID_LIMIT}
-
--- the name of the file for a server
-abbrev pub name_for : List ℕ → Point → List ℕ
-name_for out s = out ++ codes "." ++ decimal (number_of s)
 
 -- the line that tells the number of prices
 abbrev pub sealed_text : ℕ → List ℕ
@@ -36,7 +31,7 @@ sealed_envelope curve words s = record { server = s; points = member (dealt_poin
 
 -- the file for a server
 abbrev pub sealed_file : Grid → List ℕ → Curve → List ℕ → Point → File
-sealed_file grid out curve words s = (name_for out s, envelope_bytes grid (sealed_envelope curve words s))
+sealed_file grid out curve words s = (file_for out s, envelope_bytes grid (sealed_envelope curve words s))
 
 -- the three files, in the order of the servers
 abbrev pub sealed_files : Grid → List ℕ → Curve → List ℕ → List File

@@ -1,7 +1,6 @@
 //! The job `open`.
 
 ghost use Rattle.std.specs.Prelude.{IfOk};
-ghost use Rattle.beet_bids.specs.Grids.{IsGrid};
 ghost use Rattle.beet_farmer.specs.Lists.{list_of};
 ghost use Rattle.beet_errand.specs.Errands.{reads};
 ghost use Rattle.beet_errand.specs.Fetches.{IsDone, Reads};
@@ -41,7 +40,6 @@ fn open_entries<S: Shelf, R: Threads + Wait + Sync, G: Gate>(
     entries: &[ListEntry],
     gate: &G,
 ) -> Result<Reply, Stop>
-    requires { IsGrid grid.now }
     ensures done { IfOk result (λ reply. IsDone reply.status) }
     ensures reads { Reads (λ reply. reply) (S.seen shelf.old) (S.seen shelf.new)
         (entries_job grid.now sources.now entries.now) result }
@@ -71,7 +69,6 @@ fn open_list<S: Shelf, R: Threads + Wait + Sync, G: Gate>(
     list: &str,
     gate: &G,
 ) -> Result<Reply, Stop>
-    requires { IsGrid grid.now }
     ensures done { IfOk result (λ reply. IsDone reply.status) }
     ensures reads { Reads (λ reply. reply) (S.seen shelf.old) (S.seen shelf.new)
         (λ next. reads list.now LIST_LIMIT list_of (λ entries. entries_job grid.now sources.now entries next)) result }

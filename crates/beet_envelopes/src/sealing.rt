@@ -7,8 +7,9 @@ ghost use Rattle.beet_book.specs.Dealing.{HasLengths};
 ghost use Rattle.beet_farmer.specs.Envelopes.{envelope_bytes};
 ghost use Rattle.beet_farmer.specs.Sealing.{points_in};
 ghost use Rattle.beet_load.specs.Farmers.{words_wanted, words_errand};
+ghost use Rattle.beet_errand.specs.Errands.{file_for};
 ghost use Rattle.beet_errand.specs.Fetches.{Reads};
-ghost use Rattle.beet_envelopes.specs.Seal.{name_for, own_words_errand, seal_job, sealed_answer, sealed_text};
+ghost use Rattle.beet_envelopes.specs.Seal.{own_words_errand, seal_job, sealed_answer, sealed_text};
 ghost use Rattle.beet_envelopes.specs.SourceWords.{named_source};
 
 use crate::source_word::SourceWord;
@@ -16,7 +17,8 @@ use beet_bids::{Curve, Grid};
 use beet_errand::{NewFile, Reply, Status, Stop};
 use beet_farmer::{Envelope, seal, write_envelope};
 use beet_field::Trio;
-use beet_load::{check_words, read_curve, read_grid, read_tape_file, words_kept};
+use beet_load::{check_words, read_curve, read_grid, read_tape_file};
+use beet_plan::words_kept;
 use beet_store::Shelf;
 use beet_words::Tape;
 use std::alloc::{AllocError, Global};
@@ -67,13 +69,10 @@ fn envelope_file(
 ) -> Result<NewFile, AllocError>
     requires { length envelope.now.points ≡ 2 * grid.now.prices }
     ensures { IfOk result (λ file. file ≡
-        (name_for out.now envelope.now.server, envelope_bytes grid.now envelope.now)) }
+        (file_for out.now envelope.now.server, envelope_bytes grid.now envelope.now)) }
 {
-    let number = envelope.server.number();
-    Ok(NewFile {
-        name: format!(in alloc; "{out}.{number}")?,
-        bytes: write_envelope(alloc, grid, envelope)?,
-    })
+    let bytes = write_envelope(alloc, grid, envelope)?;
+    NewFile::of_server(alloc, out, envelope.server, bytes)
 }
 
 /// The files of the envelopes, in the order of the servers.
@@ -85,9 +84,9 @@ fn envelope_files(
 ) -> Result<Vec<NewFile>, AllocError>
     requires { HasLengths (points_in envelopes.now) (2 * grid.now.prices) }
     ensures { IfOk result (λ files. files.items ≡
-        (name_for out.now envelopes.now.one.server, envelope_bytes grid.now envelopes.now.one)
-        ∷ (name_for out.now envelopes.now.two.server, envelope_bytes grid.now envelopes.now.two)
-        ∷ (name_for out.now envelopes.now.three.server, envelope_bytes grid.now envelopes.now.three)
+        (file_for out.now envelopes.now.one.server, envelope_bytes grid.now envelopes.now.one)
+        ∷ (file_for out.now envelopes.now.two.server, envelope_bytes grid.now envelopes.now.two)
+        ∷ (file_for out.now envelopes.now.three.server, envelope_bytes grid.now envelopes.now.three)
         ∷ []) }
 {
     let files = Trio {

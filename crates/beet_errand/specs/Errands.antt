@@ -1,5 +1,7 @@
 -- What a job does outside before it answers: it fetches files, one after another, and judges each before the next.
-use Rattle.std.specs.Prelude.{ℕ, List, [], length, Option, Some, None, Ok, Err, Bool, nat_lt, if◌then◌else◌}
+use Rattle.std.specs.Prelude.{ℕ, List, [], ◌++◌, length, codes, decimal, Option, Some, None, Ok, Err, Bool, nat_lt, if◌then◌else◌}
+use Rattle.beet_field.specs.Point.{number_of}
+use Rattle.beet_field.specs.declared.point.Point.{Point}
 use Rattle.beet_store.specs.Files.{File, bytes_of}
 use Rattle.beet_forms.specs.Faults.{Fault, Reading, at_row}
 use Rattle.beet_errand.specs.declared.fetching.TheConstants.{TOO_LONG}
@@ -13,6 +15,10 @@ pub record Answer : Type 0 where
   pub status : Status
   pub files : List File
   pub text : List ℕ
+
+-- the name of the file for a server: the name of the output, a dot and the server's number
+abbrev pub file_for : List ℕ → Point → List ℕ
+file_for out s = out ++ codes "." ++ decimal (number_of s)
 
 -- an errand ends with its answer, or wants the file of a name, of at most so many bytes, which say how it goes on
 pub data Errand : Type 0 where

@@ -45,12 +45,6 @@ Stops {A = A} old now step (Refused status text) =
     (next : A → Errand) → Went old now (step next) (answers status text.items)
 Stops {A = A} old now step OutOfMemory = (next : A → Errand) → (rest : Errand) × Went old now (step next) rest
 
--- what a step of an errand gives: the value, as `view` shows it, that the next step takes; or it stops
-abbrev pub Gives : {A T : Type 0} → (T → A) → Option Told → Option Told → ((A → Errand) → Errand) →
-    Result T Stop → Type 0
-Gives {A = A} view old now step (Ok value) = (next : A → Errand) → Went old now (step next) (next (view value))
-Gives view old now step (Err stop) = Stops old now step stop
-
 -- a test that fetches nothing: the errand goes on, or the test ends it with the line that was made for it, unless memory ran out
 abbrev pub Passes : (Errand → Errand) → Result (Unit {0}) Stop → Type 0
 Passes test (Ok done) = (next : Errand) → test next ≡ next

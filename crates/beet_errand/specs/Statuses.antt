@@ -1,5 +1,5 @@
 -- The exit statuses.
-use Rattle.std.specs.Prelude.{ℕ}
+use Rattle.std.specs.Prelude.{◌≡◌, ◌⊎◌, ℕ}
 use Rattle.beet_errand.specs.declared.answer.Status.{Status}
 use Rattle.beet_errand.specs.declared.answer.Status.TheVariants.{Done, OutOfMemory, Usage, ReadFault, WriteFault, BadFile, MasksSpent, WorldsRefused, AuditRefused, TooFewWords}
 
@@ -15,3 +15,7 @@ code_of MasksSpent = 6
 code_of WorldsRefused = 7
 code_of AuditRefused = 8
 code_of TooFewWords = 9
+
+-- the exit status of a job that is done
+abbrev pub IsDoneCode : ℕ → Type 0
+IsDoneCode code = (code ≡ 0) ⊎ (code ≡ 6)

@@ -1,9 +1,10 @@
 //! How a run of the program ends.
 
-ghost use Rattle.std.specs.Prelude.{◌≡◌};
-ghost use Rattle.beet_errand.specs.Errands.{text_answer};
+ghost use Rattle.std.specs.Prelude.{◌≡◌, IfOk};
+ghost use Rattle.beet_errand.specs.Errands.{file_for, text_answer};
 ghost use Rattle.beet_errand.specs.Statuses.{code_of};
 
+use beet_field::Point;
 use std::alloc::{AllocError, Global};
 use std::marker::Model;
 
@@ -66,6 +67,24 @@ impl Model for NewFile {
     ghost Value = { File };
 
     ghost view = { λ a. (string_bytes a.name, a.bytes.items) };
+}
+
+impl NewFile {
+    /// The file for a server: its name is `out`, a dot and the server's number.
+    pub fn of_server(
+        alloc: Global,
+        out: &str,
+        server: Point,
+        bytes: Vec<u8>,
+    ) -> Result<NewFile, AllocError>
+        ensures { IfOk result (λ file. file ≡ (file_for out.now server, bytes.items)) }
+    {
+        let number = server.number();
+        Ok(NewFile {
+            name: format!(in alloc; "{out}.{number}")?,
+            bytes,
+        })
+    }
 }
 
 /// What a job answers: its status, the files that it puts, in order, and the text that it says after them.

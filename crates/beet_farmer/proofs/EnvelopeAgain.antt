@@ -12,7 +12,7 @@ use Rattle.beet_words.proofs.FieldsAgain.{StandsAt, StandsAt-left, StandsAt-righ
 use Rattle.beet_bids.specs.declared.grid.TheConstants.{LARGEST_BASE}
 use Rattle.beet_bids.specs.Grids.{Grid, IsGrid}
 use Rattle.beet_words.specs.declared.bundle.TheConstants.{BAD_MAGIC}
-use Rattle.beet_farmer.specs.declared.envelope.TheConstants.{WRONG_GRID, TRAILING, WRONG_SERVER}
+use Rattle.beet_farmer.specs.declared.envelope.TheConstants.{WRONG_GRID, AFTER_POINTS, WRONG_SERVER}
 use Rattle.beet_farmer.specs.declared.envelope.Envelope.{Envelope}
 use Rattle.beet_farmer.specs.Envelopes.{magic, only, below_p, point_at, after_header, envelope_of, header_bytes, envelope_bytes}
 
@@ -52,7 +52,7 @@ after_header-parts grid server file a b c d e = rw (a, b, c, d, e) refl
 envelope_of-parts : (grid : Grid) (server : Point) (file points : List ℕ) (at : ℕ) →
     after_header grid server file ≡ Ok 40 →
     times (2 * grid.prices) (point_at file) 40 ≡ Ok (points, at) →
-    ended file TRAILING at ≡ Ok tt →
+    ended file AFTER_POINTS at ≡ Ok tt →
     envelope_of grid server file ≡ Ok (record { server = server; points = points })
 unfolding envelope_of
 envelope_of-parts grid server file points at a b c = rw (a, b, c) refl
@@ -89,7 +89,7 @@ envelope_of-bytes grid envelope limits long below =
     let read : times (2 * grid.prices) (point_at file) 40 ≡ Ok (envelope.points, 40 + length points) =
     subst (λ n. times n (point_at file) 40 ≡ Ok (envelope.points, 40 + length points)) long (points_at-points file envelope.points 40 below at_points) in
     let all : length file ≡ 40 + length points = length-append header points in
-    let end : ended file TRAILING (40 + length points) ≡ Ok tt = rw (le-ltb (40 + length points) (length file) (omega arith)) refl in
+    let end : ended file AFTER_POINTS (40 + length points) ≡ Ok tt = rw (le-ltb (40 + length points) (length file) (omega arith)) refl in
     envelope_of-parts grid envelope.server file envelope.points (40 + length points) (after_header-bytes grid envelope.server points limits) read end
 
 points-size : (points : List ℕ) → length (flat_map number_bytes points) ≡ 8 * length points

@@ -9,7 +9,7 @@ use Rattle.beet_words.specs.declared.fields.Allowed.{Allowed}
 use Rattle.beet_words.specs.Fields.{◌>>=◌, Part, number_bytes, number_at, times, after_magic, ended}
 use Rattle.beet_bids.specs.Grids.{Grid}
 use Rattle.beet_words.specs.declared.bundle.TheConstants.{BAD_MAGIC}
-use Rattle.beet_farmer.specs.declared.envelope.TheConstants.{WRONG_GRID, TRUNCATED, BAD_NUMBER, TRAILING, WRONG_SERVER}
+use Rattle.beet_farmer.specs.declared.envelope.TheConstants.{WRONG_GRID, TRUNCATED_ENVELOPE, BAD_POINT, AFTER_POINTS, WRONG_SERVER}
 use Rattle.beet_farmer.specs.declared.envelope.Envelope.{Envelope}
 
 -- the text that an envelope begins with
@@ -18,11 +18,11 @@ magic = codes "BEETENV1"
 
 -- the one number that a field may hold, and the reason against another one
 abbrev pub only : ℕ → ℕ → Allowed
-only number reason = record { low = number; high = number; truncated = TRUNCATED; outside = reason }
+only number reason = record { low = number; high = number; truncated = TRUNCATED_ENVELOPE; outside = reason }
 
 -- the numbers of the field, and the reason against another one
 abbrev pub below_p : Allowed
-below_p = record { low = 0; high = p - 1; truncated = TRUNCATED; outside = BAD_NUMBER }
+below_p = record { low = 0; high = p - 1; truncated = TRUNCATED_ENVELOPE; outside = BAD_POINT }
 
 -- a point
 abbrev pub point_at : List ℕ → Part ℕ
@@ -43,7 +43,7 @@ unfoldable pub envelope_of : Grid → Point → List ℕ → Reading Envelope
 envelope_of grid server bytes = do
   start ← after_header grid server bytes
   points ← times (2 * grid.prices) (point_at bytes) start
-  done ← ended bytes TRAILING points.1
+  done ← ended bytes AFTER_POINTS points.1
   Ok (record { server = server; points = points.0 })
 
 -- the bytes before the points

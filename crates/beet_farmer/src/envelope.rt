@@ -1,19 +1,18 @@
 //! Envelopes: the points of a bidder for one server.
 
-ghost use Rattle.std.specs.Prelude.{◌≡◌, ◌≤◌, ◌+◌, ◌*◌, ◌++◌, length, All, IfOk, OnOk, Ok};
-ghost use Rattle.std.specs.List.{flat_map};
+ghost use Rattle.std.specs.Prelude.{◌≡◌, ◌≤◌, ◌+◌, ◌*◌, length, All, IfOk, OnOk, Ok};
 ghost use Rattle.beet_field.specs.Field.{IsElement};
 ghost use Rattle.beet_forms.specs.Faults.{Answers};
 ghost use Rattle.beet_forms.specs.declared.faults.TheConstants.{LONGEST_FILE};
-ghost use Rattle.beet_words.specs.Fields.{number_bytes};
 ghost use Rattle.beet_bids.specs.Grids.{IsGrid};
 ghost use Rattle.beet_farmer.specs.Envelopes.{only as only_number, below_p, after_header, envelope_of, header_bytes, envelope_bytes};
 
 use beet_bids::Grid;
-use beet_field::{Fe, P, Point};
+use beet_field::{P, Point};
 use beet_forms::ReadFault;
 use beet_words::{
-    Allowed, BAD_MAGIC, FeList, push_number, read_end, read_magic, read_number, read_points,
+    Allowed, BAD_MAGIC, FeList, push_number, push_points, read_end, read_magic, read_number,
+    read_points,
 };
 use std::alloc::{AllocError, Global};
 
@@ -33,13 +32,13 @@ pub const ENVELOPE_LIMIT: u64 = 131_072;
 pub const WRONG_GRID: u32 = 2;
 
 /// The reason against a field that is cut off.
-pub const TRUNCATED: u32 = 3;
+pub const TRUNCATED_ENVELOPE: u32 = 3;
 
 /// The reason against a point of 2^61 - 1 or more.
-pub const BAD_NUMBER: u32 = 4;
+pub const BAD_POINT: u32 = 4;
 
 /// The reason against bytes after the last point.
-pub const TRAILING: u32 = 5;
+pub const AFTER_POINTS: u32 = 5;
 
 /// The reason against another server.
 pub const WRONG_SERVER: u32 = 6;
@@ -60,7 +59,7 @@ fn only(number: u64, reason: u32) -> Allowed
     Allowed {
         low: number,
         high: number,
-        truncated: TRUNCATED,
+        truncated: TRUNCATED_ENVELOPE,
         outside: reason,
     }
 }
@@ -72,8 +71,8 @@ fn point() -> Allowed
     Allowed {
         low: 0,
         high: P - 1,
-        truncated: TRUNCATED,
-        outside: BAD_NUMBER,
+        truncated: TRUNCATED_ENVELOPE,
+        outside: BAD_POINT,
     }
 }
 
@@ -94,9 +93,9 @@ fn read_header(grid: &Grid, server: Point, bytes: &[u8]) -> Result<usize, ReadFa
 /// The envelope for this server, of this grid.
 ///
 /// The first place from the left that breaks the format is named: the front as [`BAD_MAGIC`]; a field that is cut off as
-/// [`TRUNCATED`]; the server as [`WRONG_SERVER`]; a base, a tick or a number of prices as [`WRONG_GRID`]; a point as
-/// [`BAD_NUMBER`]; the first byte after the last point as [`TRAILING`]. The file is gone over once, and memory is taken for
-/// no more points than it can hold.
+/// [`TRUNCATED_ENVELOPE`]; the server as [`WRONG_SERVER`]; a base, a tick or a number of prices as [`WRONG_GRID`]; a point
+/// as [`BAD_POINT`]; the first byte after the last point as [`AFTER_POINTS`]. The file is gone over once, and memory is
+/// taken for no more points than it can hold.
 #[tactic(auto, unfolding(crate::specs::Envelopes::envelope_of))]
 pub fn read_envelope(
     alloc: Global,
@@ -110,19 +109,8 @@ pub fn read_envelope(
 {
     let at = read_header(grid, server, bytes)?;
     let (points, at) = read_points(alloc, bytes, point(), 2 * grid.prices() as u64, at)?;
-    read_end(bytes, TRAILING, at)?;
+    read_end(bytes, AFTER_POINTS, at)?;
     Ok(Envelope { server, points })
-}
-
-/// Appends points.
-fn push_points(file: &mut Vec<u8>, points: &[Fe]) -> Result<(), AllocError>
-    ensures bytes { OnOk result (file.new.items ≡ file.old.items ++ flat_map number_bytes points.now) }
-    ensures points { OnOk result (All IsElement points.now) }
-{
-    for point in points {
-        push_number(file, point.value())?;
-    }
-    Ok(())
 }
 
 /// A file that has what stands before the points, and room for these.
@@ -160,7 +148,7 @@ pub fn write_envelope(
     ensures bytes { IfOk result (λ file. file.items ≡ envelope_bytes grid.now envelope.now) }
     ensures again { IfOk result
         (λ file. envelope_of grid.now envelope.now.server file.items ≡ Ok envelope.now) }
-    ensures size { IfOk result (λ file. length file.items ≡ 40 + 16 * grid.now.prices) }
+    ensures size { IfOk result (λ file. length file.items ≡ HEADER + PRICE * grid.now.prices) }
 {
     let file = bytes_of(alloc, grid, envelope)?;
     Ok(file)

@@ -6,8 +6,8 @@ mod list_file;
 mod sealing;
 
 pub use envelope::{
-    BAD_NUMBER, ENVELOPE_LIMIT, Envelope, TRAILING, TRUNCATED, WRONG_GRID, WRONG_SERVER,
-    read_envelope, write_envelope,
+    AFTER_POINTS, BAD_POINT, ENVELOPE_LIMIT, Envelope, TRUNCATED_ENVELOPE, WRONG_GRID,
+    WRONG_SERVER, read_envelope, write_envelope,
 };
 pub use list_file::{LIST_LIMIT, ListEntry, read_list};
 pub use sealing::seal;

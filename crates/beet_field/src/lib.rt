@@ -19,6 +19,9 @@ pub use trio::Trio;
 /// The modulus, `2^61 - 1`.
 pub const P: u64 = 2_305_843_009_213_693_951;
 
+/// The most numbers of one message, so also the most pairs or wires of a batch.
+pub const MOST_NUMBERS: usize = 64;
+
 /// 1 less than the modulus, the factor that takes a number away.
 pub const MINUS_ONE: u128 = P as u128 - 1;
 
@@ -58,8 +61,8 @@ fn fold(n: u128) -> u128
     (n >> 61) + (n & P as u128)
 }
 
-/// Subtracts `P` where the number has it. It suffices below `2 * P`, where `(n + 1) >> 61` is 1 for the
-/// numbers that have it, and 0 for all others: with no branch, loops over lists of numbers go two at a time.
+/// Subtracts `P` from a number of `P` or more. Below `2 * P`, where this suffices, `(n + 1) >> 61` is 1 for these
+/// numbers and 0 for all others: with no branch, loops over lists of numbers go two at a time.
 fn take_modulus(n: u64) -> Fe
     requires { n < 2 * p }
     ensures { result ≡ n % p }

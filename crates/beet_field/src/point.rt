@@ -1,7 +1,7 @@
 //! The points at which the servers hold their shares.
 
 ghost use Rattle.std.specs.Prelude.{◌≡◌, ◌↔◌, ◌≤◌, ◌⊎◌, IfSome, IsNone};
-ghost use Rattle.beet_field.specs.Point.{number_of, others_of};
+ghost use Rattle.beet_field.specs.Point.{number_of, others_of, server_of};
 
 /// One of three servers, and the point at which it holds its shares.
 #[derive(Clone, Copy, PartialEq, Eq, Debug)]
@@ -35,6 +35,18 @@ impl Point {
             1 => Some(Point::One),
             2 => Some(Point::Two),
             3 => Some(Point::Three),
+            _ => None,
+        }
+    }
+
+    /// The point of the digit `1`, `2` or `3`, or `None` where the text is none of them.
+    pub fn of_digit(text: &[u8]) -> Option<Point>
+        ensures { result ≡ server_of text.now }
+    {
+        match text {
+            b"1" => Some(Point::One),
+            b"2" => Some(Point::Two),
+            b"3" => Some(Point::Three),
             _ => None,
         }
     }

@@ -2,11 +2,12 @@
 -- order, and then the results of its act.
 use Rattle.std.specs.Prelude.{◌≡◌, ◌<◌, ◌≤◌, ◌+◌, ◌⊎◌, ℕ, zero, suc, List, [], ◌∷◌, ◌++◌, length}
 use Rattle.beet_field.specs.declared.trio.Trio.{Trio}
+use Rattle.beet_field.specs.declared.TheConstants.{MOST_NUMBERS}
 use Rattle.beet_gates.specs.declared.Act.{Act}
 use Rattle.beet_gates.specs.declared.Act.TheVariants.{Deal, Mul, Reveal, End}
 use Rattle.beet_gates.specs.declared.Batch.{Batch}
 use Rattle.beet_gates.specs.declared.Linear.{Linear}
-use Rattle.beet_gates.specs.declared.TheConstants.{MOST_LETS, MOST_NUMBERS}
+use Rattle.beet_gates.specs.declared.TheConstants.{MOST_LETS}
 
 -- each wire that the terms name is below n; that of a term with factor 0 too
 abbrev pub TermsBelow : ℕ → List (ℕ × ℕ) → Type 0

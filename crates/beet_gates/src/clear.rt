@@ -6,7 +6,7 @@ ghost use Rattle.beet_field.specs.Field.{p};
 ghost use Rattle.beet_gates.specs.Each.{each};
 ghost use Rattle.beet_gates.specs.Deals.{dealt_bits, deals_of};
 ghost use Rattle.beet_gates.specs.Scripts.{TermsBelow, LetsBelow, PairsBelow, WiresBelow, ActBelow, deals_in, HasWords};
-ghost use Rattle.beet_gates.specs.Clear.{weighed, let_of, with_lets, product_of, is_end, batch_on, clear_at, start_values, EndsAfter};
+ghost use Rattle.beet_gates.specs.Clear.{weighed, let_of, with_lets, product_of, batch_on, clear_at, start_values, EndsAfter};
 
 use crate::{Act, Batch, Linear, Script};
 use beet_field::{Fe, Trio};
@@ -76,7 +76,7 @@ fn append_lets(wires: &mut Vec<Fe>, lets: &[Linear]) -> Result<(), AllocError>
 }
 
 /// The product of two wires.
-fn multiply(wires: &[Fe], pair: (u32, u32)) -> Fe
+pub fn multiply(wires: &[Fe], pair: (u32, u32)) -> Fe
     requires first { pair.0 < length wires.now }
     requires second { pair.1 < length wires.now }
     ensures { result ≡ product_of wires.now pair }
@@ -97,7 +97,7 @@ fn append_products(wires: &mut Vec<Fe>, pairs: &[(u32, u32)]) -> Result<(), Allo
 }
 
 /// The bit of a word at the place, as a number.
-fn bit_of(word: Word, k: u32) -> Fe
+pub fn bit_of(word: Word, k: u32) -> Fe
     requires { k < 61 }
     ensures { result ≡ bit_at word k }
 {
@@ -134,13 +134,6 @@ fn append_opened(wires: &[Fe], opened: &mut Vec<Fe>, shown: &[u32]) -> Result<()
         opened.push(wires[*wire as usize])?;
     }
     Ok(())
-}
-
-/// Whether an act is the end.
-fn is_last(act: &Act) -> bool
-    ensures { result ≡ is_end act.now }
-{
-    matches!(act, Act::End)
 }
 
 impl Run {
@@ -228,7 +221,7 @@ pub fn clear_run<S: Script>(
     for done in 0..rounds {
         script.refill(done, run.opened(), &mut place, &mut batch);
         run.step(&batch, masks)?;
-        if is_last(&batch.act) {
+        if batch.act.is_end() {
             return Ok(run.finish(done));
         }
     }

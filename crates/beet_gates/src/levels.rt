@@ -1,13 +1,14 @@
 //! Lists of items that are combined in pairs, level by level.
 
 ghost use Rattle.std.specs.Prelude.{◌≡◌, ◌<◌, ◌≤◌, ◌+◌, ◌*◌, ◌^◌, ◌⊎◌, ℕ};
+ghost use Rattle.beet_field.specs.declared.TheConstants.{MOST_NUMBERS};
 ghost use Rattle.beet_gates.specs.Each.{each};
 ghost use Rattle.beet_gates.specs.Levels.{places_of_pair, wire_of, IsPaired, IsCarried};
 
 /// The places of the items in `K` pairs: pair `i` has the items `2i` and `2i + 1`.
 #[tactic(auto, using(crate::proofs::EachFacts::each_steps))]
 pub fn level_pairs<const K: usize>() -> [(u32, u32); K]
-    requires { K ≤ 64 }
+    requires { K ≤ MOST_NUMBERS }
     ensures { result ≡ each places_of_pair K }
 {
     let mut pairs = [(0, 0); K];

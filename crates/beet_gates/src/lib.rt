@@ -7,8 +7,10 @@
 #![tactic(auto)]
 
 ghost use Rattle.std.specs.Prelude.{◌≡◌, ◌≤◌, ◌++◌, ℕ, List, []};
+ghost use Rattle.beet_field.specs.declared.TheConstants.{MOST_NUMBERS};
 ghost use Rattle.beet_gates.specs.declared.Batch.{Batch};
-ghost use Rattle.beet_gates.specs.Scripts.{LawFrom, start_of, bounds_of};
+ghost use Rattle.beet_gates.specs.Clear.{is_end};
+ghost use Rattle.beet_gates.specs.Scripts.{LawFrom, start_of, bounds_of, size_of};
 
 mod clear;
 mod filling;
@@ -16,13 +18,10 @@ mod levels;
 mod product;
 
 use arrayvec::ArrayVec;
-use beet_field::Fe;
-pub use clear::{ClearRun, clear_run, evaluate};
+use beet_field::{Fe, MOST_NUMBERS};
+pub use clear::{ClearRun, bit_of, clear_run, evaluate, multiply};
 pub use levels::{LevelItems, level_law, level_pairs};
 pub use product::Product;
-
-/// The most numbers that a server sends another in one round: pairs that are multiplied, or wires that are opened.
-pub const MOST_NUMBERS: usize = 64;
 
 /// The most lets of one batch.
 pub const MOST_LETS: usize = 128;
@@ -61,6 +60,28 @@ pub enum Act {
     Reveal(ArrayVec<u32, MOST_NUMBERS>),
     /// The run is over.
     End,
+}
+
+impl Act {
+    /// How many numbers a server sends another for it.
+    pub fn size(&self) -> u32
+        ensures size { result ≡ size_of self.now }
+        ensures few { result ≤ MOST_NUMBERS }
+    {
+        match self {
+            Act::Deal => 61,
+            Act::Mul(pairs) => pairs.len() as u32,
+            Act::Reveal(shown) => shown.len() as u32,
+            Act::End => 0,
+        }
+    }
+
+    /// Whether it is the end.
+    pub fn is_end(&self) -> bool
+        ensures { result ≡ is_end self.now }
+    {
+        matches!(self, Act::End)
+    }
 }
 
 /// One batch of a script: the lets are appended, and then the act is done.
@@ -135,8 +156,8 @@ pub trait Script: Copy {
         is_at s done opened place → done ≤ later → is_at s later (opened ++ more) place };
 
     /// Whatever numbers are opened, each batch names only wires that stand before it or earlier in its own lets, no
-    /// product or opening is empty, no batch has more than 128 lets or 64 pairs or wires, the end comes after at most
-    /// `rounds` batches, and the wires, mask words and numbers drawn stay within their bounds.
+    /// product or opening is empty, no batch has more than `MOST_LETS` lets or `MOST_NUMBERS` pairs or wires, the end
+    /// comes after at most `rounds` batches, and the wires, mask words and numbers drawn stay within their bounds.
     ghost lawful: { (s : Self) →
         LawFrom (batch_of s) (bounds_of (wires_of s) (masks_of s) (coefficients_of s)) (rounds_of s) (start_of (inputs_of s)) [] };
 }

@@ -4,6 +4,7 @@ use Rattle.std.specs.Prelude.{if◌then◌else◌}
 use Rattle.std.proofs.lemmas.List.{length-map}
 use Rattle.std.proofs.lemmas.List.Elements.{All-nil, All-cons, All-head, All-tail, All-map}
 use Rattle.beet_field.specs.Field.{IsElement}
+use Rattle.beet_field.proofs.Trios.{at-each}
 use Rattle.beet_field.specs.Trio.{member}
 use Rattle.beet_field.specs.declared.point.Point.{Point}
 use Rattle.beet_field.specs.declared.point.Point.TheVariants.{One, Two, Three}
@@ -22,7 +23,7 @@ use Rattle.beet_bids.specs.Grids.{Grid, IsGrid}
 use Rattle.beet_bids.specs.declared.outcomes.Policy.{Policy}
 use Rattle.beet_bids.specs.declared.book.Bidder.{Bidder}
 use Rattle.beet_bids.specs.declared.grid.TheConstants.{MOST_PRICES}
-use Rattle.beet_bids.proofs.GridFacts.{comparisons-le}
+use Rattle.beet_bids.proofs.GridFacts.{few_comparisons}
 use Rattle.beet_plan.specs.Auction.{Auction, most_rounds, most_wires, most_masks as most_dealt, most_coefficients as most_drawn, auction_over}
 use Rattle.beet_bids.specs.Sums.{sums_of}
 use Rattle.beet_plan.proofs.AuctionLaw.{auction-law}
@@ -82,8 +83,8 @@ sent-elements o s End from to small = All-nil IsElement
 
 -- an auction has no more rounds than a transcript holds
 rounds-few : (prices : ℕ) (gates : Gates) (policy : Policy) → prices ≤ MOST_PRICES → most_rounds (record { prices = prices; gates = gates; policy = policy }) ≤ MOST_ROUNDS
-rounds-few prices Chain policy few = let comparisons = comparisons-le prices 13 (omega (arith, few)) in omega (arith, comparisons)
-rounds-few prices Tree policy few = let comparisons = comparisons-le prices 13 (omega (arith, few)) in omega (arith, comparisons)
+rounds-few prices Chain policy few = omega (arith, few_comparisons prices few)
+rounds-few prices Tree policy few = omega (arith, few_comparisons prices few)
 
 module _ (book : Book) (words : Words) (g : IsGrid book.grid) (b : IsBook book) (can : CanStart book words) where
   abbrev auction : Auction
@@ -180,22 +181,12 @@ module _ (book : Book) (words : Words) (g : IsGrid book.grid) (b : IsBook book) 
         let known = farmers-all (λ bidder. IsCurve bidder.curve) (λ list. All IsWord list) book.bidders words.bidders b.curves are.bidders in
         All-map HasNumbers (seen_at book.grid s) farmers (λ k d lt. farmer-numbers book.grid s (get_or farmers k d) (known k d lt).0 (known k d lt).1)
 
-    mask-words : (s : Point) → All IsWord (member words.masks s)
-    mask-words One = are.masks.0
-    mask-words Two = are.masks.1
-    mask-words Three = are.masks.2
-
-    coefficient-words : (s : Point) → All IsWord (member words.coefficients s)
-    coefficient-words One = are.coefficients.0
-    coefficient-words Two = are.coefficients.1
-    coefficient-words Three = are.coefficients.2
-
     numbers-of : (s : Point) → AreNumbers (view_for book words s)
     numbers-of s = record {
       grid = g;
       bidders = numbers-seen s;
-      masks = mask-words s;
-      coefficients = coefficient-words s;
+      masks = at-each (All IsWord) words.masks are.masks s;
+      coefficients = at-each (All IsWord) words.coefficients are.coefficients s;
       rounds = all-each HasElements (round_seen (setup_for book words) s) (rounds_for book words)
           (λ t lt. record { lower = message-elements (peer s Low) s t; higher = message-elements (peer s High) s t });
     }

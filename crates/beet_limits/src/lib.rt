@@ -4,17 +4,18 @@
 #![tactic(auto)]
 
 ghost use Rattle.std.specs.Prelude.{◌≡◌, ◌*◌, ◌^◌, ◌+◌, ◌-◌};
+ghost use Rattle.beet_field.specs.declared.TheConstants.{MOST_NUMBERS};
 ghost use Rattle.beet_forms.specs.declared.faults.TheConstants.{BAD_HEADER, BAD_ROW, LONGEST_FILE};
 ghost use Rattle.beet_forms.specs.declared.names.TheConstants.{LONGEST_NAME};
-ghost use Rattle.beet_words.specs.declared.bundle.TheConstants.{BAD_MAGIC, BAD_NUMBER, BUNDLE_LIMIT, MOST_BIDDERS, MOST_WORDS, TRAILING, TRUNCATED, WRONG_COUNT};
-ghost use Rattle.beet_words.specs.declared.tape_file.TheConstants.{BAD_LINE, TAPE_LIMIT, TOO_LARGE};
+ghost use Rattle.beet_words.specs.declared.bundle.TheConstants.{BAD_MAGIC, BAD_NUMBER, MOST_BIDDERS, MOST_WORDS, TRAILING, TRUNCATED, WRONG_COUNT};
+ghost use Rattle.beet_words.specs.declared.tape_file.TheConstants.{BAD_LINE, TAPE_LIMIT, WORD_TOO_LARGE};
 ghost use Rattle.beet_gates.specs.declared.Gates.TheVariants.{Chain, Tree};
-ghost use Rattle.beet_gates.specs.declared.TheConstants.{MOST_LETS, MOST_NUMBERS, WIRES_BEFORE_BITS};
+ghost use Rattle.beet_gates.specs.declared.TheConstants.{MOST_LETS, WIRES_BEFORE_BITS};
 ghost use Rattle.beet_bids.specs.declared.auction_file.TheConstants.{AUCTION_LIMIT, BAD_KEY, BAD_VALUE, NOT_ONE_PRICE, WRONG_VERSION};
 ghost use Rattle.beet_bids.specs.declared.bid_file.TheConstants.{BID_LIMIT};
 ghost use Rattle.beet_bids.specs.declared.curve.TheConstants.{LARGEST_QUANTITY};
-ghost use Rattle.beet_bids.specs.declared.grid.TheConstants.{LARGEST_BASE, LARGEST_TICK, MOST_PRICES};
-ghost use Rattle.beet_bids.specs.declared.lines.TheConstants.{BUY_RISES, NO_BASE, NOT_ASCENDING, OFF_GRID, SELL_FALLS, TOO_LARGE as QUANTITY_TOO_LARGE};
+ghost use Rattle.beet_bids.specs.declared.grid.TheConstants.{LARGEST_BASE, LARGEST_TICK, MOST_COMPARISONS, MOST_PRICES};
+ghost use Rattle.beet_bids.specs.declared.lines.TheConstants.{BUY_RISES, NO_BASE, NOT_ASCENDING, OFF_GRID, QUANTITY_TOO_LARGE, SELL_FALLS};
 ghost use Rattle.beet_mask.specs.Mask.{mask_rounds_of, mask_wires_of};
 ghost use Rattle.beet_compare.specs.Compare.{compare_rounds_of, compare_wires_of};
 ghost use Rattle.beet_plan.specs.declared.TheConstants.{MASK_COEFFICIENTS, SPARE_MASKS, SPARE_WORDS};
@@ -23,9 +24,9 @@ ghost use Rattle.beet_book.specs.declared.entries.TheConstants.{BAD_SOURCE};
 ghost use Rattle.beet_book.specs.declared.named_file.TheConstants.{ONE_TOO_MANY, SAME_NAME, TOO_MANY};
 ghost use Rattle.beet_book.specs.declared.server_file.TheConstants.{SERVERS_LIMIT};
 ghost use Rattle.beet_book.specs.declared.summing.TheConstants.{MOST_IN_BLOCK};
-ghost use Rattle.beet_world.specs.declared.schedule.TheConstants.{BAD_ROW as BAD_DELIVERY, LATEST_ROUND, MOST_DELIVERIES, ONE_TOO_MANY as ONE_DELIVERY_TOO_MANY, SCHEDULE_LIMIT, TOO_MANY as TOO_MANY_DELIVERIES};
+ghost use Rattle.beet_world.specs.declared.schedule.TheConstants.{BAD_DELIVERY, LATEST_ROUND, MOST_DELIVERIES, ONE_DELIVERY_TOO_MANY, SCHEDULE_LIMIT, TOO_MANY_DELIVERIES};
 ghost use Rattle.beet_view.specs.declared.reading.TheConstants.{MOST_ROUNDS};
-ghost use Rattle.beet_farmer.specs.declared.envelope.TheConstants.{BAD_NUMBER as BAD_POINT, ENVELOPE_LIMIT, TRAILING as TRAILING_POINTS, TRUNCATED as TRUNCATED_ENVELOPE, WRONG_GRID, WRONG_SERVER};
+ghost use Rattle.beet_farmer.specs.declared.envelope.TheConstants.{AFTER_POINTS, BAD_POINT, ENVELOPE_LIMIT, TRUNCATED_ENVELOPE, WRONG_GRID, WRONG_SERVER};
 ghost use Rattle.beet_farmer.specs.declared.list_file.TheConstants.{LIST_LIMIT};
 ghost use Rattle.beet_errand.specs.declared.fetching.TheConstants.{TOO_LONG};
 ghost use Rattle.beet_trial.specs.declared.rules.TheConstants.{BASE, FIRST_SEED, TICK};
@@ -40,7 +41,6 @@ pub fn files_have_these_limits()
     ensures tape { TAPE_LIMIT ≡ 1048576 }
     ensures schedule { SCHEDULE_LIMIT ≡ 16777216 }
     ensures envelope { ENVELOPE_LIMIT ≡ 131072 }
-    ensures bundle { BUNDLE_LIMIT ≡ 67108864 }
     ensures longest { LONGEST_FILE ≡ 67108864 }
 {}
 
@@ -49,6 +49,7 @@ pub fn auctions_have_these_limits()
     ensures base { LARGEST_BASE ≡ 10 ^ 12 }
     ensures tick { LARGEST_TICK ≡ 10 ^ 9 }
     ensures prices { MOST_PRICES ≡ 4096 }
+    ensures comparisons { MOST_COMPARISONS ≡ 13 }
     ensures bidders { MOST_BIDDERS ≡ 2000 }
     ensures product { MOST_PRODUCT ≡ 500000 }
     ensures quantity { LARGEST_QUANTITY ≡ 2 ^ 48 - 1 }
@@ -117,7 +118,7 @@ pub fn text_reasons_have_these_numbers()
 /// The reasons of tapes, bundles, transcripts and envelopes.
 pub fn binary_reasons_have_these_numbers()
     ensures bad_line { BAD_LINE ≡ 1 }
-    ensures too_large { TOO_LARGE ≡ 2 }
+    ensures word_too_large { WORD_TOO_LARGE ≡ 2 }
     ensures bad_magic { BAD_MAGIC ≡ 1 }
     ensures truncated { TRUNCATED ≡ 2 }
     ensures bad_number { BAD_NUMBER ≡ 3 }
@@ -126,6 +127,6 @@ pub fn binary_reasons_have_these_numbers()
     ensures wrong_grid { WRONG_GRID ≡ 2 }
     ensures truncated_envelope { TRUNCATED_ENVELOPE ≡ 3 }
     ensures bad_point { BAD_POINT ≡ 4 }
-    ensures trailing_points { TRAILING_POINTS ≡ 5 }
+    ensures after_points { AFTER_POINTS ≡ 5 }
     ensures wrong_server { WRONG_SERVER ≡ 6 }
 {}

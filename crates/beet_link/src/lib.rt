@@ -4,10 +4,10 @@
 
 mod ends;
 mod gates;
-mod opening;
+mod making;
 mod parcel;
 mod rule;
 
 pub use ends::{LinkRx, LinkTx};
 pub use gates::{FreeGate, Gate, MetGate, Note};
-pub use opening::link;
+pub use making::link;

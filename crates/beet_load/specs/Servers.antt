@@ -17,7 +17,8 @@ use Rattle.beet_errand.specs.Errands.{Errand, Step, ◌>>=◌, ◌>>◌, answers
 use Rattle.beet_load.specs.WordTexts.{server_short_text}
 use Rattle.beet_errand.specs.declared.answer.Status.TheVariants.{TooFewWords}
 use Rattle.beet_words.specs.declared.tape_file.TheConstants.{TAPE_LIMIT}
-use Rattle.beet_words.specs.declared.bundle.TheConstants.{BUNDLE_LIMIT, WRONG_COUNT}
+use Rattle.beet_forms.specs.declared.faults.TheConstants.{LONGEST_FILE}
+use Rattle.beet_words.specs.declared.bundle.TheConstants.{WRONG_COUNT}
 use Rattle.beet_plan.specs.Kept.{coefficients_kept}
 
 -- the words of one server: for its masks, and for the numbers that it draws
@@ -149,6 +150,6 @@ all_words_errand grid count (Three sources) = do
   servers ← three_errand grid sources
   gives (record { servers = servers; bidders = None })
 all_words_errand grid count (Bundle name) = do
-  words ← reads name BUNDLE_LIMIT (λ bytes. counted count (bundle_of bytes))
+  words ← reads name LONGEST_FILE (λ bytes. counted count (bundle_of bytes))
   enough_of_all grid (cut_servers grid words)
   gives (record { servers = cut_servers grid words; bidders = Some words.bidders })

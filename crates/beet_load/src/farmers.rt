@@ -21,17 +21,10 @@ use beet_bids::{BID_LIMIT, Curve, Grid, read_bid};
 use beet_book::{BidderSource, Entry};
 use beet_errand::{Status, Stop, fetch_file, judge};
 use beet_forms::ReadFault;
-use beet_plan::SPARE_WORDS;
+use beet_plan::words_kept;
 use beet_store::Shelf;
 use beet_words::{TAPE_LIMIT, Tape, WordList, read_tape};
 use std::alloc::{AllocError, Global};
-
-/// How many words are kept of a bidder's source: two for each price, and the spare words.
-pub fn words_kept(grid: &Grid) -> u32
-    ensures { result ≡ kept_of grid.now.prices }
-{
-    2 * grid.prices() + SPARE_WORDS
-}
 
 /// The curve of a bid file of at most 1,048,576 bytes, over the places of the grid. A file that cannot be fetched, is too
 /// long or breaks the format is refused with its line.
@@ -130,7 +123,7 @@ fn too_few_line(alloc: Global, number: u32, held: u32, wanted: u32) -> Result<Ve
 }
 
 /// Refuses a bidder whose words are too few.
-pub fn too_few_words(alloc: Global, number: u32, held: u32, wanted: u32) -> Stop
+pub(crate) fn too_few_words(alloc: Global, number: u32, held: u32, wanted: u32) -> Stop
     ensures { Refuses Status.TooFewWords (too_few_text number held wanted) result }
 {
     match too_few_line(alloc, number, held, wanted) {
@@ -162,7 +155,7 @@ pub struct Farmer {
 }
 
 /// The bidder of an entry of the book, which has this number, with the words that are given or those of its source.
-pub fn read_farmer<S: Shelf>(
+pub(crate) fn read_farmer<S: Shelf>(
     alloc: Global,
     shelf: &mut S,
     grid: &Grid,

@@ -16,10 +16,7 @@ mod whole_loading;
 pub use books::{read_entries, read_grid};
 pub use collecting::add_farmers;
 pub use curves::load_curves;
-pub use farmers::{
-    Farmer, check_words, front, read_curve, read_farmer, read_tape_file, too_few_words, words_kept,
-};
-pub use limits::check_product;
+pub use farmers::{Farmer, check_words, front, read_curve, read_tape_file};
 pub use loading::{Loaded, load};
 pub use servers::{
     AllWords, ServerWords, check_three, cut_three, read_sources, read_words, seed_words,

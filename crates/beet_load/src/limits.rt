@@ -13,7 +13,12 @@ use beet_forms::Place;
 use std::alloc::Global;
 
 /// Refuses the book of this name where its bidders, at most 2,000, are too many for the prices of the grid.
-pub fn check_product(alloc: Global, book: &str, grid: &Grid, count: usize) -> Result<(), Stop>
+pub(crate) fn check_product(
+    alloc: Global,
+    book: &str,
+    grid: &Grid,
+    count: usize,
+) -> Result<(), Stop>
     requires { count ≤ MOST_BIDDERS }
     ensures tests { Tests (within_product book.now grid.now count) result }
     ensures within { IfOk result (λ done. count * grid.now.prices ≤ MOST_PRODUCT) }

@@ -1,29 +1,25 @@
 //! Reading the words of the servers.
 
-ghost use Rattle.std.specs.Prelude.{◌≡◌, ◌≤◌, ◌*◌, IfOk, length, take, Ok, Option, Some, None, option_map, codes};
+ghost use Rattle.std.specs.Prelude.{◌≡◌, ◌≤◌, IfOk, length, take, Ok, Option, Some, None, option_map, codes};
 ghost use Rattle.beet_forms.specs.Faults.{Answers};
 ghost use Rattle.beet_words.specs.Bundles.{bundle_of};
-ghost use Rattle.beet_bids.specs.Grids.{IsGrid};
 ghost use Rattle.beet_book.specs.ServerFiles.{servers_of};
 ghost use Rattle.beet_errand.specs.Errands.{reads};
 ghost use Rattle.beet_errand.specs.Fetches.{Reads, Refuses, Tests};
-ghost use Rattle.beet_plan.specs.Kept.{coefficients_kept};
-ghost use Rattle.beet_load.specs.Servers.{masks_wanted, coefficients_wanted, seeded, source_errand, enough_of, enough_of_all, HasEnough, HaveEnough, IsCut, AreCut, server_errand, three_errand, counted, cut_server, cut_servers, all_words_errand};
+ghost use Rattle.beet_load.specs.Servers.{seeded, source_errand, enough_of, enough_of_all, HasEnough, HaveEnough, IsCut, AreCut, server_errand, three_errand, counted, cut_server, cut_servers, all_words_errand};
 ghost use Rattle.beet_load.specs.WordTexts.{server_short_text};
 ghost use Rattle.beet_forms.specs.declared.faults.TheConstants.{LONGEST_FILE};
-ghost use Rattle.beet_words.specs.declared.bundle.TheConstants.{BUNDLE_LIMIT};
 ghost use Rattle.beet_book.specs.declared.server_file.TheConstants.{SERVERS_LIMIT};
-ghost use Rattle.beet_plan.specs.declared.TheConstants.{MASK_COEFFICIENTS};
 
 use crate::farmers::{front, read_tape_file};
 use beet_bids::Grid;
 use beet_book::{SERVERS_LIMIT, ServerSource, Servers, read_servers};
 use beet_errand::{Status, Stop, fetch_file, judge};
 use beet_field::Trio;
-use beet_forms::{Name, ReadFault, beside};
-use beet_plan::{MASK_COEFFICIENTS, SPARE_MASKS, SPARE_WORDS};
+use beet_forms::{LONGEST_FILE, Name, ReadFault, beside};
+use beet_plan::{coefficients_kept, masks_kept, most_coefficients, most_masks};
 use beet_store::Shelf;
-use beet_words::{BUNDLE_LIMIT, Tape, WRONG_COUNT, WordList, Words, read_bundle};
+use beet_words::{Tape, WRONG_COUNT, WordList, Words, read_bundle};
 use std::alloc::{AllocError, Global};
 use std::marker::Model;
 
@@ -68,7 +64,10 @@ impl Model for AllWords {
 
     ghost Value = { Shown };
 
-    ghost view = { λ a. record { servers = a.servers; bidders = option_map (λ lists. lists.items) a.bidders } };
+    ghost view = { λ a. record {
+      servers = a.servers;
+      bidders = option_map (λ lists. lists.items) a.bidders;
+    } };
 }
 
 impl AllWords {
@@ -80,40 +79,13 @@ impl AllWords {
     }
 }
 
-/// How many mask words a server wants.
-fn wanted_masks(grid: &Grid) -> u32
-    requires { IsGrid grid.now }
-    ensures value { result ≡ masks_wanted grid.now }
-    ensures few { result ≤ 15 }
-{
-    grid.comparisons() + SPARE_MASKS
-}
-
-/// How many numbers a server has to be able to draw.
-fn wanted_coefficients(grid: &Grid) -> u32
-    requires { IsGrid grid.now }
-    ensures value { result ≡ coefficients_wanted grid.now }
-    ensures few { result ≤ 15 * MASK_COEFFICIENTS }
-{
-    MASK_COEFFICIENTS * wanted_masks(grid)
-}
-
-/// How many words for these numbers are kept.
-fn kept_coefficients(grid: &Grid) -> u32
-    requires { IsGrid grid.now }
-    ensures { result ≡ coefficients_kept grid.now }
-{
-    wanted_coefficients(grid) + SPARE_WORDS
-}
-
 /// The words of a seed.
 pub fn seed_words(alloc: Global, grid: &Grid, seed: &[u8; 32]) -> Result<ServerWords, AllocError>
-    requires { IsGrid grid.now }
     ensures { IfOk result (λ words. words ≡ seeded grid.now seed.now) }
 {
     Ok(ServerWords {
-        masks: Tape::of_seed(alloc, seed, 1, wanted_masks(grid))?,
-        coefficients: Tape::of_seed(alloc, seed, 0, kept_coefficients(grid))?,
+        masks: Tape::of_seed(alloc, seed, 1, masks_kept(grid))?,
+        coefficients: Tape::of_seed(alloc, seed, 0, coefficients_kept(grid))?,
     })
 }
 
@@ -125,13 +97,12 @@ fn read_tapes<S: Shelf>(
     coefficients: &str,
     masks: &str,
 ) -> Result<ServerWords, Stop>
-    requires { IsGrid grid.now }
     ensures cut { IfOk result (IsCut grid.now) }
     ensures reads { Reads (λ words. words) (S.seen shelf.old) (S.seen shelf.new)
         (source_errand grid.now (ServerSource.Tapes coefficients.now masks.now)) result }
 {
-    let coefficients = read_tape_file(alloc, shelf, coefficients, kept_coefficients(grid))?;
-    let masks = read_tape_file(alloc, shelf, masks, wanted_masks(grid))?;
+    let coefficients = read_tape_file(alloc, shelf, coefficients, coefficients_kept(grid))?;
+    let masks = read_tape_file(alloc, shelf, masks, masks_kept(grid))?;
     Ok(ServerWords {
         masks,
         coefficients,
@@ -145,7 +116,6 @@ fn read_source<S: Shelf>(
     grid: &Grid,
     source: &ServerSource,
 ) -> Result<ServerWords, Stop>
-    requires { IsGrid grid.now }
     ensures cut { IfOk result (IsCut grid.now) }
     ensures reads { Reads (λ words. words) (S.seen shelf.old) (S.seen shelf.new)
         (source_errand grid.now source.now) result }
@@ -188,16 +158,15 @@ fn too_few_words(alloc: Global, server: u32, kind: &str, held: u32, wanted: u32)
 
 /// Refuses the server of this number where it has too few words, of which those for numbers are counted first.
 fn check_counts(alloc: Global, grid: &Grid, server: u32, words: &ServerWords) -> Result<(), Stop>
-    requires { IsGrid grid.now }
     ensures tests { Tests (enough_of grid.now server words.now) result }
     ensures enough { IfOk result (λ done. HasEnough grid.now words.now) }
 {
-    let wanted = wanted_coefficients(grid);
+    let wanted = most_coefficients(grid.prices());
     let held = words.coefficients.accepted_left();
     if held < wanted {
         return Err(too_few_words(alloc, server, "coefficients", held, wanted));
     }
-    let wanted = wanted_masks(grid);
+    let wanted = most_masks(grid.prices());
     let held = words.masks.masks_left();
     if held < wanted {
         return Err(too_few_words(alloc, server, "masks", held, wanted));
@@ -213,7 +182,6 @@ fn read_server<S: Shelf>(
     server: u32,
     source: &ServerSource,
 ) -> Result<ServerWords, Stop>
-    requires { IsGrid grid.now }
     ensures enough { IfOk result (HasEnough grid.now) }
     ensures cut { IfOk result (IsCut grid.now) }
     ensures reads { Reads (λ words. words) (S.seen shelf.old) (S.seen shelf.new)
@@ -232,7 +200,6 @@ fn read_three<S: Shelf>(
     grid: &Grid,
     sources: &Trio<ServerSource>,
 ) -> Result<Trio<ServerWords>, Stop>
-    requires { IsGrid grid.now }
     ensures enough { IfOk result (HaveEnough grid.now) }
     ensures cut { IfOk result (AreCut grid.now) }
     ensures reads { Reads (λ servers. servers) (S.seen shelf.old) (S.seen shelf.new)
@@ -276,9 +243,9 @@ fn fetch_bundle<S: Shelf>(
     count: Option<usize>,
 ) -> Result<Words, Stop>
     ensures { Reads (λ words. words) (S.seen shelf.old) (S.seen shelf.new)
-        (reads name.now BUNDLE_LIMIT (λ bytes. counted count (bundle_of bytes))) result }
+        (reads name.now LONGEST_FILE (λ bytes. counted count (bundle_of bytes))) result }
 {
-    let bytes = fetch_file(alloc, shelf, name, BUNDLE_LIMIT)?;
+    let bytes = fetch_file(alloc, shelf, name, LONGEST_FILE)?;
     judge(alloc, name, counted_bundle(alloc, bytes.as_slice(), count))
 }
 
@@ -289,18 +256,16 @@ fn cut(
     masks: &WordList,
     coefficients: &WordList,
 ) -> Result<ServerWords, AllocError>
-    requires { IsGrid grid.now }
     ensures { IfOk result (λ words. words ≡ cut_server grid.now masks.now coefficients.now) }
 {
     Ok(ServerWords {
-        masks: front(alloc, masks, wanted_masks(grid))?,
-        coefficients: front(alloc, coefficients, kept_coefficients(grid))?,
+        masks: front(alloc, masks, masks_kept(grid))?,
+        coefficients: front(alloc, coefficients, coefficients_kept(grid))?,
     })
 }
 
 /// The words of the servers in a bundle, cut as those of tape files are, at their first words.
 pub fn cut_three(alloc: Global, grid: &Grid, words: &Words) -> Result<Trio<ServerWords>, AllocError>
-    requires { IsGrid grid.now }
     ensures { IfOk result (λ servers. servers ≡ cut_servers grid.now words.now) }
 {
     Trio::try_of(|at| { cut(alloc, grid, words.masks.get(at), words.coefficients.get(at)) })
@@ -308,7 +273,6 @@ pub fn cut_three(alloc: Global, grid: &Grid, words: &Words) -> Result<Trio<Serve
 
 /// Refuses the first server that has too few words.
 pub fn check_three(alloc: Global, grid: &Grid, servers: &Trio<ServerWords>) -> Result<(), Stop>
-    requires { IsGrid grid.now }
     ensures tests { Tests (enough_of_all grid.now servers.now) result }
     ensures enough { IfOk result (λ done. HaveEnough grid.now servers.now) }
 {
@@ -326,7 +290,6 @@ fn into_bidders(words: Words) -> Vec<WordList>
 
 /// The words of a bundle: those of the servers, cut as those of tape files are, and those of the bidders.
 fn cut_bundle(alloc: Global, grid: &Grid, words: Words) -> Result<AllWords, AllocError>
-    requires { IsGrid grid.now }
     ensures { IfOk result (λ all. all ≡ record {
       servers = cut_servers grid.now words;
       bidders = Some words.bidders;
@@ -348,7 +311,6 @@ fn read_bundled<S: Shelf>(
     name: &Name,
     count: Option<usize>,
 ) -> Result<AllWords, Stop>
-    requires { IsGrid grid.now }
     ensures enough { IfOk result (λ words. HaveEnough grid.now words.servers) }
     ensures cut { IfOk result (λ words. AreCut grid.now words.servers) }
     ensures reads { Reads (λ words. words) (S.seen shelf.old) (S.seen shelf.new)
@@ -369,7 +331,6 @@ pub fn read_words<S: Shelf>(
     servers: &Servers,
     count: Option<usize>,
 ) -> Result<AllWords, Stop>
-    requires { IsGrid grid.now }
     ensures enough { IfOk result (λ words. HaveEnough grid.now words.servers) }
     ensures cut { IfOk result (λ words. AreCut grid.now words.servers) }
     ensures reads { Reads (λ words. words) (S.seen shelf.old) (S.seen shelf.new)

@@ -23,7 +23,6 @@ pub(crate) struct Setting {
 
 impl Model for Setting {
     ghost use Rattle.std.specs.Prelude.{◌≤◌, length};
-    ghost use Rattle.beet_bids.specs.Grids.{IsGrid};
     ghost use Rattle.beet_load.specs.Settings.{Setting as Seen};
     ghost use Rattle.beet_words.specs.declared.bundle.TheConstants.{MOST_BIDDERS};
 
@@ -31,7 +30,7 @@ impl Model for Setting {
 
     ghost view = { λ a. record { grid = a.grid; sources = a.sources; entries = a.entries.items } };
 
-    ghost invariant = { λ a. IsGrid a.grid × (length a.entries.items ≤ MOST_BIDDERS) };
+    ghost invariant = { λ a. length a.entries.items ≤ MOST_BIDDERS };
 }
 
 /// Reads the files of an auction, of its servers and of its book.

@@ -50,8 +50,8 @@ bit_lets first = each (λ k. xor_let (first + 244 + k) (first + 122 + k) (first 
 -- their product, a bit after another, is opened
 abbrev pub chain_batches : ℕ → List Batch
 chain_batches first =
-    mul_batch (bit_lets first) ((first + 366, first + 367) ∷ [])
-    ∷ (each (λ j. mul_batch [] ((first + 427 + j, first + 368 + j) ∷ [])) 59 ++ reveal_batch [] ((first + 486) ∷ []) ∷ [])
+    mul_batch (bit_lets first) ((first + WIRES_BEFORE_BITS, first + (WIRES_BEFORE_BITS + 1)) ∷ [])
+    ∷ (each (λ j. mul_batch [] ((first + 427 + j, first + (WIRES_BEFORE_BITS + 2) + j) ∷ [])) 59 ++ reveal_batch [] ((first + 486) ∷ []) ∷ [])
 
 -- the product of a list of n wires, by so many levels, is opened: after the lets the items are multiplied in pairs, whose products begin
 -- at the first free wire

@@ -5,6 +5,7 @@
 
 ghost use Rattle.std.specs.Prelude.{◌≡◌, ◌<◌, ◌≤◌, ◌+◌, ◌-◌, ◌*◌, ◌^◌, ◌↔◌, ℕ, List, [], ◌∷◌, length, slice_get, IsNone};
 ghost use Rattle.beet_field.specs.Field.{p};
+ghost use Rattle.beet_field.specs.declared.TheConstants.{MOST_NUMBERS};
 ghost use Rattle.beet_gates.specs.Batches.{mul_batch};
 ghost use Rattle.beet_gates.specs.Plans.{batch_at};
 ghost use Rattle.beet_gates.specs.Clear.{Values, batches_on};
@@ -14,9 +15,9 @@ ghost use Rattle.beet_gates.specs.Levels.{places_of_pair, wire_of};
 ghost use Rattle.beet_mask.specs.Mask.{bit_wire_of, level_wire, mask_rounds_of, mask_wires_of, bit_lets, chain_batches, product_batches, mask_batches, mask_of, xor_let, AfterMask};
 
 use arrayvec::ArrayVec;
-use beet_field::{Fe, MINUS_TWO};
+use beet_field::{Fe, MINUS_TWO, MOST_NUMBERS};
 use beet_gates::{
-    Act, Batch, Gates, LevelItems, Linear, MASK_WIRES, WIRES_BEFORE_BITS, level_pairs,
+    Act, Batch, Gates, LevelItems, Linear, MASK_WIRES, MOST_LETS, WIRES_BEFORE_BITS, level_pairs,
 };
 
 /// The rounds of a block with chain gates: the deal, two products of words, one for each bit from the second on, and the opening.
@@ -55,7 +56,7 @@ pub fn bit_wire(first: u32, k: u32) -> u32
 
 /// The bits of two words in pairs.
 #[tactic(auto, using(beet_gates::proofs::EachFacts::each_steps))]
-fn bit_pairs(left: u32, right: u32) -> ArrayVec<(u32, u32), 64>
+fn bit_pairs(left: u32, right: u32) -> ArrayVec<(u32, u32), MOST_NUMBERS>
     requires left { left + 61 < 2 ^ 32 }
     requires right { right + 61 < 2 ^ 32 }
     ensures { result.items ≡ each (λ k. (left + k, right + k)) 61 }
@@ -84,7 +85,7 @@ fn exclusive_or(minus_two: Fe, left: u32, right: u32, product: u32) -> Linear
 
 /// Appends the exclusive or of two words, bit by bit, from the products of their bits.
 #[tactic(auto, using(beet_gates::proofs::EachFacts::each_steps))]
-fn add_bit_sums(left: u32, right: u32, product: u32, lets: &mut ArrayVec<Linear, 128>)
+fn add_bit_sums(left: u32, right: u32, product: u32, lets: &mut ArrayVec<Linear, MOST_LETS>)
     requires none { lets.old.items ≡ [] }
     requires left { left + 61 < 2 ^ 32 }
     requires right { right + 61 < 2 ^ 32 }
@@ -133,8 +134,8 @@ fn refill_chain(step: u32, first: u32, batch: &mut Batch)
 }
 
 /// `K` products of a list in pairs.
-fn products_in_pairs<const K: usize>(items: LevelItems) -> ArrayVec<(u32, u32), 64>
-    requires few { K ≤ 64 }
+fn products_in_pairs<const K: usize>(items: LevelItems) -> ArrayVec<(u32, u32), MOST_NUMBERS>
+    requires few { K ≤ MOST_NUMBERS }
     requires wires { items.start + items.step * items.results ≤ 2 ^ 32 }
     ensures { result.items ≡ each (λ i. (wire_of items (places_of_pair i).0, wire_of items (places_of_pair i).1)) K }
 {
@@ -148,7 +149,7 @@ fn products_in_pairs<const K: usize>(items: LevelItems) -> ArrayVec<(u32, u32), 
 
 /// Multiplies a level of a tree, whose list has so many results from a wire on, after the same lets. What is carried is the last bit.
 fn set_level<const K: usize>(batch: &mut Batch, first: u32, start: u32, results: u32)
-    requires few { K ≤ 64 }
+    requires few { K ≤ MOST_NUMBERS }
     requires first { first + MASK_WIRES < 2 ^ 32 }
     requires start { start + results ≤ first + MASK_WIRES }
     ensures { batch.new ≡ mul_batch batch.old.lets.items

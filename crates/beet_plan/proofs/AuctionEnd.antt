@@ -116,7 +116,7 @@ spent-none masks i rej h =
     rw e (grind (arith, nat_tests))
 
 pub search_plan-open : (g : Blocks) (policy : Policy) (prices n lo hi first rej : ℕ) → nat_lt lo hi ≡ true →
-    search_plan g policy prices (suc n) lo hi first rej ≡ Block (g.mask first) (after_product g policy prices n lo hi first rej)
+    search_plan g policy prices (suc n) lo hi first rej ≡ Block (g.mask first) (after_product g prices (search_plan g policy prices n) lo hi first rej)
 unfolding search_plan
 search_plan-open g policy prices n lo hi first rej t = rw t refl
 
@@ -159,11 +159,11 @@ module _ (g : Blocks) (are : AreBlocks g) (policy : Policy) (deals : ℕ → Lis
         let end = place-open test m lo hi t in
         let a = mask-step g are deals masks prices supply demand first i v d s in
         let o : (x == 1) ≡ (masks i == p) = opened-rejected x (masks i) a.opened in
-        let begun : plan_end deals (search_plan g policy prices (suc n) lo hi first rej) v ≡ plan_end deals (after_product g policy prices n lo hi first rej x) after =
+        let begun : plan_end deals (search_plan g policy prices (suc n) lo hi first rej) v ≡ plan_end deals (after_product g prices (search_plan g policy prices n) lo hi first rej x) after =
         ap (λ (q : Plan Finish). plan_end deals q v) (search_plan-open g policy prices n lo hi first rej t)
-        ∙ end-block deals v (g.mask first) (after_product g policy prices n lo hi first rej) in
+        ∙ end-block deals v (g.mask first) (after_product g prices (search_plan g policy prices n) lo hi first rej) in
         let no = search_plan g policy prices n lo hi (after_mask g first) (rej + 1) in
-        let yes = compare_plan g prices (after_mask g first) first mid (after_answer g policy prices n lo hi first rej) in
+        let yes = compare_plan g prices (after_mask g first) first mid (after_answer g (search_plan g policy prices n) lo hi first rej) in
         begun ∙ elim (cases_eq (masks i) p) [
           | inl all ↦
               let o' : (x == 1) ≡ true = o ∙ eq-eqb (masks i) p all in
@@ -187,9 +187,9 @@ module _ (g : Blocks) (are : AreBlocks g) (policy : Policy) (deals : ℕ → Lis
               let b = compare-step g are deals prices supply demand (after_mask g first) first (masks i) (i + 1) mid after elements a.stands (omega arith) a.bits r within in
               let place : after_mask g first + g.compare_wires ≡ after_both g first = omega arith in
               let stands : Stands prices supply demand (after_both g first) (i + 1) late = rw place at b.stands in
-              let p : plan_end deals yes after ≡ plan_end deals (after_answer g policy prices n lo hi first rej y) late =
-              end-block deals after (g.masked (after_mask g first) first mid (prices + mid) ∷ []) (λ (c : ℕ). Block (g.answer (after_mask g first) first c) (after_answer g policy prices n lo hi first rej))
-              ∙ end-block deals middle (g.answer (after_mask g first) first c) (after_answer g policy prices n lo hi first rej) in
+              let p : plan_end deals yes after ≡ plan_end deals (after_answer g (search_plan g policy prices n) lo hi first rej y) late =
+              end-block deals after (g.masked (after_mask g first) first mid (prices + mid) ∷ []) (λ (c : ℕ). Block (g.answer (after_mask g first) first c) (after_answer g (search_plan g policy prices n) lo hi first rej))
+              ∙ end-block deals middle (g.answer (after_mask g first) first c) (after_answer g (search_plan g policy prices n) lo hi first rej) in
               let answer : y ≡ (if test mid then 1 else 0) = rw (reached mid within) at b.opened in
               let low = search_plan g policy prices n lo mid (after_both g first) rej in
               let high = search_plan g policy prices n (mid + 1) hi (after_both g first) rej in

@@ -170,12 +170,12 @@ module _ (g : Blocks) (are : AreBlocks g) (policy : Policy) (deals : ℕ → Lis
         let end = place-open test m lo hi t in
         let a = mask-step g are deals masks prices supply demand first i v d s in
         let o : (x == 1) ≡ (masks i == p) = opened-rejected x (masks i) a.opened in
-        let begun : plan_rounds deals (search_plan g policy prices (suc n) lo hi first rej) v ≡ g.mask_rounds + plan_rounds deals (after_product g policy prices n lo hi first rej x) after =
+        let begun : plan_rounds deals (search_plan g policy prices (suc n) lo hi first rej) v ≡ g.mask_rounds + plan_rounds deals (after_product g prices (search_plan g policy prices n) lo hi first rej x) after =
         ap (λ (q : Plan Finish). plan_rounds deals q v) (search_plan-open g policy prices n lo hi first rej t)
-        ∙ rounds-block deals v (g.mask first) (after_product g policy prices n lo hi first rej)
-        ∙ ap (λ k. k + plan_rounds deals (after_product g policy prices n lo hi first rej x) after) (are.masks.rounds first) in
+        ∙ rounds-block deals v (g.mask first) (after_product g prices (search_plan g policy prices n) lo hi first rej)
+        ∙ ap (λ k. k + plan_rounds deals (after_product g prices (search_plan g policy prices n) lo hi first rej x) after) (are.masks.rounds first) in
         let no = search_plan g policy prices n lo hi (after_mask g first) (rej + 1) in
-        let yes = compare_plan g prices (after_mask g first) first mid (after_answer g policy prices n lo hi first rej) in
+        let yes = compare_plan g prices (after_mask g first) first mid (after_answer g (search_plan g policy prices n) lo hi first rej) in
         elim (cases_eq (masks i) p) [
           | inl all ↦
               let o' : (x == 1) ≡ true = o ∙ eq-eqb (masks i) p all in
@@ -204,10 +204,10 @@ module _ (g : Blocks) (are : AreBlocks g) (policy : Policy) (deals : ℕ → Lis
               let place : after_mask g first + g.compare_wires ≡ after_both g first = omega arith in
               let stands : Stands prices supply demand (after_both g first) (i + 1) late = rw place at b.stands in
               let count : 1 + length (g.answer (after_mask g first) first c) ≡ g.compare_rounds = are.comparisons.rounds (after_mask g first) first c in
-              let p : plan_rounds deals yes after ≡ 1 + (length (g.answer (after_mask g first) first c) + plan_rounds deals (after_answer g policy prices n lo hi first rej y) late) =
-              rounds-block deals after (g.masked (after_mask g first) first mid (prices + mid) ∷ []) (λ (c : ℕ). Block (g.answer (after_mask g first) first c) (after_answer g policy prices n lo hi first rej))
-              ∙ ap (λ k. 1 + k) (rounds-block deals middle (g.answer (after_mask g first) first c) (after_answer g policy prices n lo hi first rej)) in
-              let q : plan_rounds deals (search_plan g policy prices (suc n) lo hi first rej) v ≡ g.mask_rounds + g.compare_rounds + plan_rounds deals (after_answer g policy prices n lo hi first rej y) late =
+              let p : plan_rounds deals yes after ≡ 1 + (length (g.answer (after_mask g first) first c) + plan_rounds deals (after_answer g (search_plan g policy prices n) lo hi first rej y) late) =
+              rounds-block deals after (g.masked (after_mask g first) first mid (prices + mid) ∷ []) (λ (c : ℕ). Block (g.answer (after_mask g first) first c) (after_answer g (search_plan g policy prices n) lo hi first rej))
+              ∙ ap (λ k. 1 + k) (rounds-block deals middle (g.answer (after_mask g first) first c) (after_answer g (search_plan g policy prices n) lo hi first rej)) in
+              let q : plan_rounds deals (search_plan g policy prices (suc n) lo hi first rej) v ≡ g.mask_rounds + g.compare_rounds + plan_rounds deals (after_answer g (search_plan g policy prices n) lo hi first rej y) late =
               omega (arith, begun ∙ ap (λ k. g.mask_rounds + k) (rounds-false deals after (x == 1) (if rej == 2 then Ended MasksSpent else no) yes o'), p, count) in
               let answer : y ≡ (if test mid then 1 else 0) = rw (reached mid within) at b.opened in
               let low = search_plan g policy prices n lo mid (after_both g first) rej in

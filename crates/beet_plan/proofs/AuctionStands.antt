@@ -141,7 +141,7 @@ module _ (bounds : Standing) where
           λ c. room-within g (after_all s2 (g.answer next first c)) (n2 - length (g.answer next first c)) l rej (left c) in
           let within2 : IsWithin bounds s2 = within-all bounds s2 (g.answer next first 0) (within3 0) in
           let within1 : IsWithin bounds s1 = within-all bounds s1 masked within2 in
-          rw t (stands-block n s (g.mask first) (after_product g policy prices fuel lo hi first rej) (are.masks.stands s) within1 (omega (arith, len, enough))
+          rw t (stands-block n s (g.mask first) (after_product g prices (search_plan g policy prices fuel) lo hi first rej) (are.masks.stands s) within1 (omega (arith, len, enough))
           (λ product. stands-if n1 s1 (product == 1) _ _
           (elim (cases_eq rej 2) [
             | inl two ↦ rw (eq-eqb rej 2 two) (stands-ended n1 s1 MasksSpent within1)
@@ -158,6 +158,6 @@ module _ (bounds : Standing) where
           rw w3 at (search-stands prices fuel l lo mid rej n3 s3 (omega (arith, w3)) (omega arith) (omega arith) hr (left c)) in
           let high : PlanStands bounds n3 s3 (search_plan g policy prices fuel (mid + 1) hi (after_both g first) rej) =
           rw w3 at (search-stands prices fuel l (mid + 1) hi rej n3 s3 (omega (arith, w3)) hp (omega arith) hr (left c)) in
-          stands-block n2 s2 answers (after_answer g policy prices fuel lo hi first rej) (b c) (within3 c) (omega (arith, len, enough, are.comparisons.rounds next first c))
+          stands-block n2 s2 answers (after_answer g (search_plan g policy prices fuel) lo hi first rej) (b c) (within3 c) (omega (arith, len, enough, are.comparisons.rounds next first c))
           (λ answer. stands-if n3 s3 (answer == 1) _ _ low high)))))
     ]

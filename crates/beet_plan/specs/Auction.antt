@@ -51,32 +51,26 @@ abbrev pub end_plan : Policy → ℕ → ℕ → Plan Finish
 end_plan policy prices place =
     if nat_lt place prices then opening_plan (shown_by policy (prices + place) place) (price_with place) else Ended NoPrice
 
+-- how a search goes on after the answer of a comparison: between which places, from which free wire on, and with how many rejected masks
+abbrev pub after_answer : Blocks → (ℕ → ℕ → ℕ → ℕ → Plan Finish) → ℕ → ℕ → ℕ → ℕ → ℕ → Plan Finish
+after_answer blocks search lo hi first rejected answer =
+    if answer == 1 then search lo ((lo + hi) / 2) (after_both blocks first) rejected
+    else search ((lo + hi) / 2 + 1) hi (after_both blocks first) rejected
+
+-- how it goes on after the opened product of a mask's bits
+abbrev pub after_product : Blocks → ℕ → (ℕ → ℕ → ℕ → ℕ → Plan Finish) → ℕ → ℕ → ℕ → ℕ → ℕ → Plan Finish
+after_product blocks prices search lo hi first rejected product =
+    if product == 1 then
+    (if rejected == SPARE_MASKS then Ended MasksSpent else search lo hi (after_mask blocks first) (rejected + 1))
+    else compare_plan blocks prices (after_mask blocks first) first ((lo + hi) / 2) (after_answer blocks search lo hi first rejected)
+
 -- the search between two places, where `first` is the first free wire, so many masks were rejected, and at most n more are dealt
 unfoldable pub search_plan : Blocks → Policy → ℕ → ℕ → ℕ → ℕ → ℕ → ℕ → Plan Finish
 search_plan blocks policy prices zero lo hi first rejected = end_plan policy prices lo
 search_plan blocks policy prices (suc n) lo hi first rejected =
     if nat_lt lo hi then
-    Block (blocks.mask first) (λ product.
-    if product == 1 then
-    (if rejected == SPARE_MASKS then Ended MasksSpent else search_plan blocks policy prices n lo hi (after_mask blocks first) (rejected + 1))
-    else
-    compare_plan blocks prices (after_mask blocks first) first ((lo + hi) / 2) (λ answer.
-    if answer == 1 then search_plan blocks policy prices n lo ((lo + hi) / 2) (after_both blocks first) rejected
-    else search_plan blocks policy prices n ((lo + hi) / 2 + 1) hi (after_both blocks first) rejected))
+    Block (blocks.mask first) (after_product blocks prices (search_plan blocks policy prices n) lo hi first rejected)
     else end_plan policy prices lo
-
--- how it goes on after the answer of a comparison
-abbrev pub after_answer : Blocks → Policy → ℕ → ℕ → ℕ → ℕ → ℕ → ℕ → ℕ → Plan Finish
-after_answer blocks policy prices n lo hi first rejected answer =
-    if answer == 1 then search_plan blocks policy prices n lo ((lo + hi) / 2) (after_both blocks first) rejected
-    else search_plan blocks policy prices n ((lo + hi) / 2 + 1) hi (after_both blocks first) rejected
-
--- how it goes on after the opened product of a mask's bits
-abbrev pub after_product : Blocks → Policy → ℕ → ℕ → ℕ → ℕ → ℕ → ℕ → ℕ → Plan Finish
-after_product blocks policy prices n lo hi first rejected product =
-    if product == 1 then
-    (if rejected == SPARE_MASKS then Ended MasksSpent else search_plan blocks policy prices n lo hi (after_mask blocks first) (rejected + 1))
-    else compare_plan blocks prices (after_mask blocks first) first ((lo + hi) / 2) (after_answer blocks policy prices n lo hi first rejected)
 
 -- the whole script: a mask for each comparison, and three that may be rejected
 abbrev pub auction_plan : Auction → Plan Finish
@@ -86,18 +80,24 @@ auction_plan a = search_plan (blocks_of a.gates) a.policy a.prices (comparisons_
 abbrev pub auction_batch : Auction → ℕ → List ℕ → Batch
 auction_batch a done opened = plan_batch (auction_plan a) done opened
 
--- the bounds of the script: rounds, mask words and coefficients of each server, and wires; for each comparison there is room for the
--- wires of a tree, whatever the gates
+-- the bounds of the script: rounds, mask words and coefficients of each server, which the number of prices tells, and wires; for each
+-- comparison there is room for the wires of a tree, whatever the gates
 abbrev pub most_rounds : Auction → ℕ
 most_rounds a =
     let blocks = blocks_of a.gates in
     comparisons_of a.prices * (blocks.mask_rounds + blocks.compare_rounds) + SPARE_MASKS * blocks.mask_rounds + 1
 
+abbrev pub most_masks_of : ℕ → ℕ
+most_masks_of prices = comparisons_of prices + SPARE_MASKS
+
+abbrev pub most_coefficients_of : ℕ → ℕ
+most_coefficients_of prices = MASK_COEFFICIENTS * most_masks_of prices
+
 abbrev pub most_masks : Auction → ℕ
-most_masks a = comparisons_of a.prices + SPARE_MASKS
+most_masks a = most_masks_of a.prices
 
 abbrev pub most_coefficients : Auction → ℕ
-most_coefficients a = MASK_COEFFICIENTS * most_masks a
+most_coefficients a = most_coefficients_of a.prices
 
 abbrev pub most_wires : Auction → ℕ
 most_wires a = 2 * a.prices + (blocks_of a.gates).mask_wires * most_masks a + compare_wires_of Tree * comparisons_of a.prices

@@ -13,6 +13,7 @@ use Rattle.beet_compare.specs.Compare.{is_doubled_even}
 use Rattle.beet_plan.specs.Blocks.{blocks_of}
 use Rattle.beet_plan.specs.Auction.{Auction, auction_plan, auction_batch, most_rounds, price_with}
 use Rattle.beet_plan.specs.Search.{path, place_found, mask_at, is_spent, dealt_until_spent, dealt_for}
+use Rattle.beet_plan.specs.declared.TheConstants.{SPARE_MASKS}
 use Rattle.beet_plan.specs.declared.Finish.{Finish}
 use Rattle.beet_plan.specs.declared.Finish.TheVariants.{Price, NoPrice, MasksSpent}
 
@@ -29,7 +30,7 @@ run_rounds a masks z =
     let blocks = blocks_of a.gates in
     let c = length (path a.prices z) in
     if is_spent masks c then
-    blocks.mask_rounds * dealt_until_spent masks c + blocks.compare_rounds * (dealt_until_spent masks c - 3)
+    blocks.mask_rounds * dealt_until_spent masks c + blocks.compare_rounds * (dealt_until_spent masks c - (SPARE_MASKS + 1))
     else blocks.mask_rounds * dealt_for masks c + blocks.compare_rounds * c + (if nat_lt z a.prices then opening_rounds a.policy else 0)
 
 -- the finish of a run whose search over these supplies and demands ends at z, where it is not spent

@@ -1,9 +1,15 @@
 //! The auction's script as blocks, one after another, and how it ends on plain values.
 #![tactic(auto)]
 
+ghost use Rattle.std.specs.Prelude.{◌≡◌, ◌≤◌, ◌+◌, ◌*◌};
+ghost use Rattle.beet_bids.specs.declared.grid.TheConstants.{MOST_COMPARISONS, MOST_PRICES};
+ghost use Rattle.beet_plan.specs.Auction.{most_masks_of, most_coefficients_of};
+ghost use Rattle.beet_plan.specs.Kept.{words_kept, masks_kept, coefficients_kept};
+
+use beet_bids::{Grid, comparisons};
 use beet_field::Fe;
 
-/// The most numbers that each server draws for a mask and the comparison with it, whatever the gates.
+/// Room for the numbers that each server draws for a mask and the comparison with it, whatever the gates.
 pub const MASK_COEFFICIENTS: u32 = 512;
 
 /// Masks that may be rejected in a run, beside those that are used.
@@ -11,6 +17,45 @@ pub const SPARE_MASKS: u32 = 2;
 
 /// Words that are kept of a tape beyond the numbers that are wanted of it, for words that are passed over.
 pub const SPARE_WORDS: u32 = 8;
+
+/// The most mask words that a run with so many prices wants of each server.
+pub fn most_masks(prices: u32) -> u32
+    requires { prices ≤ MOST_PRICES }
+    ensures value { result ≡ most_masks_of prices }
+    ensures few { result ≤ MOST_COMPARISONS + SPARE_MASKS }
+{
+    comparisons(prices) + SPARE_MASKS
+}
+
+/// The most numbers that each server draws in a run with so many prices.
+pub fn most_coefficients(prices: u32) -> u32
+    requires { prices ≤ MOST_PRICES }
+    ensures value { result ≡ most_coefficients_of prices }
+    ensures few { result ≤ MASK_COEFFICIENTS * (MOST_COMPARISONS + SPARE_MASKS) }
+{
+    MASK_COEFFICIENTS * most_masks(prices)
+}
+
+/// How many words are kept of each bidder's: two for each price, and the spare words.
+pub fn words_kept(grid: &Grid) -> u32
+    ensures { result ≡ words_kept grid.now.prices }
+{
+    2 * grid.prices() + SPARE_WORDS
+}
+
+/// How many mask words are kept of each server's.
+pub fn masks_kept(grid: &Grid) -> u32
+    ensures { result ≡ masks_kept grid.now }
+{
+    most_masks(grid.prices())
+}
+
+/// How many words for numbers are kept of each server's.
+pub fn coefficients_kept(grid: &Grid) -> u32
+    ensures { result ≡ coefficients_kept grid.now }
+{
+    most_coefficients(grid.prices()) + SPARE_WORDS
+}
 
 /// How a run ends.
 #[derive(Clone, Copy, PartialEq, Eq, Debug)]

@@ -10,7 +10,7 @@ use Rattle.beet_field.specs.declared.point.Point.TheVariants.{One, Two, Three}
 use Rattle.beet_store.specs.Files.{File, Told, bytes_of}
 use Rattle.beet_store.specs.Desks.{Given}
 use Rattle.beet_forms.specs.Names.{is_name_of}
-use Rattle.beet_forms.specs.declared.faults.TheConstants.{LONGEST_FILE as TRANSCRIPT_LIMIT}
+use Rattle.beet_forms.specs.declared.faults.TheConstants.{LONGEST_FILE}
 use Rattle.beet_words.specs.Bundles.{AreWords, Words}
 use Rattle.beet_bids.specs.AuctionFiles.{auction_of}
 use Rattle.beet_bids.specs.Books.{Book, IsBook}
@@ -22,16 +22,16 @@ use Rattle.beet_auction.specs.Endings.{book_finish, book_rounds}
 use Rattle.beet_view.specs.BookViews.{transcript_of_book, view_for}
 use Rattle.beet_view.specs.Transcripts.{view_bytes, view_in}
 use Rattle.beet_view.specs.Views.{Viewed}
-use Rattle.beet_errand.specs.Errands.{Answer, Errand, answers, reads}
+use Rattle.beet_errand.specs.Errands.{Answer, Errand, answers, file_for, reads}
 use Rattle.beet_errand.specs.Fetches.{IsDone}
-use Rattle.beet_errand.specs.Statuses.{code_of}
+use Rattle.beet_errand.specs.Statuses.{IsDoneCode, code_of}
 use Rattle.beet_errand.specs.declared.answer.Status.{Status}
 use Rattle.beet_errand.specs.declared.answer.Status.TheVariants.{AuditRefused}
 use Rattle.beet_load.specs.Loading.{Loaded}
 use Rattle.beet_load.specs.Servers.{coefficients_of, masks_of}
 use Rattle.beet_load.specs.Wholes.{CanStart, limited_errand}
 use Rattle.beet_run.specs.Outcomes.{outcome_answer}
-use Rattle.beet_record.specs.Records.{file_for, record_errand, recorded_answer, transcript_file}
+use Rattle.beet_record.specs.Records.{record_errand, recorded_answer, transcript_file}
 use Rattle.beet_kept.proofs.FittingViews.{view-again, view-short}
 use Rattle.beet_audit.specs.OneRuns.{OneRun}
 use Rattle.beet_audit.specs.declared.fault.AuditFault.{AuditFault}
@@ -49,7 +49,7 @@ use Rattle.beet_app_laws.proofs.Reading.{reads-to}
 use Rattle.beet_app_laws.proofs.Telling.{one-value, told-views}
 use Rattle.beet_program_laws.specs.Accepted.{HoldsRun, IsAccepted, audit_words}
 use Rattle.beet_program_laws.proofs.Audits.{not-refused}
-use Rattle.beet_program_laws.proofs.Ends.{Found, IsWhole, Ran, WentOut, answer-ends, found, named, run-ends}
+use Rattle.beet_program_laws.proofs.Ends.{Found, Ran, WentOut, answer-ends, found, named, run-ends}
 use Rattle.beet_program_laws.proofs.Grids.{grid-is}
 use Rattle.beet_program_laws.proofs.Read.{IsLimited, can-run, can-run-cut, farmers-back, is-book, limited, the_book, the_words}
 
@@ -113,7 +113,7 @@ module _ (files : List File) (auction out : List ℕ) (loaded : Loaded) (h : IsL
   -- a file with these bytes reads to the view
   transcript-held : (held : List File) (name : List ℕ) (s : Point) →
       bytes_of held name ≡ Some (transcript_of_book loaded.grid loaded.farmers (masks_of loaded.servers) (coefficients_of loaded.servers) s) →
-      IsHeld held name TRANSCRIPT_LIMIT view_in (view s)
+      IsHeld held name LONGEST_FILE view_in (view s)
   transcript-held held name s e = record {
     bytes = view_bytes (view s);
     held = e ∙ ap Some (same-transcript s);
@@ -131,12 +131,12 @@ module _ (files : List File) (auction out : List ℕ) (loaded : Loaded) (h : IsL
         let all : Grid → Viewed → Viewed → Viewed → Errand = λ grid first second third. next (record { grid = grid; views = record { one = first; two = second; three = third } }) in
         reads-to held name AUCTION_LIMIT auction_of loaded.grid
         (record { bytes = h.grid.bytes; held = r.auction_file ∙ h.grid.held; short = h.grid.short; is = h.grid.is })
-        (λ grid. reads one TRANSCRIPT_LIMIT view_in (λ first. reads two TRANSCRIPT_LIMIT view_in (λ second. reads three TRANSCRIPT_LIMIT view_in (λ third. all grid first second third))))
-        ∙ reads-to held one TRANSCRIPT_LIMIT view_in (view One) (transcript-held held one One (r.first ∙ hold.one))
-        (λ first. reads two TRANSCRIPT_LIMIT view_in (λ second. reads three TRANSCRIPT_LIMIT view_in (λ third. all loaded.grid first second third)))
-        ∙ reads-to held two TRANSCRIPT_LIMIT view_in (view Two) (transcript-held held two Two (r.second ∙ hold.two))
-        (λ second. reads three TRANSCRIPT_LIMIT view_in (λ third. all loaded.grid (view One) second third))
-        ∙ reads-to held three TRANSCRIPT_LIMIT view_in (view Three) (transcript-held held three Three (r.third ∙ hold.three))
+        (λ grid. reads one LONGEST_FILE view_in (λ first. reads two LONGEST_FILE view_in (λ second. reads three LONGEST_FILE view_in (λ third. all grid first second third))))
+        ∙ reads-to held one LONGEST_FILE view_in (view One) (transcript-held held one One (r.first ∙ hold.one))
+        (λ first. reads two LONGEST_FILE view_in (λ second. reads three LONGEST_FILE view_in (λ third. all loaded.grid first second third)))
+        ∙ reads-to held two LONGEST_FILE view_in (view Two) (transcript-held held two Two (r.second ∙ hold.two))
+        (λ second. reads three LONGEST_FILE view_in (λ third. all loaded.grid (view One) second third))
+        ∙ reads-to held three LONGEST_FILE view_in (view Three) (transcript-held held three Three (r.third ∙ hold.three))
         (λ third. all loaded.grid (view One) (view Two) third)
 
 -- ---- how an audit of views of one run ends
@@ -164,7 +164,7 @@ module _ (told : Told) (told_now : Option Told) (given now : Option Given) (end 
   finding other same (Some fault) not put = absurd (not (subst (λ (v : ReadViews). OneRun v.grid v.views) (sym same) one_run))
 
   -- an audit that is done says how the run ended
-  says-it : (w : IsWhole end) → Ran told told_now given now end w (Some (Auditing name one two three)) → Said given now (run_answer views).text
+  says-it : (w : IsDoneCode end) → Ran told told_now given now end w (Some (Auditing name one two three)) → Said given now (run_answer views).text
   says-it w (inl (answer, shows, r)) =
       let put : WentOut answer given now end = answer-ends told_now told_now answer given now end w r in
       finding shows.read (only shows.read (read-to told told_now (read_errand name one two three) shows.read shows.are_read)) shows.tells.found shows.tells.one_run
@@ -187,7 +187,7 @@ like ended status end is (inr other) = inr other
 
 -- ---- the whole
 
-module _ (told : Told) (told_now : Option Told) (before after : Given) (status : ℕ) (w : IsWhole status) (auction servers list out : List ℕ) where
+module _ (told : Told) (told_now : Option Told) (before after : Given) (status : ℕ) (w : IsDoneCode status) (auction servers list out : List ℕ) where
   abbrev Recorded : Type 0
   Recorded = Found told told_now (Some before) (Some after) status w (limited_errand auction servers list) (recorded_answer out) (IsLimited told.files auction)
 
@@ -212,8 +212,8 @@ module _ (told : Told) (told_now : Option Told) (before after : Given) (status :
               ends = like (run_answer read).status status end (ap (λ (x : Answer). code_of x.status) ended ∙ sym f.out.code)
                   (led (audit_words name one two three) told' told_now' given now end (run_answer read).status ran due);
               says = λ same. subst (Said given now) (ap (λ (x : Answer). x.text) ended)
-                  (says-it told' told_now' given now end name one two three read reads one_run (subst IsWhole (sym same) w)
-                  (subst (λ (j : Option Job). Ran told' told_now' given now end (subst IsWhole (sym same) w) j) job ran));
+                  (says-it told' told_now' given now end name one two three read reads one_run (subst IsDoneCode (sym same) w)
+                  (subst (λ (j : Option Job). Ran told' told_now' given now end (subst IsDoneCode (sym same) w) j) job ran));
             });
       }
 

@@ -10,7 +10,7 @@ use Rattle.beet_store.specs.Files.{File, Told}
 use Rattle.beet_store.specs.Desks.{Given}
 use Rattle.beet_forms.specs.Faults.{Reading}
 use Rattle.beet_forms.specs.Names.{is_name_of}
-use Rattle.beet_forms.specs.declared.faults.TheConstants.{LONGEST_FILE as TRANSCRIPT_LIMIT}
+use Rattle.beet_forms.specs.declared.faults.TheConstants.{LONGEST_FILE}
 use Rattle.beet_words.specs.Bundles.{Words, words_at}
 use Rattle.beet_words.specs.Fields.{counted_at, ended}
 use Rattle.beet_words.specs.Words.{IsWord}
@@ -36,6 +36,7 @@ use Rattle.beet_headline.specs.Halves.{CanRun}
 use Rattle.beet_errand.specs.Errands.{Answer, Errand, answers, reads}
 use Rattle.beet_errand.specs.Fetches.{IsDone}
 use Rattle.beet_errand.specs.declared.answer.Status.TheVariants.{AuditRefused, Done}
+use Rattle.beet_errand.specs.Statuses.{IsDoneCode}
 use Rattle.beet_load.specs.Servers.{coefficients_wanted}
 use Rattle.beet_audit.specs.Audits.{HaveElements, curve_of, points_of_bidder, recombined_bidder, recombined_book, run_of}
 use Rattle.beet_audit.specs.OneRuns.{OneRun}
@@ -51,7 +52,7 @@ use Rattle.beet_app_laws.specs.Dues.{ReadsTo}
 use Rattle.beet_app_laws.proofs.Led.{read-to}
 use Rattle.beet_app_laws.proofs.Telling.{one-value, told-views}
 use Rattle.beet_program_laws.specs.Commands.{AuditsOneRun}
-use Rattle.beet_program_laws.proofs.Ends.{IsWhole, Ran, WentOut, answer-ends, named, run-ends, servers-open, tells}
+use Rattle.beet_program_laws.proofs.Ends.{Ran, WentOut, answer-ends, named, run-ends, servers-open, tells}
 use Rattle.beet_program_laws.proofs.Files.{AreFew, any-reads, counted-are, then-reads, words-are}
 use Rattle.beet_program_laws.proofs.Read.{farmers-back, has-accepted}
 use Rattle.beet_program_laws.proofs.Steps.{Yields, any-yield, gives-yield, reads-yield, then-yields}
@@ -102,9 +103,9 @@ views-yield : (files : List File) (auction one two three : List ℕ) → Yields 
 unfolding read_errand
 views-yield files auction one two three =
     then-yields files (reads auction AUCTION_LIMIT auction_of) _ (λ grid. Unit {0}) AreReadViews (any-yield files auction AUCTION_LIMIT auction_of) (λ grid h.
-    then-yields files (reads one TRANSCRIPT_LIMIT view_in) _ IsReadView AreReadViews (reads-yield files one TRANSCRIPT_LIMIT view_in IsReadView view-is) (λ first h1.
-    then-yields files (reads two TRANSCRIPT_LIMIT view_in) _ IsReadView AreReadViews (reads-yield files two TRANSCRIPT_LIMIT view_in IsReadView view-is) (λ second h2.
-    then-yields files (reads three TRANSCRIPT_LIMIT view_in) _ IsReadView AreReadViews (reads-yield files three TRANSCRIPT_LIMIT view_in IsReadView view-is) (λ third h3.
+    then-yields files (reads one LONGEST_FILE view_in) _ IsReadView AreReadViews (reads-yield files one LONGEST_FILE view_in IsReadView view-is) (λ first h1.
+    then-yields files (reads two LONGEST_FILE view_in) _ IsReadView AreReadViews (reads-yield files two LONGEST_FILE view_in IsReadView view-is) (λ second h2.
+    then-yields files (reads three LONGEST_FILE view_in) _ IsReadView AreReadViews (reads-yield files three LONGEST_FILE view_in IsReadView view-is) (λ third h3.
     gives-yield files AreReadViews (record { grid = grid; views = record { one = first; two = second; three = third } })
     (three-read first second third h1 h2 h3)))))
 
@@ -223,7 +224,7 @@ pub not-refused : IsDone AuditRefused → ⊥
 not-refused (inl e) = cc
 not-refused (inr e) = cc
 
-module _ (told : Told) (told_now : Option Told) (given now : Option Given) (status : ℕ) (w : IsWhole status) (auction one two three : List ℕ) where
+module _ (told : Told) (told_now : Option Told) (given now : Option Given) (status : ℕ) (w : IsDoneCode status) (auction one two three : List ℕ) where
   abbrev Audited : Type 0
   Audited = AuditsOneRun told.files auction one two three status given now
 

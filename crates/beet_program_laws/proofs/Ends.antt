@@ -15,13 +15,13 @@ use Rattle.beet_headline.specs.Halves.{CanRun, are_spent}
 use Rattle.beet_headline.proofs.Standings.{stands}
 use Rattle.beet_errand.specs.Errands.{Answer, Errand, Ends, Step, Wants, answers}
 use Rattle.beet_errand.specs.Fetches.{IsDone, Went}
-use Rattle.beet_errand.specs.Statuses.{code_of}
+use Rattle.beet_errand.specs.Statuses.{IsDoneCode, code_of}
 use Rattle.beet_errand.specs.declared.answer.Status.{Status}
 use Rattle.beet_errand.specs.declared.answer.Status.TheVariants.{Done as JobDone, OutOfMemory, Usage, ReadFault, WriteFault, BadFile, MasksSpent as Spent, WorldsRefused, AuditRefused, TooFewWords}
 use Rattle.beet_answer.specs.Runs.{EndsBy, GivesAll, Runs, status_after}
 use Rattle.beet_run.specs.OutcomeTexts.{outcome_text}
 use Rattle.beet_run.specs.Outcomes.{status_of}
-use Rattle.beet_app.specs.Doing.{OfJob}
+use Rattle.beet_app.specs.Doing.{RunsJob}
 use Rattle.beet_app.specs.Jobs.{Job}
 use Rattle.beet_app.specs.Texts.{usage_text}
 use Rattle.beet_app_laws.specs.Dues.{ReadsTo, answer_over}
@@ -29,19 +29,15 @@ use Rattle.beet_app_laws.proofs.Led.{at-end, lead-end}
 use Rattle.beet_program_laws.specs.Outcomes.{ServersOpen, TellsTheEnd}
 use Rattle.beet_program_laws.proofs.Steps.{Yields, not-unread}
 
--- the statuses of a run that is done
-abbrev pub IsWhole : ℕ → Type 0
-IsWhole status = (status ≡ 0) ⊎ (status ≡ 6)
-
-not-one : (status : ℕ) → IsWhole status → status ≡ 1 → ⊥
+not-one : (status : ℕ) → IsDoneCode status → status ≡ 1 → ⊥
 not-one status (inl e) f = omega (arith, e, f)
 not-one status (inr e) f = omega (arith, e, f)
 
-not-four : (status : ℕ) → IsWhole status → status ≡ 4 → ⊥
+not-four : (status : ℕ) → IsDoneCode status → status ≡ 4 → ⊥
 not-four status (inl e) f = omega (arith, e, f)
 not-four status (inr e) f = omega (arith, e, f)
 
-whole-done : (s : Status) → IsWhole (code_of s) → IsDone s
+whole-done : (s : Status) → IsDoneCode (code_of s) → IsDone s
 whole-done JobDone w = inl refl
 whole-done OutOfMemory (inl e) = absurd (omega (arith, e))
 whole-done OutOfMemory (inr e) = absurd (omega (arith, e))
@@ -67,9 +63,9 @@ pub record WentOut (answer : Answer) (given now : Option Given) (status : ℕ) :
   pub code : status ≡ code_of answer.status
   pub calls : GivesAll given now answer.files answer.text (Ok tt)
 
-went-out : (answer : Answer) (given now : Option Given) (status : ℕ) (d : Done) → IsWhole status → status ≡ code_of (status_after answer.status d) →
+went-out : (answer : Answer) (given now : Option Given) (status : ℕ) (d : Done) → IsDoneCode status → status ≡ code_of (status_after answer.status d) →
     GivesAll given now answer.files answer.text d → WentOut answer given now status
-went-out answer given now status (Ok tt) w e calls = record { done = whole-done answer.status (subst IsWhole e w); code = e; calls = calls }
+went-out answer given now status (Ok tt) w e calls = record { done = whole-done answer.status (subst IsDoneCode e w); code = e; calls = calls }
 went-out answer given now status (Err Failed) w e calls = absurd (not-four status w e)
 went-out answer given now status (Err NoMemoryToPut) w e calls = absurd (not-one status w e)
 
@@ -83,7 +79,7 @@ read-all : (answer over : Answer) → IsDone answer.status → (answer.status �
 read-all answer over done (inl unread) = absurd (not-unread (subst IsDone unread done))
 read-all answer over done (inr is) = is
 
-module _ (told : Told) (told_now : Option Told) (given now : Option Given) (status : ℕ) (w : IsWhole status) where
+module _ (told : Told) (told_now : Option Told) (given now : Option Given) (status : ℕ) (w : IsDoneCode status) where
   ends-by : (errand rest : Errand) → Went (Some told) told_now errand rest → EndsBy rest given now status → EndsWith told.files errand given now status
   ends-by errand (Ends answer) went (inl goes) =
       let out = went-out answer given now status goes.done w goes.code goes.calls in
@@ -96,7 +92,7 @@ module _ (told : Told) (told_now : Option Told) (given now : Option Given) (stat
 
   -- what holds of the job that words name
   abbrev pub Ran : Option Job → Type 0
-  Ran job = OfJob job (Some told) told_now (λ before errand. Runs errand before told_now given now status)
+  Ran job = RunsJob job (Some told) told_now given now status
 
   usage-ends : EndsWith told.files (answers Usage usage_text) given now status → ⊥
   usage-ends e = go (subst (λ (a : Answer). IsDone a.status) (sym e.is) e.out.done) where
@@ -132,11 +128,11 @@ module _ (told : Told) (told_now : Option Told) (given now : Option Given) (stat
       }
 
 -- a run that begins at its end
-at-rest : (answer : Answer) (given now : Option Given) (status : ℕ) → IsWhole status → EndsBy (Ends answer) given now status → WentOut answer given now status
+at-rest : (answer : Answer) (given now : Option Given) (status : ℕ) → IsDoneCode status → EndsBy (Ends answer) given now status → WentOut answer given now status
 at-rest answer given now status w (inl goes) = went-out answer given now status goes.done w goes.code goes.calls
 at-rest answer given now status w (inr runs) = absurd (not-one status w runs.code)
 
-pub answer-ends : (told told_now : Option Told) (answer : Answer) (given now : Option Given) (status : ℕ) → IsWhole status →
+pub answer-ends : (told told_now : Option Told) (answer : Answer) (given now : Option Given) (status : ℕ) → IsDoneCode status →
     Runs (Ends answer) told told_now given now status → WentOut answer given now status
 answer-ends told told_now answer given now status w r =
     at-rest answer given now status w (subst (λ (e : Errand). EndsBy e given now status) (sym (at-end told told_now answer r.rest r.went)) r.ends)

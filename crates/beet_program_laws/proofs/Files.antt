@@ -13,11 +13,11 @@ use Rattle.beet_forms.specs.declared.row.Row.{Row}
 use Rattle.beet_words.specs.Bundles.{AreWords, Words, bundle_of, list_at, magic, server_at, up_to, word_at, words_at}
 use Rattle.beet_words.specs.Fields.{◌>>=◌, Part, after_magic, counted_at, ended, number_at, times}
 use Rattle.beet_words.specs.Seeds.{seed_word, seed_words}
-use Rattle.beet_words.specs.TapeFiles.{first_fault as first_line_fault, lines_of, number_in, reason_against as line_reason_against, reason_of_number, tape_of, word_in}
+use Rattle.beet_words.specs.TapeFiles.{lines_of, number_in, reason_against as line_reason_against, reason_of_number, tape_of, word_in}
 use Rattle.beet_words.specs.Words.{IsWord, ones}
 use Rattle.beet_words.specs.declared.bundle.TheConstants.{BAD_MAGIC, MOST_BIDDERS, MOST_WORDS, TRAILING}
 use Rattle.beet_words.specs.declared.fields.Allowed.{Allowed}
-use Rattle.beet_words.specs.declared.tape_file.TheConstants.{TOO_LARGE}
+use Rattle.beet_words.specs.declared.tape_file.TheConstants.{WORD_TOO_LARGE}
 use Rattle.beet_bids.specs.BidFiles.{bid_of, curve_in, header_reason, line_of, line_reasons}
 use Rattle.beet_bids.specs.Curves.{Curve, IsCurve, IsOfGrid}
 use Rattle.beet_bids.specs.Grids.{Grid}
@@ -111,17 +111,17 @@ seed-are seed stream n = All-map IsWord (seed_word seed stream) (range_with_len 
 number-is : (n : Option ℕ) → reason_of_number n ≡ None → IsWord (unwrap_or n 0)
 number-is None e = absurd cc
 number-is (Some n) e = go (nat_lt n (2 ^ 61)) refl e where
-  go : (b : Bool) → nat_lt n (2 ^ 61) ≡ b → (if b then None else Some TOO_LARGE) ≡ None → IsWord n
+  go : (b : Bool) → nat_lt n (2 ^ 61) ≡ b → (if b then None else Some WORD_TOO_LARGE) ≡ None → IsWord n
   go true is none = ltb-true n (2 ^ 61) is
   go false is none = absurd cc
 
 line-is : (number : ℕ) (line : List ℕ) (lines : List (List ℕ)) (reason : Option ℕ) → line_reason_against line ≡ reason →
-    first_line_fault number (reason ∷ map line_reason_against lines) ≡ None →
-    (first_line_fault (number + 1) (map line_reason_against lines) ≡ None → All IsWord (map word_in lines)) → All IsWord (map word_in (line ∷ lines))
+    first_fault number (reason ∷ map line_reason_against lines) ≡ None →
+    (first_fault (number + 1) (map line_reason_against lines) ≡ None → All IsWord (map word_in lines)) → All IsWord (map word_in (line ∷ lines))
 line-is number line lines None is e rest = All-cons IsWord (word_in line) (map word_in lines) (number-is (number_in line) is) (rest e)
 line-is number line lines (Some reason) is e rest = absurd cc
 
-lines-are : (number : ℕ) (lines : List (List ℕ)) → first_line_fault number (map line_reason_against lines) ≡ None → All IsWord (map word_in lines)
+lines-are : (number : ℕ) (lines : List (List ℕ)) → first_fault number (map line_reason_against lines) ≡ None → All IsWord (map word_in lines)
 lines-are number [] e = All-nil IsWord
 lines-are number (line ∷ lines) e = line-is number line lines (line_reason_against line) refl e (λ later. lines-are (number + 1) lines later)
 
@@ -132,7 +132,7 @@ AreFew most words = All IsWord words × (length words ≤ most)
 pub tape-are : (bytes : List ℕ) (keep : ℕ) (words : List ℕ) → tape_of bytes keep ≡ Ok words → AreFew keep words
 tape-are bytes keep words e =
     let lines = lines_of bytes in
-    let read = read-is (first_line_fault 1 (map line_reason_against lines)) (take keep (map word_in lines)) words e in
+    let read = read-is (first_fault 1 (map line_reason_against lines)) (take keep (map word_in lines)) words e in
     let are : All IsWord (take keep (map word_in lines)) × (length (take keep (map word_in lines)) ≤ keep) =
     (All-take IsWord keep (map word_in lines) (lines-are 1 lines read.0), take-few keep (map word_in lines)) in
     subst (λ (l : List ℕ). All IsWord l × (length l ≤ keep)) read.1 are

@@ -44,8 +44,8 @@ use Rattle.beet_world.specs.declared.schedule.TheConstants.{SCHEDULE_LIMIT}
 use Rattle.beet_worlds.specs.ViewsWith.{transcript_with}
 use Rattle.beet_headline.specs.Halves.{AllHaveEnded, standing}
 use Rattle.beet_headline.proofs.Standings.{all-ended, ends}
-use Rattle.beet_errand.specs.Errands.{Answer, Step, ◌>>=◌, gives, reads}
-use Rattle.beet_errand.specs.Statuses.{code_of}
+use Rattle.beet_errand.specs.Errands.{Answer, Step, ◌>>=◌, file_for, gives, reads}
+use Rattle.beet_errand.specs.Statuses.{IsDoneCode, code_of}
 use Rattle.beet_load.specs.Loading.{Loaded, loaded_errand}
 use Rattle.beet_load.specs.Servers.{AllWords, all_words_errand, coefficients_of, masks_of}
 use Rattle.beet_load.specs.Wholes.{CanDeal, all_words, limited_errand}
@@ -54,7 +54,7 @@ use Rattle.beet_clear.specs.Clear.{clear_errand, cleared}
 use Rattle.beet_rehearse.specs.Rehearse.{rehearse_errand, rehearse_job, rehearsed}
 use Rattle.beet_rehearse.specs.Standings.{rehearsal_of, standing_of}
 use Rattle.beet_rehearse.specs.declared.standing.Standing.TheVariants.{Waiting, Ended}
-use Rattle.beet_record.specs.Records.{file_for, record_errand, recorded_answer}
+use Rattle.beet_record.specs.Records.{record_errand, recorded_answer}
 use Rattle.beet_envelopes.specs.Gather.{bidders_errand, envelopes_errand}
 use Rattle.beet_envelopes.specs.Open.{entries_job, open_errand, open_job, opened_answer}
 use Rattle.beet_envelopes.specs.SealedBooks.{HaveWords, HoldEachSealed, envelope_fetches, sealed_points}
@@ -67,8 +67,9 @@ use Rattle.beet_app_laws.specs.Dues.{ReadsTo}
 use Rattle.beet_app_laws.proofs.Led.{NoneFailed, lead-over}
 use Rattle.beet_app_laws.proofs.Telling.{one-value, told-each, told-list, told-trio}
 use Rattle.beet_program_laws.specs.Commands.{Clears, OpensEnvelopes, RecordsRun, ShowsStandings}
-use Rattle.beet_program_laws.specs.Outcomes.{IsShown, ServersOpen, TellsTheEnd, loaded_with, transcript_files}
-use Rattle.beet_program_laws.proofs.Ends.{IsWhole, Ran, WentOut, found, named, servers-open, tells}
+use Rattle.beet_load.specs.WholeViews.{loaded_with}
+use Rattle.beet_program_laws.specs.Outcomes.{IsShown, ServersOpen, TellsTheEnd, transcript_files}
+use Rattle.beet_program_laws.proofs.Ends.{Ran, WentOut, found, named, servers-open, tells}
 use Rattle.beet_program_laws.proofs.Grids.{grid-is}
 use Rattle.beet_program_laws.proofs.Read.{AreLists, CanServeAll, IsLoaded, IsRead, all-words-yield, back, can-run, can-run-cut, farmers-back, is-book, limited-yield, loaded-yield, the_book, the_words}
 use Rattle.beet_program_laws.proofs.Steps.{Yields, any-yield, gives-yield, reads-yield, then-told, then-yields}
@@ -100,7 +101,7 @@ module _ (loaded : Loaded) (h : IsLoaded loaded) where
   same-files out = λ i.
       (file_for out One, same-transcript One i) ∷ (file_for out Two, same-transcript Two i) ∷ (file_for out Three, same-transcript Three i) ∷ []
 
-module _ (told : Told) (told_now : Option Told) (given now : Option Given) (status : ℕ) (w : IsWhole status) where
+module _ (told : Told) (told_now : Option Told) (given now : Option Given) (status : ℕ) (w : IsDoneCode status) where
   abbrev files : List File
   files = told.files
 
@@ -313,7 +314,7 @@ farmers-read grid farmers b each = λ k d lt.
       words = (each k d lt).1;
     }
 
-module _ (told : Told) (told_now : Option Told) (given now : Option Given) (status : ℕ) (w : IsWhole status) where
+module _ (told : Told) (told_now : Option Told) (given now : Option Given) (status : ℕ) (w : IsDoneCode status) where
   rehearsed-by : (auction servers list name : List ℕ) (answer : Answer) → IsRehearsed told.files auction servers list name answer →
       WentOut answer given now status → ShowsStandings told.files auction servers list name status given now
   rehearsed-by auction servers list name answer t o =

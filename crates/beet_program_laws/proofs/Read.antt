@@ -13,7 +13,8 @@ use Rattle.beet_words.specs.Bundles.{AreWords, Words, bundle_of}
 use Rattle.beet_words.specs.Seeds.{seed_word, seed_words}
 use Rattle.beet_words.specs.TapeFiles.{tape_of}
 use Rattle.beet_words.specs.Words.{IsWord, accepted}
-use Rattle.beet_words.specs.declared.bundle.TheConstants.{BUNDLE_LIMIT, MOST_BIDDERS}
+use Rattle.beet_forms.specs.declared.faults.TheConstants.{LONGEST_FILE}
+use Rattle.beet_words.specs.declared.bundle.TheConstants.{MOST_BIDDERS}
 use Rattle.beet_words.specs.declared.tape_file.TheConstants.{TAPE_LIMIT}
 use Rattle.beet_bids.specs.AuctionFiles.{auction_of}
 use Rattle.beet_bids.specs.BidFiles.{bid_of}
@@ -51,7 +52,7 @@ use Rattle.beet_load.specs.Wholes.{CanDeal, CanStart, IsFarmer, all_words, bids_
 use Rattle.beet_load.specs.WordTexts.{server_short_text, too_few_text}
 use Rattle.beet_load.proofs.Cuts.{seeded_cut, take-few}
 use Rattle.beet_app_laws.specs.Held.{IsHeld}
-use Rattle.beet_program_laws.specs.Outcomes.{loaded_with}
+use Rattle.beet_load.specs.WholeViews.{loaded_with}
 use Rattle.beet_program_laws.proofs.Files.{AreFew, bid-is, book-few, bundle-are, seed-are, tape-are}
 use Rattle.beet_program_laws.proofs.Held.{held-yield}
 use Rattle.beet_program_laws.proofs.Steps.{Yields, any-yield, gives-yield, not-bad, passes-yield, reads-yield, then-yields, weaker-yield}
@@ -228,9 +229,9 @@ module _ (files : List File) where
       (three-yield grid sources) (λ servers h.
       gives-yield files (λ words. CanServeAll grid words.servers × AreLists words.bidders) (record { servers = servers; bidders = None }) (h, tt))
   all-words-yield grid count (Bundle name) =
-      then-yields files (reads name BUNDLE_LIMIT (λ bytes. counted count (bundle_of bytes)))
+      then-yields files (reads name LONGEST_FILE (λ bytes. counted count (bundle_of bytes)))
       (λ words next. enough_of_all grid (cut_servers grid words) (next (record { servers = cut_servers grid words; bidders = Some words.bidders }))) AreWords (λ words. CanServeAll grid words.servers × AreLists words.bidders)
-      (reads-yield files name BUNDLE_LIMIT (λ bytes. counted count (bundle_of bytes)) AreWords (λ bytes words e. counted-are count bytes (bundle_of bytes) refl words e)) (λ words are.
+      (reads-yield files name LONGEST_FILE (λ bytes. counted count (bundle_of bytes)) AreWords (λ bytes words e. counted-are count bytes (bundle_of bytes) refl words e)) (λ words are.
       let all : AllWords = record { servers = cut_servers grid words; bidders = Some words.bidders } in
       servers-yield grid (cut_servers grid words) (gives all) (λ words. CanServeAll grid words.servers × AreLists words.bidders) (λ one two three.
       gives-yield files (λ words. CanServeAll grid words.servers × AreLists words.bidders) all (

@@ -22,6 +22,7 @@ use Rattle.beet_plan.specs.Kept.{words_kept}
 use Rattle.beet_auction.specs.Endings.{book_finish, book_rounds}
 use Rattle.beet_errand.specs.Errands.{Answer, Step, gives, text_answer}
 use Rattle.beet_errand.specs.declared.answer.Status.TheVariants.{TooFewWords}
+use Rattle.beet_errand.specs.Statuses.{IsDoneCode}
 use Rattle.beet_load.specs.Farmers.{words_wanted}
 use Rattle.beet_load.specs.Servers.{HasEnough, masks_of, seeded}
 use Rattle.beet_load.specs.WordTexts.{too_few_text}
@@ -33,7 +34,7 @@ use Rattle.beet_trial.specs.Trial.{trial_answer, trial_errand, trial_job, trial_
 use Rattle.beet_trial.proofs.Curves.{is-curve, is-of-grid}
 use Rattle.beet_app.specs.Jobs.{Answering, job_of}
 use Rattle.beet_program_laws.specs.Commands.{RunsTrial}
-use Rattle.beet_program_laws.proofs.Ends.{IsWhole, Ran, WentOut, found, no-job, servers-open, tells}
+use Rattle.beet_program_laws.proofs.Ends.{Ran, WentOut, found, no-job, servers-open, tells}
 use Rattle.beet_program_laws.proofs.Files.{seed-are}
 use Rattle.beet_program_laws.proofs.Read.{CanServe, CanServeAll, IsRead, can-run, is-book, not-short, seeded-kept, servers-yield, the_book, the_words}
 use Rattle.beet_program_laws.proofs.Steps.{Yields, gives-yield, passes-yield}
@@ -104,7 +105,7 @@ all-read grid bidders limit enough = λ k d lt.
       words = made.words;
     }
 
-module _ (told : Told) (told_now : Option Told) (given now : Option Given) (status : ℕ) (w : IsWhole status) where
+module _ (told : Told) (told_now : Option Told) (given now : Option Given) (status : ℕ) (w : IsDoneCode status) where
   each-yield : {A : Type 0} (grid : Grid) (number : ℕ) (farmers : List Farmer) (step : Step A) (P : A → Type 0) →
       (All (HasWords grid) farmers → Yields told.files step P) →
       Yields {A = A} told.files (λ next. enough_of_each grid number farmers (step next)) P

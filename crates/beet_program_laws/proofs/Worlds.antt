@@ -1,6 +1,7 @@
 -- What the job `worlds` has read, put and said.
 use Rattle.std.proofs.Common.{◌≡◌, inl, inr, ℕ, List, [], ◌∷◌, ◌++◌, Option, Some, None, Ok, refl, sym, ap, subst, ◌∙◌}
 use Rattle.std.specs.Prelude.{codes, option_map}
+use Rattle.beet_field.specs.Point.{server_of}
 use Rattle.beet_field.specs.declared.point.Point.{Point}
 use Rattle.beet_store.specs.Files.{File, Told}
 use Rattle.beet_store.specs.Desks.{Given}
@@ -8,14 +9,13 @@ use Rattle.beet_words.specs.Bundles.{Words, bundle_bytes}
 use Rattle.beet_bids.specs.Books.{IsBook}
 use Rattle.beet_auction.specs.Endings.{book_finish, book_rounds}
 use Rattle.beet_view.specs.BookViews.{transcript_for}
-use Rattle.beet_world.specs.Schedules.{server_of}
 use Rattle.beet_worlds.specs.ViewsWith.{transcript_with}
 use Rattle.beet_worlds.specs.declared.agreeing.MapFault.{MapFault}
 use Rattle.beet_headline.specs.Halves.{AreOnePair, AreTwoBooks}
 use Rattle.beet_headline.proofs.Pairing.{mapped-pair}
 use Rattle.beet_errand.specs.Errands.{Answer, Errand, Ends, answers, gives}
 use Rattle.beet_errand.specs.Fetches.{IsDone}
-use Rattle.beet_errand.specs.Statuses.{code_of}
+use Rattle.beet_errand.specs.Statuses.{IsDoneCode, code_of}
 use Rattle.beet_errand.specs.declared.answer.Status.TheVariants.{Done, WorldsRefused}
 use Rattle.beet_load.specs.Loading.{Loaded}
 use Rattle.beet_load.specs.Wholes.{curves_errand, limited_errand}
@@ -31,7 +31,7 @@ use Rattle.beet_app_laws.specs.Dues.{ReadsTo, answer_over}
 use Rattle.beet_app_laws.proofs.Led.{read-to}
 use Rattle.beet_app_laws.proofs.Telling.{one-value, told-both}
 use Rattle.beet_program_laws.specs.Commands.{PutsBothWorlds}
-use Rattle.beet_program_laws.proofs.Ends.{IsWhole, Ran, WentOut, answer-ends, named, no-job, run-ends, tells}
+use Rattle.beet_program_laws.proofs.Ends.{Ran, WentOut, answer-ends, named, no-job, run-ends, tells}
 use Rattle.beet_program_laws.proofs.Jobs.{runs-in}
 use Rattle.beet_program_laws.proofs.Read.{IsLoaded, back, can-run-cut, curves-yield, limited-yield}
 use Rattle.beet_program_laws.proofs.Steps.{Yields, gives-yield, then-yields}
@@ -66,7 +66,7 @@ refused : (files : List File) (difference : Option MapFault) → IsDone (answer_
 refused files None done = not-refused done
 refused files (Some difference) done = not-refused done
 
-module _ (told : Told) (told_now : Option Told) (given now : Option Given) (status : ℕ) (w : IsWhole status)
+module _ (told : Told) (told_now : Option Told) (given now : Option Given) (status : ℕ) (w : IsDoneCode status)
     (auction servers list1 list2 : List ℕ) (s : Point) (out : List ℕ) where
   abbrev Compared : Type 0
   Compared = PutsBothWorlds told.files auction servers list1 list2 s out status given now
@@ -119,7 +119,7 @@ module _ (told : Told) (told_now : Option Told) (given now : Option Given) (stat
   compares (inl (answer, shows, r)) = shown answer shows r
   compares (inr f) = stopped (f (λ both. answers WorldsRefused []))
 
-module _ (told : Told) (told_now : Option Told) (given now : Option Given) (status : ℕ) (w : IsWhole status) (auction servers list1 list2 server out : List ℕ) where
+module _ (told : Told) (told_now : Option Told) (given now : Option Given) (status : ℕ) (w : IsDoneCode status) (auction servers list1 list2 server out : List ℕ) where
   by-server : (at : Option Point) → server_of server ≡ at →
       Ran told told_now given now status w (option_map (λ s. Comparing auction servers list1 list2 s out) at) →
       (s : Point) × (server_of server ≡ Some s) × PutsBothWorlds told.files auction servers list1 list2 s out status given now

@@ -3,9 +3,9 @@ use Rattle.std.specs.Prelude.{◌≡◌, ◌≢◌, ◌⊎◌, ◌++◌, ℕ, Li
 use Rattle.beet_field.specs.declared.point.Point.TheVariants.{One, Two, Three}
 use Rattle.beet_store.specs.Files.{File, Told, bytes_of}
 use Rattle.beet_store.specs.Desks.{Given}
-use Rattle.beet_record.specs.Records.{file_for}
-use Rattle.beet_answer.specs.Runs.{Runs, Said}
-use Rattle.beet_app.specs.Doing.{OfJob}
+use Rattle.beet_errand.specs.Errands.{file_for}
+use Rattle.beet_answer.specs.Runs.{Said}
+use Rattle.beet_app.specs.Doing.{RunsJob}
 use Rattle.beet_app.specs.Jobs.{job_of}
 
 -- the words of an audit of four files
@@ -32,5 +32,5 @@ pub record IsAccepted (files : List File) (auction out : List ℕ) (before after
   pub accepted : (told : Told) (told_now : Option Told) (given now : Option Given) (end : ℕ) (name one two three : List ℕ) →
       HoldsRun files after.files told.files auction out name one two three →
       job_of (audit_words name one two three) ≢ None →
-      OfJob (job_of (audit_words name one two three)) (Some told) told_now (λ at errand. Runs errand at told_now given now end) →
+      RunsJob (job_of (audit_words name one two three)) (Some told) told_now given now end →
       AuditsAlike status text given now end

@@ -52,7 +52,8 @@ use Rattle.beet_audit.specs.OneRuns.{OneRun}
 use Rattle.beet_auditor.specs.Reading.{read_errand}
 use Rattle.beet_auditor.specs.declared.reading.ReadViews.{ReadViews}
 use Rattle.beet_app_laws.specs.Dues.{ReadsTo}
-use Rattle.beet_program_laws.specs.Outcomes.{IsShown, ServersOpen, TellsTheEnd, loaded_with, transcript_files}
+use Rattle.beet_load.specs.WholeViews.{loaded_with}
+use Rattle.beet_program_laws.specs.Outcomes.{IsShown, ServersOpen, TellsTheEnd, transcript_files}
 
 -- `clear`: the files read as a book with words; what its servers open was said, and nothing else
 pub record Clears (files : List File) (auction servers book_file : List ℕ) (status : ℕ) (given now : Option Given) : Type 0 where

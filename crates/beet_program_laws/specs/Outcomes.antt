@@ -9,26 +9,15 @@ use Rattle.beet_bids.specs.Outcomes.{outcome_of}
 use Rattle.beet_plan.specs.Runs.{finish_of}
 use Rattle.beet_plan.specs.declared.Finish.{Finish}
 use Rattle.beet_plan.specs.declared.Finish.TheVariants.{MasksSpent}
-use Rattle.beet_book.specs.Farmers.{farmers_of}
 use Rattle.beet_delivery.specs.Events.{Triple}
 use Rattle.beet_server.specs.Endings.{Ending, Ends, Waits}
 use Rattle.beet_auction.specs.Endings.{book_rounds}
-use Rattle.beet_load.specs.Loading.{Loaded}
-use Rattle.beet_load.specs.Wholes.{by_server}
 use Rattle.beet_run.specs.OutcomeTexts.{outcome_text}
-use Rattle.beet_record.specs.Records.{file_for}
+use Rattle.beet_errand.specs.Errands.{file_for}
 use Rattle.beet_rehearse.specs.declared.standing.Standing.{Standing}
 use Rattle.beet_rehearse.specs.declared.standing.Standing.TheVariants.{Waiting, Ended}
 use Rattle.beet_worlds.specs.ViewsWith.{transcript_with}
 use Rattle.beet_headline.specs.Halves.{CanRun, OpensTheOutcome, are_spent}
-
--- what is read as a book, with the words of its servers and of its bidders
-abbrev pub loaded_with : Book → Words → Loaded
-loaded_with book words = record {
-  grid = book.grid;
-  servers = by_server words;
-  farmers = farmers_of book.bidders words.bidders;
-}
 
 -- the status and the text tell how the auction of a book ends: at 0 the masks are not spent, and the text is that of the outcome of the
 -- plaintext auction; at 6 they are spent, and the text says so. Both tell after how many rounds

@@ -7,7 +7,7 @@ use Rattle.beet_field.specs.declared.trio.Trio.{Trio}
 use Rattle.beet_bids.specs.Books.{Book}
 use Rattle.beet_bids.specs.Grids.{Grid}
 use Rattle.beet_store.specs.Files.{File}
-use Rattle.beet_errand.specs.Errands.{Answer}
+use Rattle.beet_errand.specs.Errands.{Answer, file_for}
 use Rattle.beet_errand.specs.Fetches.{IsDone}
 use Rattle.beet_errand.specs.declared.answer.Stop.{Stop}
 use Rattle.beet_auction.specs.Endings.{book_finish, book_rounds}
@@ -22,7 +22,7 @@ use Rattle.beet_view.specs.Transcripts.{view_bytes}
 use Rattle.beet_kept.specs.BookRuns.{HasRun, Ran}
 use Rattle.beet_view.specs.BookViews.{view_for}
 use Rattle.beet_book.proofs.FarmerLists.{book-whole}
-use Rattle.beet_record.specs.Records.{file_for, recorded_answer, transcript_file}
+use Rattle.beet_record.specs.Records.{recorded_answer, transcript_file}
 use Rattle.beet_run.proofs.StatusFacts.{status-done}
 
 -- and its status is that of a job that is done

@@ -1,21 +1,16 @@
 -- The job `record`: what each server has seen of the auction of a book.
-use Rattle.std.specs.Prelude.{List, [], ◌∷◌, ◌++◌, ℕ, codes, decimal}
-use Rattle.beet_field.specs.Point.{number_of}
+use Rattle.std.specs.Prelude.{List, [], ◌∷◌, ℕ}
 use Rattle.beet_field.specs.declared.point.Point.{Point}
 use Rattle.beet_field.specs.declared.point.Point.TheVariants.{One, Two, Three}
 use Rattle.beet_store.specs.Files.{File}
 use Rattle.beet_auction.specs.Endings.{book_finish, book_rounds}
 use Rattle.beet_book.specs.Farmers.{book_with}
-use Rattle.beet_errand.specs.Errands.{Answer, Errand, Ends, Step, gives, ◌>>=◌}
+use Rattle.beet_errand.specs.Errands.{Answer, Errand, Ends, Step, file_for, gives, ◌>>=◌}
 use Rattle.beet_load.specs.Loading.{Loaded}
 use Rattle.beet_load.specs.Servers.{masks_of, coefficients_of}
 use Rattle.beet_load.specs.Wholes.{limited_errand}
 use Rattle.beet_run.specs.Outcomes.{outcome_answer}
 use Rattle.beet_view.specs.BookViews.{transcript_of_book}
-
--- the file for a server: the name, a dot and the server's number
-abbrev pub file_for : List ℕ → Point → List ℕ
-file_for out s = out ++ codes "." ++ decimal (number_of s)
 
 -- the transcript of a server in its file
 abbrev pub transcript_file : List ℕ → Loaded → Point → File

@@ -1,12 +1,13 @@
 //! The job `record`.
 
-ghost use Rattle.std.specs.Prelude.{◌≡◌, ◌∷◌, [], IfErr, IfOk, string_bytes};
+ghost use Rattle.std.specs.Prelude.{◌≡◌, ◌∷◌, [], IfErr, IfOk};
 ghost use Rattle.beet_field.specs.declared.point.Point.TheVariants.{One, Two, Three};
+ghost use Rattle.beet_errand.specs.Errands.{file_for};
 ghost use Rattle.beet_errand.specs.Fetches.{IsDone, Reads};
 ghost use Rattle.beet_load.specs.WholeViews.{loaded_of};
 ghost use Rattle.beet_load.specs.Wholes.{CanStart};
 ghost use Rattle.beet_kept.specs.BookRuns.{HasRun};
-ghost use Rattle.beet_record.specs.Records.{file_for, record_job, recorded_answer};
+ghost use Rattle.beet_record.specs.Records.{record_job, recorded_answer};
 
 use beet_auction_threads::run_servers;
 use beet_bids::Book;
@@ -22,30 +23,6 @@ use std::alloc::{AllocError, Global};
 use std::sync::Wait;
 use std::thread::Threads;
 
-/// The name of the file for a server.
-fn file_name(alloc: Global, out: &str, at: Point) -> Result<String, AllocError>
-    ensures { IfOk result (λ name. string_bytes name ≡ file_for out.now at) }
-{
-    let number = at.number();
-    let name = format!(in alloc; "{out}.{number}")?;
-    Ok(name)
-}
-
-/// The file of the transcript of a server.
-fn transcript_file(
-    alloc: Global,
-    out: &str,
-    at: Point,
-    bytes: Vec<u8>,
-) -> Result<NewFile, AllocError>
-    ensures { IfOk result (λ file. file ≡ (file_for out.now at, bytes.items)) }
-{
-    Ok(NewFile {
-        name: file_name(alloc, out, at)?,
-        bytes,
-    })
-}
-
 /// The files of the transcripts of the servers.
 fn transcript_files(
     alloc: Global,
@@ -57,9 +34,9 @@ fn transcript_files(
         ∷ (file_for out.now Two, transcripts.two.items)
         ∷ (file_for out.now Three, transcripts.three.items) ∷ []) }
 {
-    let one = transcript_file(alloc, out, Point::One, transcripts.one)?;
-    let two = transcript_file(alloc, out, Point::Two, transcripts.two)?;
-    let three = transcript_file(alloc, out, Point::Three, transcripts.three)?;
+    let one = NewFile::of_server(alloc, out, Point::One, transcripts.one)?;
+    let two = NewFile::of_server(alloc, out, Point::Two, transcripts.two)?;
+    let three = NewFile::of_server(alloc, out, Point::Three, transcripts.three)?;
     Ok(vec![in alloc; one, two, three]?)
 }
 

@@ -1,4 +1,4 @@
--- How a server in a world stands, once it is known how its run ends.
+-- How a server in a `World` stands, once it is known how its run ends.
 use Rattle.std.proofs.Common.{◌≡◌, ◌≢◌, ◌==◌, ℕ, Some, true, false, true≢false, sym, ◌∙◌, ap, arith}
 use Rattle.std.proofs.lemmas.Grind.{common_steps}
 use Rattle.beet_field.specs.declared.point.Point.{Point}

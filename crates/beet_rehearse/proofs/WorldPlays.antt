@@ -1,4 +1,4 @@
--- A world of three servers that begin an auction, after a schedule.
+-- A `World` of three servers that begin an auction, after a schedule.
 use Rattle.std.proofs.Common.{◌≡◌, ℕ, List, refl, sym, ◌∙◌, ap, subst}
 use Rattle.beet_field.specs.declared.point.Point.TheVariants.{One, Two, Three}
 use Rattle.beet_field.specs.declared.trio.Trio.{Trio}
@@ -21,7 +21,7 @@ use Rattle.beet_rehearse.specs.Standings.{standing_of}
 use Rattle.beet_rehearse.specs.declared.standing.Standing.{Standing}
 use Rattle.beet_field.specs.declared.point.Point.{Point}
 
--- how a server in a world stands is told, once it is known how its run ends
+-- how a server in a `World` stands is told, once it is known how its run ends
 abbrev pub Tells : World Auction → Point → Standing → Type 0
 Tells w s standing = (rounds : ℕ) (finish : Finish) →
     AuctionEnds w.start.one.script (auction_in w) rounds finish →
@@ -42,7 +42,7 @@ module _ (grid : Grid) (inputs : Trio (List ℕ)) (words : Trio ServerWords) (co
   setup_is = ap (setup_of auction_batch inputs_of) started ∙ s.setup
 
   module _ (rounds : ℕ) (finish : Finish) (e : AuctionEnds (auction_over grid) (setup_with grid inputs words) rounds finish) where
-    -- the run of the world ends so
+    -- the run of the `World` ends so
     ends-so : AuctionEnds new.start.one.script (auction_in new) rounds finish
     ends-so =
         subst (λ a. AuctionEnds a (auction_in new) rounds finish) (sym script_is)

@@ -17,7 +17,7 @@ use crate::standing::{Rehearsal, standing_in};
 use crate::telling::rehearsal_reply;
 use beet_bids::Grid;
 use beet_errand::{Reply, Stop, fetch_file, judge};
-use beet_field::{Point, Trio};
+use beet_field::Trio;
 use beet_load::{Loaded, ServerWords, load};
 use beet_run::start_servers;
 use beet_store::Shelf;
@@ -55,11 +55,7 @@ fn play(
     let cores = start_servers(alloc, grid, inputs, words)?;
     let mut world = World::of(alloc, cores)?;
     world.play(schedule);
-    let servers = Trio {
-        one: standing_in(&world, Point::One),
-        two: standing_in(&world, Point::Two),
-        three: standing_in(&world, Point::Three),
-    };
+    let servers = Trio::of(|at| standing_in(&world, at));
     let undelivered = world.undelivered();
     drop(world);
     Ok(Rehearsal {

@@ -1,4 +1,4 @@
-//! How servers stand in a world.
+//! How servers stand in a `World`.
 
 ghost use Rattle.std.specs.Prelude.{◌≡◌, ℕ};
 ghost use Rattle.beet_auction.specs.Endings.{AuctionEnds};
@@ -29,7 +29,7 @@ pub struct Rehearsal {
     pub undelivered: u32,
 }
 
-/// How a server stands in a world.
+/// How a server stands in a `World`.
 pub fn standing_in(world: &World<AuctionScript>, at: Point) -> Standing
     ensures { (rounds : ℕ) (finish : End)
         → AuctionEnds world.now.start.one.script (auction_in world.now) rounds finish

@@ -2,6 +2,7 @@
 use Rattle.std.specs.Prelude.{◌≡◌, ◌≢◌, ℕ, ◌+◌, ◌<◌, ◌≤◌, List, [], Option, Some, None, is_some, IfSome, true, false, ◌⊎◌, ◌==◌, if◌then◌else◌}
 use Rattle.arrayvec.specs.ArrayVec.{array_vec_len}
 use Rattle.beet_field.specs.declared.point.Point.{Point}
+use Rattle.beet_field.specs.declared.TheConstants.{MOST_NUMBERS}
 use Rattle.beet_round.specs.declared.sides.Side.{Side}
 use Rattle.beet_round.specs.declared.sides.Side.TheVariants.{Low, High}
 use Rattle.beet_round.specs.declared.message.RoundMessage.{RoundMessage}
@@ -66,7 +67,7 @@ HaveLength n places =
 
 -- what always holds of a box
 pub record IsSound (box : Mailbox) : Type 0 where
-  pub wanted : box.want ≤ 64
+  pub wanted : box.want ≤ MOST_NUMBERS
   pub current : AreFrom box.me box.round box.now
   pub early : AreFrom box.me (box.round + 1) box.next
   pub lengths : HaveLength box.want box.now
@@ -101,7 +102,7 @@ JudgedFrom old new s m Ready =
     IsDue old s m × (array_vec_len m.numbers ≡ old.want) × HasBoth new.now
     × (new ≡ record old { now = with_place old.now s m })
 JudgedFrom old new s m Stored =
-    (IsDue old s m × (array_vec_len m.numbers ≡ old.want) × (HasBoth new.now → ⊥)
+    (IsDue old s m × (array_vec_len m.numbers ≡ old.want) × ¬ (HasBoth new.now)
     × (new ≡ record old { now = with_place old.now s m }))
     ⊎ (IsEarly old s m × (new ≡ record old { next = with_place old.next s m }))
 

@@ -1,5 +1,5 @@
 -- The other two servers, as a server names them: the lower and the higher.
-use Rattle.std.specs.Prelude.{Option, Some, None}
+use Rattle.std.specs.Prelude.{ℕ, Option, Some, None}
 use Rattle.beet_field.specs.declared.point.Point.{Point}
 use Rattle.beet_field.specs.declared.point.Point.TheVariants.{One, Two, Three}
 use Rattle.beet_round.specs.declared.sides.Side.{Side}
@@ -13,6 +13,11 @@ peer Two Low = One
 peer Two High = Three
 peer Three Low = One
 peer Three High = Two
+
+-- the place of a side
+abbrev pub place_of : Side → ℕ
+place_of Low = 0
+place_of High = 1
 
 -- the side of another server, or none for the server itself
 abbrev pub side_of : Point → Point → Option Side

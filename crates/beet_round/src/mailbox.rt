@@ -1,6 +1,7 @@
 //! The box, and what it says of a message.
 
 ghost use Rattle.std.specs.Prelude.{◌≡◌, Some, ◌↔◌, ◌<◌, ◌≤◌, ◌-◌, ◌^◌, length, IsTrue};
+ghost use Rattle.beet_field.specs.declared.TheConstants.{MOST_NUMBERS};
 ghost use Rattle.beet_round.specs.Sides.{peer};
 ghost use Rattle.beet_round.specs.Boxes.{fresh_box, HasBoth, numbers_at, Judged, JudgedFrom, IsDue, IsWanted, place_at, turned};
 
@@ -53,7 +54,7 @@ impl Model for RoundBox {
 impl RoundBox {
     /// An empty box of the server `me` at round 0, which wants messages of `want` numbers.
     pub fn new(me: Point, want: u32) -> RoundBox
-        requires { want ≤ 64 }
+        requires { want ≤ MOST_NUMBERS }
         ensures { result ≡ fresh_box me want }
     {
         RoundBox {
@@ -159,7 +160,7 @@ impl RoundBox {
     /// of another length is dropped.
     pub fn turn(&mut self, want: u32)
         requires both { HasBoth self.old.now }
-        requires wanted { want ≤ 64 }
+        requires wanted { want ≤ MOST_NUMBERS }
         requires room { self.old.round < 2 ^ 32 - 1 }
         ensures { self.new ≡ turned self.old want }
     {

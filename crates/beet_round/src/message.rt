@@ -1,11 +1,12 @@
 //! Messages of a round.
 
 ghost use Rattle.std.specs.Prelude.{◌≡◌, ◌≤◌, [], length};
+ghost use Rattle.beet_field.specs.declared.TheConstants.{MOST_NUMBERS};
 
 use arrayvec::ArrayVec;
-use beet_field::{Fe, Point};
+use beet_field::{Fe, MOST_NUMBERS, Point};
 
-/// What one server sends to another in a round: at most 64 numbers.
+/// What one server sends to another in a round: at most `MOST_NUMBERS` numbers.
 #[derive(Debug, Drop)]
 pub struct RoundMessage {
     /// The sender.
@@ -15,7 +16,7 @@ pub struct RoundMessage {
     /// The round, from 0.
     pub round: u32,
     /// The sender's numbers of that round for the receiver, in order.
-    pub numbers: ArrayVec<Fe, 64>,
+    pub numbers: ArrayVec<Fe, MOST_NUMBERS>,
 }
 
 impl RoundMessage {
@@ -34,7 +35,7 @@ impl RoundMessage {
     /// Makes it the message of this sender, receiver and round with these numbers. No more is written
     /// than the numbers.
     pub fn write(&mut self, from: Point, to: Point, round: u32, numbers: &[Fe])
-        requires { length numbers.now ≤ 64 }
+        requires { length numbers.now ≤ MOST_NUMBERS }
         ensures { self.new ≡ record {
           from = from;
           to = to;

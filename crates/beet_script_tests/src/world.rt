@@ -95,7 +95,7 @@ const FEEDING: &[u8] = b"beet-schedule,1\n1,3,1\n2,3,1\n1,3,0\n2,3,0\n";
 const HOLDING: &[u8] = b"beet-schedule,1
 2,1,0\n3,1,0\n3,2,0\n1,3,0\n2,3,0\n3,1,1\n3,2,1\n1,3,1\n";
 
-/// A world of the servers of 3 and 4.
+/// A `World` of the servers of 3 and 4.
 fn world(rt: &impl Abort, alloc: Global) -> World<Product> {
     World::of(alloc, three_and_four(rt, alloc)).expect(rt, "memory")
 }
@@ -111,7 +111,7 @@ fn expect_core(rt: &impl Abort, core: &ServerCore<Product>, rounds: u32, ended: 
     assert!(rt; has_twelve(core) == ended);
 }
 
-/// Compares how a world stands.
+/// Compares how a `World` stands.
 fn expect_stand(rt: &impl Abort, world: &World<Product>, stand: Stand) {
     let [one, two, three] = stand.rounds;
     let [one_ended, two_ended, three_ended] = stand.ended;
@@ -121,7 +121,7 @@ fn expect_stand(rt: &impl Abort, world: &World<Product>, stand: Stand) {
     assert!(rt; world.undelivered() == stand.undelivered);
 }
 
-/// Plays a schedule, and compares how the world then stands.
+/// Plays a schedule, and compares how the `World` then stands.
 fn expect_played(
     rt: &impl Abort,
     alloc: Global,
@@ -135,10 +135,10 @@ fn expect_played(
     expect_stand(rt, world, stand);
 }
 
-/// A schedule, and how the world stands after it.
+/// A schedule, and how the `World` stands after it.
 type Played = (&'static [u8], Stand);
 
-/// Plays schedules one after another, and compares how the world then stands.
+/// Plays schedules one after another, and compares how the `World` then stands.
 fn expect_all_played(
     rt: &impl Abort,
     alloc: Global,
@@ -153,7 +153,7 @@ fn expect_all_played(
 /// Messages that come one by one, by sender, receiver and round, and what becomes of each.
 type Told = (Point, Point, u32, Event, Stand);
 
-/// Delivers messages one by one, and compares what becomes of each and how the world then stands.
+/// Delivers messages one by one, and compares what becomes of each and how the `World` then stands.
 fn expect_events(rt: &impl Abort, world: &mut World<Product>, events: &[Told]) {
     for (from, to, round, event, stand) in events {
         assert!(rt; world.event(*from, *to, *round) == *event);
@@ -161,7 +161,7 @@ fn expect_events(rt: &impl Abort, world: &mut World<Product>, events: &[Told]) {
     }
 }
 
-/// Delivers messages one by one in a new world, and then plays schedules.
+/// Delivers messages one by one in a new `World`, and then plays schedules.
 fn expect_course(rt: &impl Abort, alloc: Global, events: &[Told], schedules: &[Played]) {
     let mut world = world(rt, alloc);
     expect_stand(rt, &world, AT_THE_BEGINNING);

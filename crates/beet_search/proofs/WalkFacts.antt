@@ -25,7 +25,7 @@ pub record IsOpen (b : Bool) (n lo hi : ℕ) : Type 0 where
   pub says : IsTrue b ↔ ((0 < n) × (lo < hi))
 
 module _ (g : Blocks) (policy : Policy) (prices n lo hi first rej : ℕ) where
-  pub open-plan : 0 < n → lo < hi → search_plan g policy prices n lo hi first rej ≡ Block (g.mask first) (after_product g policy prices (n - 1) lo hi first rej)
+  pub open-plan : 0 < n → lo < hi → search_plan g policy prices n lo hi first rej ≡ Block (g.mask first) (after_product g prices (search_plan g policy prices (n - 1)) lo hi first rej)
   open-plan hn h =
       let e : n ≡ suc (n - 1) = omega arith in
       let t : nat_lt lo hi ≡ true = grind (arith, nat_tests) in
@@ -92,7 +92,7 @@ module _ (w : Walk) where
   stage-is s e = ap (λ (t : Stage). stage_plan t w) e
 
   open-at : w.stage ≡ Search → (b : Bool) → (IsTrue b ↔ ((0 < w.left) × (w.lo < w.hi))) → b ≡ true →
-      plan_at w ≡ Block ((blocks_of w.gates).mask w.first) (after_product (blocks_of w.gates) w.policy w.prices (w.left - 1) w.lo w.hi w.first w.rejected)
+      plan_at w ≡ Block ((blocks_of w.gates).mask w.first) (after_product (blocks_of w.gates) w.prices (search_plan (blocks_of w.gates) w.policy w.prices (w.left - 1)) w.lo w.hi w.first w.rejected)
   open-at e b says t =
       let o = open-from b w.left w.lo w.hi says t in
       stage-is Search e ∙ open-plan (blocks_of w.gates) w.policy w.prices w.left w.lo w.hi w.first w.rejected o.0 o.1
@@ -140,7 +140,7 @@ module _ (w : Walk) where
 
   -- the plan after a number
   pub after-open : w.stage ≡ Search → (b : Bool) → (IsTrue b ↔ ((0 < w.left) × (w.lo < w.hi))) → b ≡ true → (x : ℕ) →
-      plan_after (plan_at w) x ≡ after_product (blocks_of w.gates) w.policy w.prices (w.left - 1) w.lo w.hi w.first w.rejected x
+      plan_after (plan_at w) x ≡ after_product (blocks_of w.gates) w.prices (search_plan (blocks_of w.gates) w.policy w.prices (w.left - 1)) w.lo w.hi w.first w.rejected x
   after-open e b says t x = ap (λ (p : Plan Finish). plan_after p x) (open-at e b says t)
 
 pub block-finish : {F : Type 0} (bs : List Batch) (next : ℕ → Plan F) → plan_finish (Block bs next) [] ≡ None

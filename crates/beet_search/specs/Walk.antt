@@ -19,10 +19,10 @@ abbrev pub stage_plan : Stage → Walk → Plan Finish
 stage_plan Search w = search_plan (blocks_of w.gates) w.policy w.prices w.left w.lo w.hi w.first w.rejected
 stage_plan Masked w =
     let blocks = blocks_of w.gates in
-    compare_plan blocks w.prices (after_mask blocks w.first) w.first ((w.lo + w.hi) / 2) (after_answer blocks w.policy w.prices w.left w.lo w.hi w.first w.rejected)
+    compare_plan blocks w.prices (after_mask blocks w.first) w.first ((w.lo + w.hi) / 2) (after_answer blocks (search_plan blocks w.policy w.prices w.left) w.lo w.hi w.first w.rejected)
 stage_plan (Borrow c) w =
     let blocks = blocks_of w.gates in
-    Block (blocks.answer (after_mask blocks w.first) w.first c) (after_answer blocks w.policy w.prices w.left w.lo w.hi w.first w.rejected)
+    Block (blocks.answer (after_mask blocks w.first) w.first c) (after_answer blocks (search_plan blocks w.policy w.prices w.left) w.lo w.hi w.first w.rejected)
 stage_plan (Supply volume) w = Last end_batch 1 (λ opened. price_with w.lo (volume ∷ opened))
 stage_plan (StageEnded f) w = Ended f
 

@@ -1,18 +1,17 @@
 //! The script as a value.
 
-ghost use Rattle.std.specs.Prelude.{◌≡◌, ◌≤◌, ◌↔◌, IsSome, IfSome};
-ghost use Rattle.beet_bids.specs.Grids.{comparisons_of};
+ghost use Rattle.std.specs.Prelude.{◌≡◌, ◌↔◌, IsSome, IfSome};
 ghost use Rattle.beet_gates.specs.Plans.{plan_finish};
 ghost use Rattle.beet_plan.specs.Auction.{auction_over, auction_plan, IsGridSize};
 ghost use Rattle.beet_search.specs.Walk.{plan_at, Fits};
 
 use crate::walk::{Stage, Walk};
-use beet_bids::{Grid, MOST_PRICES, Policy};
+use beet_bids::{Grid, MOST_PRICES, Policy, comparisons};
 use beet_compare::{compare_rounds, compare_wires};
 use beet_field::Fe;
 use beet_gates::{Batch, Gates, Script};
 use beet_mask::{mask_rounds, mask_wires};
-use beet_plan::{Finish, MASK_COEFFICIENTS, SPARE_MASKS};
+use beet_plan::{Finish, SPARE_MASKS, most_coefficients, most_masks};
 use std::marker::Model;
 
 /// The script of an auction with so many prices, this kind of gates, and what it opens beside the price. With P prices, input k is the supply at
@@ -44,21 +43,6 @@ pub struct Place {
     before: u32,
     /// How many opened numbers led there.
     read: usize,
-}
-
-/// How many comparisons a search among so many places makes at most.
-fn comparisons(prices: u32) -> u32
-    requires { prices ≤ MOST_PRICES }
-    ensures count { result ≡ comparisons_of prices }
-    ensures few { result ≤ 13 }
-{
-    let mut count = 0;
-    let mut rest = prices;
-    while rest > 0 {
-        rest /= 2;
-        count += 1;
-    }
-    count
 }
 
 impl AuctionScript {
@@ -113,7 +97,7 @@ impl AuctionScript {
             hi: self.prices,
             first: 2 * self.prices,
             rejected: 0,
-            left: comparisons(self.prices) + SPARE_MASKS + 1,
+            left: most_masks(self.prices) + 1,
         }
     }
 
@@ -166,18 +150,17 @@ impl Script for AuctionScript {
     }
 
     fn masks(&self) -> u32 {
-        comparisons(self.prices) + SPARE_MASKS
+        most_masks(self.prices)
     }
 
     fn coefficients(&self) -> u32 {
-        MASK_COEFFICIENTS * (comparisons(self.prices) + SPARE_MASKS)
+        most_coefficients(self.prices)
     }
 
     fn wires(&self) -> u32 {
-        let comparisons = comparisons(self.prices);
         self.inputs()
-            + mask_wires(self.gates) * self.masks()
-            + compare_wires(Gates::Tree) * comparisons
+            + mask_wires(self.gates) * most_masks(self.prices)
+            + compare_wires(Gates::Tree) * comparisons(self.prices)
     }
 
     fn next(&self, done: u32, opened: &[Fe]) -> Batch {

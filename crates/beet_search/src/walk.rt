@@ -1,6 +1,6 @@
 //! A place in the auction's script.
 
-ghost use Rattle.std.specs.Prelude.{◌≡◌, ◌↔◌, ◌<◌, ◌≤◌, ◌+◌, ◌-◌, ◌*◌, ◌/◌, ◌^◌, IsTrue, MatchOption, None, Some, ℕ, [], ◌∷◌};
+ghost use Rattle.std.specs.Prelude.{◌≡◌, ◌↔◌, ◌<◌, ◌≤◌, ◌+◌, ◌-◌, ◌*◌, ◌/◌, ◌^◌, IsTrue, MatchOption, [], ◌∷◌};
 ghost use Rattle.beet_gates.specs.Plans.{plan_length, plan_after, plan_batch, plan_finish, batch_at};
 ghost use Rattle.beet_plan.specs.Auction.{search_plan, end_plan, after_answer, after_product};
 ghost use Rattle.beet_gates.specs.declared.Act.TheVariants.{Reveal};
@@ -17,7 +17,7 @@ use beet_gates::{Act, Batch, Gates};
 use beet_mask::{mask_rounds, mask_wires, refill_mask};
 use beet_plan::{Finish, SPARE_MASKS};
 
-/// The block that comes next.
+/// What comes next.
 #[derive(Clone, Copy)]
 pub enum Stage {
     /// A mask, or the opening, or nothing more.
@@ -26,9 +26,9 @@ pub enum Stage {
     Masked,
     /// The rest of a comparison.
     Borrow(Fe),
-    /// None; of the last batch the volume was read, and the supply comes next.
+    /// The second number of the opening, the supply; its first was this volume.
     Supply(Fe),
-    /// None.
+    /// Nothing: the script has ended so.
     Ended(Finish),
 }
 
@@ -66,20 +66,21 @@ impl Walk {
         self.left > 0 && self.lo < self.hi
     }
 
-    /// A price at the place at which the search has ended, of which the volume alone may be opened.
-    fn price_with(&self, volume: Option<Fe>) -> Finish
-        ensures { result ≡ Finish.Price self.now.lo volume None }
+    /// A price at the place at which the search has ended, of which these numbers were opened.
+    fn price_with(&self, volume: Option<Fe>, supply: Option<Fe>) -> Finish
+        ensures { result ≡ Finish.Price self.now.lo volume supply }
     {
         Finish::Price {
             place: self.lo,
             volume,
-            supply: None,
+            supply,
         }
     }
 
     /// What is shown of the place at which the search has ended, or none where that is no place of the grid.
     fn shown(&self) -> Option<Policy>
-        ensures { MatchOption result (self.now.prices ≤ self.now.lo) (λ policy. (self.now.lo < self.now.prices) × (policy ≡ self.now.policy)) }
+        ensures { MatchOption result (self.now.prices ≤ self.now.lo)
+            (λ policy. (self.now.lo < self.now.prices) × (policy ≡ self.now.policy)) }
     {
         if self.lo < self.prices {
             Some(self.policy)
@@ -101,7 +102,8 @@ impl Walk {
     /// Makes a batch that of the end of the search at this step.
     fn refill_end(&self, step: u32, batch: &mut Batch)
         requires { Fits self.now }
-        ensures { batch.new ≡ plan_batch (end_plan self.now.policy self.now.prices self.now.lo) step [] }
+        ensures { batch.new
+            ≡ plan_batch (end_plan self.now.policy self.now.prices self.now.lo) step [] }
     {
         if step > 0 {
             batch.set_end();
@@ -124,27 +126,14 @@ impl Walk {
 
     /// The stage after a number that comes at the end of the search: the demand there, where it is opened.
     fn after_end(&self, number: Fe) -> Stage
-        ensures { plan_at (record self.now { stage = result }) ≡ plan_after (end_plan self.now.policy self.now.prices self.now.lo) number }
+        ensures { plan_at (record self.now { stage = result })
+            ≡ plan_after (end_plan self.now.policy self.now.prices self.now.lo) number }
     {
         match self.shown() {
             None => Stage::Ended(Finish::NoPrice),
-            Some(Policy::Price) => Stage::Ended(self.price_with(None)),
-            Some(Policy::Volume) => Stage::Ended(self.price_with(Some(number))),
+            Some(Policy::Price) => Stage::Ended(self.price_with(None, None)),
+            Some(Policy::Volume) => Stage::Ended(self.price_with(Some(number), None)),
             Some(Policy::Full) => Stage::Supply(number),
-        }
-    }
-
-    /// The stage after the supply, where the volume was read before it.
-    fn after_supply(&self, supply: Fe) -> Stage
-        ensures { (volume : ℕ) → self.now.stage ≡ Stage.Supply volume → result ≡ Stage.Ended (Finish.Price self.now.lo (Some volume) (Some supply)) }
-    {
-        match self.stage {
-            Stage::Supply(volume) => Stage::Ended(Finish::Price {
-                place: self.lo,
-                volume: Some(volume),
-                supply: Some(supply),
-            }),
-            stage => stage,
         }
     }
 
@@ -154,7 +143,7 @@ impl Walk {
     {
         match self.shown() {
             None => Some(Finish::NoPrice),
-            Some(Policy::Price) => Some(self.price_with(None)),
+            Some(Policy::Price) => Some(self.price_with(None, None)),
             Some(Policy::Volume) => None,
             Some(Policy::Full) => None,
         }
@@ -183,7 +172,9 @@ impl Walk {
     fn refill_comparison(&self, step: u32, c: Fe, batch: &mut Batch)
         requires fits { Fits self.now }
         requires busy { busy self.now.stage ≡ 1 }
-        ensures { batch.new ≡ batch_at (compare_batches self.now.gates (self.now.first + mask_wires_of self.now.gates) self.now.first ((self.now.lo + self.now.hi) / 2)
+        ensures { batch.new ≡ batch_at (compare_batches self.now.gates
+            (self.now.first + mask_wires_of self.now.gates) self.now.first
+            ((self.now.lo + self.now.hi) / 2)
             (self.now.prices + (self.now.lo + self.now.hi) / 2) c) step }
     {
         let mid = (self.lo + self.hi) / 2;
@@ -237,7 +228,9 @@ impl Walk {
         requires open { (0 < self.left) × (self.lo < self.hi) }
         requires search { self.stage ≡ Stage.Search }
         ensures fits { Fits result }
-        ensures plan { plan_at result ≡ after_product (blocks_of self.gates) self.policy self.prices (self.left - 1) self.lo self.hi self.first self.rejected product }
+        ensures plan { plan_at result ≡ after_product (blocks_of self.gates) self.prices
+            (search_plan (blocks_of self.gates) self.policy self.prices (self.left - 1))
+            self.lo self.hi self.first self.rejected product }
     {
         let mut walk = self;
         walk.left = self.left - 1;
@@ -255,9 +248,12 @@ impl Walk {
     /// The place after an answer.
     fn after_answer(self, answer: Fe) -> Walk
         requires fits { Fits self }
-        requires busy { (self.lo < self.hi) × (self.first + widest self.gates * (self.left + 1) < 2 ^ 32) }
+        requires busy { (self.lo < self.hi)
+            × (self.first + widest self.gates * (self.left + 1) < 2 ^ 32) }
         ensures fits { Fits result }
-        ensures plan { plan_at result ≡ after_answer (blocks_of self.gates) self.policy self.prices self.left self.lo self.hi self.first self.rejected answer }
+        ensures plan { plan_at result ≡ after_answer (blocks_of self.gates)
+            (search_plan (blocks_of self.gates) self.policy self.prices self.left)
+            self.lo self.hi self.first self.rejected answer }
     {
         let mid = (self.lo + self.hi) / 2;
         let mut walk = self;
@@ -277,27 +273,26 @@ impl Walk {
         ensures fits { Fits result }
         ensures plan { plan_at result ≡ plan_after (plan_at self) number }
     {
-        match self.stage {
+        match &self.stage {
             Stage::Search => {
                 if self.is_open() {
                     self.after_product(number)
                 } else {
-                    let mut walk = self;
-                    walk.stage = self.after_end(number);
-                    walk
+                    Walk {
+                        stage: self.after_end(number),
+                        ..self
+                    }
                 }
             }
-            Stage::Masked => {
-                let mut walk = self;
-                walk.stage = Stage::Borrow(number);
-                walk
-            }
+            Stage::Masked => Walk {
+                stage: Stage::Borrow(number),
+                ..self
+            },
             Stage::Borrow(_) => self.after_answer(number),
-            Stage::Supply(_) => {
-                let mut walk = self;
-                walk.stage = self.after_supply(number);
-                walk
-            }
+            Stage::Supply(volume) => Walk {
+                stage: Stage::Ended(self.price_with(Some(*volume), Some(number))),
+                ..self
+            },
             Stage::Ended(_) => self,
         }
     }

@@ -1,7 +1,7 @@
 -- The messages that are kept by their numbers: those of one round more, and the numbers of one.
 use Rattle.std.proofs.Common.{◌≡◌, ◌≤◌, ◌+◌, ℕ, zero, suc, List, [], ◌∷◌, ◌++◌, length, slice_get, Some, refl, sym, ap, arith, subst}
 use Rattle.beet_field.specs.declared.point.Point.{Point}
-use Rattle.beet_gates.specs.declared.TheConstants.{MOST_NUMBERS}
+use Rattle.beet_field.specs.declared.TheConstants.{MOST_NUMBERS}
 use Rattle.beet_round.specs.declared.message.RoundMessage.{RoundMessage}
 use Rattle.beet_round.specs.declared.sides.Side.{Side}
 use Rattle.beet_round.specs.declared.sides.Side.TheVariants.{Low, High}

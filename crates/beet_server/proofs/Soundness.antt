@@ -3,13 +3,13 @@ use Rattle.std.proofs.Common.{◌≡◌, ◌+◌, ◌*◌, ◌^◌, ◌<◌, ◌
 use Rattle.std.proofs.lemmas.List.{length-map}
 use Rattle.std.specs.Int.{bit_at}
 use Rattle.beet_field.specs.declared.point.Point.{Point}
+use Rattle.beet_field.specs.declared.TheConstants.{MOST_NUMBERS}
 use Rattle.beet_words.specs.Tapes.{Tape, left_of}
 use Rattle.beet_gates.specs.Clear.{with_lets, product_of, is_end}
 use Rattle.beet_gates.specs.Scripts.{ActBelow, Standing, LawFrom, BatchStands, LetsBelow, IsWithin, after, acted, revealed, deals_in, size_of, start_of}
 use Rattle.beet_gates.specs.declared.Act.{Act}
 use Rattle.beet_gates.specs.declared.Act.TheVariants.{Deal, Mul, Reveal, End}
 use Rattle.beet_gates.specs.declared.Batch.{Batch}
-use Rattle.beet_gates.specs.declared.TheConstants.{MOST_NUMBERS}
 use Rattle.beet_gates.proofs.ClearFacts.{length-with_lets, done-after}
 use Rattle.beet_gates.proofs.EachFacts.{length-each}
 use Rattle.beet_gates.proofs.Laws.{law-now, law-next, law-last}

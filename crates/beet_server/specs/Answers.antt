@@ -25,13 +25,13 @@ pub record Keeps {S : Type 0} (old new : Core S) : Type 0 where
 abbrev pub Moves : {S : Type 0} → Core S → Core S → Type 0
 Moves old new =
     (HasBoth old.mail.now × (new.round ≡ old.round + 1) × (new.handed ≡ false))
-    ⊎ ((HasBoth old.mail.now → ⊥) × (new.round ≡ old.round) × (new.handed ≡ true))
+    ⊎ (¬ (HasBoth old.mail.now) × (new.round ≡ old.round) × (new.handed ≡ true))
 
 -- what is left of a core that hands out its messages: it then passes the round where both messages to it are in
 abbrev pub HandsOut : {S : Type 0} → (S → ℕ → List ℕ → Batch) → Core S → Core S → Type 0
 HandsOut next old new =
     (HasBoth old.mail.now × (new ≡ moved_on next (handed_out next old)))
-    ⊎ ((HasBoth old.mail.now → ⊥) × (new ≡ handed_out next old))
+    ⊎ (¬ (HasBoth old.mail.now) × (new ≡ handed_out next old))
 
 -- the verdict of an ended core on a message
 abbrev pub IsLateVerdict : {S : Type 0} → Core S → RoundMessage → Verdict → Type 0

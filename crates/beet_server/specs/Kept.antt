@@ -1,8 +1,8 @@
 -- The messages of the rounds that a server has passed, by their numbers.
 use Rattle.std.specs.Prelude.{◌≡◌, ◌≤◌, ◌*◌, ◌+◌, ℕ, List, [], ◌∷◌, length, Option, option_map, option_and_then, slice_get}
 use Rattle.beet_field.specs.declared.point.Point.{Point}
-use Rattle.beet_gates.specs.declared.TheConstants.{MOST_NUMBERS}
-use Rattle.beet_round.specs.Sides.{peer}
+use Rattle.beet_field.specs.declared.TheConstants.{MOST_NUMBERS}
+use Rattle.beet_round.specs.Sides.{peer, place_of}
 use Rattle.beet_round.specs.declared.message.RoundMessage.{RoundMessage}
 use Rattle.beet_round.specs.declared.sides.Side.{Side}
 use Rattle.beet_round.specs.declared.sides.Side.TheVariants.{Low, High}
@@ -21,10 +21,6 @@ abbrev pub messages_of : Point → ℕ → List (List ℕ) → List (List ℕ) �
 messages_of me round [] highs = []
 messages_of me round (l ∷ lows) [] = []
 messages_of me round (l ∷ lows) (h ∷ highs) = (message_with me round Low l ∷ message_with me round High h ∷ []) ∷ messages_of me (round + 1) lows highs
-
-abbrev pub place_of : Side → ℕ
-place_of Low = 0
-place_of High = 1
 
 abbrev pub numbers_in : List (List RoundMessage) → ℕ → Side → Option (List ℕ)
 numbers_in messages round side = option_and_then (λ pair. option_map (λ m. m.numbers.items) (slice_get pair (place_of side))) (slice_get messages round)

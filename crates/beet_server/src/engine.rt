@@ -2,17 +2,17 @@
 //! comes.
 
 ghost use Rattle.std.specs.Prelude.{◌≡◌, ◌<◌, ◌≤◌, ◌+◌, ◌-◌, ◌*◌, ◌^◌, [], length, true, false, vec_capacity};
+ghost use Rattle.beet_field.specs.declared.TheConstants.{MOST_NUMBERS};
 ghost use Rattle.beet_words.specs.Tapes.{left_of};
 ghost use Rattle.beet_gates.specs.Clear.{is_end, with_lets};
 ghost use Rattle.beet_gates.specs.Scripts.{size_of};
-ghost use Rattle.beet_gates.specs.declared.TheConstants.{MOST_NUMBERS};
 ghost use Rattle.beet_round.specs.Sides.{peer};
 ghost use Rattle.beet_round.specs.declared.sides.Side.TheVariants.{Low, High};
 ghost use Rattle.beet_server.specs.Steps.{Work, batch_of, sends, handing, passing};
 
 use crate::parts::{Numbers, absorb, append_all, append_lets, of_sender, put_numbers};
 use beet_field::{Fe, Point};
-use beet_gates::{Act, Batch, Script};
+use beet_gates::{Batch, Script};
 use beet_words::Tape;
 use std::marker::Model;
 
@@ -174,19 +174,14 @@ impl<S: Script> Engine<S> {
         ensures size { result ≡ size_of (batch_of S.batch_of self.now).act }
         ensures few { result ≤ MOST_NUMBERS }
     {
-        match &self.batch.act {
-            Act::Deal => 61,
-            Act::Mul(pairs) => pairs.len() as u32,
-            Act::Reveal(shown) => shown.len() as u32,
-            Act::End => 0,
-        }
+        self.batch.act.size()
     }
 
     /// Whether the script has ended.
     pub fn ended(&self) -> bool
         ensures { result ≡ is_end (batch_of S.batch_of self.now).act }
     {
-        matches!(self.batch.act, Act::End)
+        self.batch.act.is_end()
     }
 
     /// Whether the messages of the round were handed out.

@@ -1,14 +1,13 @@
 //! The messages of the rounds that a server has passed.
 
 ghost use Rattle.std.specs.Prelude.{◌≡◌, ◌<◌, ◌≤◌, ◌+◌, ◌*◌, ◌^◌, ◌++◌, [], ◌∷◌, length, IfOk, Some, slice_get};
-ghost use Rattle.beet_gates.specs.declared.TheConstants.{MOST_NUMBERS};
+ghost use Rattle.beet_field.specs.declared.TheConstants.{MOST_NUMBERS};
 ghost use Rattle.beet_round.specs.Boxes.{IsFrom};
 ghost use Rattle.beet_round.specs.declared.sides.Side.TheVariants.{Low, High};
 ghost use Rattle.beet_server.specs.Kept.{numbers_in};
 
 use crate::rows::Rows;
-use beet_field::{Fe, Point};
-use beet_gates::MOST_NUMBERS;
+use beet_field::{Fe, MOST_NUMBERS, Point};
 use beet_round::{RoundMessage, Side};
 use std::alloc::{AllocError, Global};
 use std::marker::Model;

@@ -1,12 +1,12 @@
 //! What a batch does to lists of numbers.
 
-ghost use Rattle.std.specs.Prelude.{◌≡◌, ◌<◌, ◌≤◌, ◌+◌, ◌++◌, take, map, length, slice_index, vec_capacity};
+ghost use Rattle.std.specs.Prelude.{◌≡◌, ◌≤◌, ◌+◌, ◌++◌, take, map, length, slice_index, vec_capacity};
 ghost use Rattle.std.specs.Int.{bit_at};
+ghost use Rattle.beet_field.specs.declared.TheConstants.{MOST_NUMBERS};
 ghost use Rattle.beet_shamir.specs.Line.{recombined, reshared};
 ghost use Rattle.beet_words.specs.Tapes.{drawn_from, left_of};
 ghost use Rattle.beet_gates.specs.Each.{each};
 ghost use Rattle.beet_gates.specs.Scripts.{LetsBelow, PairsBelow, WiresBelow, ActBelow, deals_in, revealed, size_of};
-ghost use Rattle.beet_gates.specs.declared.TheConstants.{MOST_NUMBERS};
 ghost use Rattle.beet_gates.specs.Clear.{with_lets, product_of};
 ghost use Rattle.beet_round.specs.Sides.{peer, side_of};
 ghost use Rattle.beet_round.specs.declared.sides.Side.TheVariants.{Low, High};
@@ -15,8 +15,8 @@ ghost use Rattle.beet_server.specs.Steps.{at_side};
 ghost use Rattle.beet_sharing.specs.Steps.{hidden, numbers_for, three_at, points_given, numbers_opened, gained_in};
 
 use arrayvec::ArrayVec;
-use beet_field::{Fe, Point, Trio};
-use beet_gates::{Act, Linear, MOST_NUMBERS, evaluate};
+use beet_field::{Fe, MOST_NUMBERS, Point, Trio};
+use beet_gates::{Act, Linear, bit_of, evaluate, multiply};
 use beet_round::Side;
 use beet_shamir::{Line, recombine, reshare};
 use beet_words::{Tape, Word};
@@ -126,15 +126,6 @@ pub fn absorb(
     }
 }
 
-/// The product of two wires.
-fn multiply(wires: &[Fe], pair: (u32, u32)) -> Fe
-    requires first { pair.0 < length wires.now }
-    requires second { pair.1 < length wires.now }
-    ensures { result ≡ product_of wires.now pair }
-{
-    wires[pair.0 as usize].mul(wires[pair.1 as usize])
-}
-
 /// The products of the pairs.
 fn products(wires: &[Fe], pairs: &[(u32, u32)]) -> Numbers
     requires below { PairsBelow (length wires.now) pairs.now }
@@ -146,14 +137,6 @@ fn products(wires: &[Fe], pairs: &[(u32, u32)]) -> Numbers
         numbers.push(multiply(wires, *pair));
     }
     numbers
-}
-
-/// The bit of a word at the place, as a number.
-fn bit_of(word: Word, k: u32) -> Fe
-    requires { k < 61 }
-    ensures { result ≡ bit_at word k }
-{
-    Fe::reduce(((word.value() >> k) & 1) as u128)
 }
 
 /// The bits of a word, the lowest first.

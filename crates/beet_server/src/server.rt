@@ -1,9 +1,9 @@
 //! One server of three.
 
 ghost use Rattle.std.specs.Prelude.{◌≡◌, ◌≢◌, ◌↔◌, ◌⊎◌, ◌<◌, ◌≤◌, ◌+◌, ◌-◌, ◌*◌, ◌^◌, ◌∷◌, [], ℕ, List, length, IfOk, IsNone, IfNone, IfSome, IsErrOf, option_map, vec_capacity, true, false};
+ghost use Rattle.beet_field.specs.declared.TheConstants.{MOST_NUMBERS};
 ghost use Rattle.beet_words.specs.Tapes.{left_of};
 ghost use Rattle.beet_gates.specs.Scripts.{size_of};
-ghost use Rattle.beet_gates.specs.declared.TheConstants.{MOST_NUMBERS};
 ghost use Rattle.beet_round.specs.Boxes.{HasBoth, Mailbox, Judged};
 ghost use Rattle.beet_round.specs.Sides.{peer};
 ghost use Rattle.beet_round.specs.declared.sides.Side.{Side as SideOf};
@@ -18,8 +18,8 @@ ghost use Rattle.beet_server.specs.declared.server.StartFault.TheVariants.{TooFe
 
 use crate::engine::Engine;
 use crate::kept::Kept;
-use beet_field::{Fe, Point};
-use beet_gates::{MOST_NUMBERS, Script};
+use beet_field::{Fe, MOST_NUMBERS, Point};
+use beet_gates::Script;
 use beet_round::{RoundBox, RoundMessage, Side, Verdict};
 use beet_words::{FeList, Tape};
 use std::alloc::{AllocError, Global};

@@ -2,12 +2,17 @@
 use Rattle.std.proofs.Common.{◌≡◌, ℕ, ◌+◌, ◌*◌, ◌-◌, arith, refl, ap, ◌∙◌}
 use Rattle.beet_field.specs.Field.{p, add_of, mul_of, sub_of}
 use Rattle.beet_field.proofs.Modular.{mul_same}
+use Rattle.beet_field.specs.declared.point.Point.{Point}
 use Rattle.beet_field.specs.declared.trio.Trio.{Trio}
-use Rattle.beet_shamir.specs.Line.{points_of, reshared, recombined, AreElements, HasLine, IsLine}
+use Rattle.beet_shamir.specs.Line.{point_of, points_of, reshared, recombined, AreElements, HasLine, IsLine}
 
 -- the point at i of a line
 abbrev pub at_of : ℕ → ℕ → ℕ → ℕ
 at_of v s i = add_of v (mul_of s i)
+
+-- the line with the value 0 and the slope 0 is 0 at each point
+pub zero-point : (at : Point) → 0 ≡ point_of 0 0 at
+zero-point at = omega arith
 
 -- three local products, dealt again and put together
 pub reshared-dealt : (v a w b r1 r2 r3 i : ℕ) →

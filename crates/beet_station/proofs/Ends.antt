@@ -51,7 +51,7 @@ module _ {S : Type 0} (next : S → ℕ → List ℕ → Batch) (inputs most : S
         coefficients = λ s. (keeps s).coefficients;
       }
 
-  -- spare servers with the same opening values end as the others do
+  -- spare servers that begin with the same end as the others do
   pub spares-ended : (start spares end : Trio (Core S)) → BeginAlike next inputs start spares → HaveEnded next inputs most spares end →
       HaveEnded next inputs most start end
   spares-ended start spares end alike h = record {

@@ -60,7 +60,7 @@ module _ {S : Type 0} (next : S → ℕ → List ℕ → Batch) (inputs most : S
     pub three : IsEnded start Three cores.three
 
 module _ {S : Type 0} (next : S → ℕ → List ℕ → Batch) (inputs : S → ℕ) where
-  -- three fresh cores have the opening values of three others: the script, the points of the inputs, and the words of each server
+  -- three fresh cores begin with the same as three others: the script, the points of the inputs, and the words of each server
   pub record BeginAlike (cores others : Trio (Core S)) : Type 0 where
     pub script : others.one.script ≡ cores.one.script
     pub setup : setup_of next inputs others ≡ setup_of next inputs cores

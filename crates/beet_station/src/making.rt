@@ -28,7 +28,6 @@ fn pair<S: Script>(
 ) -> Result<(Ends, Ends), AllocError>
     requires fresh { AreFresh S.batch_of S.inputs_of cores.now }
     requires apart { first ≢ second }
-    requires back { second ≢ first }
     ensures { IfOk result (AreBetween S.batch_of S.inputs_of S.rounds_of cores.now first second) }
 {
     let (there, from_first) = link(alloc, cores, first, second)?;

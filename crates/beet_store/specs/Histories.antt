@@ -1,5 +1,5 @@
 -- The record of the calls of a memory type, and how the logic stores it.
-use Rattle.std.specs.Prelude.{◌≡◌, ℕ, ◌==◌, List, [], Bool, true, false, cond, Ok, Err, refl}
+use Rattle.std.specs.Prelude.{◌≡◌, ℕ, ◌==◌, List, [], Bool, true, false, if◌then◌else◌, Ok, Err, refl}
 use Rattle.std.specs.Coded.{Coded, code_by, coded×, coded_ℕ, coded_bool, coded_list}
 use Rattle.beet_store.specs.Files.{Fetch}
 use Rattle.beet_store.specs.Desks.{DeskCall, Put, Say, Done}
@@ -21,7 +21,7 @@ done_number (Err Failed) = 1
 done_number (Err OutOfMemory) = 2
 
 abbrev done_at : ℕ → Done
-done_at n = cond (n == 0) (Ok tt) (cond (n == 1) (Err Failed) (Err OutOfMemory))
+done_at n = if n == 0 then Ok tt else if n == 1 then Err Failed else Err OutOfMemory
 
 -- a call as a tuple: whether it is a put, the name, the bytes, the answer
 abbrev CallParts : Type 0
@@ -32,7 +32,7 @@ to_parts (Put name bytes done) = (true, (name, (bytes, done_number done)))
 to_parts (Say bytes done) = (false, ([], (bytes, done_number done)))
 
 abbrev from_parts : CallParts → DeskCall
-from_parts p = cond p.0 (Put p.1.0 p.1.1.0 (done_at p.1.1.1)) (Say p.1.1.0 (done_at p.1.1.1))
+from_parts p = if p.0 then Put p.1.0 p.1.1.0 (done_at p.1.1.1) else Say p.1.1.0 (done_at p.1.1.1)
 
 pub from_parts-to_parts : (call : DeskCall) → from_parts (to_parts call) ≡ call
 from_parts-to_parts (Put name bytes (Ok tt)) = refl

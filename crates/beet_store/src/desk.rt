@@ -1,8 +1,10 @@
 //! What files and a text are given to.
 
+ghost use Rattle.std.specs.Prelude.{◌≡◌};
 ghost use Rattle.beet_store.specs.Desks.{DeskSeen, Called, Put, Say};
+ghost use Rattle.beet_store.specs.declared.desk.PutFault.TheVariants.{OutOfMemory};
 
-use std::alloc::Global;
+use std::alloc::{AllocError, Global};
 use thiserror::Error;
 
 /// Why a file or a text is not taken.
@@ -14,6 +16,14 @@ pub enum PutFault {
     /// Memory ran out; files and text are as they were.
     #[error("out of memory")]
     OutOfMemory,
+}
+
+impl From<AllocError> for PutFault {
+    ghost from_gives = { λ _ fault. fault ≡ OutOfMemory };
+
+    fn from(_: AllocError) -> PutFault {
+        PutFault::OutOfMemory
+    }
 }
 
 /// A place that files are put to, by name, and that a text is printed on. Each call is recorded, with its answer.

@@ -4,6 +4,7 @@ ghost use Rattle.std.specs.Prelude.{◌≡◌, ◌≤◌, ◌<◌, ◌+◌, None
 ghost use Rattle.beet_store.specs.Files.{KeepsLimit, HasCause, TellsFetch};
 ghost use Rattle.beet_store.specs.Host.{ReadsWithin, StopsBeyond, count_after};
 
+use crate::counting::counted;
 use crate::shelf::{FetchFault, Shelf};
 use std::alloc::Global;
 use std::fs;
@@ -56,7 +57,7 @@ const PIECE: usize = 16_384;
 fn wanted(room: u64) -> usize
     ensures some { 0 < result }
     ensures within { result ≤ room + 1 }
-    ensures piece { result ≤ 16384 }
+    ensures piece { result ≤ PIECE }
 {
     if room < PIECE as u64 {
         room as usize + 1
@@ -86,9 +87,7 @@ fn read_whole<F: Read>(
         if count == 0 {
             return Ok(bytes);
         }
-        let Ok(()) = bytes.extend_from_slice(&piece[..count]) else {
-            return Err(FetchFault::OutOfMemory);
-        };
+        bytes.extend_from_slice(&piece[..count])?;
         if bytes.len() as u64 > limit {
             return Err(FetchFault::TooLong(bytes.len() as u64));
         }
@@ -124,9 +123,6 @@ impl<R: Files> Shelf for HostShelf<R> {
         ensures counted { self.new ≡ count_after self.old result }
     {
         let answer = read_file(&self.rt, alloc, &mut self.piece, name, limit);
-        if answer.is_err() {
-            self.faults = self.faults.saturating_add(1);
-        }
-        answer
+        counted(&mut self.faults, answer)
     }
 }

@@ -1,10 +1,11 @@
 //! A desk over the files of the system and standard output, which tells nothing of what it was given.
 
 ghost use Rattle.std.specs.Prelude.{◌≡◌, IfErr};
-ghost use Rattle.beet_store.specs.Desks.{HasPutCause, Called, Put, Say};
+ghost use Rattle.beet_store.specs.Desks.{Called, Put, Say};
 ghost use Rattle.beet_store.specs.Host.{count_after, WritesAll, untold_desk};
 ghost use Rattle.beet_store.specs.declared.desk.PutFault.TheVariants.{Failed};
 
+use crate::counting::counted;
 use crate::desk::{Desk, PutFault};
 use std::alloc::Global;
 use std::fs;
@@ -41,18 +42,6 @@ impl<R> HostDesk<R> {
         ensures { result ≡ self.now }
     {
         self.faults
-    }
-
-    /// The answer of a call, with its fault counted.
-    fn counted(&mut self, answer: Result<(), PutFault>) -> Result<(), PutFault>
-        ensures answer { result ≡ answer }
-        ensures cause { HasPutCause self.old self.new result }
-        ensures counted { self.new ≡ count_after self.old result }
-    {
-        if answer.is_err() {
-            self.faults = self.faults.saturating_add(1);
-        }
-        answer
     }
 }
 
@@ -99,7 +88,7 @@ impl<R: Files + Print> Desk for HostDesk<R> {
         ensures failed { IfErr result (λ fault. fault ≡ Failed) }
     {
         let answer = write_file(&self.rt, name, bytes);
-        self.counted(answer)
+        counted(&mut self.faults, answer)
     }
 
     fn say(&mut self, bytes: &[u8]) -> Result<(), PutFault>
@@ -108,6 +97,6 @@ impl<R: Files + Print> Desk for HostDesk<R> {
         ensures failed { IfErr result (λ fault. fault ≡ Failed) }
     {
         let answer = write_whole(&mut io::writer(&self.rt), bytes);
-        self.counted(answer)
+        counted(&mut self.faults, answer)
     }
 }

@@ -4,6 +4,7 @@
 #![tactic(auto)]
 
 mod calls;
+mod counting;
 mod desk;
 mod history;
 mod host;

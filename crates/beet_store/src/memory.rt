@@ -40,7 +40,10 @@ impl Model for MemoryShelf {
 
     ghost Value = { ShelfInMemory };
 
-    ghost view = { λ a. record { told = record { files = a.files.items; fetches = a.history.so_far.fetches }; calls = a.calls } };
+    ghost view = { λ a. record {
+      told = record { files = a.files.items; fetches = a.history.so_far.fetches };
+      calls = a.calls;
+    } };
 }
 
 /// The place of the first file of the name.
@@ -88,15 +91,14 @@ fn answered(
     if count > limit {
         return Err(FetchFault::TooLong(count));
     }
-    match Vec::from_slice(alloc, bytes) {
-        Ok(copy) => Ok(copy),
-        Err(_) => Err(FetchFault::OutOfMemory),
-    }
+    Ok(Vec::from_slice(alloc, bytes)?)
 }
 
 /// Records the fetch, unless memory ran out.
 fn record_fetch(history: &mut History, name: &str, limit: u64, answer: &Result<Vec<u8>, FetchFault>)
-    ensures { history.new.so_far ≡ record history.old.so_far { fetches = fetches_after history.old.so_far.fetches name.now limit answer.now } }
+    ensures { history.new.so_far ≡ record history.old.so_far {
+      fetches = fetches_after history.old.so_far.fetches name.now limit answer.now;
+    } }
 {
     match answer {
         Ok(_) | Err(FetchFault::TooLong(_)) => {

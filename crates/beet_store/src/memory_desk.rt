@@ -28,13 +28,17 @@ impl Model for MemoryDesk {
 
     ghost Value = { DeskInMemory };
 
-    ghost view = { λ a. record { given = record { files = a.files.items; said = a.said.items; calls = a.history.so_far.calls }; calls = a.calls } };
+    ghost view = { λ a. record {
+      given = record { files = a.files.items; said = a.said.items; calls = a.history.so_far.calls };
+      calls = a.calls;
+    } };
 }
 
 /// Puts the bytes under the name.
 fn replace(files: &mut Vec<Held>, alloc: Global, name: &str, bytes: &[u8]) -> Result<(), AllocError>
     ensures file { OnOk result (bytes_of files.new.items name.now ≡ Some bytes.now) }
-    ensures others { (other : List ℕ) → other ≢ name.now → bytes_of files.new.items other ≡ bytes_of files.old.items other }
+    ensures others { (other : List ℕ) → other ≢ name.now
+        → bytes_of files.new.items other ≡ bytes_of files.old.items other }
     ensures err { OnErr result (files.new.items ≡ files.old.items) }
 {
     let bytes = Vec::from_slice(alloc, bytes)?;
@@ -58,16 +62,15 @@ fn put_into(
 ) -> Result<(), PutFault>
     ensures exact { IsErrOf result Failed ↔ IsTrue fails }
     ensures file { OnOk result (bytes_of files.new.items name.now ≡ Some bytes.now) }
-    ensures others { (other : List ℕ) → other ≢ name.now → bytes_of files.new.items other ≡ bytes_of files.old.items other }
+    ensures others { (other : List ℕ) → other ≢ name.now
+        → bytes_of files.new.items other ≡ bytes_of files.old.items other }
     ensures err { OnErr result (files.new.items ≡ files.old.items) }
 {
     if fails {
         return Err(PutFault::Failed);
     }
-    match replace(files, alloc, name, bytes) {
-        Ok(()) => Ok(()),
-        Err(_) => Err(PutFault::OutOfMemory),
-    }
+    replace(files, alloc, name, bytes)?;
+    Ok(())
 }
 
 /// Appends the bytes to the text, where the call does not fail.
@@ -79,10 +82,8 @@ fn say_into(said: &mut Vec<u8>, fails: bool, bytes: &[u8]) -> Result<(), PutFaul
     if fails {
         return Err(PutFault::Failed);
     }
-    match said.extend_from_slice(bytes) {
-        Ok(()) => Ok(()),
-        Err(_) => Err(PutFault::OutOfMemory),
-    }
+    said.extend_from_slice(bytes)?;
+    Ok(())
 }
 
 impl MemoryDesk {

@@ -1,8 +1,10 @@
 //! What files are fetched from.
 
+ghost use Rattle.std.specs.Prelude.{◌≡◌};
 ghost use Rattle.beet_store.specs.Files.{Seen, HasCause, TellsFetch};
+ghost use Rattle.beet_store.specs.declared.shelf.FetchFault.TheVariants.{OutOfMemory};
 
-use std::alloc::Global;
+use std::alloc::{AllocError, Global};
 use thiserror::Error;
 
 /// Why a file is not fetched.
@@ -18,6 +20,14 @@ pub enum FetchFault {
     /// Memory ran out; the record of fetches is as it was.
     #[error("out of memory")]
     OutOfMemory,
+}
+
+impl From<AllocError> for FetchFault {
+    ghost from_gives = { λ _ fault. fault ≡ OutOfMemory };
+
+    fn from(_: AllocError) -> FetchFault {
+        FetchFault::OutOfMemory
+    }
 }
 
 /// A place that files are fetched from, by name.

@@ -6,7 +6,7 @@ use Rattle.beet_shamir.specs.Line.{recombined}
 use Rattle.beet_forms.specs.FaultLines.{fault_line_of}
 use Rattle.beet_forms.specs.declared.faults.Place.TheVariants.{Row}
 use Rattle.beet_bids.specs.Grids.{Grid}
-use Rattle.beet_bids.specs.declared.auction_file.TheConstants.{NOT_ONE_PRICE}
+use Rattle.beet_bids.specs.declared.auction_file.TheConstants.{NOT_ONE_PRICE, PRICES_ROW}
 use Rattle.beet_words.specs.declared.bundle.TheConstants.{MOST_BIDDERS}
 use Rattle.beet_book.specs.Totals.{Totals, points_on, summed_quantities, supply_first, wires_of, CarriesValues}
 use Rattle.beet_book.specs.declared.entries.Entry.{Entry}
@@ -24,7 +24,7 @@ use Rattle.beet_book.proofs.Summed.{length-summed}
 use Rattle.beet_field.specs.declared.point.Point.{Point}
 use Rattle.beet_field.specs.declared.point.Point.TheVariants.{One, Two, Three}
 use Rattle.beet_load.proofs.Summing.{opens_supply, opens_demand}
-use Rattle.beet_tally.specs.Tally.{one_price, prices_row, sums_text, tallied}
+use Rattle.beet_tally.specs.Tally.{one_price, sums_text, tallied}
 
 is-not : (n : ℕ) → n ≢ 1 → (n == 1) ≡ false
 is-not n h = grind (arith, common_steps)
@@ -37,11 +37,11 @@ pub one-passes : (auction : List ℕ) (grid : Grid) → grid.prices ≡ 1 → Te
 one-passes auction grid h = record { passes = λ next. rw (is-one grid.prices h) refl; cause = λ before now. tt }
 
 -- the auction has another number of prices
-pub others-stop : (auction : List ℕ) (grid : Grid) (stop : Stop) → grid.prices ≢ 1 → Refuses BadFile (fault_line_of auction (Row prices_row) NOT_ONE_PRICE) stop →
+pub others-stop : (auction : List ℕ) (grid : Grid) (stop : Stop) → grid.prices ≢ 1 → Refuses BadFile (fault_line_of auction (Row PRICES_ROW) NOT_ONE_PRICE) stop →
     Tests (one_price auction grid) (Err stop)
 others-stop auction grid (Refused status line) h r = record {
   passes = λ next. rw (is-not grid.prices h, r.0, r.1) refl;
-  cause = λ before now. bad_cause before now (fault_line_of auction (Row prices_row) NOT_ONE_PRICE) (Refused status line) r;
+  cause = λ before now. bad_cause before now (fault_line_of auction (Row PRICES_ROW) NOT_ONE_PRICE) (Refused status line) r;
 }
 others-stop auction grid OutOfMemory h r = record { passes = tt; cause = λ before now. tt }
 

@@ -4,7 +4,7 @@ use Rattle.beet_forms.specs.Faults.{Fault, at_row}
 use Rattle.beet_bids.specs.Grids.{Grid}
 use Rattle.beet_bids.specs.AuctionFiles.{auction_of}
 use Rattle.beet_bids.specs.Sums.{supply_at, demand_at}
-use Rattle.beet_bids.specs.declared.auction_file.TheConstants.{AUCTION_LIMIT, NOT_ONE_PRICE}
+use Rattle.beet_bids.specs.declared.auction_file.TheConstants.{AUCTION_LIMIT, NOT_ONE_PRICE, PRICES_ROW}
 use Rattle.beet_book.specs.BookFiles.{book_of}
 use Rattle.beet_book.specs.declared.book_file.TheConstants.{BOOK_LIMIT}
 use Rattle.beet_book.specs.Farmers.{Farmer}
@@ -21,13 +21,9 @@ sums_text supply demand = line_of (codes "supply " ++ decimal supply) ++ line_of
 abbrev pub tallied : List Farmer → Answer
 tallied farmers = text_answer Done (sums_text (supply_at (bidders_of farmers) 0) (demand_at (bidders_of farmers) 0))
 
--- the row of an auction file that has the number of prices
-abbrev pub prices_row : ℕ
-prices_row = 4
-
 -- what stands for an auction file whose number of prices is not one
 abbrev pub not_one_price : Fault
-not_one_price = at_row prices_row NOT_ONE_PRICE
+not_one_price = at_row PRICES_ROW NOT_ONE_PRICE
 
 -- the auction goes on if it has one price
 abbrev pub one_price : List ℕ → Grid → Errand → Errand

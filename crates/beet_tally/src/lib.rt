@@ -8,7 +8,7 @@ ghost use Rattle.beet_shamir.specs.Line.{recombined};
 ghost use Rattle.beet_errand.specs.Fetches.{Reads, Tests};
 ghost use Rattle.beet_tally.specs.Tally.{one_price, sums_text, tally_job};
 
-use beet_bids::{Grid, NOT_ONE_PRICE};
+use beet_bids::{Grid, NOT_ONE_PRICE, PRICES_ROW};
 use beet_errand::{Reply, Status, Stop, refuse};
 use beet_field::{Fe, Trio};
 use beet_forms::Place;
@@ -17,9 +17,6 @@ use beet_shamir::recombine;
 use beet_store::Shelf;
 use beet_words::FeList;
 use std::alloc::{AllocError, Global};
-
-/// The row of an auction file that has the number of prices.
-const PRICES_ROW: u32 = 4;
 
 /// Refuses an auction of another number of prices than one.
 fn check_one_price(alloc: Global, auction: &str, grid: &Grid) -> Result<(), Stop>

@@ -20,9 +20,10 @@ use std::sync::{Barrier, Wait};
 use std::thread;
 use std::thread::Threads;
 
-/// All three, or `None` where one is wanting.
+/// All three, or `None` where one is missing.
 fn all<T: Drop>(some: Trio<Option<T>>) -> Option<Trio<T>>
-    ensures { IfSome result (λ all. (some.one ≡ Some all.one) × (some.two ≡ Some all.two) × (some.three ≡ Some all.three)) }
+    ensures { IfSome result (λ all. (some.one ≡ Some all.one) × (some.two ≡ Some all.two)
+        × (some.three ≡ Some all.three)) }
 {
     Some(Trio {
         one: some.one?,
@@ -42,11 +43,14 @@ fn in_threads<S: Script + Send, R: Threads + Wait + Sync, G: Gate>(
 where
     S::Place: Send,
     ensures one { IfSome result (λ cores.
-        IsEnded S.batch_of S.inputs_of S.rounds_of servings.one.run.value servings.one.me cores.one) }
+        IsEnded S.batch_of S.inputs_of S.rounds_of
+        servings.one.run.value servings.one.me cores.one) }
     ensures two { IfSome result (λ cores.
-        IsEnded S.batch_of S.inputs_of S.rounds_of servings.two.run.value servings.two.me cores.two) }
+        IsEnded S.batch_of S.inputs_of S.rounds_of
+        servings.two.run.value servings.two.me cores.two) }
     ensures three { IfSome result (λ cores.
-        IsEnded S.batch_of S.inputs_of S.rounds_of servings.three.run.value servings.three.me cores.three) }
+        IsEnded S.batch_of S.inputs_of S.rounds_of
+        servings.three.run.value servings.three.me cores.three) }
 {
     let stop = AtomicBool::new(false);
     let stop = &stop;
@@ -79,7 +83,7 @@ where
     )
 }
 
-/// The three servers as they are, once for each that is to run.
+/// All three servers as they begin, for each of them. A snapshot has no bytes, and stands in proofs alone.
 type Runs<S> = Trio<Snapshot<Trio<ServerCore<S>>>>;
 
 fn runs<S: Script>(cores: &Trio<ServerCore<S>>) -> Runs<S>
@@ -87,11 +91,7 @@ fn runs<S: Script>(cores: &Trio<ServerCore<S>>) -> Runs<S>
     ensures two { result.two.value ≡ cores.now }
     ensures three { result.three.value ≡ cores.now }
 {
-    Trio {
-        one: Snapshot::of(cores),
-        two: Snapshot::of(cores),
-        three: Snapshot::of(cores),
-    }
+    Trio::of(|_| Snapshot::of(cores))
 }
 
 /// The three servers with their ends, as they are to run.

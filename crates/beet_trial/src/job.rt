@@ -1,7 +1,6 @@
 //! The job `trial`.
 
 ghost use Rattle.std.specs.Prelude.{◌≡◌, ◌≤◌, ◌++◌, IfOk};
-ghost use Rattle.beet_bids.specs.Grids.{IsGrid};
 ghost use Rattle.beet_store.specs.Files.{Seen};
 ghost use Rattle.beet_errand.specs.Fetches.{IsDone, Reads};
 ghost use Rattle.beet_load.specs.Servers.{HaveEnough};
@@ -63,7 +62,6 @@ fn totals_of<R: Threads + Sync>(
     servers: &Trio<ServerWords>,
     bidders: u32,
 ) -> Result<Totals, Stop>
-    requires grid { IsGrid grid.now }
     requires few { bidders ≤ MOST_BIDDERS }
     requires servers { servers.now ≡ trial_servers grid.now }
     ensures reads { (seen : Seen) → Reads (λ totals. trial_answer grid.now bidders) seen seen (trial_over grid.now bidders) result }

@@ -1,7 +1,7 @@
 //! The book of a trial, by rule.
 
 ghost use Rattle.std.specs.Prelude.{◌≡◌, ◌≤◌, IfOk};
-ghost use Rattle.beet_bids.specs.Grids.{IsGrid};
+ghost use Rattle.beet_field.specs.Point.{number_of};
 ghost use Rattle.beet_words.specs.Seeds.{seed_words as words_of_seed};
 ghost use Rattle.beet_plan.specs.Kept.{words_kept as kept_of};
 ghost use Rattle.beet_load.specs.Servers.{seeded};
@@ -9,9 +9,10 @@ ghost use Rattle.beet_trial.specs.Rules.{bidder_seed, bought, buying, selling, s
 ghost use Rattle.beet_bids.specs.declared.grid.TheConstants.{MOST_PRICES};
 
 use beet_bids::{Curve, Grid};
-use beet_field::Trio;
+use beet_field::{Point, Trio};
 use beet_gates::Gates;
-use beet_load::{ServerWords, seed_words, words_kept};
+use beet_load::{ServerWords, seed_words};
+use beet_plan::words_kept;
 use beet_words::Tape;
 use std::alloc::{AllocError, Global};
 
@@ -36,25 +37,18 @@ pub(crate) fn grid_of(prices: u32) -> Grid
     }
 }
 
-/// The words of the server with this number.
-fn server_words(alloc: Global, grid: &Grid, server: u8) -> Result<ServerWords, AllocError>
-    requires { IsGrid grid.now }
-    ensures { IfOk result (λ words. words ≡ seeded grid.now (server_seed server)) }
+/// The words of a server.
+fn server_words(alloc: Global, grid: &Grid, server: Point) -> Result<ServerWords, AllocError>
+    ensures { IfOk result (λ words. words ≡ seeded grid.now (server_seed (number_of server))) }
 {
-    seed_words(alloc, grid, &[server; 32])
+    seed_words(alloc, grid, &[server.number() as u8; 32])
 }
 
 /// The words of the three servers.
 pub(crate) fn servers_of(alloc: Global, grid: &Grid) -> Result<Trio<ServerWords>, AllocError>
-    requires { IsGrid grid.now }
     ensures { IfOk result (λ servers. servers ≡ trial_servers grid.now) }
 {
-    let words = Trio {
-        one: server_words(alloc, grid, 1),
-        two: server_words(alloc, grid, 2),
-        three: server_words(alloc, grid, 3),
-    };
-    words.transpose()
+    Trio::try_of(|at| server_words(alloc, grid, at))
 }
 
 /// The seed of bidder `i`, from 0.

@@ -10,7 +10,7 @@ use Rattle.beet_words.specs.Bundles.{Words, FitsBundle}
 use Rattle.beet_words.specs.Words.{accepted}
 use Rattle.beet_bids.specs.Books.{Book}
 use Rattle.beet_bids.specs.Grids.{Grid, IsGrid}
-use Rattle.beet_bids.proofs.GridFacts.{comparisons-le}
+use Rattle.beet_bids.proofs.GridFacts.{few_comparisons}
 use Rattle.beet_bids.specs.declared.book.Bidder.{Bidder}
 use Rattle.beet_book.specs.Farmers.{Farmer, farmers_of}
 use Rattle.beet_plan.specs.Kept.{coefficients_kept, words_kept}
@@ -133,7 +133,7 @@ can-run s first second words mapped r grids m e = by second.grid grids e where
 pub bundle-fits : (book : Book) (words : Words) → CanStart book words → IsGrid book.grid → length book.bidders ≤ MOST_BIDDERS → FitsBundle words
 bundle-fits book words r grid few =
     let prices = grid.prices_limit in
-    let comparisons = comparisons-le book.grid.prices 13 (omega (arith, prices)) in
+    let comparisons = few_comparisons book.grid.prices prices in
     record {
       count = omega (arith, r.lists);
       masks = (omega (arith, r.cut.one.masks), omega (arith, r.cut.two.masks), omega (arith, r.cut.three.masks));

@@ -1,12 +1,12 @@
 -- How the job `worlds` ends.
-use Rattle.std.specs.Prelude.{◌≡◌, ◌≤◌, ◌⊎◌, ℕ, List, Option, Some, None, Result, Ok, Err, IfErr, IsSomeAnd}
+use Rattle.std.specs.Prelude.{◌≡◌, ◌≤◌, ℕ, List, Option, Some, None, Result, Ok, Err, IfErr, IsSomeAnd}
 use Rattle.beet_field.specs.declared.point.Point.{Point}
 use Rattle.beet_store.specs.Files.{Seen, Told}
 use Rattle.beet_words.specs.Bundles.{Words}
 use Rattle.beet_bids.specs.Books.{Book}
 use Rattle.beet_worlds.specs.declared.agreeing.MapFault.{MapFault}
 use Rattle.beet_worlds.specs.declared.agreeing.MapFault.TheVariants.{OutOfMemory as MemoryOut}
-use Rattle.beet_errand.specs.Errands.{Answer, Errand, Ends, Step, ◌>>=◌, ◌>>◌, answers, gives}
+use Rattle.beet_errand.specs.Errands.{Answer, Errand, Step, ◌>>=◌, ◌>>◌, answers, gives}
 use Rattle.beet_errand.specs.Fetches.{Causes, Stops, WithShown}
 use Rattle.beet_errand.specs.declared.answer.Status.TheVariants.{WorldsRefused}
 use Rattle.beet_errand.specs.declared.answer.Stop.{Stop}

@@ -5,6 +5,7 @@ use Rattle.std.proofs.lemmas.Bool.{eqb-true, eqb-false}
 use Rattle.beet_field.specs.Point.{number_of}
 use Rattle.beet_field.specs.declared.point.Point.{Point}
 use Rattle.beet_field.specs.declared.point.Point.TheVariants.{One, Two, Three}
+use Rattle.beet_field.specs.declared.TheConstants.{MOST_NUMBERS}
 use Rattle.beet_words.specs.Bundles.{up_to, word_at, words_at}
 use Rattle.beet_words.specs.Fields.{◌>>=◌, number_at, times, counted_at, ended}
 use Rattle.beet_bids.specs.Grids.{Grid}
@@ -12,7 +13,6 @@ use Rattle.beet_bids.specs.Curves.{Curve}
 use Rattle.beet_words.specs.declared.bundle.TheConstants.{MOST_BIDDERS, TRAILING}
 use Rattle.beet_bids.specs.declared.grid.TheConstants.{LARGEST_BASE, LARGEST_TICK, MOST_PRICES}
 use Rattle.beet_book.specs.declared.book_file.TheConstants.{MOST_PRODUCT}
-use Rattle.beet_gates.specs.declared.TheConstants.{MOST_NUMBERS}
 use Rattle.beet_view.specs.declared.reading.TheConstants.{MOST_ROUNDS}
 use Rattle.beet_view.specs.declared.quantities.Course.TheVariants.{Falling, Rising}
 use Rattle.beet_view.specs.declared.view.Seen.{Seen}

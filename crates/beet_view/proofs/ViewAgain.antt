@@ -9,21 +9,21 @@ use Rattle.beet_field.specs.Field.{p, IsElement}
 use Rattle.beet_field.specs.Point.{number_of}
 use Rattle.beet_field.specs.declared.point.Point.{Point}
 use Rattle.beet_field.specs.declared.point.Point.TheVariants.{One, Two, Three}
+use Rattle.beet_field.specs.declared.TheConstants.{MOST_NUMBERS}
 use Rattle.beet_words.specs.Words.{IsWord, ones}
 use Rattle.beet_words.specs.Bundles.{up_to, word_at, words_at}
 use Rattle.beet_words.specs.Fields.{Part, number_bytes, number_at, times, counted_at, ended}
 use Rattle.beet_words.proofs.FieldsAgain.{StandsAt, StandsAt-left, StandsAt-right, number_at-number, times-parts}
 use Rattle.beet_gates.specs.declared.Gates.{Gates}
 use Rattle.beet_gates.specs.declared.Gates.TheVariants.{Chain, Tree}
-use Rattle.beet_bids.specs.Grids.{Grid, IsGrid, comparisons_of}
-use Rattle.beet_bids.proofs.GridFacts.{comparisons-le}
+use Rattle.beet_bids.specs.Grids.{Grid, IsGrid}
+use Rattle.beet_bids.proofs.GridFacts.{few_comparisons}
 use Rattle.beet_bids.specs.Curves.{Curve, IsCurve}
 use Rattle.beet_bids.specs.declared.curve.TheConstants.{LARGEST_QUANTITY}
 use Rattle.beet_bids.specs.declared.grid.TheConstants.{LARGEST_BASE, LARGEST_TICK, MOST_PRICES}
 use Rattle.beet_bids.specs.declared.outcomes.Policy.{Policy}
 use Rattle.beet_bids.specs.declared.outcomes.Policy.TheVariants.{Price, Volume, Full}
 use Rattle.beet_book.specs.declared.book_file.TheConstants.{MOST_PRODUCT}
-use Rattle.beet_gates.specs.declared.TheConstants.{MOST_NUMBERS}
 use Rattle.beet_words.specs.declared.bundle.TheConstants.{TRAILING}
 use Rattle.beet_view.specs.declared.reading.TheConstants.{MOST_ROUNDS}
 use Rattle.beet_view.specs.declared.quantities.Course.{Course}
@@ -310,10 +310,6 @@ view_in-parts : (file : List ℕ) (view : Viewed) (tells : Bool) (grid bidders m
     view_in file ≡ Ok view
 unfolding view_in
 view_in-parts file view tells grid bidders masks coefficients rounds a b c d e f g h = rw (a, b, c, d, e, f, g, h) refl
-
--- at most 2^32 words, since a grid has few comparisons
-few_comparisons : (prices : ℕ) → prices ≤ MOST_PRICES → comparisons_of prices ≤ 13
-few_comparisons prices small = comparisons-le prices 13 (omega arith)
 
 -- the bidders may stand in a transcript
 bidders_fit : (view : Viewed) → IsView view → FitsFile view → AreNumbers view → All (FitsSeen view.server view.grid) view.bidders

@@ -8,7 +8,7 @@ use Rattle.beet_field.specs.declared.point.Point.{Point}
 use Rattle.beet_forms.specs.declared.faults.TheConstants.{LONGEST_FILE}
 use Rattle.beet_words.specs.Fields.{number_bytes}
 use Rattle.beet_bids.specs.Grids.{Grid, IsGrid}
-use Rattle.beet_bids.proofs.GridFacts.{comparisons-le}
+use Rattle.beet_bids.proofs.GridFacts.{few_comparisons}
 use Rattle.beet_bids.specs.Curves.{Curve}
 use Rattle.beet_bids.specs.declared.outcomes.Policy.{Policy}
 use Rattle.beet_bids.specs.declared.outcomes.Policy.TheVariants.{Price, Volume, Full}
@@ -83,7 +83,7 @@ view_bytes-short view grid is fits =
     let b = counted_bytes number_bytes view.masks in
     let c = counted_bytes number_bytes view.coefficients in
     let d = counted_bytes round_bytes view.rounds in
-    let comparisons = comparisons-le view.grid.prices 13 (omega (arith, grid.prices_limit)) in
+    let comparisons = few_comparisons view.grid.prices grid.prices_limit in
     let bidders : length a ≤ 24160008 = omega (arith, bidders-short view is fits, length-append (number_bytes (length view.bidders)) (flat_map seen_bytes view.bidders)) in
     let masks : length b ≤ 128 = omega (arith, counted-short view.masks, fits.masks, comparisons) in
     let coefficients : length c ≤ 61512 = omega (arith, counted-short view.coefficients, fits.coefficients, comparisons) in

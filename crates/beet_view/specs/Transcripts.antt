@@ -5,13 +5,13 @@ use Rattle.beet_field.specs.Field.{p, IsElement}
 use Rattle.beet_field.specs.Point.{number_of}
 use Rattle.beet_field.specs.declared.point.Point.{Point}
 use Rattle.beet_field.specs.declared.point.Point.TheVariants.{One, Two, Three}
+use Rattle.beet_field.specs.declared.TheConstants.{MOST_NUMBERS}
 use Rattle.beet_forms.specs.Faults.{Reading}
 use Rattle.beet_words.specs.declared.bundle.TheConstants.{MOST_BIDDERS, BAD_MAGIC, TRUNCATED, BAD_NUMBER, TRAILING}
 use Rattle.beet_words.specs.declared.fields.Allowed.{Allowed}
 use Rattle.beet_words.specs.Words.{IsWord}
 use Rattle.beet_words.specs.Bundles.{words_at}
 use Rattle.beet_words.specs.Fields.{◌>>=◌, Part, at_offset, number_bytes, number_at, times, counted_at, ended}
-use Rattle.beet_gates.specs.declared.TheConstants.{MOST_NUMBERS}
 use Rattle.beet_gates.specs.declared.Gates.{Gates}
 use Rattle.beet_gates.specs.declared.Gates.TheVariants.{Chain, Tree}
 use Rattle.beet_bids.specs.Grids.{Grid, IsGrid}

@@ -1,16 +1,15 @@
 //! The parts of a transcript that are lists of numbers.
 
 ghost use Rattle.std.specs.Prelude.{◌≡◌, ◌≤◌, length, IfOk};
+ghost use Rattle.beet_field.specs.declared.TheConstants.{MOST_NUMBERS};
 ghost use Rattle.beet_forms.specs.Faults.{Answers};
 ghost use Rattle.beet_words.specs.Fields.{times};
-ghost use Rattle.beet_gates.specs.declared.TheConstants.{MOST_NUMBERS};
 ghost use Rattle.beet_view.specs.Transcripts.{point_at, message_at};
 
 use crate::quantities::{from_to, read_from_to};
 use arrayvec::ArrayVec;
-use beet_field::{Fe, P};
+use beet_field::{Fe, MOST_NUMBERS, P};
 use beet_forms::ReadFault;
-use beet_gates::MOST_NUMBERS;
 use beet_words::FeList;
 use std::alloc::Global;
 

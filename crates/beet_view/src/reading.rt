@@ -15,7 +15,7 @@ use beet_book::MOST_PRODUCT;
 use beet_field::Point;
 use beet_forms::ReadFault;
 use beet_gates::Gates;
-use beet_plan::{MASK_COEFFICIENTS, SPARE_MASKS, SPARE_WORDS};
+use beet_plan::{coefficients_kept, masks_kept, words_kept};
 use beet_words::{
     BAD_MAGIC, BAD_NUMBER, MOST_BIDDERS, TRAILING, WordList, read_end, read_list, read_magic,
     read_many,
@@ -124,7 +124,7 @@ fn read_own(
     let Some(curve) = Curve::of(grid, buy, sell) else {
         unreachable!()
     };
-    let (words, at) = read_list(alloc, bytes, 2 * prices + SPARE_WORDS as u64, at)?;
+    let (words, at) = read_list(alloc, bytes, words_kept(grid) as u64, at)?;
     Ok(((curve, words), at))
 }
 
@@ -284,10 +284,8 @@ fn read_parts(alloc: Global, bytes: &[u8]) -> Result<View, ReadFault>
     let (server, at) = read_server(bytes, at)?;
     let (grid, at) = read_grid(bytes, tells, at)?;
     let (bidders, at) = read_bidders(alloc, bytes, server, &grid, at)?;
-    let most_masks = grid.comparisons() as u64 + SPARE_MASKS as u64;
-    let (masks, at) = read_list(alloc, bytes, most_masks, at)?;
-    let most_coefficients = MASK_COEFFICIENTS as u64 * most_masks + SPARE_WORDS as u64;
-    let (coefficients, at) = read_list(alloc, bytes, most_coefficients, at)?;
+    let (masks, at) = read_list(alloc, bytes, masks_kept(&grid) as u64, at)?;
+    let (coefficients, at) = read_list(alloc, bytes, coefficients_kept(&grid) as u64, at)?;
     let (rounds, at) = read_rounds(alloc, bytes, at)?;
     read_end(bytes, TRAILING, at)?;
     Ok(View {

@@ -1,8 +1,8 @@
 //! The view of a server that has run a script.
 
 ghost use Rattle.std.specs.Prelude.{◌≡◌, ◌<◌, ◌≤◌, ◌^◌, true, length, All, IfOk};
+ghost use Rattle.beet_field.specs.declared.TheConstants.{MOST_NUMBERS};
 ghost use Rattle.beet_words.specs.declared.bundle.TheConstants.{MOST_BIDDERS};
-ghost use Rattle.beet_gates.specs.declared.TheConstants.{MOST_NUMBERS};
 ghost use Rattle.beet_sharing.specs.Runs.{Setup, HasRounds};
 ghost use Rattle.beet_delivery.specs.Events.{Delivered};
 ghost use Rattle.beet_server.specs.Cores.{has_ended};
@@ -13,8 +13,8 @@ ghost use Rattle.beet_view.specs.RunViews.{numbers_received, round_received, rou
 use crate::view::{Received, Seen, View};
 use arrayvec::ArrayVec;
 use beet_bids::Grid;
-use beet_field::Fe;
-use beet_gates::{MOST_NUMBERS, Script};
+use beet_field::{Fe, MOST_NUMBERS};
+use beet_gates::Script;
 use beet_round::Side;
 use beet_server::ServerCore;
 use beet_words::{Word, WordList};

@@ -5,8 +5,7 @@ ghost use Rattle.beet_view.specs.Views.{IsView, from_peer, numbers_of};
 
 use arrayvec::ArrayVec;
 use beet_bids::{Curve, Grid};
-use beet_field::{Fe, Point};
-use beet_gates::MOST_NUMBERS;
+use beet_field::{Fe, MOST_NUMBERS, Point};
 use beet_words::{FeList, Word, WordList};
 use std::marker::Model;
 

@@ -14,7 +14,7 @@ use crate::view::{Received, Seen, View};
 use beet_bids::{Grid, Policy};
 use beet_field::{Fe, Point};
 use beet_gates::Gates;
-use beet_words::{push_list, push_number};
+use beet_words::{push_list, push_number, push_points};
 use std::alloc::{AllocError, Global};
 
 /// Appends numbers.
@@ -23,17 +23,6 @@ fn push_numbers(file: &mut Vec<u8>, numbers: &[u64]) -> Result<(), AllocError>
 {
     for number in numbers {
         push_number(file, *number)?;
-    }
-    Ok(())
-}
-
-/// Appends numbers of the field.
-fn push_points(file: &mut Vec<u8>, points: &[Fe]) -> Result<(), AllocError>
-    ensures bytes { OnOk result (file.new.items ≡ file.old.items ++ numbers_bytes points.now) }
-    ensures points { OnOk result (All IsElement points.now) }
-{
-    for point in points {
-        push_number(file, point.value())?;
     }
     Ok(())
 }

@@ -1,26 +1,27 @@
 -- A tape file: lines of 17 bytes, each the 16 hexadecimal digits of a word and a newline byte.
-use Rattle.std.specs.Prelude.{ℕ, ◌++◌, ◌+◌, ◌*◌, ◌/◌, ◌^◌, ◌==◌, ◌&&◌, nat_lt, if◌then◌else◌, List, [], ◌∷◌, length, map, take, drop, slice_index, Option, Some, None, unwrap_or, option_map}
+use Rattle.std.specs.Prelude.{ℕ, ◌++◌, ◌+◌, ◌-◌, ◌*◌, ◌/◌, ◌^◌, ◌==◌, ◌&&◌, nat_lt, if◌then◌else◌, List, [], ◌∷◌, length, map, take, drop, slice_index, Option, Some, None, unwrap_or, option_map}
 use Rattle.std.specs.List.{range_with_len, flat_map}
 use Rattle.std.specs.Int.{w64, from_be_bytes, to_be_bytes}
 use Rattle.hex.specs.Hex.{decode_of, encode_lower}
 use Rattle.beet_forms.specs.Faults.{Reading, first_fault, reading_of}
-use Rattle.beet_words.specs.declared.tape_file.TheConstants.{BAD_LINE, TOO_LARGE}
+use Rattle.beet_words.specs.declared.digits.TheConstants.{DIGITS}
+use Rattle.beet_words.specs.declared.tape_file.TheConstants.{BAD_LINE, LINE, WORD_TOO_LARGE}
 use Rattle.beet_words.specs.Seeds.{bytes_in}
 
 -- the k-th line, from 0; the last may be shorter
 abbrev pub line_at : List ℕ → ℕ → List ℕ
-line_at bytes k = take 17 (drop (17 * k) bytes)
+line_at bytes k = take LINE (drop (LINE * k) bytes)
 
 abbrev pub lines_of : List ℕ → List (List ℕ)
-lines_of bytes = map (line_at bytes) (range_with_len 0 ((length bytes + 16) / 17))
+lines_of bytes = map (line_at bytes) (range_with_len 0 ((length bytes + (LINE - 1)) / LINE))
 
 -- the number that 16 hexadecimal digits write, the highest first, or none
 abbrev pub digits_of : List ℕ → Option ℕ
-digits_of text = if length text == 16 then option_map (from_be_bytes w64) (bytes_in (decode_of text)) else None
+digits_of text = if length text == DIGITS then option_map (from_be_bytes w64) (bytes_in (decode_of text)) else None
 
 -- the number of a line, or none where the line is not whole, has another last byte, or other bytes than digits
 abbrev pub number_in : List ℕ → Option ℕ
-number_in line = if (length line == 17) && (slice_index line 16 == 10) then digits_of (take 16 line) else None
+number_in line = if (length line == LINE) && (slice_index line DIGITS == 10) then digits_of (take DIGITS line) else None
 
 -- the word of a line that has one
 abbrev pub word_in : List ℕ → ℕ
@@ -29,7 +30,7 @@ word_in line = unwrap_or (number_in line) 0
 -- the reason against the number of a line, if there is one
 abbrev pub reason_of_number : Option ℕ → Option ℕ
 reason_of_number None = Some BAD_LINE
-reason_of_number (Some n) = if nat_lt n (2 ^ 61) then None else Some TOO_LARGE
+reason_of_number (Some n) = if nat_lt n (2 ^ 61) then None else Some WORD_TOO_LARGE
 
 -- the reason against a line
 abbrev pub reason_against : List ℕ → Option ℕ

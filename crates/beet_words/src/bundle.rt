@@ -3,11 +3,12 @@
 ghost use Rattle.std.specs.Prelude.{◌≡◌, ◌≤◌, ◌<◌, ◌++◌, ℕ, List, length, Ok, IfOk, OnOk, All};
 ghost use Rattle.std.specs.List.{flat_map};
 ghost use Rattle.beet_forms.specs.Faults.{Answers};
+ghost use Rattle.beet_forms.specs.declared.faults.TheConstants.{LONGEST_FILE};
 ghost use Rattle.beet_words.specs.Words.{IsWord};
 ghost use Rattle.beet_words.specs.Fields.{times, number_bytes};
 ghost use Rattle.beet_words.specs.Bundles.{up_to as allowed_up_to, word_at, words_at, list_at, server_at, bundle_of, list_bytes, server_bytes, bundle_bytes, AreWords, FitsBundle};
 
-use crate::fields::{Allowed, push_number, read_end, read_magic, read_number, room};
+use crate::fields::{Allowed, push_number, read_end, read_magic, read_number};
 use crate::many::read_many;
 use crate::word::{Word, WordList};
 use beet_field::{P, Trio};
@@ -28,14 +29,15 @@ impl Model for Words {
 
     ghost Value = { Shown };
 
-    ghost view = { λ a. record { masks = a.masks; coefficients = a.coefficients; bidders = a.bidders.items } };
+    ghost view = { λ a. record {
+      masks = a.masks;
+      coefficients = a.coefficients;
+      bidders = a.bidders.items;
+    } };
 }
 
 /// The text that a bundle begins with.
 const MAGIC: &[u8] = b"BEETWD01";
-
-/// The most bytes of a bundle.
-pub const BUNDLE_LIMIT: u64 = 67_108_864;
 
 /// The most words of a list.
 pub const MOST_WORDS: u64 = 16_384;
@@ -94,14 +96,8 @@ fn read_words(
     ensures words { Answers (λ read. read) (times count (word_at bytes.now) at) result }
     ensures within { IfOk result (λ read. read.1 ≤ length bytes.now) }
 {
-    let mut words = WordList::with_capacity(alloc, room(bytes, at, count))?;
-    let mut next = at;
-    for _k in 0..count {
-        let (word, after) = read_word(bytes, next)?;
-        words.push(word)?;
-        next = after;
-    }
-    Ok((words, next))
+    let (words, at) = read_many(alloc, bytes, count, at, |from| read_word(bytes, from))?;
+    Ok((WordList::of(words), at))
 }
 
 /// A count, at most `most`, and so many words.
@@ -165,7 +161,7 @@ fn read_server(
 /// memory is taken for no more items than it can hold.
 #[tactic(auto, unfolding(crate::specs::Bundles::bundle_of))]
 pub fn read_bundle(alloc: Global, bytes: &[u8]) -> Result<Words, ReadFault>
-    requires { length bytes.now ≤ BUNDLE_LIMIT }
+    requires { length bytes.now ≤ LONGEST_FILE }
     ensures { Answers (λ words. words) (bundle_of bytes.now) result }
 {
     let at = read_magic(bytes, MAGIC, BAD_MAGIC)?;
@@ -230,7 +226,8 @@ fn push_server(
     masks: &WordList,
     coefficients: &WordList,
 ) -> Result<(), AllocError>
-    ensures bytes { OnOk result (file.new.items ≡ file.old.items ++ server_bytes masks.now coefficients.now) }
+    ensures bytes { OnOk result
+        (file.new.items ≡ file.old.items ++ server_bytes masks.now coefficients.now) }
     ensures masks { OnOk result (All IsWord masks.now) }
     ensures coefficients { OnOk result (All IsWord coefficients.now) }
 {

@@ -9,7 +9,7 @@ ghost use Rattle.beet_words.specs.TapeFiles.{digits_of};
 use hex::FromHex;
 
 /// How many digits a word has.
-const DIGITS: usize = 16;
+pub(crate) const DIGITS: usize = 16;
 
 /// What stands in the table for a byte that is no digit.
 const NO_DIGIT: u8 = 255;
@@ -66,7 +66,7 @@ pub(crate) fn read_digits(text: &[u8]) -> Option<u64>
 
 /// Writes a number as 16 lower-case digits.
 pub(crate) fn write_digits(n: u64, out: &mut [u8])
-    requires { length out.old ≡ 16 }
+    requires { length out.old ≡ DIGITS }
     ensures { out.new ≡ encode_lower (to_be_bytes w64 n) }
 {
     let bytes = n.to_be_bytes();

@@ -12,13 +12,13 @@ mod tape_file;
 mod word;
 
 pub use bundle::{
-    BAD_MAGIC, BAD_NUMBER, BUNDLE_LIMIT, MOST_BIDDERS, MOST_WORDS, TRAILING, TRUNCATED,
-    WRONG_COUNT, Words, push_list, read_bundle, read_list, write_bundle,
+    BAD_MAGIC, BAD_NUMBER, MOST_BIDDERS, MOST_WORDS, TRAILING, TRUNCATED, WRONG_COUNT, Words,
+    push_list, read_bundle, read_list, write_bundle,
 };
 pub use digits::read_seed;
 pub use fields::{Allowed, push_number, read_end, read_magic, read_number, room};
 pub use many::read_many;
-pub use points::{read_point, read_points};
+pub use points::{push_points, read_point, read_points};
 pub use tape::{Tape, count_accepted};
-pub use tape_file::{BAD_LINE, TAPE_LIMIT, TOO_LARGE, read_tape, write_tape};
+pub use tape_file::{BAD_LINE, TAPE_LIMIT, WORD_TOO_LARGE, read_tape, write_tape};
 pub use word::{FeList, Word, WordList};

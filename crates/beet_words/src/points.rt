@@ -1,15 +1,16 @@
 //! Numbers of the field in binary files.
 
-ghost use Rattle.std.specs.Prelude.{◌≡◌, ◌≤◌, ◌<◌, length, IfOk};
-ghost use Rattle.beet_field.specs.Field.{p};
+ghost use Rattle.std.specs.Prelude.{◌≡◌, ◌≤◌, ◌<◌, ◌++◌, length, All, IfOk, OnOk};
+ghost use Rattle.std.specs.List.{flat_map};
+ghost use Rattle.beet_field.specs.Field.{IsElement, p};
 ghost use Rattle.beet_forms.specs.Faults.{Answers};
-ghost use Rattle.beet_words.specs.Fields.{number_at, times};
+ghost use Rattle.beet_words.specs.Fields.{number_at, number_bytes, times};
 
-use crate::fields::{Allowed, read_number, room};
+use crate::fields::{Allowed, push_number, read_number, room};
 use crate::word::FeList;
 use beet_field::Fe;
 use beet_forms::ReadFault;
-use std::alloc::Global;
+use std::alloc::{AllocError, Global};
 
 /// A number of the field, and the offset after it.
 pub fn read_point(bytes: &[u8], allowed: Allowed, at: usize) -> Result<(Fe, usize), ReadFault>
@@ -48,4 +49,15 @@ pub fn read_points(
         next = after;
     }
     Ok((FeList::of(points), next))
+}
+
+/// Appends numbers of the field.
+pub fn push_points(file: &mut Vec<u8>, points: &[Fe]) -> Result<(), AllocError>
+    ensures bytes { OnOk result (file.new.items ≡ file.old.items ++ flat_map number_bytes points.now) }
+    ensures points { OnOk result (All IsElement points.now) }
+{
+    for point in points {
+        push_number(file, point.value())?;
+    }
+    Ok(())
 }

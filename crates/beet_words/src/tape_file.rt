@@ -6,7 +6,7 @@ ghost use Rattle.beet_forms.specs.declared.faults.TheConstants.{LONGEST_FILE};
 ghost use Rattle.beet_words.specs.TapeFiles.{tape_of, line_at, number_in, reason_against, word_in, line_of, tape_bytes};
 ghost use Rattle.beet_words.specs.Words.{IsWord};
 
-use crate::digits::{read_digits, write_digits};
+use crate::digits::{DIGITS, read_digits, write_digits};
 use crate::word::{Word, WordList};
 use beet_forms::ReadFault;
 use std::alloc::{AllocError, Global};
@@ -18,14 +18,14 @@ pub const TAPE_LIMIT: u64 = 1_048_576;
 pub const BAD_LINE: u32 = 1;
 
 /// The reason against a line whose number is 2^61 or more.
-pub const TOO_LARGE: u32 = 2;
+pub const WORD_TOO_LARGE: u32 = 2;
 
 /// How many bytes a line has.
-const LINE: usize = 17;
+const LINE: usize = DIGITS + 1;
 
 /// The k-th line, from 0. The last one may be shorter.
 fn line(bytes: &[u8], k: u32) -> &[u8]
-    requires { 17 * k ≤ length bytes.now }
+    requires { LINE * k ≤ length bytes.now }
     ensures { result.now ≡ line_at bytes.now k }
 {
     let rest = &bytes[LINE * k as usize..];
@@ -40,10 +40,10 @@ fn line(bytes: &[u8], k: u32) -> &[u8]
 fn read_number(line: &[u8]) -> Option<u64>
     ensures { result ≡ number_in line.now }
 {
-    if line.len() != LINE || line[16] != b'\n' {
+    if line.len() != LINE || line[DIGITS] != b'\n' {
         return None;
     }
-    read_digits(&line[..16])
+    read_digits(&line[..DIGITS])
 }
 
 /// The word of a line, or the reason against it.
@@ -55,7 +55,7 @@ fn read_line(line: &[u8]) -> Result<Word, u32>
     let Some(n) = read_number(line) else {
         return Err(BAD_LINE);
     };
-    Word::of(n).ok_or(TOO_LARGE)
+    Word::of(n).ok_or(WORD_TOO_LARGE)
 }
 
 /// Keeps a word, unless enough are kept.
@@ -96,14 +96,15 @@ fn push_line(file: &mut Vec<u8>, word: Word) -> Result<(), AllocError>
     ensures below { IsWord word }
 {
     let mut line = [b'\n'; LINE];
-    write_digits(word.value(), &mut line[..16]);
+    write_digits(word.value(), &mut line[..DIGITS]);
     file.extend_from_slice(line.as_slice())
 }
 
 /// The tape file of the words, in lower-case digits. Want of memory is the only error.
 pub fn write_tape(alloc: Global, words: &[Word]) -> Result<Vec<u8>, AllocError>
     ensures bytes { IfOk result (λ file. file.items ≡ tape_bytes words.now) }
-    ensures again { IfOk result (λ file. (keep : ℕ) → length words.now ≤ keep → tape_of file.items keep ≡ Ok words.now) }
+    ensures again { IfOk result (λ file. (keep : ℕ) → length words.now ≤ keep
+        → tape_of file.items keep ≡ Ok words.now) }
 {
     let mut file = Vec::with_capacity(alloc, words.len().saturating_mul(LINE))?;
     for word in words {

@@ -127,6 +127,7 @@ impl WordList {
     pub fn of(items: Vec<Word>) -> WordList
         ensures { result ≡ items.items }
     {
+        // Each word tells the proof that it is below 2^61.
         for word in &items {
             let _below = word.value();
         }
@@ -137,8 +138,7 @@ impl WordList {
     pub fn push(&mut self, word: Word) -> Result<(), AllocError>
         ensures { self.new ≡ (if is_ok result then self.old ++ word ∷ [] else self.old) }
     {
-        let number = word.number;
-        self.items.push(Word { number })?;
+        self.items.push(word)?;
         Ok(())
     }
 

@@ -1,4 +1,4 @@
--- A message of a world is delivered.
+-- A message of a `World` is delivered.
 use Rattle.std.proofs.Common.{◌≡◌, ◌≢◌, ℕ, ◌+◌, ◌<◌, ◌≤◌, List, [], ◌∷◌, Bool, true, false, inl, inr, arith, refl, sym, ◌∙◌, ap, subst, length, slice_get, Some, Vec, Global, vec_capacity}
 use Rattle.std.proofs.lemmas.Bool.{false_from_ne_true}
 use Rattle.beet_field.specs.Trio.{member}
@@ -236,7 +236,7 @@ module _ {S : Type 0} (next : S → ℕ → List ℕ → Batch) (inputs most : S
         is ∙ (λ j. verdict_on (delivered_in w) ((i.standing to).name j) (at j) (back_side from side).0 t) in
         rw (sent-to from to side t is_to lt, side-is) (ap DeliveredBy told)
 
-    -- the world holds after it
+    -- the `World` holds after it
     pub holds-after : (cores' : Trio (Core S)) (sent' : Trio (Vec (List RoundMessage) Global)) (v : Verdict) →
         ((s : Point) → s ≢ to → (member cores' s ≡ member cores s) × (member sent' s ≡ member sent s)) →
         vec_capacity (member sent' to) ≡ vec_capacity (member sent to) → Keeps (member cores to) (member cores' to) → is_quiet next (member cores' to) ≡ true →

@@ -1,4 +1,4 @@
--- A world begins with three fresh cores that have handed out what they had to.
+-- A `World` begins with three fresh cores that have handed out what they had to.
 use Rattle.std.proofs.Common.{◌≡◌, ◌<◌, ◌*◌, ℕ, List, [], true, false, true≢false, sym, ◌∙◌, ap, subst}
 use Rattle.std.proofs.lemmas.List.{length-replicate}
 use Rattle.beet_field.specs.Trio.{member}

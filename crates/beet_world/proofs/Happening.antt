@@ -1,4 +1,4 @@
--- What an event makes of a world.
+-- What an event makes of a `World`.
 use Rattle.std.proofs.Common.{◌≡◌, ◌≢◌, ℕ, ◌+◌, ◌<◌, ◌≤◌, List, [], ◌∷◌, ◌++◌, Bool, true, false, true≢false, inl, inr, arith, refl, sym, ◌∙◌, ap, subst, ◌||◌, ◌⊎◌, length, length-set, slice_get, Some}
 use Rattle.std.proofs.lemmas.Bool.{cases_Bool}
 use Rattle.beet_field.specs.Trio.{member}
@@ -127,7 +127,7 @@ module _ {S : Type 0} (next : S → ℕ → List ℕ → Batch) (inputs most : S
               ∙ (λ k. message_of (setup_in next inputs most w) (peer (sym c.name k) back) (sym c.name k) t);
         }
 
-    -- the receiver then stands in the world after the event
+    -- the receiver then stands in the `World` after the event
     pub given-stands : (back : Side) (d : Core S) (sent' : List (List RoundMessage)) (v : Verdict) → peer (peer from side) back ≡ from →
         Keeps (member cores (peer from side)) d → is_quiet next d ≡ true →
         IsGiven next (setup_in next inputs most w) (delivered_in w) (rounds_in next inputs most w) back t (member cores (peer from side)) d sent' v →
@@ -159,7 +159,7 @@ module _ {S : Type 0} (next : S → ℕ → List ℕ → Batch) (inputs most : S
           going = c.going;
         }
 
-    -- the world after the event
+    -- the `World` after the event
     pub world-after : (cores' : Trio (Core S)) (sent' : Trio (List (List RoundMessage))) →
         StandsIn next inputs most (record w { marks = with_mark w.marks from side t }) (peer from side) (member cores' (peer from side)) →
         member sent' (peer from side) ≡ sent_by (setup_in next inputs most w) (member cores' (peer from side)) →

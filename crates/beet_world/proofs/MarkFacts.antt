@@ -4,33 +4,24 @@ use Rattle.std.specs.Prelude.{slice_index_or, replicate}
 use Rattle.std.proofs.lemmas.Bool.{cases_eq, cases_lt, and_parts, or_cases, or_left, or_right, eq-eqb, eqb-true}
 use Rattle.std.proofs.lemmas.List.{get_or-set_same, get_or-set_other, get_or-replicate, length-replicate}
 use Rattle.std.proofs.Math.ListN.{get_or-eq_default}
+use Rattle.beet_field.proofs.Points.{point_low, point_high}
 use Rattle.beet_field.specs.Point.{number_of}
 use Rattle.beet_field.specs.declared.point.Point.{Point}
 use Rattle.beet_field.specs.declared.point.Point.TheVariants.{One, Two, Three}
-use Rattle.beet_round.specs.Sides.{peer, side_of}
+use Rattle.beet_round.specs.Sides.{peer, place_of, side_of}
 use Rattle.beet_round.specs.declared.sides.Side.{Side}
 use Rattle.beet_round.specs.declared.sides.Side.TheVariants.{Low, High}
 use Rattle.beet_delivery.specs.Events.{Triple, nothing, same, with_triple}
 use Rattle.beet_delivery.proofs.EventFacts.{same_is, same_self}
 use Rattle.beet_round.proofs.SideFacts.{side_of-peer}
-use Rattle.beet_world.specs.Marks.{mark_at, marked_to, number_at, set_of, unmarked, with_mark}
+use Rattle.beet_world.specs.Marks.{mark_at, marked_to, set_of, unmarked, with_mark}
 
 -- what a mark's place tells: the round, the sender and the side
 one_place : (f g a b r t : ℕ) → 1 ≤ f → f ≤ 3 → 1 ≤ g → g ≤ 3 → a < 2 → b < 2 → 6 * r + (2 * (f - 1) + a) ≡ 6 * t + (2 * (g - 1) + b) →
     (r ≡ t) × (f ≡ g) × (a ≡ b)
 one_place f g a b r t f1 f3 g1 g3 a2 b2 e = (omega arith, omega arith, omega arith)
 
-point_low : (s : Point) → 1 ≤ number_of s
-point_low One = omega arith
-point_low Two = omega arith
-point_low Three = omega arith
-
-point_high : (s : Point) → number_of s ≤ 3
-point_high One = omega arith
-point_high Two = omega arith
-point_high Three = omega arith
-
-side_small : (s : Side) → number_at s < 2
+side_small : (s : Side) → place_of s < 2
 side_small Low = omega arith
 side_small High = omega arith
 
@@ -49,7 +40,7 @@ point_is Two Three e = absurd (omega (arith, e))
 point_is Three One e = absurd (omega (arith, e))
 point_is Three Two e = absurd (omega (arith, e))
 
-side_is : (s t : Side) → number_at s ≡ number_at t → s ≡ t
+side_is : (s t : Side) → place_of s ≡ place_of t → s ≡ t
 side_is Low Low e = refl
 side_is High High e = refl
 side_is Low High e = absurd (omega (arith, e))
@@ -94,7 +85,7 @@ module _ (marks : List Bool) (from : Point) (side : Side) (round : ℕ) (within 
   is_it : (f t : Point) (s : Side) (r : ℕ) → side_of f t ≡ Some s → mark_at f s r ≡ mark_at from side round →
       (same f from && same t (peer from side) && (r == round)) ≡ true
   is_it f t s r named place =
-      let p = one_place (number_of f) (number_of from) (number_at s) (number_at side) r round (point_low f) (point_high f) (point_low from) (point_high from) (side_small s) (side_small side) place in
+      let p = one_place (number_of f) (number_of from) (place_of s) (place_of side) r round (point_low f) (point_high f) (point_low from) (point_high from) (side_small s) (side_small side) place in
       let f' : f ≡ from = point_is f from p.1 in
       let s' : s ≡ side = side_is s side p.2 in
       let t' : t ≡ peer from side = sym (peer-side f t s named) ∙ (λ i. peer (f' i) (s' i)) in

@@ -6,14 +6,14 @@ use Rattle.std.specs.Option.{ok_or}
 use Rattle.beet_forms.specs.declared.row.Row.{Row}
 use Rattle.beet_forms.specs.Faults.{at_row, first_row_fault}
 use Rattle.beet_forms.specs.Rows.{begins_with}
-use Rattle.beet_world.specs.declared.schedule.TheConstants.{BAD_ROW, TOO_MANY, ONE_TOO_MANY}
+use Rattle.beet_world.specs.declared.schedule.TheConstants.{BAD_DELIVERY, TOO_MANY_DELIVERIES, ONE_DELIVERY_TOO_MANY}
 use Rattle.beet_world.specs.declared.schedule.Delivery.{Delivery}
 use Rattle.beet_world.specs.Schedules.{delivery_in, delivery_at, reason_against, deliveries_of, schedule_in}
 
 -- a delivery is read only where the row has one
 has-delivery : (number : ℕ) (row : Row) (delivery : Delivery) → delivery_at number row ≡ Ok delivery → delivery_in row ≡ Some delivery
-has-delivery number row delivery e = cases (number == ONE_TOO_MANY) (delivery_in row) e where
-  cases : (last : Bool) (read : Option Delivery) → if◌then◌else◌ {A = Result Delivery ℕ} last (Err TOO_MANY) (ok_or read BAD_ROW) ≡ Ok delivery → read ≡ Some delivery
+has-delivery number row delivery e = cases (number == ONE_DELIVERY_TOO_MANY) (delivery_in row) e where
+  cases : (last : Bool) (read : Option Delivery) → if◌then◌else◌ {A = Result Delivery ℕ} last (Err TOO_MANY_DELIVERIES) (ok_or read BAD_DELIVERY) ≡ Ok delivery → read ≡ Some delivery
   cases true read f = cc f
   cases false None f = cc f
   cases false (Some other) f = let same : other ≡ delivery = cc f in ap Some same
@@ -36,5 +36,5 @@ pub schedule-begun : (rows rest : List Row) → begins_with rows (codes "beet-sc
 schedule-begun rows rest begun is = rw (begun, is) refl
 
 -- without its first row a schedule is refused
-pub no-schedule : (rows : List Row) → begins_with rows (codes "beet-schedule" ∷ codes "1" ∷ []) ≡ false → schedule_in rows ≡ Err (at_row 1 BAD_ROW)
+pub no-schedule : (rows : List Row) → begins_with rows (codes "beet-schedule" ∷ codes "1" ∷ []) ≡ false → schedule_in rows ≡ Err (at_row 1 BAD_DELIVERY)
 no-schedule rows begun = rw begun refl

@@ -2,19 +2,13 @@
 use Rattle.std.specs.Prelude.{ℕ, ◌+◌, ◌*◌, ◌-◌, List, Option, Some, None, Bool, true, false, slice_index_or, slice_set, replicate}
 use Rattle.beet_field.specs.Point.{number_of}
 use Rattle.beet_field.specs.declared.point.Point.{Point}
-use Rattle.beet_round.specs.Sides.{side_of}
+use Rattle.beet_round.specs.Sides.{place_of, side_of}
 use Rattle.beet_round.specs.declared.sides.Side.{Side}
-use Rattle.beet_round.specs.declared.sides.Side.TheVariants.{Low, High}
 use Rattle.beet_delivery.specs.Events.{Delivered}
-
--- the number of a side
-abbrev pub number_at : Side → ℕ
-number_at Low = 0
-number_at High = 1
 
 -- the place of the mark of a message to the receiver of this side
 abbrev pub mark_at : Point → Side → ℕ → ℕ
-mark_at from side round = 6 * round + (2 * (number_of from - 1) + number_at side)
+mark_at from side round = 6 * round + (2 * (number_of from - 1) + place_of side)
 
 -- whether the mark of a message is set; a server sends itself nothing
 abbrev pub marked_to : List Bool → Point → Option Side → ℕ → Bool

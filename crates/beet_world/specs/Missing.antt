@@ -1,5 +1,5 @@
 -- Messages that were sent and not delivered.
-use Rattle.std.specs.Prelude.{ℕ, ◌+◌, ◌&&◌, not, cond, Bool}
+use Rattle.std.specs.Prelude.{ℕ, ◌+◌, ◌&&◌, not, if◌then◌else◌, Bool}
 use Rattle.beet_field.specs.declared.point.Point.{Point}
 use Rattle.beet_field.specs.declared.point.Point.TheVariants.{One, Two, Three}
 use Rattle.beet_round.specs.Sides.{peer}
@@ -17,7 +17,7 @@ is_missing rounds x e = is_sent rounds x e && not (has x e)
 
 -- 1 where a test holds, and else 0
 abbrev pub one_if : Bool → ℕ
-one_if b = cond b 1 0
+one_if b = if b then 1 else 0
 
 -- how many of the six messages of a round pass a test
 abbrev pub six : (Triple → Bool) → ℕ → ℕ

@@ -1,31 +1,22 @@
 -- The file of a schedule: the row beet-schedule,1 and then a row FROM,TO,ROUND for each delivery.
-use Rattle.std.specs.Prelude.{ℕ, ◌==◌, if◌then◌else◌, List, [], ◌∷◌, drop, Option, Some, None, Result, Ok, Err, bytes_eq, codes}
+use Rattle.std.specs.Prelude.{ℕ, ◌==◌, if◌then◌else◌, List, [], ◌∷◌, drop, Option, Some, None, Result, Ok, Err, codes}
 use Rattle.std.specs.List.{filter_map}
 use Rattle.std.specs.Option.{ok_or}
 use Rattle.std.specs.Result.{result_err}
 use Rattle.beet_field.specs.declared.point.Point.{Point}
-use Rattle.beet_field.specs.declared.point.Point.TheVariants.{One, Two, Three}
-use Rattle.beet_field.specs.Point.{number_of as number_at}
+use Rattle.beet_field.specs.Point.{number_of as number_of_server, server_of}
 use Rattle.beet_forms.specs.declared.row.Row.{Row}
 use Rattle.beet_forms.specs.declared.decimals.NumberFault.{NumberFault}
 use Rattle.beet_forms.specs.Faults.{Reading, at_row, reading_of, first_row_fault}
 use Rattle.beet_forms.specs.Numbers.{number_of}
 use Rattle.beet_forms.specs.Rows.{rows_of, begins_with, three_of}
-use Rattle.beet_world.specs.declared.schedule.TheConstants.{BAD_ROW, TOO_MANY, ONE_TOO_MANY, LATEST_ROUND}
+use Rattle.beet_world.specs.declared.schedule.TheConstants.{BAD_DELIVERY, TOO_MANY_DELIVERIES, ONE_DELIVERY_TOO_MANY, LATEST_ROUND}
 use Rattle.beet_world.specs.declared.schedule.Delivery.{Delivery}
-
--- the server of a digit, or none where the text is no server's
-abbrev pub server_of : List ℕ → Option Point
-server_of text =
-    if bytes_eq text (codes "1") then Some One
-    else if bytes_eq text (codes "2") then Some Two
-    else if bytes_eq text (codes "3") then Some Three
-    else None
 
 -- the delivery of a row's parts, or none where a part is none or the sender is the receiver
 abbrev pub delivery_of : Option Point → Option Point → Result ℕ NumberFault → Option Delivery
 delivery_of (Some from) (Some to) (Ok round) =
-    if number_at from == number_at to then None else Some (record { from = from; to = to; round = round })
+    if number_of_server from == number_of_server to then None else Some (record { from = from; to = to; round = round })
 delivery_of _ _ _ = None
 
 -- the delivery of a row's three fields, or none; a row of another width has none
@@ -39,7 +30,7 @@ delivery_in row = delivery_of_fields (three_of row)
 
 -- the delivery of the row with this number, or the first reason against the row: it is one too many, or not of its form
 abbrev pub delivery_at : ℕ → Row → Result Delivery ℕ
-delivery_at number row = if number == ONE_TOO_MANY then Err TOO_MANY else ok_or (delivery_in row) BAD_ROW
+delivery_at number row = if number == ONE_DELIVERY_TOO_MANY then Err TOO_MANY_DELIVERIES else ok_or (delivery_in row) BAD_DELIVERY
 
 -- the reason against the row with this number
 abbrev pub reason_against : ℕ → Row → Option ℕ
@@ -52,7 +43,7 @@ deliveries_of rows = reading_of (first_row_fault reason_against 2 rows) (filter_
 -- what the rows of a schedule read as
 abbrev pub schedule_in : List Row → Reading (List Delivery)
 schedule_in rows =
-    if begins_with rows (codes "beet-schedule" ∷ codes "1" ∷ []) then deliveries_of (drop 1 rows) else Err (at_row 1 BAD_ROW)
+    if begins_with rows (codes "beet-schedule" ∷ codes "1" ∷ []) then deliveries_of (drop 1 rows) else Err (at_row 1 BAD_DELIVERY)
 
 -- what a schedule file reads as
 abbrev pub schedule_of : List ℕ → Reading (List Delivery)

@@ -1,4 +1,4 @@
--- How contracts see a world of three servers.
+-- How contracts see a `World`.
 use Rattle.std.specs.Prelude.{◌≡◌, ◌<◌, ◌≤◌, ◌*◌, ◌+◌, ℕ, List, map, length, Bool, true, Vec, vec_capacity}
 use Rattle.std.specs.Global.{Global}
 use Rattle.beet_field.specs.Trio.{member}
@@ -27,7 +27,7 @@ triple_of d = record { from = d.from; to = d.to; round = d.round }
 abbrev pub named_in : List Delivery → List Triple
 named_in schedule = map triple_of schedule
 
--- the set of the messages that were delivered in a world
+-- the set of the messages that were delivered in a `World`
 abbrev pub delivered_in : {S : Type 0} → World S → Delivered
 delivered_in w = set_of w.marks
 
@@ -36,7 +36,7 @@ abbrev pub sent_by : {S : Type 0} → Setup → Core S → List (List RoundMessa
 sent_by o c = each (messages_from o c.me) (taken c.round c.handed)
 
 module _ {S : Type 0} (next : S → ℕ → List ℕ → Batch) (inputs most : S → ℕ) where
-  -- the setup of a world
+  -- the setup of a `World`
   abbrev pub setup_in : World S → Setup
   setup_in w = setup_of next inputs w.start
 
@@ -44,14 +44,14 @@ module _ {S : Type 0} (next : S → ℕ → List ℕ → Batch) (inputs most : S
   abbrev pub rounds_in : World S → ℕ
   rounds_in w = rounds_among (setup_in w) (most w.start.one.script)
 
-  -- the core of a server stands in a world: it fits what was delivered, and nothing is left to hand out
+  -- the core of a server stands in a `World`: it fits what was delivered, and nothing is left to hand out
   pub record StandsIn (w : World S) (s : Point) (c : Core S) : Type 0 where
     pub name : c.me ≡ s
     pub fits : Fits next (setup_in w) (delivered_in w) c
     pub quiet : is_quiet next c ≡ true
     pub going : c.handed ≡ true → c.round < rounds_in w
 
-  -- the core of a server in a world: it has the script and the words that it began with, fits what was delivered, has nothing
+  -- the core of a server in a `World`: it has the script and the words that it began with, fits what was delivered, has nothing
   -- left to hand out, is at the rounds that its server has passed, and at most one ahead of each other; some list of events led there
   pub record IsCoreOf (w : World S) (s : Point) (c : Core S) : Type 0 where
     pub name : c.me ≡ s
@@ -66,7 +66,7 @@ module _ {S : Type 0} (next : S → ℕ → List ℕ → Batch) (inputs most : S
     pub events : List Triple
     pub reached : delivered_in w ≡ after (rounds_in w) events
 
-  -- what a world always keeps
+  -- what a `World` always keeps
   pub record IsWorld (w : World S) (cores : Trio (Core S)) (sent : Trio (List (List RoundMessage))) : Type 0 where
     pub fresh : AreFresh next inputs w.start
     pub standing : (s : Point) → StandsIn w s (member cores s)

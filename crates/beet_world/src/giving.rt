@@ -1,12 +1,11 @@
 //! Messages go out of a server and come to it.
 
 ghost use Rattle.std.specs.Prelude.{◌≡◌, ◌<◌, ◌≤◌, ◌+◌, IfSome, true, false, ℕ, length, vec_capacity};
-ghost use Rattle.beet_round.specs.Sides.{peer};
 ghost use Rattle.beet_round.specs.declared.sides.Side.{Side as SideOf};
 ghost use Rattle.beet_server.specs.Answers.{Keeps};
 ghost use Rattle.beet_server.specs.Cores.{is_quiet};
-ghost use Rattle.beet_delivery.specs.Events.{Delivered, with_triple};
-ghost use Rattle.beet_server.specs.Fits.{Fits, IsRound, message_of, taken};
+ghost use Rattle.beet_delivery.specs.Events.{Delivered};
+ghost use Rattle.beet_server.specs.Fits.{Fits, taken};
 ghost use Rattle.beet_sharing.specs.Runs.{HasRounds, Setup};
 ghost use Rattle.beet_world.specs.Worlds.{sent_by};
 ghost use Rattle.beet_world.specs.Happens.{IsGiven, MayGive};

@@ -8,8 +8,8 @@ mod stepping;
 mod world;
 
 pub use schedule::{
-    BAD_ROW, Delivery, LATEST_ROUND, MOST_DELIVERIES, ONE_TOO_MANY, SCHEDULE_LIMIT, TOO_MANY,
-    read_schedule,
+    BAD_DELIVERY, Delivery, LATEST_ROUND, MOST_DELIVERIES, ONE_DELIVERY_TOO_MANY, SCHEDULE_LIMIT,
+    TOO_MANY_DELIVERIES, read_schedule,
 };
 pub use stepping::lockstep;
 pub use world::{Event, World};

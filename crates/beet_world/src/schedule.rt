@@ -2,7 +2,7 @@
 
 ghost use Rattle.std.specs.Prelude.{◌≡◌, ◌≤◌, length};
 ghost use Rattle.beet_forms.specs.Faults.{Answers};
-ghost use Rattle.beet_world.specs.Schedules.{server_of, delivery_in, delivery_at, deliveries_of, schedule_in, schedule_of};
+ghost use Rattle.beet_world.specs.Schedules.{delivery_in, delivery_at, deliveries_of, schedule_in, schedule_of};
 
 use beet_field::Point;
 use beet_forms::{LONGEST_FILE, ReadFault, Row, RowReader, number, three_fields};
@@ -12,16 +12,16 @@ use std::alloc::Global;
 pub const SCHEDULE_LIMIT: u64 = 16_777_216;
 
 /// The reason against a row that is missing or not of its form.
-pub const BAD_ROW: u32 = 1;
+pub const BAD_DELIVERY: u32 = 1;
 
 /// The reason against a row that is one too many.
-pub const TOO_MANY: u32 = 2;
+pub const TOO_MANY_DELIVERIES: u32 = 2;
 
 /// The most deliveries of a schedule.
 pub const MOST_DELIVERIES: u32 = 1_000_000;
 
 /// The number of the first row that is one row too many.
-pub const ONE_TOO_MANY: u32 = MOST_DELIVERIES + 2;
+pub const ONE_DELIVERY_TOO_MANY: u32 = MOST_DELIVERIES + 2;
 
 /// The latest round that a schedule can name.
 pub const LATEST_ROUND: u64 = 999_999;
@@ -37,18 +37,6 @@ pub struct Delivery {
     pub round: u32,
 }
 
-/// The server of a digit.
-fn read_server(text: &[u8]) -> Option<Point>
-    ensures { result ≡ server_of text.now }
-{
-    match text {
-        b"1" => Some(Point::One),
-        b"2" => Some(Point::Two),
-        b"3" => Some(Point::Three),
-        _ => None,
-    }
-}
-
 /// The delivery of a row, or none where the row is not of its form.
 fn read_delivery(row: &Row) -> Option<Delivery>
     ensures { result ≡ delivery_in row.now }
@@ -56,7 +44,7 @@ fn read_delivery(row: &Row) -> Option<Delivery>
     let Some((from, to, round)) = three_fields(row) else {
         return None;
     };
-    let (Some(from), Some(to)) = (read_server(from), read_server(to)) else {
+    let (Some(from), Some(to)) = (Point::of_digit(from), Point::of_digit(to)) else {
         return None;
     };
     let Ok(round) = number(round, LATEST_ROUND) else {
@@ -76,10 +64,10 @@ fn read_delivery(row: &Row) -> Option<Delivery>
 fn read_row(number: u32, row: &Row) -> Result<Delivery, u32>
     ensures { result ≡ delivery_at number row.now }
 {
-    if number == ONE_TOO_MANY {
-        return Err(TOO_MANY);
+    if number == ONE_DELIVERY_TOO_MANY {
+        return Err(TOO_MANY_DELIVERIES);
     }
-    read_delivery(row).ok_or(BAD_ROW)
+    read_delivery(row).ok_or(BAD_DELIVERY)
 }
 
 /// The deliveries, of the rows that are left, which are those after the first.
@@ -108,7 +96,7 @@ fn read_rows(alloc: Global, rows: &mut RowReader, row: &mut Row) -> Result<Vec<D
     ensures { Answers (λ deliveries. deliveries.items) (schedule_in rows.old) result }
 {
     if !rows.begins_with(row, b"beet-schedule", b"1")? {
-        return Err(ReadFault::at_row(1, BAD_ROW));
+        return Err(ReadFault::at_row(1, BAD_DELIVERY));
     }
     read_deliveries(alloc, rows, row)
 }
@@ -116,9 +104,10 @@ fn read_rows(alloc: Global, rows: &mut RowReader, row: &mut Row) -> Result<Vec<D
 /// The deliveries of a schedule file, in order: the row `beet-schedule,1` and then at most
 /// 1,000,000 rows `FROM,TO,ROUND`. An error is `OutOfMemory`, or a fault in the file.
 ///
-/// The first row with a fault is named. Its reason is [`TOO_MANY`] for row 1,000,002, and else [`BAD_ROW`]: for a row 1 that
-/// is missing or another one, and for a row that has not three fields, whose FROM or TO is not `1`, `2` or `3`, whose FROM
-/// is its TO, or whose ROUND is no number up to 999,999.
+/// The first row with a fault is named. Its reason is [`TOO_MANY_DELIVERIES`] for row 1,000,002, and else
+/// [`BAD_DELIVERY`]: for a row 1 that is missing or another one, and for a row that has not three
+/// fields, whose FROM or TO is not `1`, `2` or `3`, whose FROM is its TO, or whose ROUND is no number
+/// up to 999,999.
 pub fn read_schedule(alloc: Global, bytes: &[u8]) -> Result<Vec<Delivery>, ReadFault>
     requires { length bytes.now ≤ LONGEST_FILE }
     ensures { Answers (λ deliveries. deliveries.items) (schedule_of bytes.now) result }

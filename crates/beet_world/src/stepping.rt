@@ -12,7 +12,7 @@ ghost use Rattle.beet_server.specs.Fits.{IsRound, message_of};
 ghost use Rattle.beet_sharing.specs.Runs.{Setup};
 ghost use Rattle.beet_server.specs.Lockstep.{AreAtRound, HasHanded, HaveEnded, IsAtRound, MayPass, MayTake};
 
-use beet_field::{Point, Trio};
+use beet_field::Trio;
 use beet_gates::Script;
 use beet_round::{RoundMessage, ToPeers};
 use beet_server::ServerCore;
@@ -55,11 +55,7 @@ pub fn lockstep<S: Script>(cores: Trio<ServerCore<S>>) -> Trio<ServerCore<S>>
     ensures { HaveEnded S.batch_of S.inputs_of S.rounds_of cores result }
 {
     let mut cores = cores;
-    let mut sent = Trio {
-        one: ToPeers::blank(Point::One),
-        two: ToPeers::blank(Point::Two),
-        three: ToPeers::blank(Point::Three),
-    };
+    let mut sent = Trio::of(ToPeers::blank);
     for _round in 0..cores.one.script().rounds() {
         if cores.one.ended() {
             return cores;

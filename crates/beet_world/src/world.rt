@@ -70,7 +70,8 @@ fn mark_place(from: Point, side: Side, round: usize) -> usize
 
 /// The message to the peer of a side, from both messages of a round.
 fn message_to(messages: &[RoundMessage; 2], side: Side) -> &RoundMessage
-    ensures { (low high : Message) → messages.now ≡ low ∷ high ∷ [] → result.now ≡ of_side side low high }
+    ensures { (low high : Message) → messages.now ≡ low ∷ high ∷ []
+        → result.now ≡ of_side side low high }
 {
     let [low, high] = messages;
     match side {
@@ -111,7 +112,8 @@ fn give_to<S: Script>(
     ensures keeps { Keeps (member cores.old to) (member cores.new to) }
     ensures quiet { is_quiet S.batch_of (member cores.new to) ≡ true }
     ensures given { (o : Setup) (x : Delivered) (rounds : ℕ) (s : SideOf) (t : ℕ)
-        → MayGive S.batch_of o x rounds s t (member cores.old to) (member sent.old to).items message.now
+        → MayGive S.batch_of o x rounds s t (member cores.old to) (member sent.old to).items
+        message.now
         → IsGiven S.batch_of o x rounds s t (member cores.old to) (member cores.new to)
         (member sent.new to).items result }
 {
@@ -147,7 +149,7 @@ fn room(alloc: Global, rounds: u32) -> Result<(Trio<Vec<[RoundMessage; 2]>>, Vec
 }
 
 impl<S: Script> World<S> {
-    /// A world of three fresh servers, of which each has sent its messages of round 0. It takes the
+    /// A `World` of three fresh servers, of which each has sent its messages of round 0. It takes the
     /// memory for the messages of all rounds, and fails only where there is too little; no other
     /// call takes memory.
     pub fn of(alloc: Global, cores: Trio<ServerCore<S>>) -> Result<World<S>, AllocError>
@@ -191,8 +193,8 @@ impl<S: Script> World<S> {
         ensures there { IfSome result (λ v.
             has (delivered_in self.now) (record { from = from; to = to; round = round }) ≡ true) }
         ensures event { IfSome result (λ v. DeliveredBy v
-            ≡ event_of (rounds_in S.batch_of S.inputs_of S.rounds_of self.now) (delivered_in self.now)
-            (record { from = from; to = to; round = round })) }
+            ≡ event_of (rounds_in S.batch_of S.inputs_of S.rounds_of self.now)
+            (delivered_in self.now) (record { from = from; to = to; round = round })) }
     {
         let delivered = *self.marks.get(mark_place(from, side, round as usize))?;
         if delivered {
@@ -207,12 +209,12 @@ impl<S: Script> World<S> {
     /// message ever is, the answer is `NotSent`, and nothing changes.
     pub fn event(&mut self, from: Point, to: Point, round: u32) -> Event
         ensures delivered { delivered_in self.new
-            ≡ deliver (rounds_in S.batch_of S.inputs_of S.rounds_of self.old) (delivered_in self.old)
-            (record { from = from; to = to; round = round }) }
+            ≡ deliver (rounds_in S.batch_of S.inputs_of S.rounds_of self.old)
+            (delivered_in self.old) (record { from = from; to = to; round = round }) }
         ensures start { self.new.start ≡ self.old.start }
         ensures event { result
-            ≡ event_of (rounds_in S.batch_of S.inputs_of S.rounds_of self.old) (delivered_in self.old)
-            (record { from = from; to = to; round = round }) }
+            ≡ event_of (rounds_in S.batch_of S.inputs_of S.rounds_of self.old)
+            (delivered_in self.old) (record { from = from; to = to; round = round }) }
         ensures unchanged { result ≡ NotSent → self.new ≡ self.old }
     {
         let Some(side) = Side::of(from, to) else {
@@ -229,12 +231,12 @@ impl<S: Script> World<S> {
     fn give_copy(&mut self, from: Point, to: Point, side: Side, round: u32) -> Event
         requires { to ≡ peer from side }
         ensures delivered { delivered_in self.new
-            ≡ deliver (rounds_in S.batch_of S.inputs_of S.rounds_of self.old) (delivered_in self.old)
-            (record { from = from; to = to; round = round }) }
+            ≡ deliver (rounds_in S.batch_of S.inputs_of S.rounds_of self.old)
+            (delivered_in self.old) (record { from = from; to = to; round = round }) }
         ensures start { self.new.start ≡ self.old.start }
         ensures event { result
-            ≡ event_of (rounds_in S.batch_of S.inputs_of S.rounds_of self.old) (delivered_in self.old)
-            (record { from = from; to = to; round = round }) }
+            ≡ event_of (rounds_in S.batch_of S.inputs_of S.rounds_of self.old)
+            (delivered_in self.old) (record { from = from; to = to; round = round }) }
         ensures unchanged { result ≡ NotSent → self.new ≡ self.old }
     {
         let Some(message) = sent_message(&self.sent, from, side, round) else {
@@ -296,7 +298,8 @@ impl<S: Script> World<S> {
             ≡ undelivered_in (rounds_in S.batch_of S.inputs_of S.rounds_of self.now)
             (delivered_in self.now) }
         ensures ended { result ≡ 0 → (s : Server)
-            → passed (rounds_in S.batch_of S.inputs_of S.rounds_of self.now) (delivered_in self.now) s
+            → passed (rounds_in S.batch_of S.inputs_of S.rounds_of self.now)
+            (delivered_in self.now) s
             ≡ rounds_in S.batch_of S.inputs_of S.rounds_of self.now }
     {
         let behind = self

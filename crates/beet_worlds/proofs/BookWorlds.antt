@@ -4,9 +4,9 @@ use Rattle.std.specs.Prelude.{nat_le, nat_lt}
 use Rattle.std.proofs.lemmas.Bool.{cases_Bool}
 use Rattle.std.proofs.lemmas.List.Elements.{All-get_or}
 use Rattle.beet_field.specs.Field.{IsElement, add_of}
+use Rattle.beet_field.proofs.Trios.{at-each}
 use Rattle.beet_field.specs.Trio.{member}
 use Rattle.beet_field.specs.declared.point.Point.{Point}
-use Rattle.beet_field.specs.declared.point.Point.TheVariants.{One, Two, Three}
 use Rattle.beet_field.specs.declared.trio.Trio.{Trio}
 use Rattle.beet_gates.specs.Clear.{Values, clear_values, clear_at, rounds_run, start_values}
 use Rattle.beet_gates.specs.Deals.{deals_of}
@@ -118,9 +118,7 @@ module _ (s : Point) (first second : Book) (words words' : Trio (List ℕ)) (b :
   alike = record { same = mask-ones first second words words' s mapped }
 
   enough-at : (j : Point) → comparisons_of first.grid.prices + 2 ≤ length (member words j)
-  enough-at One = enough.0
-  enough-at Two = enough.1
-  enough-at Three = enough.2
+  enough-at = at-each (λ list. comparisons_of first.grid.prices + 2 ≤ length list) words enough
 
   -- what each comparison opens
   same-opened : (i k : ℕ) → k < first.grid.prices → place_compared (path first.grid.prices (clearing_place first)) (mask_at words) i ≡ Some k →

@@ -88,12 +88,12 @@ module _ (g : Blocks) (are : AreBlocks g) (policy : Policy) (deals deals' : ℕ 
         let o : (x == 1) ≡ (masks i == p) = opened-rejected x (masks i) a.opened in
         let o2 : (x' == 1) ≡ (x == 1) = ap (λ n. n == 1) one in
         let begun = ap (λ (q : Plan Finish). plan_numbers deals q v) (search_plan-open g policy prices n lo hi first rej t)
-        ∙ numbers-block deals v (g.mask first) (after_product g policy prices n lo hi first rej) in
+        ∙ numbers-block deals v (g.mask first) (after_product g prices (search_plan g policy prices n) lo hi first rej) in
         let begun' = ap (λ (q : Plan Finish). plan_numbers deals' q v') (search_plan-open g policy prices n lo hi first rej t)
-        ∙ numbers-block deals' v' (g.mask first) (after_product g policy prices n lo hi first rej) in
+        ∙ numbers-block deals' v' (g.mask first) (after_product g prices (search_plan g policy prices n) lo hi first rej) in
         let no = search_plan g policy prices n lo hi (after_mask g first) (rej + 1) in
-        let yes = compare_plan g prices (after_mask g first) first mid (after_answer g policy prices n lo hi first rej) in
-        let rest : plan_numbers deals' (after_product g policy prices n lo hi first rej x') after' ≡ plan_numbers deals (after_product g policy prices n lo hi first rej x) after =
+        let yes = compare_plan g prices (after_mask g first) first mid (after_answer g (search_plan g policy prices n) lo hi first rej) in
+        let rest : plan_numbers deals' (after_product g prices (search_plan g policy prices n) lo hi first rej x') after' ≡ plan_numbers deals (after_product g prices (search_plan g policy prices n) lo hi first rej x) after =
         elim (cases_eq (masks i) p) [
           | inl all ↦
               let t1 : (x == 1) ≡ true = o ∙ eq-eqb (masks i) p all in
@@ -139,7 +139,7 @@ module _ (g : Blocks) (are : AreBlocks g) (policy : Policy) (deals deals' : ℕ 
               let place : after_mask g first + g.compare_wires ≡ after_both g first = omega arith in
               let stands : Stands prices supply demand (after_both g first) (i + 1) late = rw place at b.stands in
               let stands' : Stands prices supply' demand' (after_both g first) (i + 1) late' = rw place at b'.stands in
-              let next = after_answer g policy prices n lo hi first rej in
+              let next = after_answer g (search_plan g policy prices n) lo hi first rej in
               let q : plan_numbers deals yes after ≡ c ∷ y ∷ plan_numbers deals (next y) late =
               numbers-block deals after (g.masked (after_mask g first) first mid (prices + mid) ∷ []) (λ (c : ℕ). Block (g.answer (after_mask g first) first c) next)
               ∙ ap (λ (l : List ℕ). c ∷ l) (numbers-block deals middle (g.answer (after_mask g first) first c) next) in

@@ -3,6 +3,7 @@ use Rattle.std.proofs.Common.{◌≢◌, ℕ, ◌^◌, ◌<◌, List, length, sl
 use Rattle.std.specs.Prelude.{All}
 use Rattle.std.proofs.lemmas.List.Elements.{All-from_get_or}
 use Rattle.std.proofs.lemmas.Nat.{xor_lt}
+use Rattle.beet_field.proofs.Trios.{at-each}
 use Rattle.beet_field.specs.Trio.{member}
 use Rattle.beet_field.specs.declared.point.Point.{Point}
 use Rattle.beet_field.specs.declared.point.Point.TheVariants.{One, Two, Three}
@@ -24,9 +25,7 @@ module _ (first second : Book) where
 
   module _ (s : Point) (words words' : Trio (List ℕ)) (m : AreMasks words) (mapped : MasksMapped s first second words words') where
     member-words : (j : Point) → All IsWord (member words j)
-    member-words One = m.one
-    member-words Two = m.two
-    member-words Three = m.three
+    member-words = at-each (All IsWord) words (m.one, m.two, m.three)
 
     lower-words : All IsWord (member words' (peer s Low))
     lower-words =

@@ -1,12 +1,14 @@
 -- The words of the second world: what is said of them.
-use Rattle.std.proofs.Common.{◌≡◌, ◌≤◌, ◌*◌, ℕ, List, map, take, length, sym, ap, subst, ◌∙◌, arith}
+use Rattle.std.proofs.Common.{◌≡◌, ◌≤◌, ◌*◌, ℕ, List, All, map, take, length, sym, ap, subst, ◌∙◌, arith}
 use Rattle.std.proofs.lemmas.List.{length-map}
+use Rattle.beet_field.proofs.Trios.{at-each}
 use Rattle.beet_field.specs.Trio.{member, of_each}
 use Rattle.beet_field.specs.declared.point.Point.{Point}
 use Rattle.beet_field.specs.declared.point.Point.TheVariants.{One, Two, Three}
 use Rattle.beet_field.specs.declared.trio.Trio.{Trio}
 use Rattle.beet_shamir.specs.declared.Line.{Line}
 use Rattle.beet_words.specs.Bundles.{Words, AreWords}
+use Rattle.beet_words.specs.Words.{IsWord}
 use Rattle.beet_gates.specs.Clear.{clear_values}
 use Rattle.beet_gates.specs.Scripts.{HasWords}
 use Rattle.beet_bids.specs.Books.{Book, IsBook}
@@ -70,9 +72,7 @@ pub are-masks : (words : Words) → AreWords words → AreMasks words.masks
 are-masks words w = record { one = w.masks.0; two = w.masks.1; three = w.masks.2 }
 
 pub all-words : (words : Words) → AreWords words → AreAllWords words.coefficients
-all-words words w One n = word-small words.coefficients.one w.coefficients.0 n
-all-words words w Two n = word-small words.coefficients.two w.coefficients.1 n
-all-words words w Three n = word-small words.coefficients.three w.coefficients.2 n
+all-words words w s = word-small (member words.coefficients s) (at-each (All IsWord) words.coefficients w.coefficients s)
 
 has-secrets : (book : Book) (words : List (List ℕ)) (masks : Trio (List ℕ)) (lines : List Line) → AreInputLines book words lines →
     HasWords (most_masks (auction_over book.grid)) masks → HasSecrets (2 * book.grid.prices) (most_masks (auction_over book.grid)) (record { inputs = lines; masks = masks })

@@ -1,12 +1,10 @@
 //! The summed supply and demand of a book, and how they differ.
 
-ghost use Rattle.std.specs.Prelude.{◌≡◌, ◌<◌, ◌≤◌};
-ghost use Rattle.beet_field.specs.Field.{IsElement};
+ghost use Rattle.std.specs.Prelude.{◌≡◌, ◌<◌};
 ghost use Rattle.beet_bids.specs.Outcomes.{clearing_place};
-ghost use Rattle.beet_bids.specs.Sums.{supply_at, demand_at};
 ghost use Rattle.beet_worlds.specs.MappedMasks.{doubled_at, lost_at};
 
-use beet_bids::{Book, Outcome, outcome};
+use beet_bids::{Book, Outcome, demand, outcome, supply};
 use beet_field::Fe;
 
 /// The place at which a book clears, or the number of its prices.
@@ -17,32 +15,6 @@ pub(crate) fn clearing(book: &Book) -> u32
         Outcome::Price { place, .. } => place,
         Outcome::No => book.grid().prices(),
     }
-}
-
-/// What all bidders together sell at a place.
-pub(crate) fn supply(book: &Book, place: u32) -> u64
-    requires { place < book.now.grid.prices }
-    ensures value { result ≡ supply_at book.now.bidders place }
-    ensures below { IsElement result }
-{
-    let mut sum = 0;
-    for bidder in book.bidders() {
-        sum += bidder.curve.sell(place);
-    }
-    sum
-}
-
-/// What all bidders together buy at a place.
-pub(crate) fn demand(book: &Book, place: u32) -> u64
-    requires { place < book.now.grid.prices }
-    ensures value { result ≡ demand_at book.now.bidders place }
-    ensures below { IsElement result }
-{
-    let mut sum = 0;
-    for bidder in book.bidders() {
-        sum += bidder.curve.buy(place);
-    }
-    sum
 }
 
 /// Twice the difference of supply and demand at a place.

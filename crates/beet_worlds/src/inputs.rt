@@ -9,8 +9,7 @@ ghost use Rattle.beet_gates.specs.Each.{each};
 ghost use Rattle.beet_bids.specs.Sums.{supply_at, demand_at};
 ghost use Rattle.beet_worlds.specs.InputLines.{AreInputLines, summed_slope};
 
-use crate::differences::{demand, supply};
-use beet_bids::Book;
+use beet_bids::{Book, demand, supply};
 use beet_field::Fe;
 use beet_map::{number_at, numbers_in};
 use beet_shamir::Line;

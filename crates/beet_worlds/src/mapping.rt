@@ -42,12 +42,7 @@ fn look_at(words: &Trio<WordList>)
 fn copy_of(alloc: Global, words: &Trio<WordList>) -> Result<Trio<WordList>, AllocError>
     ensures { IfOk result (λ copy. copy ≡ words.now) }
 {
-    let copies = Trio {
-        one: words.one.copy(alloc),
-        two: words.two.copy(alloc),
-        three: words.three.copy(alloc),
-    };
-    copies.transpose()
+    Trio::try_of(|at| words.get(at).copy(alloc))
 }
 
 /// What the servers hold in the auction of a book, with these mask words and bidders' words.

@@ -12,7 +12,7 @@ ghost use Rattle.beet_worlds.specs.MappedMasks.{MasksMapped, compared_in, place_
 
 use crate::differences::{clearing, lost};
 use crate::turning::turn;
-use beet_bids::{Book, Grid};
+use beet_bids::{Book, Grid, MOST_COMPARISONS};
 use beet_field::{Fe, Point, Trio};
 use beet_plan::SPARE_MASKS;
 use beet_words::{Word, WordList};
@@ -35,7 +35,7 @@ fn path_to(alloc: Global, grid: &Grid, end: u32) -> Result<Vec<u32>, AllocError>
     ensures path { IfOk result (λ places. places.items ≡ path grid.now.prices end) }
     ensures within { IfOk result (λ places. All (λ place. place < grid.now.prices) places.items) }
 {
-    let mut places = Vec::with_capacity(alloc, 13)?;
+    let mut places = Vec::with_capacity(alloc, MOST_COMPARISONS as usize)?;
     let (mut low, mut high) = (0, grid.prices());
     for _step in 0..grid.comparisons() {
         if low >= high {

@@ -1,14 +1,13 @@
 //! Whether there are words enough.
 
-ghost use Rattle.std.specs.Prelude.{◌≡◌, ◌≤◌, ◌↔◌, ◌<◌, length, IsTrue};
+ghost use Rattle.std.specs.Prelude.{◌≤◌, ◌↔◌, ◌<◌, length, IsTrue};
 ghost use Rattle.beet_words.specs.declared.bundle.TheConstants.{MOST_WORDS};
 ghost use Rattle.beet_gates.specs.Scripts.{HasWords};
-ghost use Rattle.beet_plan.specs.Auction.{most_masks, auction_over};
 ghost use Rattle.beet_worlds.specs.Enough.{AreEnough, HasAccepted};
 
-use beet_bids::{Book, Grid};
+use beet_bids::Book;
 use beet_field::Trio;
-use beet_plan::{MASK_COEFFICIENTS, SPARE_MASKS, SPARE_WORDS};
+use beet_plan::{SPARE_WORDS, most_coefficients, most_masks};
 use beet_words::{WordList, Words, count_accepted};
 
 /// Whether so many of the first words are not all ones; the spare words are looked at too.
@@ -35,23 +34,14 @@ fn has_words(words: &Trio<WordList>, wanted: usize) -> bool
         && words.three.as_slice().len() >= wanted
 }
 
-/// How many mask words the script over a grid may ask for.
-fn masks_wanted(grid: &Grid) -> usize
-    ensures wanted { result ≡ most_masks (auction_over grid.now) }
-    ensures few { result ≤ 15 }
-{
-    let _limits = grid.prices();
-    grid.comparisons() as usize + SPARE_MASKS as usize
-}
-
 /// Whether the words hold one list for each bidder with a number for each of its quantities, and for each server the mask words and
 /// the numbers that an auction over the book's grid may ask for.
 pub fn enough(book: &Book, words: &Words) -> bool
     ensures { IsTrue result ↔ AreEnough book.now words.now }
 {
-    let prices = book.grid().prices() as usize;
-    let masks = masks_wanted(book.grid());
-    let numbers = MASK_COEFFICIENTS as usize * masks;
+    let prices = book.grid().prices();
+    let masks = most_masks(prices) as usize;
+    let numbers = most_coefficients(prices) as usize;
     has_words(&words.masks, masks)
         && has_accepted(&words.coefficients.one, numbers)
         && has_accepted(&words.coefficients.two, numbers)
@@ -60,5 +50,5 @@ pub fn enough(book: &Book, words: &Words) -> bool
         && words
             .bidders
             .iter()
-            .all(|list| has_accepted(list, 2 * prices))
+            .all(|list| has_accepted(list, 2 * prices as usize))
 }

@@ -26,7 +26,7 @@ loop-done-preserved g c =
     let e : c.rounds-rounds.result - c.loop-done.done ≡ suc left = omega arith in
     let is : c.refill.new.batch ≡ script.batch_of c.args.script.now c.loop-done.done c.loop-done.run.opened =
     rw c.opened.ensures at c.refill.ensures.batch in
-    let more : is_end c.refill.new.batch.act ≡ false = sym c.is_last.ensures ∙ c.if-is_last.false in
+    let more : is_end c.refill.new.batch.act ≡ false = sym c.is_end.ensures ∙ c.if-is_end.false in
     let here : script.is_at c.args.script.now c.loop-done.done c.loop-done.run.opened c.refill.new.place =
     rw c.opened.ensures at c.refill.ensures.place in
     let o = opens-more (deals_of c.args.masks.now) c.refill.new.batch c.loop-done.run in

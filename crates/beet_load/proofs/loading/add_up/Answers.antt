@@ -27,4 +27,4 @@ returns-in-Ok g c =
     (bound (rw (c.lists_in.ensures, c.as_slice.ensures.value) at c.in-Ok.ensures) (λ farmers are. given (subst (λ (servers : Trio ServerWords). IsKeptOf (record { grid = setting.grid; servers = servers; inputs = c.inputs.result })
     (record { grid = setting.grid; servers = c.in_ok-words.words.servers; farmers = farmers }))
     (sym c.into_servers.ensures)
-    (kept_of_all setting.grid _ _ _ farmers _ c.setting.invariant.1 are c.inputs.ensures.points)))))
+    (kept_of_all setting.grid _ _ _ farmers _ c.setting.invariant are c.inputs.ensures.points)))))

@@ -30,7 +30,7 @@ whole_of-requires g c =
     record {
       enough = rw (c.into_servers.ensures, c.in_ok-words-2.ensures.0) c.in_ok-words.ensures.enough;
       cut = rw (c.into_servers.ensures, c.in_ok-words-2.ensures.0) c.in_ok-words.ensures.cut;
-      few = omega (arith, many, c.setting.invariant.1);
+      few = omega (arith, many, c.setting.invariant);
       within = rw many (rw count at c.in_ok-check_product.ensures.within);
       each = kept.each;
     }

@@ -1,9 +1,7 @@
-use Rattle.std.proofs.Common.{ℕ, ◌+◌, ◌*◌, List, Vec, Global, Err, refl, arith, subst}
+use Rattle.std.proofs.Common.{ℕ, List, Vec, Global, Err, refl, arith, subst}
 use Rattle.std.proofs.lemmas.Result.{err_from_is_err_and}
 use Rattle.beet_forms.specs.Faults.{Answers}
 use Rattle.beet_words.specs.Bundles.{words_at}
-use Rattle.beet_plan.specs.declared.TheConstants.{MASK_COEFFICIENTS}
-use Rattle.beet_plan.specs.declared.TheConstants.{SPARE_WORDS}
 use Rattle.beet_words.proofs.Times.{first-fault}
 use Rattle.beet_view.specs.Views.{Viewed}
 use Rattle.beet_view.proofs.SeenFacts.{words_at-few, bidders_at-are, rounds_at-are, view_fits, view_in-bidders}
@@ -13,8 +11,8 @@ pub returns-in_err-masks-clause-view : goal.returns-in_err-masks-clause-view
 returns-in_err-masks-clause-view c =
     let p = err_from_is_err_and c.from_residual-in_err-masks.result c.from_residual-in_err-masks.ensures.1 in
     let bidders = view_in-bidders c.args.bytes.now _ _ _ _ _ _ _ _ c.in_ok-tells.ensures.form c.in_ok-server.ensures.server c.in_ok-grid.ensures.grid c.in_ok-bidders.ensures.bidders in
-    let masks = subst (λ n. Answers (λ (read : List ℕ × ℕ). read) (words_at c.args.bytes.now (n + 2) c.in_ok-bidders.at) (Err c.in_err-masks.field-0.0))
-    c.comparisons.ensures.value c.in_err-masks.ensures.list in
+    let masks = subst (λ n. Answers (λ (read : List ℕ × ℕ). read) (words_at c.args.bytes.now n c.in_ok-bidders.at) (Err c.in_err-masks.field-0.0))
+    c.masks_kept.ensures c.in_err-masks.ensures.list in
     rw (bidders, p.1, p.2)
     (first-fault _ _ (λ (read : List ℕ × ℕ). read) (λ (view : Viewed). view) c.in_err-masks.field-0.0 masks)
 
@@ -22,9 +20,9 @@ pub returns-in_err-coefficients-clause-view : goal.returns-in_err-coefficients-c
 returns-in_err-coefficients-clause-view c =
     let p = err_from_is_err_and c.from_residual-in_err-coefficients.result c.from_residual-in_err-coefficients.ensures.1 in
     let bidders = view_in-bidders c.args.bytes.now _ _ _ _ _ _ _ _ c.in_ok-tells.ensures.form c.in_ok-server.ensures.server c.in_ok-grid.ensures.grid c.in_ok-bidders.ensures.bidders in
-    let masks = rw c.comparisons.ensures.value at c.in_ok-masks.ensures.list in
-    let coefficients = subst (λ n. Answers (λ (read : List ℕ × ℕ). read) (words_at c.args.bytes.now (MASK_COEFFICIENTS * (n + 2) + SPARE_WORDS) c.in_ok-masks.at) (Err c.in_err-coefficients.field-0.0))
-    c.comparisons.ensures.value c.in_err-coefficients.ensures.list in
+    let masks = rw c.masks_kept.ensures at c.in_ok-masks.ensures.list in
+    let coefficients = subst (λ n. Answers (λ (read : List ℕ × ℕ). read) (words_at c.args.bytes.now n c.in_ok-masks.at) (Err c.in_err-coefficients.field-0.0))
+    c.coefficients_kept.ensures c.in_err-coefficients.ensures.list in
     rw (bidders, masks, p.1, p.2)
     (first-fault _ _ (λ (read : List ℕ × ℕ). read) (λ (view : Viewed). view) c.in_err-coefficients.field-0.0 coefficients)
 
@@ -32,8 +30,8 @@ pub returns-in_err-rounds-clause-view : goal.returns-in_err-rounds-clause-view
 returns-in_err-rounds-clause-view c =
     let p = err_from_is_err_and c.from_residual-in_err-rounds.result c.from_residual-in_err-rounds.ensures.1 in
     let bidders = view_in-bidders c.args.bytes.now _ _ _ _ _ _ _ _ c.in_ok-tells.ensures.form c.in_ok-server.ensures.server c.in_ok-grid.ensures.grid c.in_ok-bidders.ensures.bidders in
-    let masks = rw c.comparisons.ensures.value at c.in_ok-masks.ensures.list in
-    let coefficients = rw c.comparisons.ensures.value at c.in_ok-coefficients.ensures.list in
+    let masks = rw c.masks_kept.ensures at c.in_ok-masks.ensures.list in
+    let coefficients = rw c.coefficients_kept.ensures at c.in_ok-coefficients.ensures.list in
     rw (bidders, masks, coefficients, p.1, p.2)
     (first-fault _ _ (λ (read : Vec (List ℕ × List ℕ) Global × ℕ). (read.0.items, read.1)) (λ (view : Viewed). view) c.in_err-rounds.field-0.0 c.in_err-rounds.ensures.rounds)
 
@@ -41,16 +39,16 @@ pub returns-in_err-read_end-clause-view : goal.returns-in_err-read_end-clause-vi
 returns-in_err-read_end-clause-view c =
     let p = err_from_is_err_and c.from_residual-in_err-read_end.result c.from_residual-in_err-read_end.ensures.1 in
     let bidders = view_in-bidders c.args.bytes.now _ _ _ _ _ _ _ _ c.in_ok-tells.ensures.form c.in_ok-server.ensures.server c.in_ok-grid.ensures.grid c.in_ok-bidders.ensures.bidders in
-    let masks = rw c.comparisons.ensures.value at c.in_ok-masks.ensures.list in
-    let coefficients = rw c.comparisons.ensures.value at c.in_ok-coefficients.ensures.list in
+    let masks = rw c.masks_kept.ensures at c.in_ok-masks.ensures.list in
+    let coefficients = rw c.coefficients_kept.ensures at c.in_ok-coefficients.ensures.list in
     rw (bidders, masks, coefficients, c.in_ok-rounds.ensures.rounds, p.1, p.2)
     (first-fault _ _ (λ (done : Unit {0}). done) (λ (view : Viewed). view) c.in_err-read_end.field-0.0 c.in_err-read_end.ensures)
 
 pub returns-clause-view : goal.returns-clause-view
 returns-clause-view c =
     let bidders = view_in-bidders c.args.bytes.now _ _ _ _ _ _ _ _ c.in_ok-tells.ensures.form c.in_ok-server.ensures.server c.in_ok-grid.ensures.grid c.in_ok-bidders.ensures.bidders in
-    let masks = rw c.comparisons.ensures.value at c.in_ok-masks.ensures.list in
-    let coefficients = rw c.comparisons.ensures.value at c.in_ok-coefficients.ensures.list in
+    let masks = rw c.masks_kept.ensures at c.in_ok-masks.ensures.list in
+    let coefficients = rw c.coefficients_kept.ensures at c.in_ok-coefficients.ensures.list in
     rw (bidders, masks, coefficients, c.in_ok-rounds.ensures.rounds, c.in_ok-read_end.ensures) refl
 
 pub invariant_of-result : goal.invariant_of-result
@@ -67,8 +65,8 @@ returns-clause-fits c =
     let grid = c.in_ok-grid.grid in
     let bidders = bidders_at-are bytes c.in_ok-server.server grid c.in_ok-grid.at (c.in_ok-bidders.bidders.items, c.in_ok-bidders.at) (c.in_ok-grid.ensures.limits).prices_some c.in_ok-bidders.ensures.bidders in
     let rounds = rounds_at-are bytes c.in_ok-coefficients.at (c.in_ok-rounds.rounds.items, c.in_ok-rounds.at) c.in_ok-rounds.ensures.rounds in
-    let masks = words_at-few bytes (c.comparisons.result + 2) c.in_ok-bidders.at (c.in_ok-masks.masks, c.in_ok-masks.at) c.in_ok-masks.ensures.list in
-    let coefficients = words_at-few bytes (MASK_COEFFICIENTS * (c.comparisons.result + 2) + SPARE_WORDS) c.in_ok-masks.at (c.in_ok-coefficients.coefficients, c.in_ok-coefficients.at) c.in_ok-coefficients.ensures.list in
+    let masks = words_at-few bytes c.masks_kept.result c.in_ok-bidders.at (c.in_ok-masks.masks, c.in_ok-masks.at) c.in_ok-masks.ensures.list in
+    let coefficients = words_at-few bytes c.coefficients_kept.result c.in_ok-masks.at (c.in_ok-coefficients.coefficients, c.in_ok-coefficients.at) c.in_ok-coefficients.ensures.list in
     let view : Viewed = record {
       server = c.in_ok-server.server;
       grid = grid;
@@ -77,4 +75,4 @@ returns-clause-fits c =
       coefficients = c.in_ok-coefficients.coefficients;
       rounds = c.in_ok-rounds.rounds.items;
     } in
-    view_fits view bidders (omega (arith, masks, c.comparisons.ensures.value)) (omega (arith, coefficients, c.comparisons.ensures.value)) rounds
+    view_fits view bidders (omega (arith, masks, c.masks_kept.ensures)) (omega (arith, coefficients, c.coefficients_kept.ensures)) rounds

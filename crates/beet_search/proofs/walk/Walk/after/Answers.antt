@@ -10,5 +10,5 @@ returns-then-is_open-clause-plan c =
 
 pub returns-else-is_open-clause-plan : goal.returns-else-is_open-clause-plan
 returns-else-is_open-clause-plan c =
-    c.after_end-walk.ensures
+    c.after_end.ensures
     ∙ sym (ap (λ (p : Plan Finish). plan_after p c.args.number) (facts.closed-at c.args.self c.in-Search.is c.is_open.result c.is_open.ensures c.if-is_open.false))

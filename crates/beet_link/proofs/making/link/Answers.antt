@@ -3,7 +3,7 @@ use Rattle.beet_gates.specs.Scripts.{bounds_of}
 use Rattle.beet_server.specs.Cores.{setup_of}
 use Rattle.beet_link.specs.Streams.{stream_of}
 use Rattle.beet_link.proofs.StreamFacts.{length-few}
-use Rattle.beet_link.proofs.opening.link.Goals as goal
+use Rattle.beet_link.proofs.making.link.Goals as goal
 
 pub open-requires-clause-room : goal.open-requires-clause-room
 open-requires-clause-room g c =

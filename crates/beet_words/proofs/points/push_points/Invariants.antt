@@ -2,7 +2,7 @@ use Rattle.std.proofs.Common.{◌≡◌, ◌++◌, take, All}
 use Rattle.std.specs.List.{flat_map}
 use Rattle.beet_field.specs.Field.{IsElement}
 use Rattle.beet_words.specs.Fields.{number_bytes}
-use Rattle.beet_view.proofs.writing.push_points.Given as goal
+use Rattle.beet_words.proofs.points.push_points.Given as goal
 
 abbrev pub invariant-loop-point : goal.invariant-loop-point
 invariant-loop-point l = record {

@@ -2,7 +2,7 @@ use Rattle.std.proofs.Common.{arith}
 use Rattle.std.proofs.lemmas.Grind.{common_steps}
 use Rattle.std.proofs.lemmas.List.Elements.{All-more}
 use Rattle.beet_field.specs.Field.{IsElement}
-use Rattle.beet_farmer.proofs.envelope.push_points.Goals as goal
+use Rattle.beet_words.proofs.points.push_points.Goals as goal
 
 pub loop-point-preserved : goal.loop-point-preserved
 loop-point-preserved c =

@@ -1,5 +1,5 @@
 use Rattle.beet_link.proofs.Keeps.{begins, divides}
-use Rattle.beet_link.proofs.opening.open.Goals as goal
+use Rattle.beet_link.proofs.making.open.Goals as goal
 
 pub ruled-requires-clause-rule : goal.ruled-requires-clause-rule
 ruled-requires-clause-rule g c = begins
