@@ -24,9 +24,9 @@ use Rattle.beet_book.specs.Farmers.{Farmer, book_inputs, farmers_of, point_for, 
 use Rattle.beet_auction.proofs.Adding.{summed-none, summed-more}
 use Rattle.beet_plan.specs.Kept.{words_kept}
 use Rattle.beet_load.specs.Wholes.{CanDeal}
-use Rattle.beet_view.specs.BookViews.{seen_at}
+use Rattle.beet_view.specs.BookViews.{seen_at, seen_with}
 use Rattle.beet_view.specs.declared.view.Seen.{Seen}
-use Rattle.beet_kept.specs.DealtBooks.{HasDealt, seen_with, shows}
+use Rattle.beet_kept.specs.DealtBooks.{HasDealt, shows}
 use Rattle.beet_kept.specs.declared.dealing.DealtPart.{DealtPart}
 
 -- a tape of words that are all kept has them left

@@ -3,23 +3,15 @@ use Rattle.std.specs.Prelude.{◌≡◌, List, map, Option, Some, None, ℕ, len
 use Rattle.beet_field.specs.Trio.{member}
 use Rattle.beet_field.specs.declared.point.Point.{Point}
 use Rattle.beet_field.specs.declared.trio.Trio.{Trio}
-use Rattle.beet_bids.specs.Curves.{Curve, IsOfGrid}
+use Rattle.beet_bids.specs.Curves.{IsOfGrid}
 use Rattle.beet_bids.specs.Grids.{Grid}
 use Rattle.beet_bids.specs.declared.book.Bidder.{Bidder}
 use Rattle.beet_book.specs.Totals.{Totals}
 use Rattle.beet_book.specs.Farmers.{Farmer, summed_points}
 use Rattle.beet_delivery.specs.Events.{same}
 use Rattle.beet_load.specs.Wholes.{CanDeal}
-use Rattle.beet_view.specs.BookViews.{kept_if, names, seen_at}
+use Rattle.beet_view.specs.BookViews.{seen_at}
 use Rattle.beet_view.specs.declared.view.Seen.{Seen}
-
--- the curve and the words of a bidder, where this server knows it
-abbrev pub own_at : Point → Farmer → Option (Curve × List ℕ)
-own_at s farmer = kept_if (names farmer.bidder.known s) farmer.bidder.curve farmer.words
-
--- a bidder with these points, as this server sees it
-abbrev pub seen_with : Point → Farmer → List ℕ → Seen
-seen_with s farmer points = record { known = farmer.bidder.known; points = points; own = own_at s farmer }
 
 -- each bidder has a curve of the grid, and a list of words that are enough
 pub record CanDealAll (grid : Grid) (bidders : List Bidder) (words : List (List ℕ)) : Type 0 where

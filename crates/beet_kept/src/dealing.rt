@@ -8,8 +8,8 @@ ghost use Rattle.beet_bids.specs.Curves.{IsOfGrid};
 ghost use Rattle.beet_bids.specs.Grids.{Grid as Lattice};
 ghost use Rattle.beet_book.specs.Farmers.{Farmer, book_inputs, farmers_of};
 ghost use Rattle.beet_load.specs.Wholes.{CanDeal};
-ghost use Rattle.beet_view.specs.BookViews.{seen_at};
-ghost use Rattle.beet_kept.specs.DealtBooks.{CanDealAll, HasDealt, own_at, seen_with, shows};
+ghost use Rattle.beet_view.specs.BookViews.{seen_at, own_at, seen_with};
+ghost use Rattle.beet_kept.specs.DealtBooks.{CanDealAll, HasDealt, shows};
 
 use beet_bids::{Bidder, Book, Curve, Grid};
 use beet_book::{FEWEST_FOR_TWO, Totals, deal_bidder, workers};

@@ -27,13 +27,17 @@ names (Some at) s = same at s
 abbrev pub kept_if : Bool → Curve → List ℕ → Option (Curve × List ℕ)
 kept_if known curve words = if known then Some (curve, words) else None
 
+-- the curve and the words of a bidder, where this server knows it
+abbrev pub own_at : Point → Farmer → Option (Curve × List ℕ)
+own_at s farmer = kept_if (names farmer.bidder.known s) farmer.bidder.curve farmer.words
+
+-- a bidder with these points, as this server sees it
+abbrev pub seen_with : Point → Farmer → List ℕ → Seen
+seen_with s farmer points = record { known = farmer.bidder.known; points = points; own = own_at s farmer }
+
 -- a bidder as a server sees it: its mark, its points at the server, and its curve and words where the server knows it
 abbrev pub seen_at : Grid → Point → Farmer → Seen
-seen_at grid s farmer = record {
-  known = farmer.bidder.known;
-  points = each (point_for farmer s) (2 * grid.prices);
-  own = kept_if (names farmer.bidder.known s) farmer.bidder.curve farmer.words;
-}
+seen_at grid s farmer = seen_with s farmer (each (point_for farmer s) (2 * grid.prices))
 
 -- what a server sees of the auction of a book, with these mask words and coefficient words
 abbrev pub view_of_book : Grid → List Farmer → Trio (List ℕ) → Trio (List ℕ) → Point → Viewed

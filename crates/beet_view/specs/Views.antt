@@ -1,10 +1,12 @@
 -- What one server sees of an auction.
-use Rattle.std.specs.Prelude.{◌≡◌, ◌≢◌, ℕ, ◌*◌, ◌^◌, ◌<◌, ◌≤◌, List, length, slice_get, Option, None, Some, option_and_then, MatchOption, All}
+use Rattle.std.specs.Prelude.{◌≡◌, ◌≢◌, ℕ, ◌*◌, ◌^◌, ◌<◌, ◌≤◌, List, length, slice_get, Option, Some, option_and_then, option_map, MatchOption, All}
 use Rattle.beet_field.specs.declared.point.Point.{Point}
-use Rattle.beet_field.specs.declared.point.Point.TheVariants.{One, Two, Three}
 use Rattle.beet_bids.specs.Grids.{Grid}
 use Rattle.beet_bids.specs.Curves.{IsOfGrid}
 use Rattle.beet_words.specs.declared.bundle.TheConstants.{MOST_BIDDERS}
+use Rattle.beet_round.specs.Sides.{side_of}
+use Rattle.beet_round.specs.declared.sides.Side.{Side}
+use Rattle.beet_round.specs.declared.sides.Side.TheVariants.{Low, High}
 use Rattle.beet_view.specs.declared.view.Seen.{Seen}
 
 -- the server, its grid, the bidders, its tapes, and in each round the numbers from its lower and from its higher peer
@@ -27,17 +29,14 @@ pub record IsView (view : Viewed) : Type 0 where
   pub seen : All (λ seen. IsSeenAt view.server view.grid seen) view.bidders
   pub rounds : length view.rounds < 2 ^ 32
 
--- of the numbers from the lower and from the higher peer of a server, those of a sender; none from the server itself
+-- of the numbers from the lower and from the higher peer, those of this side
+abbrev pub numbers_at : List ℕ × List ℕ → Side → List ℕ
+numbers_at round Low = round.0
+numbers_at round High = round.1
+
+-- those of a sender; none from the server itself
 abbrev pub from_peer : Point → Point → List ℕ × List ℕ → Option (List ℕ)
-from_peer One One round = None
-from_peer One Two round = Some round.0
-from_peer One Three round = Some round.1
-from_peer Two One round = Some round.0
-from_peer Two Two round = None
-from_peer Two Three round = Some round.1
-from_peer Three One round = Some round.0
-from_peer Three Two round = Some round.1
-from_peer Three Three round = None
+from_peer s sender round = option_map (numbers_at round) (side_of s sender)
 
 -- the numbers of a sender in a round
 abbrev pub numbers_of : Viewed → ℕ → Point → Option (List ℕ)

@@ -6,6 +6,7 @@ ghost use Rattle.beet_view.specs.Views.{IsView, from_peer, numbers_of};
 use arrayvec::ArrayVec;
 use beet_bids::{Curve, Grid};
 use beet_field::{Fe, MOST_NUMBERS, Point};
+use beet_round::Side;
 use beet_words::{FeList, Word, WordList};
 use std::marker::Model;
 
@@ -159,13 +160,8 @@ fn numbers_from(server: Point, sender: Point, received: &Received) -> Option<&[F
     ensures numbers { option_map (λ s. s.now) result ≡ from_peer server sender received.now }
     ensures none { IsNone result ↔ (sender ≡ server) }
 {
-    match (server, sender) {
-        (Point::One, Point::Two) | (Point::Two, Point::One) | (Point::Three, Point::One) => {
-            Some(received.lower())
-        }
-        (Point::One, Point::Three) | (Point::Two, Point::Three) | (Point::Three, Point::Two) => {
-            Some(received.higher())
-        }
-        _ => None,
+    match Side::of(server, sender)? {
+        Side::Low => Some(received.lower()),
+        Side::High => Some(received.higher()),
     }
 }
