@@ -1,8 +1,8 @@
 // Refuses one call of a program: preloaded by tools/refused, which says which in the environment.
 //
 // REFUSED_KIND is the kind of call: `memory` (malloc, calloc, realloc), `thread` (the start of one), `file` (open, read, write,
-// and sync, which fail), or `short` (a read or a write of several bytes, which moves one). REFUSED_AT is its number, from 1.
-// REFUSED_MARK is a file that is made when that call comes.
+// and sync, which fail), or `short` (a read or a write of several bytes, which moves one). REFUSED_AT is its number, from 1, or
+// `all`. REFUSED_MARK is a file that is made when that call comes.
 #define _GNU_SOURCE
 #include <dlfcn.h>
 #include <errno.h>
@@ -21,6 +21,7 @@ enum kind { NONE, MEMORY, THREAD, IO, SHORT };
 
 static enum kind kind;
 static unsigned long at;
+static int all;
 static const char *mark;
 static atomic_ulong calls;
 
@@ -31,6 +32,7 @@ __attribute__((constructor)) static void begin(void) {
     if (!name || !number || !mark)
         return;
     at = strtoul(number, NULL, 10);
+    all = !strcmp(number, "all");
     kind = !strcmp(name, "memory") ? MEMORY
          : !strcmp(name, "thread") ? THREAD
          : !strcmp(name, "file")   ? IO
@@ -38,9 +40,9 @@ __attribute__((constructor)) static void begin(void) {
                                    : NONE;
 }
 
-// Whether this call is the one that is refused.
+// Whether this call is refused.
 static int is_refused(enum kind of) {
-    if (kind != of || atomic_fetch_add(&calls, 1) + 1 != at)
+    if (kind != of || (atomic_fetch_add(&calls, 1) + 1 != at && !all))
         return 0;
     int file = syscall(SYS_openat, AT_FDCWD, mark, O_CREAT | O_WRONLY, 0600);
     if (file >= 0)

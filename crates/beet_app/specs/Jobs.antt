@@ -15,8 +15,8 @@ use Rattle.beet_envelopes.specs.Open.{open_errand}
 use Rattle.beet_trial.specs.Sizes.{sizes_of}
 use Rattle.beet_trial.specs.Trial.{trial_errand}
 
--- a job: it has an errand, which ends with its answer; or it compares two worlds, with the words of the second as they are mapped; or it
--- tells what is found in an auction and three transcripts
+-- a job: it has an errand, which ends with its answer; or it compares two worlds, with the words of the second as they
+-- are mapped; or it tells what is found in an auction and three transcripts
 pub data Job : Type 0 where
   Answering : Errand → Job
   Comparing : List ℕ → List ℕ → List ℕ → List ℕ → Point → List ℕ → Job
@@ -34,8 +34,10 @@ are_names (word ∷ words) = is_name_of word && are_names words
 -- the job of a command with two words
 abbrev pub job_of_two : List ℕ → List ℕ → List ℕ → Option Job
 job_of_two command first second =
-    if is_word command (codes "tally") && are_names (first ∷ second ∷ []) then Some (Answering (tally_errand first second))
-    else if is_word command (codes "trial") then option_map (λ sizes. Answering (trial_errand sizes.0 sizes.1)) (sizes_of first second)
+    if is_word command (codes "tally") && are_names (first ∷ second ∷ [])
+    then Some (Answering (tally_errand first second))
+    else if is_word command (codes "trial")
+    then option_map (λ sizes. Answering (trial_errand sizes.0 sizes.1)) (sizes_of first second)
     else None
 
 -- the job of a command with three files

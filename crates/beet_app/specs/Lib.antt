@@ -1,4 +1,3 @@
-pub mod Texts
 pub mod Jobs
 pub mod Showing
 pub mod Doing

@@ -2,15 +2,14 @@
 
 ghost use Rattle.std.specs.Prelude.{◌≡◌, map, string_bytes};
 ghost use Rattle.beet_forms.specs.Names.{is_name_of};
-ghost use Rattle.beet_errand.specs.Fetches.{Refuses};
-ghost use Rattle.beet_app.specs.Texts.{usage_text};
-ghost use Rattle.beet_app.specs.Doing.{DoesJob, DoesNamed};
+ghost use Rattle.beet_errand.specs.Tasks.{DoesNamed};
+ghost use Rattle.beet_app.specs.Doing.{task_of};
 ghost use Rattle.beet_app.specs.Jobs.{job_of, job_of_four, job_of_six, job_of_three, job_of_two};
 
 use beet_auditor::audit_files;
 use beet_clear::clear;
 use beet_envelopes::{open_envelopes, read_source_word, seal_bid};
-use beet_errand::{Reply, Status, Stop};
+use beet_errand::{Reply, Stop};
 use beet_field::Point;
 use beet_forms::is_name;
 use beet_link::Gate;
@@ -41,7 +40,8 @@ fn do_two<S: Shelf, R: Threads + Wait + Sync, G: Gate>(
     second: &str,
     gate: &G,
 ) -> Option<Result<Reply, Stop>>
-    ensures { DoesNamed (job_of_two command.now first.now second.now) (S.seen shelf.old) (S.seen shelf.new) result }
+    ensures { DoesNamed (task_of (job_of_two command.now first.now second.now))
+        (S.seen shelf.old) (S.seen shelf.new) result }
 {
     if command == "tally" && is_file(first) && is_file(second) {
         Some(tally(alloc, shelf, first, second))
@@ -64,7 +64,8 @@ fn do_three<S: Shelf, R: Threads + Wait + Sync, G: Gate>(
     third: &str,
     gate: &G,
 ) -> Option<Result<Reply, Stop>>
-    ensures { DoesNamed (job_of_three command.now first.now second.now third.now) (S.seen shelf.old) (S.seen shelf.new) result }
+    ensures { DoesNamed (task_of (job_of_three command.now first.now second.now third.now))
+        (S.seen shelf.old) (S.seen shelf.new) result }
 {
     if !(is_file(first) && is_file(second) && is_file(third)) {
         None
@@ -89,7 +90,7 @@ fn do_four<S: Shelf, R: Threads + Wait + Sync, G: Gate>(
     fourth: &str,
     gate: &G,
 ) -> Option<Result<Reply, Stop>>
-    ensures { DoesNamed (job_of_four command.now first.now second.now third.now fourth.now)
+    ensures { DoesNamed (task_of (job_of_four command.now first.now second.now third.now fourth.now))
         (S.seen shelf.old) (S.seen shelf.new) result }
 {
     if !(is_file(first) && is_file(second) && is_file(fourth)) {
@@ -123,7 +124,8 @@ fn do_six<S: Shelf, R: Threads + Sync>(
     server: &str,
     out: &str,
 ) -> Option<Result<Reply, Stop>>
-    ensures { DoesNamed (job_of_six command.now auction.now servers.now first.now second.now server.now out.now)
+    ensures { DoesNamed
+        (task_of (job_of_six command.now auction.now servers.now first.now second.now server.now out.now))
         (S.seen shelf.old) (S.seen shelf.new) result }
 {
     let named = is_file(auction)
@@ -142,14 +144,14 @@ fn do_six<S: Shelf, R: Threads + Sync>(
 }
 
 /// Does the job that the words name, if they name one.
-fn do_named<S: Shelf, R: Threads + Wait + Sync, G: Gate>(
+pub(crate) fn do_named<S: Shelf, R: Threads + Wait + Sync, G: Gate>(
     rt: &R,
     alloc: Global,
     shelf: &mut S,
     words: &[String],
     gate: &G,
 ) -> Option<Result<Reply, Stop>>
-    ensures { DoesNamed (job_of (map string_bytes words.now)) (S.seen shelf.old) (S.seen shelf.new) result }
+    ensures { DoesNamed (task_of (job_of (map string_bytes words.now))) (S.seen shelf.old) (S.seen shelf.new) result }
 {
     match words {
         [command, a, b] => do_two(
@@ -195,31 +197,5 @@ fn do_named<S: Shelf, R: Threads + Wait + Sync, G: Gate>(
             f.as_str(),
         ),
         _ => None,
-    }
-}
-
-/// Refuses words that name no job.
-fn usage(alloc: Global) -> Stop
-    ensures { Refuses Status.Usage usage_text result }
-{
-    match String::from_str(alloc, "usage: beet COMMAND WORDS\n") {
-        Ok(line) => Stop::Refused(Status::Usage, line.into_bytes()),
-        Err(_) => Stop::OutOfMemory,
-    }
-}
-
-/// Does the job that the words name, but for its files and its text, which it answers.
-pub(crate) fn do_job<S: Shelf, R: Threads + Wait + Sync, G: Gate>(
-    rt: &R,
-    alloc: Global,
-    words: &[String],
-    shelf: &mut S,
-    gate: &G,
-) -> Result<Reply, Stop>
-    ensures { DoesJob (job_of (map string_bytes words.now)) (S.seen shelf.old) (S.seen shelf.new) result }
-{
-    match do_named(rt, alloc, shelf, words, gate) {
-        Some(result) => result,
-        None => Err(usage(alloc)),
     }
 }

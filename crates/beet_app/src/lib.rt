@@ -1,49 +1,49 @@
 //! The jobs of the program, over any shelf and desk.
 #![tactic(auto)]
 
-ghost use Rattle.std.specs.Prelude.{◌≡◌, ◌≤◌, ◌⊎◌, map, string_bytes, None};
-ghost use Rattle.beet_store.specs.Causes.{Rose};
-ghost use Rattle.beet_answer.specs.Runs.{IsStatus, Said};
-ghost use Rattle.beet_app.specs.Doing.{AuditsTranscripts, ComparesWorlds, RunsJob};
+ghost use Rattle.std.specs.Prelude.{◌≡◌, ◌⊎◌, map, string_bytes};
+ghost use Rattle.beet_errand.specs.Tasks.{DoesRun};
+ghost use Rattle.beet_app.specs.Doing.{task_of};
 ghost use Rattle.beet_app.specs.Jobs.{job_of};
 ghost use Rattle.beet_app.specs.Showing.{Shows};
-ghost use Rattle.beet_app.specs.Texts.{usage_text};
 
 mod jobs;
 
-use beet_answer::give_answer;
 pub use beet_errand::Status;
+use beet_errand::end_run;
 use beet_link::Gate;
 use beet_store::{Desk, Shelf};
 use std::alloc::Global;
 use std::sync::Wait;
 use std::thread::Threads;
 
-/// Does the job that the words after the program's name ask for. Words that stand for files are names of 1 to 200 bytes.
+/// Does the job that the words after the program's name ask for. Words that stand for files are names of 1 to 200
+/// bytes.
 ///
 /// - `tally AUCTION BOOK` opens the sums of supply and demand at an auction of one price.
 /// - `clear AUCTION SERVERS BOOK` runs the auction of a book among three servers.
 /// - `rehearse AUCTION SERVERS BOOK SCHEDULE` delivers the messages of a schedule, and tells how each server stands.
 /// - `record AUCTION SERVERS BOOK OUT` writes what each server has seen of a run to `OUT.1`, `OUT.2` and `OUT.3`.
 /// - `audit AUCTION T1 T2 T3` tells how the run ended of which three transcripts are what the three servers have seen.
-/// - `worlds AUCTION SERVERS BOOK1 BOOK2 SERVER OUT` writes what a server sees in the runs of two books, with the words of
-///   the second run with which it sees the same, to `OUT.first`, `OUT.second` and `OUT.words`.
-/// - `seal AUCTION BID SOURCE OUT` writes a bid in three envelopes, `OUT.1`, `OUT.2` and `OUT.3`; the source of its words is
-///   `seed:` and 64 hexadecimal digits, or `tape:` and a name.
+/// - `worlds AUCTION SERVERS BOOK1 BOOK2 SERVER OUT` writes what a server sees in the runs of two books, with the words
+///   of the second run with which it sees the same, to `OUT.first`, `OUT.second` and `OUT.words`.
+/// - `seal AUCTION BID SOURCE OUT` writes a bid in three envelopes, `OUT.1`, `OUT.2` and `OUT.3`; the source of its
+///   words is `seed:` and 64 hexadecimal digits, or `tape:` and a name.
 /// - `open AUCTION SERVERS LIST` runs the auction of the envelopes that a list names.
-/// - `trial BIDDERS PRICES` runs the auction of a book that is made by a rule, of 0 to 2,000 bidders and 1 to 4,096 prices.
+/// - `trial BIDDERS PRICES` runs the auction of a book that is made by a rule, of 0 to 2,000 bidders and 1 to 4,096
+///   prices.
 ///
 /// Answers the exit status: 0 where the job is done; 1 for want of memory, and then nothing is said; 2 where the words
-/// name no job; 3 where a file cannot be fetched; 4 where a file or the text is not taken; 5 for a file that is too long,
-/// breaks its format or breaks a limit of the job; 6 where a run, or in `rehearse` a server, has ended with the third
-/// rejected mask, which is said with the job's text; 7 where two books do not agree for a server; 8 where three
-/// transcripts are not those of one run; 9 for a bidder or a server whose tape holds too few words. At 2, 3, 5, 7, 8 and 9
-/// the line that tells the cause is said, and no file is put. The text is said after all files were put.
+/// name no job; 3 where a file cannot be fetched; 4 where a file or the text is not taken; 5 for a file that is too
+/// long, breaks its format or breaks a limit of the job; 6 where a run, or in `rehearse` a server, has ended with the
+/// third rejected mask, which is said with the job's text; 7 where two books do not agree for a server; 8 where three
+/// transcripts are not those of one run; 9 for a bidder or a server whose tape holds too few words. At 2, 3, 5, 7, 8
+/// and 9 the line that tells the cause is said, and no file is put. The text is said after all files were put.
 ///
-/// In `clear`, `record`, `open` and `trial` three servers run on the caller's thread, or, where the gate must be met, at the same time,
-/// the first on the caller's thread and two in workers. Then each meets the gate once in each round, before it puts its messages of the
-/// round. So `run` may wait, and what is promised holds if it returns. Where a worker cannot be started or a link finds no memory, spare
-/// servers run in their place on the caller's thread, without the gate.
+/// In `clear`, `record`, `open` and `trial` three servers run at the same time, the first on the caller's thread and
+/// two in workers. Each meets the gate once in each round, before it puts its messages of the round. So `run` may wait,
+/// and what is promised holds if it returns. Where a worker cannot be started or a link finds no memory, no server has
+/// begun, and the same three run in lockstep on the caller's thread, without the gate.
 pub fn run<S: Shelf, K: Desk, R: Threads + Wait + Sync, G: Gate>(
     rt: &R,
     alloc: Global,
@@ -52,34 +52,14 @@ pub fn run<S: Shelf, K: Desk, R: Threads + Wait + Sync, G: Gate>(
     desk: &mut K,
     gate: &G,
 ) -> u8
-    ensures known { IsStatus result }
-
-    // The usage line is said exactly where the words name no job.
-    ensures usage { result ≡ 2 → job_of (map string_bytes words.now) ≡ None }
-    ensures usage_line { result ≡ 2 → Said (K.seen desk.old).given (K.seen desk.new).given usage_text }
-    ensures no_job { job_of (map string_bytes words.now) ≡ None → (result ≡ 2) ⊎ (result ≡ 1) ⊎ (result ≡ 4) }
-
-    // A fault of the outside is answered only where that object's count of faults rose, and a fault of the desk is not passed over.
-    ensures read { result ≡ 3 → Rose (S.seen shelf.old).faults (S.seen shelf.new).faults }
-    ensures write { result ≡ 4 → Rose (K.seen desk.old).faults (K.seen desk.new).faults }
-    ensures undisturbed { (result ≡ 1) ⊎ (result ≡ 4) ⊎ ((K.seen desk.new).faults ≡ (K.seen desk.old).faults) }
-    ensures shelf_faults { (S.seen shelf.old).faults ≤ (S.seen shelf.new).faults }
-    ensures desk_faults { (K.seen desk.old).faults ≤ (K.seen desk.new).faults }
-
-    // Two books are refused only by the job that compares them.
-    ensures worlds { result ≡ 7 → ComparesWorlds (job_of (map string_bytes words.now)) }
-
-    // Three transcripts are refused only by the job that audits them.
-    ensures audit { result ≡ 8 → AuditsTranscripts (job_of (map string_bytes words.now)) }
-
-    // The files fetched, the files put, the text said and the status are those of the job.
-    ensures runs { RunsJob (job_of (map string_bytes words.now)) (S.seen shelf.old).told (S.seen shelf.new).told
-        (K.seen desk.old).given (K.seen desk.new).given result }
+    // The files fetched, the files put, the text said and the status are those of the job, and each status has its
+    // cause.
+    ensures does { DoesRun (task_of (job_of (map string_bytes words.now))) (S.seen shelf.old) (S.seen shelf.new)
+        (K.seen desk.old) (K.seen desk.new) result }
 
     // Two worlds that were compared are shown to look the same to the server, and three transcripts to be of one run.
     ensures shows { (result ≡ 0) ⊎ (result ≡ 6) → Shows (job_of (map string_bytes words.now))
         (S.seen shelf.old).told (S.seen shelf.new).told (K.seen desk.old).given (K.seen desk.new).given }
 {
-    let job = jobs::do_job(rt, alloc, words, shelf, gate);
-    give_answer(alloc, desk, job).code()
+    end_run(alloc, desk, jobs::do_named(rt, alloc, shelf, words, gate))
 }

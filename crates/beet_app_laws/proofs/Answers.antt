@@ -29,16 +29,20 @@ use Rattle.beet_words.specs.Seeds.{seed_words}
 use Rattle.beet_words.specs.declared.tape_file.TheConstants.{TAPE_LIMIT}
 use Rattle.beet_forms.specs.declared.faults.TheConstants.{LONGEST_FILE}
 use Rattle.beet_plan.specs.Kept.{coefficients_kept, words_kept}
-use Rattle.beet_errand.specs.Errands.{Answer, Errand, Ends, Wants, Step, FetchAnswer, Bytes, Longer, Nothing, after_answer, after_fetch, answers, bad_file, judged, reads, too_long, with_bytes}
+use Rattle.beet_errand.specs.Errands.{Answer, Errand, Ends, Wants, Step, FetchAnswer, Bytes, Longer, Nothing, after_answer, after_fetch, bad_file, judged, reads, refuses, too_long, with_bytes}
 use Rattle.beet_errand.specs.Fetches.{IsDone, Leads, LeadsBy, Went}
-use Rattle.beet_load.specs.Farmers.{enough_words, farmer_errand, farmers_errand, list_at, words_errand, words_wanted}
+use Rattle.beet_load.specs.Counts.{coefficients_wanted, counts_of, masks_wanted, words_wanted}
+use Rattle.beet_load.specs.Wanted.{wanted_of}
+use Rattle.beet_load.specs.Farmers.{enough_words, farmer_errand, farmers_errand, list_at, words_errand}
 use Rattle.beet_load.specs.Limits.{within_product}
 use Rattle.beet_load.specs.Loading.{loaded_errand, rest_errand}
-use Rattle.beet_load.specs.Servers.{ServerWords, all_words_errand, coefficients_wanted, counted, cut_servers, enough_held, enough_of, enough_of_all, masks_wanted, server_errand, source_errand, three_errand}
+use Rattle.beet_load.specs.Servers.{ServerWords, all_words_errand, counted, cut_servers, enough_held, enough_of, enough_of_all, server_errand, source_errand, three_errand}
 use Rattle.beet_load.specs.Settings.{setting_errand}
 use Rattle.beet_load.specs.Wholes.{bids_errand, curves_errand, limited_errand}
 use Rattle.beet_load.specs.WordTexts.{server_short_text, too_few_text}
-use Rattle.beet_errand.specs.declared.answer.Status.TheVariants.{TooFewWords}
+use Rattle.beet_errand.specs.declared.answer.Refusal.{Refusal}
+use Rattle.beet_errand.specs.declared.answer.Refusal.TheVariants.{ReadFault, BadFile, TooFewWords}
+use Rattle.beet_errand.specs.declared.answer.Status.TheVariants.{Refused}
 use Rattle.beet_load.specs.Limits.{over_product}
 use Rattle.beet_app_laws.specs.Leavings.{AreNames}
 use Rattle.beet_app_laws.specs.Refusals.{IsLineOf}
@@ -48,7 +52,8 @@ module _ (out : List ℕ) where
   -- an answer that is done, with files under these names, or a refusal with its line, which puts no file
   abbrev pub IsAnswer : Answer → Type 0
   IsAnswer answer =
-      (IsDone answer.status × AreNames out (map (λ file. file.0) answer.files)) ⊎ (IsLineOf answer.status answer.text × (answer.files ≡ []))
+      (IsDone answer.status × AreNames out (map (λ file. file.0) answer.files))
+      ⊎ ((refusal : Refusal) × (answer.status ≡ Refused refusal) × IsLineOf refusal answer.text × (answer.files ≡ []))
 
   -- whatever its files hold, an errand ends with such an answer
   abbrev pub EndsWell : Errand → Type 0
@@ -59,33 +64,37 @@ module _ (out : List ℕ) where
   abbrev pub StepsWell : {A : Type 0} → Step A → Type 0
   StepsWell {A = A} step = (next : A → Errand) → ((a : A) → EndsWell (next a)) → EndsWell (step next)
 
+  -- a refusal with its line does
+  pub refused-well : (refusal : Refusal) (line : List ℕ) → IsLineOf refusal line → EndsWell (refuses refusal line)
+  refused-well refusal line h = inr (refusal, refl, h, refl)
+
   pub either : (b : Bool) (one other : Errand) → EndsWell one → EndsWell other → EndsWell (if b then one else other)
   either true one other h k = h
   either false one other h k = k
 
   judged-well : {A : Type 0} (name : List ℕ) (reading : Reading A) → StepsWell (judged name reading)
   judged-well name (Ok value) next h = h value
-  judged-well name (Err fault) next h = inr (record { name = name; fault = fault; is = refl }, refl)
+  judged-well name (Err fault) next h = refused-well BadFile _ (record { name = name; fault = fault; is = refl })
 
   pub reads-well : {A : Type 0} (name : List ℕ) (limit : ℕ) (grammar : List ℕ → Reading A) → StepsWell (reads name limit grammar)
   reads-well name limit grammar next h = λ bytes. judged-well name (grammar bytes) next h
 
   held-well : (name : List ℕ) (limit : ℕ) (next : List ℕ → Errand) (held : Option (List ℕ)) → ((bytes : List ℕ) → EndsWell (next bytes)) →
       EndsWell (with_bytes name limit next held)
-  held-well name limit next None h = inr ((name, refl), refl)
+  held-well name limit next None h = refused-well ReadFault _ (name, refl)
   held-well name limit next (Some bytes) h =
-      either (nat_lt limit (length bytes)) (bad_file name too_long) (next bytes) (inr (record { name = name; fault = too_long; is = refl }, refl)) (h bytes)
+      either (nat_lt limit (length bytes)) (bad_file name too_long) (next bytes) (refused-well BadFile _ (record { name = name; fault = too_long; is = refl })) (h bytes)
 
   fetch-well : (files : List File) (name : List ℕ) (limit : ℕ) (next : List ℕ → Errand) (failed : Bool) →
       ((bytes : List ℕ) → EndsWell (next bytes)) → EndsWell (after_fetch files name limit next failed)
-  fetch-well files name limit next true h = inr ((name, refl), refl)
+  fetch-well files name limit next true h = refused-well ReadFault _ (name, refl)
   fetch-well files name limit next false h = held-well name limit next (bytes_of files name) h
 
   answer-well : (name : List ℕ) (next : List ℕ → Errand) (answer : FetchAnswer) → ((bytes : List ℕ) → EndsWell (next bytes)) →
       EndsWell (after_answer name next answer)
   answer-well name next (Bytes bytes) h = h bytes
-  answer-well name next Longer h = inr (record { name = name; fault = too_long; is = refl }, refl)
-  answer-well name next Nothing h = inr ((name, refl), refl)
+  answer-well name next Longer h = refused-well BadFile _ (record { name = name; fault = too_long; is = refl })
+  answer-well name next Nothing h = refused-well ReadFault _ (name, refl)
 
   leads-well : (files : List File) (fetches : List Fetch) (errand : Errand) (answer : Answer) → EndsWell errand →
       Leads files fetches errand (Ends answer) → IsAnswer answer
@@ -108,67 +117,74 @@ module _ (out : List ℕ) where
   went-well None now errand answer w (none, fetches, l) = leads-by-well fetches errand answer w l
   went-well (Some told) now errand answer w (fetches, is, l) = leads-well told.files fetches errand answer w l
 
-  pub enough-well : (number wanted : ℕ) (words : List ℕ) (next : Errand) → EndsWell next → EndsWell (enough_words number wanted words next)
+  pub enough-well : (number wanted : ℕ) (words : List ℕ) (next : Errand) → EndsWell next → EndsWell (enough_words None number wanted words next)
   enough-well number wanted words next h =
-      either (nat_lt (length (accepted words)) wanted) (answers TooFewWords (too_few_text number (length (accepted words)) wanted)) next
-      (inr (inl (record { bidder = number; held = length (accepted words); wanted = wanted; is = refl }), refl)) h
+      either (nat_lt (length (accepted words)) wanted) (refuses TooFewWords (too_few_text None number (length (accepted words)) wanted)) next
+      (refused-well TooFewWords _ (inl (record { bidder = number; held = length (accepted words); wanted = wanted; is = refl }))) h
 
   pub words-well : (given : Option (List ℕ)) (source : BidderSource) (kept : ℕ) → StepsWell (words_errand given source kept)
   words-well (Some words) source kept next h = h _
   words-well None (Seed seed) kept next h = h (seed_words seed 0 kept)
   words-well None (Tape name) kept next h = reads-well name TAPE_LIMIT (λ bytes. tape_of bytes kept) next h
 
-  farmer-well : (grid : Grid) (given : Option (List ℕ)) (number : ℕ) (entry : Entry) → StepsWell (farmer_errand grid given number entry)
+  farmer-well : (grid : Grid) (given : Option (List ℕ)) (number : ℕ) (entry : Entry) → StepsWell
+      (farmer_errand (wanted_of None grid) grid given number entry)
   farmer-well grid given number entry next h =
       reads-well entry.bid BID_LIMIT (bid_of grid) _ (λ curve.
       words-well given entry.source (words_kept grid.prices) _ (λ words.
       enough-well number (words_wanted grid) words _ (h _)))
 
-  farmers-well : (grid : Grid) (lists : Option (List (List ℕ))) (read : List Farmer) (entries : List Entry) → StepsWell (farmers_errand grid lists read entries)
+  farmers-well : (grid : Grid) (lists : Option (List (List ℕ))) (read : List Farmer) (entries : List Entry) → StepsWell
+      (farmers_errand (wanted_of None grid) grid lists read entries)
   farmers-well grid lists read [] next h = h read
   farmers-well grid lists read (entry ∷ entries) next h =
       farmer-well grid (list_at lists (length read)) (length read + 1) entry _ (λ farmer. farmers-well grid lists (read ++ farmer ∷ []) entries next h)
 
-  pub bidders-well : (grid : Grid) (lists : Option (List (List ℕ))) (entries : List Entry) → StepsWell (farmers_errand grid lists [] entries)
+  pub bidders-well : (grid : Grid) (lists : Option (List (List ℕ))) (entries : List Entry) → StepsWell
+      (farmers_errand (wanted_of None grid) grid lists [] entries)
   bidders-well grid lists entries = farmers-well grid lists [] entries
 
-  source-well : (grid : Grid) (source : ServerSource) → StepsWell (source_errand grid source)
+  source-well : (grid : Grid) (source : ServerSource) → StepsWell (source_errand (wanted_of None grid) source)
   source-well grid (ServerSeed seed) next h = h _
   source-well grid (Tapes coefficients masks) next h =
       reads-well coefficients TAPE_LIMIT (λ bytes. tape_of bytes (coefficients_kept grid)) _ (λ numbers.
       reads-well masks TAPE_LIMIT (λ bytes. tape_of bytes (masks_wanted grid)) _ (λ words. h _))
 
-  held-enough : (server : ℕ) (kind : List ℕ) (held wanted : ℕ) (next : Errand) → EndsWell next → EndsWell (enough_held server kind held wanted next)
+  held-enough : (server : ℕ) (kind : List ℕ) (held wanted : ℕ) (next : Errand) → EndsWell next → EndsWell (enough_held None server kind held wanted next)
   held-enough server kind held wanted next h =
-      either (nat_lt held wanted) (answers TooFewWords (server_short_text server kind held wanted)) next
-      (inr (inr (record { server = server; kind = kind; held = held; wanted = wanted; is = refl }), refl)) h
+      either (nat_lt held wanted) (refuses TooFewWords (server_short_text None server kind held wanted)) next
+      (refused-well TooFewWords _ (inr (record { server = server; kind = kind; held = held; wanted = wanted; is = refl }))) h
 
-  one-enough : (grid : Grid) (server : ℕ) (words : ServerWords) (next : Errand) → EndsWell next → EndsWell (enough_of grid server words next)
+  one-enough : (grid : Grid) (server : ℕ) (words : ServerWords) (next : Errand) → EndsWell next → EndsWell
+      (enough_of (wanted_of None grid) server words next)
   one-enough grid server words next h =
       held-enough server (codes "coefficients") (length (accepted words.coefficients)) (coefficients_wanted grid)
-      (enough_held server (codes "masks") (length words.masks) (masks_wanted grid) next)
+      (enough_held None server (codes "masks") (length words.masks) (masks_wanted grid) next)
       (held-enough server (codes "masks") (length words.masks) (masks_wanted grid) next h)
 
-  pub servers-enough : (grid : Grid) (servers : Trio ServerWords) (next : Errand) → EndsWell next → EndsWell (enough_of_all grid servers next)
+  pub servers-enough : (grid : Grid) (servers : Trio ServerWords) (next : Errand) → EndsWell next → EndsWell
+      (enough_of_all (wanted_of None grid) servers next)
   servers-enough grid servers next h =
-      one-enough grid 1 servers.one (enough_of grid 2 servers.two (enough_of grid 3 servers.three next))
-      (one-enough grid 2 servers.two (enough_of grid 3 servers.three next) (one-enough grid 3 servers.three next h))
+      one-enough grid 1 servers.one (enough_of (wanted_of None grid) 2 servers.two (enough_of (wanted_of None grid) 3 servers.three next))
+      (one-enough grid 2 servers.two (enough_of (wanted_of None grid) 3 servers.three next) (one-enough grid 3 servers.three next h))
 
-  server-well : (grid : Grid) (server : ℕ) (source : ServerSource) → StepsWell (server_errand grid server source)
+  server-well : (grid : Grid) (server : ℕ) (source : ServerSource) → StepsWell (server_errand (wanted_of None grid) server source)
   server-well grid server source next h = source-well grid source _ (λ words. one-enough grid server words (next words) (h words))
 
-  three-well : (grid : Grid) (sources : Trio ServerSource) → StepsWell (three_errand grid sources)
+  three-well : (grid : Grid) (sources : Trio ServerSource) → StepsWell (three_errand (wanted_of None grid) sources)
   three-well grid sources next h =
       server-well grid 1 sources.one _ (λ one. server-well grid 2 sources.two _ (λ two. server-well grid 3 sources.three _ (λ three. h _)))
 
-  pub all-words-well : (grid : Grid) (count : Option ℕ) (sources : Servers) → StepsWell (all_words_errand grid count sources)
+  pub all-words-well : (grid : Grid) (count : Option ℕ) (sources : Servers) → StepsWell
+      (all_words_errand (wanted_of None grid) count sources)
   all-words-well grid count (Three sources) next h = three-well grid sources _ (λ servers. h (record { servers = servers; bidders = None }))
   all-words-well grid count (Bundle name) next h =
-      reads-well name LONGEST_FILE (λ bytes. counted count (bundle_of bytes)) _ (λ words. servers-enough grid (cut_servers grid words) _ (h _))
+      reads-well name LONGEST_FILE (λ bytes. counted count (bundle_of bytes)) _
+      (λ words. servers-enough grid (cut_servers (counts_of grid) words) _ (h _))
 
-  pub product-well : (book : List ℕ) (grid : Grid) (count : ℕ) (next : Errand) → EndsWell next → EndsWell (within_product book grid count next)
+  pub product-well : (book : List ℕ) (grid : Grid) (count : ℕ) (next : Errand) → EndsWell next → EndsWell (within_product 0 book grid count next)
   product-well book grid count next h =
-      either (nat_lt MOST_PRODUCT (count * grid.prices)) (bad_file book over_product) next (inr (record { name = book; fault = over_product; is = refl }, refl)) h
+      either (nat_lt MOST_PRODUCT (0 + count * grid.prices)) (bad_file book over_product) next (refused-well BadFile _ (record { name = book; fault = over_product; is = refl })) h
 
   pub loaded-well : (auction servers book : List ℕ) → StepsWell (loaded_errand auction servers book)
   unfolding loaded_errand setting_errand rest_errand
@@ -194,6 +210,6 @@ module _ (out : List ℕ) where
   bids-well grid read (entry ∷ entries) next h =
       reads-well entry.bid BID_LIMIT (bid_of grid) _ (λ curve. bids-well grid (read ++ record { known = entry.known; curve = curve } ∷ []) entries next h)
 
-  pub curves-well : (book : List ℕ) (grid : Grid) → StepsWell (curves_errand book grid)
+  pub curves-well : (book : List ℕ) (grid : Grid) → StepsWell (curves_errand 0 book grid)
   curves-well book grid next h =
       reads-well book BOOK_LIMIT book_of _ (λ entries. product-well book grid (length entries) _ (bids-well grid [] entries next h))

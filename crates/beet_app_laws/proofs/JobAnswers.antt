@@ -6,7 +6,6 @@ use Rattle.beet_field.specs.declared.point.Point.{Point}
 use Rattle.beet_field.specs.declared.point.Point.TheVariants.{One, Two, Three as ThreeAt}
 use Rattle.beet_field.specs.Trio.{of_each}
 use Rattle.beet_field.specs.declared.trio.Trio.{Trio}
-use Rattle.beet_store.specs.Files.{Told}
 use Rattle.beet_auction.specs.AnyPoints.{points_finish}
 use Rattle.beet_auction.specs.Endings.{book_finish}
 use Rattle.beet_bids.specs.Grids.{Grid}
@@ -36,8 +35,12 @@ use Rattle.beet_world.specs.declared.schedule.TheConstants.{SCHEDULE_LIMIT}
 use Rattle.beet_worlds.specs.declared.agreeing.MapFault.{MapFault}
 use Rattle.beet_errand.specs.Errands.{Answer, Errand, Ends, bad_file, reads}
 use Rattle.beet_errand.specs.Fetches.{IsDone}
+use Rattle.beet_errand.specs.declared.answer.OwnRefusal.TheVariants.{OfWorlds, OfAudit}
+use Rattle.beet_errand.specs.declared.answer.Refusal.TheVariants.{BadFile, Own}
 use Rattle.beet_errand.specs.declared.answer.Status.TheVariants.{Done, MasksSpent as Spent}
-use Rattle.beet_load.specs.Farmers.{farmers_errand, words_wanted}
+use Rattle.beet_load.specs.Counts.{words_wanted}
+use Rattle.beet_load.specs.Wanted.{wanted_of}
+use Rattle.beet_load.specs.Farmers.{farmers_errand}
 use Rattle.beet_load.specs.Servers.{masks_of}
 use Rattle.beet_run.specs.Outcomes.{status_of}
 use Rattle.beet_run.proofs.StatusFacts.{status-done}
@@ -53,19 +56,20 @@ use Rattle.beet_trial.specs.Adding.{enough_of_each}
 use Rattle.beet_trial.specs.Rules.{trial_book, trial_farmers, trial_grid, trial_servers}
 use Rattle.beet_trial.specs.Sizes.{sizes_of}
 use Rattle.beet_trial.specs.Trial.{trial_errand}
+use Rattle.beet_two_worlds.specs.Answering.{ShowsTheSame}
 use Rattle.beet_two_worlds.specs.Differences.{difference_between}
-use Rattle.beet_two_worlds.specs.Ending.{compared_errand, unless_differing, ShowsWorlds}
-use Rattle.beet_two_worlds.specs.Reading.{both_errand, first_book, second_book, words_read}
+use Rattle.beet_two_worlds.specs.Ending.{compared_errand, unless_differing}
+use Rattle.beet_two_worlds.specs.Reading.{Both, both_errand, first_book, second_book, words_read}
 use Rattle.beet_audit.specs.Audits.{Finds, recombined_book}
 use Rattle.beet_audit.specs.declared.fault.AuditFault.{AuditFault}
-use Rattle.beet_auditor.specs.Ending.{ShowsAudit, audit_answer}
+use Rattle.beet_auditor.specs.Ending.{TellsFinding, audit_answer}
 use Rattle.beet_auditor.specs.Reading.{read_errand}
 use Rattle.beet_auditor.specs.declared.reading.ReadViews.{ReadViews}
 use Rattle.beet_app.specs.Jobs.{Job, Answering, Comparing, Auditing, are_names, is_word, job_of, job_of_two, job_of_three, job_of_four, job_of_six, seal_of}
 use Rattle.beet_forms.specs.Names.{is_name_of}
 use Rattle.beet_app_laws.specs.Leavings.{last_word}
 use Rattle.beet_app_laws.proofs.Faults.{HasLine, difference-line, finds-never}
-use Rattle.beet_app_laws.proofs.Answers.{EndsWell, IsAnswer, StepsWell, all-words-well, bidders-well, curves-well, either, enough-well, limited-well, loaded-well, reads-well, servers-enough, words-well}
+use Rattle.beet_app_laws.proofs.Answers.{EndsWell, IsAnswer, StepsWell, all-words-well, bidders-well, curves-well, either, enough-well, limited-well, loaded-well, reads-well, refused-well, servers-enough, words-well}
 
 rehearsal-done : (one : Bool) → IsDone (if one then Spent else Done)
 rehearsal-done true = inr refl
@@ -77,10 +81,11 @@ module _ (out : List ℕ) where
   unfolding tally_job
   tally-well auction book =
       reads-well out auction AUCTION_LIMIT auction_of _ (λ grid.
-      either out (grid.prices == 1) (reads book BOOK_LIMIT book_of (λ entries. farmers_errand grid None [] entries (λ farmers. Ends (tallied farmers))))
+      either out (grid.prices == 1) (reads book BOOK_LIMIT book_of (λ entries. farmers_errand (wanted_of None grid) grid None [] entries
+      (λ farmers. Ends (tallied farmers))))
       (bad_file auction not_one_price) (
       reads-well out book BOOK_LIMIT book_of _ (λ entries.
-      bidders-well out grid None entries _ (λ farmers. inl (inl refl, inl refl)))) (inr (record { name = auction; fault = not_one_price; is = refl }, refl)))
+      bidders-well out grid None entries _ (λ farmers. inl (inl refl, inl refl)))) (refused-well out BadFile _ (record { name = auction; fault = not_one_price; is = refl })))
 
   clear-well : (auction servers book : List ℕ) → EndsWell out (clear_errand auction servers book)
   clear-well auction servers book = loaded-well out auction servers book _ (λ loaded.
@@ -138,7 +143,7 @@ module _ (out : List ℕ) where
 
   differing-well : (difference : Option MapFault) → IfSome difference HasLine → (next : Errand) → EndsWell out next → EndsWell out (unless_differing difference next)
   differing-well None t next h = h
-  differing-well (Some difference) t next h = inr ((difference, t), refl)
+  differing-well (Some difference) t next h = refused-well out (Own OfWorlds) _ (difference, t)
 
   both-well : (auction servers first second : List ℕ) → StepsWell out (both_errand auction servers first second)
   unfolding both_errand
@@ -260,22 +265,22 @@ module _ (out : List ℕ) where
       (server-named auction servers first second (server_of server)) tt
 
   -- the answer that shows two worlds is done
-  pub shown-well : {old now : Option Told} {auction servers first second : List ℕ} {s : Point} (answer : Answer) →
-      ShowsWorlds old now auction servers first second s out answer → IsAnswer out answer
-  shown-well answer w =
-      let end = book_finish (first_book w.both) (words_read w.both).masks in
-      let is : answer.status ≡ status_of end = ap (λ (a : Answer). a.status) w.same.is in
-      inl (subst IsDone (sym is) (status-done end), inr (inr (ap (λ (a : Answer). map (λ file. file.0) a.files) w.same.is)))
+  pub shown-well : (s : Point) (both : Both) (answer : Answer) →
+      ShowsTheSame s out (first_book both) (words_read both) (second_book both) answer → IsAnswer out answer
+  shown-well s both answer w =
+      let end = book_finish (first_book both) (words_read both).masks in
+      let is : answer.status ≡ status_of end = ap (λ (a : Answer). a.status) w.is in
+      inl (subst IsDone (sym is) (status-done end), inr (inr (ap (λ (a : Answer). map (λ file. file.0) a.files) w.is)))
 
   found-well : (read : ReadViews) (found : Option AuditFault) → Finds read.grid read.views found → IsAnswer out (audit_answer read found)
   found-well read None finds =
       inl (status-done (book_finish (recombined_book read.grid read.views) (of_each (λ view. view.masks) read.views)), inl refl)
   found-well read (Some fault) finds =
-      inr ((fault, (λ e. finds-never read.grid read.views (subst (λ f. Finds read.grid read.views (Some f)) e finds)), refl), refl)
+      inr (Own OfAudit, refl, (fault, (λ e. finds-never read.grid read.views (subst (λ f. Finds read.grid read.views (Some f)) e finds)), refl), refl)
 
   -- and so is that of an audit, or it is the refusal
-  pub audited-well : {old now : Option Told} {auction one two three : List ℕ} (answer : Answer) → ShowsAudit old now auction one two three answer → IsAnswer out answer
-  audited-well answer w = subst (IsAnswer out) (sym w.tells.is) (found-well w.read w.tells.found w.tells.finds)
+  pub audited-well : (read : ReadViews) (answer : Answer) → TellsFinding read answer → IsAnswer out answer
+  audited-well read answer w = subst (IsAnswer out) (sym w.is) (found-well read w.found w.finds)
 
 -- the job that words name ends so
 pub job-well : (words : List (List ℕ)) → JobEndsWell (last_word words) (job_of words)

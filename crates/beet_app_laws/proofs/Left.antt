@@ -1,53 +1,42 @@
 -- What a run leaves, by its exit status.
-use Rattle.std.proofs.Common.{◌≡◌, ◌⊎◌, inl, inr, ℕ, List, [], ◌∷◌, Option, Some, None, Ok, Err, ap, sym, subst, ◌∙◌, arith, refl}
+use Rattle.std.proofs.Common.{◌≡◌, inl, inr, ℕ, List, [], ◌∷◌, Option, Some, None, Ok, Err, ap, sym, subst, ◌∙◌, arith, refl}
 use Rattle.std.specs.Prelude.{map}
 use Rattle.beet_store.specs.Files.{File, Told}
 use Rattle.beet_store.specs.Desks.{Given, Done, GivesCall, Put}
 use Rattle.beet_store.specs.declared.desk.PutFault.{PutFault}
 use Rattle.beet_store.specs.declared.desk.PutFault.TheVariants.{Failed, OutOfMemory as NoMemoryToPut}
-use Rattle.beet_errand.specs.Errands.{Answer, Errand, Ends, Wants, answers}
-use Rattle.beet_errand.specs.Fetches.{Went}
+use Rattle.beet_errand.specs.Errands.{Answer, Errand, Ends, Step, Wants, answers, refuses}
+use Rattle.beet_errand.specs.Fetches.{IsDone, Went}
+use Rattle.beet_errand.specs.Runs.{EndsBy, GivesAll, Runs, RunsOut, Said, status_after}
 use Rattle.beet_errand.specs.Statuses.{code_of}
+use Rattle.beet_errand.specs.Tasks.{RunsTask, Shows, ToShow}
+use Rattle.beet_errand.specs.Texts.{usage_text}
+use Rattle.beet_errand.specs.declared.answer.OwnRefusal.{OwnRefusal}
+use Rattle.beet_errand.specs.declared.answer.OwnRefusal.TheVariants.{OfWorlds, OfAudit}
+use Rattle.beet_errand.specs.declared.answer.Refusal.{Refusal}
+use Rattle.beet_errand.specs.declared.answer.Refusal.TheVariants.{Usage}
 use Rattle.beet_errand.specs.declared.answer.Status.{Status}
-use Rattle.beet_errand.specs.declared.answer.Status.TheVariants.{Done as JobDone, OutOfMemory as NoMemory, Usage, ReadFault, WriteFault, BadFile, MasksSpent, WorldsRefused, AuditRefused, TooFewWords}
-use Rattle.beet_answer.specs.Runs.{EndsBy, GivesAll, Runs, RunsOut, Said, status_after}
+use Rattle.beet_errand.specs.declared.answer.Status.TheVariants.{Done as JobDone, MasksSpent, OutOfMemory as NoMemory, WriteFault, Refused as IsRefused}
+use Rattle.beet_errand.proofs.Statuses.{not_done, same_end}
 use Rattle.beet_app.specs.Doing.{RunsJob}
 use Rattle.beet_app.specs.Jobs.{Job, Answering, Comparing, Auditing, job_of}
-use Rattle.beet_app.specs.Texts.{usage_text}
-use Rattle.beet_two_worlds.specs.Ending.{ShowsWorlds, compared_errand}
+use Rattle.beet_two_worlds.specs.Ending.{ShowsWorlds, compared_errand, worlds_task}
+use Rattle.beet_auditor.specs.Ending.{ShowsAudit}
 use Rattle.beet_auditor.specs.Reading.{read_errand}
 use Rattle.beet_app_laws.specs.Leavings.{AreNames, EndsShort, IsRefusal, LeavesBy, SaysNothing, last_word}
 use Rattle.beet_app_laws.specs.Refusals.{IsLineOf}
-use Rattle.beet_app_laws.proofs.Answers.{EndsWell, IsAnswer, went-well}
+use Rattle.beet_app_laws.proofs.Answers.{EndsWell, IsAnswer, StepsWell, refused-well, went-well}
 use Rattle.beet_app_laws.proofs.JobAnswers.{JobEndsWell, audited-well, compared-well, job-well, read-well, shown-well}
 
--- no other status is that of a refusal
-apart : (n : ℕ) → IsRefusal n → (n ≡ 0 → ⊥) × (n ≡ 1 → ⊥) × (n ≡ 4 → ⊥) × (n ≡ 6 → ⊥)
-apart n (inl e) = (λ f. omega (arith, e, f), λ f. omega (arith, e, f), λ f. omega (arith, e, f), λ f. omega (arith, e, f))
-apart n (inr (inl e)) = (λ f. omega (arith, e, f), λ f. omega (arith, e, f), λ f. omega (arith, e, f), λ f. omega (arith, e, f))
-apart n (inr (inr (inl e))) = (λ f. omega (arith, e, f), λ f. omega (arith, e, f), λ f. omega (arith, e, f), λ f. omega (arith, e, f))
-apart n (inr (inr (inr (inl e)))) = (λ f. omega (arith, e, f), λ f. omega (arith, e, f), λ f. omega (arith, e, f), λ f. omega (arith, e, f))
-apart n (inr (inr (inr (inr (inl e))))) = (λ f. omega (arith, e, f), λ f. omega (arith, e, f), λ f. omega (arith, e, f), λ f. omega (arith, e, f))
-apart n (inr (inr (inr (inr (inr e))))) = (λ f. omega (arith, e, f), λ f. omega (arith, e, f), λ f. omega (arith, e, f), λ f. omega (arith, e, f))
-
--- a refusal's status is one of a refusal
-refusal-code : (refusal : Status) (line : List ℕ) → IsLineOf refusal line → IsRefusal (code_of refusal)
-refusal-code JobDone line h = absurd h
-refusal-code NoMemory line h = absurd h
-refusal-code Usage line h = inl refl
-refusal-code ReadFault line h = inr (inl refl)
-refusal-code WriteFault line h = absurd h
-refusal-code BadFile line h = inr (inr (inl refl))
-refusal-code MasksSpent line h = absurd h
-refusal-code WorldsRefused line h = inr (inr (inr (inl refl)))
-refusal-code AuditRefused line h = inr (inr (inr (inr (inl refl))))
-refusal-code TooFewWords line h = inr (inr (inr (inr (inr refl))))
+-- no other end has the status of a refusal
+no-refusal : (end : Status) (status : ℕ) → status ≡ code_of end → ((refusal : Refusal) → end ≡ IsRefused refusal → ⊥) → IsRefusal status → ⊥
+no-refusal end status e not (refusal, f) = not refusal (same_end end (IsRefused refusal) (sym e ∙ f))
 
 module _ (out : List ℕ) (status : ℕ) (given now : Option Given) where
   at-memory : status ≡ 1 → EndsShort out given now → LeavesBy out status given now
   at-memory e h = record {
     memory = λ f. h;
-    refused = λ r. absurd ((apart status r).1 e);
+    refused = λ r. absurd (no-refusal NoMemory status e (λ refusal f. cc) r);
     write = λ f. absurd (omega (arith, e, f));
     whole = λ w. absurd (elim w [ inl f ↦ omega (arith, e, f) | inr f ↦ omega (arith, e, f) ]);
   }
@@ -55,33 +44,30 @@ module _ (out : List ℕ) (status : ℕ) (given now : Option Given) where
   at-fault : (files : List File) (text : List ℕ) → AreNames out (map (λ file. file.0) files) → status ≡ 4 → GivesAll given now files text (Err Failed) → LeavesBy out status given now
   at-fault files text names e calls = record {
     memory = λ f. absurd (omega (arith, e, f));
-    refused = λ r. absurd ((apart status r).2 e);
+    refused = λ r. absurd (no-refusal WriteFault status e (λ refusal f. cc) r);
     write = λ f. record { files = files; names = names; text = text; calls = calls };
     whole = λ w. absurd (elim w [ inl f ↦ omega (arith, e, f) | inr f ↦ omega (arith, e, f) ]);
   }
 
-  at-end : (files : List File) (text : List ℕ) → AreNames out (map (λ file. file.0) files) → (status ≡ 0) ⊎ (status ≡ 6) → GivesAll given now files text (Ok tt) → LeavesBy out status given now
-  at-end files text names (inl e) calls = record {
-    memory = λ f. absurd (omega (arith, e, f));
-    refused = λ r. absurd ((apart status r).0 e);
-    write = λ f. absurd (omega (arith, e, f));
-    whole = λ w. record { files = files; names = names; text = text; calls = calls };
-  }
-  at-end files text names (inr e) calls = record {
-    memory = λ f. absurd (omega (arith, e, f));
-    refused = λ r. absurd ((apart status r).3 e);
-    write = λ f. absurd (omega (arith, e, f));
+  at-end : (end : Status) (files : List File) (text : List ℕ) → AreNames out (map (λ file. file.0) files) → status ≡ code_of end → IsDone end →
+      GivesAll given now files text (Ok tt) → LeavesBy out status given now
+  at-end end files text names e done calls = record {
+    memory = λ f. absurd (elim done [ inl d ↦ omega (arith, sym e ∙ f, ap code_of d) | inr d ↦ omega (arith, sym e ∙ f, ap code_of d) ]);
+    refused = λ r. absurd (no-refusal end status e (λ refusal f. not_done refusal (subst IsDone f done)) r);
+    write = λ f. absurd (elim done [ inl d ↦ omega (arith, sym e ∙ f, ap code_of d) | inr d ↦ omega (arith, sym e ∙ f, ap code_of d) ]);
     whole = λ w. record { files = files; names = names; text = text; calls = calls };
   }
 
-  at-refusal : (refusal : Status) (line : List ℕ) → status ≡ code_of refusal → IsLineOf refusal line → Said given now line → LeavesBy out status given now
-  at-refusal refusal line e h said =
-      let is : IsRefusal status = subst IsRefusal (sym e) (refusal-code refusal line h) in record {
-        memory = λ f. absurd ((apart status is).1 f);
-        refused = λ r. record { refusal = refusal; code = e; line = line; is_line = h; said = said };
-        write = λ f. absurd ((apart status is).2 f);
-        whole = λ w. absurd (elim w [ inl f ↦ (apart status is).0 f | inr f ↦ (apart status is).3 f ]);
-      }
+  at-refusal : (refusal : Refusal) (line : List ℕ) → status ≡ code_of (IsRefused refusal) → IsLineOf refusal line → Said given now line →
+      LeavesBy out status given now
+  at-refusal refusal line e h said = record {
+    memory = λ f. absurd (other NoMemory (sym e ∙ f) (λ g. cc));
+    refused = λ r. record { refusal = refusal; code = e; line = line; is_line = h; said = said };
+    write = λ f. absurd (other WriteFault (sym e ∙ f) (λ g. cc));
+    whole = λ w. absurd (elim w [ inl f ↦ other JobDone (sym e ∙ f) (λ g. cc) | inr f ↦ other MasksSpent (sym e ∙ f) (λ g. cc) ]);
+  } where
+    other : (end : Status) → code_of (IsRefused refusal) ≡ code_of end → (IsRefused refusal ≡ end → ⊥) → ⊥
+    other end f not = not (same_end (IsRefused refusal) end f)
 
 said-on : (given middle : Given) (now : Option Given) → middle.said ≡ given.said → SaysNothing (Some middle) now → SaysNothing (Some given) now
 said-on given middle None e h = absurd h
@@ -121,16 +107,15 @@ alone (file ∷ files) text given now e calls = absurd cc
 -- the names of the files of an answer
 names-of : (out : List ℕ) (answer : Answer) → IsAnswer out answer → AreNames out (map (λ file. file.0) answer.files)
 names-of out answer (inl (done, names)) = names
-names-of out answer (inr (line, none)) = inl (ap (λ files. map (λ (file : File). file.0) files) none)
+names-of out answer (inr (refusal, is, line, none)) = inl (ap (λ files. map (λ (file : File). file.0) files) none)
 
 module _ (out : List ℕ) (status : ℕ) (given now : Option Given) where
   -- an answer that went out whole
   whole-left : (answer : Answer) → IsAnswer out answer → status ≡ code_of answer.status →
       GivesAll given now answer.files answer.text (Ok tt) → LeavesBy out status given now
-  whole-left answer (inl (inl done, names)) e calls = at-end out status given now answer.files answer.text names (inl (e ∙ ap code_of done)) calls
-  whole-left answer (inl (inr spent, names)) e calls = at-end out status given now answer.files answer.text names (inr (e ∙ ap code_of spent)) calls
-  whole-left answer (inr (line, none)) e calls =
-      at-refusal out status given now answer.status answer.text e line (alone answer.files answer.text given now none calls)
+  whole-left answer (inl (done, names)) e calls = at-end out status given now answer.status answer.files answer.text names e done calls
+  whole-left answer (inr (refusal, is, line, none)) e calls =
+      at-refusal out status given now refusal answer.text (e ∙ ap code_of is) line (alone answer.files answer.text given now none calls)
 
   out-left : (answer : Answer) → IsAnswer out answer → (done : Done) → status ≡ code_of (status_after answer.status done) →
       GivesAll given now answer.files answer.text done → LeavesBy out status given now
@@ -156,21 +141,26 @@ module _ (out : List ℕ) (status : ℕ) (given now : Option Given) where
   run-left : (errand : Errand) (told told_now : Option Told) → EndsWell out errand → Runs errand told told_now given now status → LeavesBy out status given now
   run-left errand told told_now w r = runs-left errand r.rest told told_now w r.went r.ends
 
-  -- any answer stands for what comes after a step that ends well
+  -- a job that shows: any answer stands for what comes after the step that it reads by
+  shows-left : {A : Type 0} (own : OwnRefusal) (step : Step A) (shows : Shows) (told told_now : Option Told) → StepsWell out step →
+      ((answer : Answer) → shows told told_now answer → IsAnswer out answer) → RunsTask (ToShow own step shows) told told_now given now status →
+      LeavesBy out status given now
+  shows-left own step shows told told_now w is (inl (answer, shown, r)) = run-left (Ends answer) told_now told_now (is answer shown) r
+  shows-left own step shows told told_now w is (inr f) =
+      run-left (step (λ value. answers JobDone [])) told told_now
+      (w (λ value. answers JobDone []) (λ value. inl (inl refl, inl refl))) (f (λ value. answers JobDone []))
+
   job-left : (job : Option Job) (told told_now : Option Told) → JobEndsWell out job →
       RunsJob job told told_now given now status → LeavesBy out status given now
-  job-left None told told_now w r = run-left (answers Usage usage_text) told told_now (inr (refl, refl)) r
+  job-left None told told_now w r = run-left (refuses Usage usage_text) told told_now (refused-well out Usage _ refl) r
   job-left (Some (Answering errand)) told told_now w r = run-left errand told told_now w r
-  job-left (Some (Comparing auction servers first second s name)) told told_now w (inl (answer, shows, r)) =
-      run-left (Ends answer) told_now told_now (shown-well out answer (subst (λ n. ShowsWorlds told told_now auction servers first second s n answer) w shows)) r
-  job-left (Some (Comparing auction servers first second s name)) told told_now w (inr f) =
-      run-left (compared_errand auction servers first second s (λ both. answers JobDone [])) told told_now
-      (compared-well out auction servers first second s (λ both. answers JobDone []) (λ both. inl (inl refl, inl refl))) (f (λ both. answers JobDone []))
-  job-left (Some (Auditing auction one two three)) told told_now w (inl (answer, shows, r)) =
-      run-left (Ends answer) told_now told_now (audited-well out answer shows) r
-  job-left (Some (Auditing auction one two three)) told told_now w (inr f) =
-      run-left (read_errand auction one two three (λ read. answers JobDone [])) told told_now
-      (read-well out auction one two three (λ read. answers JobDone []) (λ read. inl (inl refl, inl refl))) (f (λ read. answers JobDone []))
+  job-left (Some (Comparing auction servers first second s name)) told told_now w r =
+      shows-left OfWorlds (compared_errand auction servers first second s) (ShowsWorlds auction servers first second s out) told told_now
+      (compared-well out auction servers first second s) (λ answer shown. shown-well out s shown.value answer shown.shown)
+      (subst (λ n. RunsTask (worlds_task auction servers first second s n) told told_now given now status) w r)
+  job-left (Some (Auditing auction one two three)) told told_now w r =
+      shows-left OfAudit (read_errand auction one two three) (ShowsAudit auction one two three) told told_now
+      (read-well out auction one two three) (λ answer shown. audited-well out shown.value answer shown.shown) r
 
 pub left : (words : List (List ℕ)) (told told_now : Option Told) (given now : Option Given) (status : ℕ) →
     RunsJob (job_of words) told told_now given now status → LeavesBy (last_word words) status given now

@@ -7,7 +7,9 @@ use Rattle.beet_errand.specs.Errands.{Answer, Errand, Ends, Wants, Step, answers
 use Rattle.beet_errand.specs.Statuses.{code_of}
 use Rattle.beet_errand.specs.Texts.{read_fault_text}
 use Rattle.beet_errand.specs.declared.answer.Status.{Status}
-use Rattle.beet_errand.specs.declared.answer.Status.TheVariants.{Usage, ReadFault, BadFile, AuditRefused}
+use Rattle.beet_errand.specs.declared.answer.OwnRefusal.TheVariants.{OfAudit}
+use Rattle.beet_errand.specs.declared.answer.Refusal.TheVariants.{Usage, ReadFault, BadFile, Own}
+use Rattle.beet_errand.specs.declared.answer.Status.TheVariants.{Refused}
 use Rattle.beet_run.specs.Outcomes.{status_of}
 use Rattle.beet_audit.specs.OneRuns.{OneRun}
 use Rattle.beet_auditor.specs.Ending.{run_answer}
@@ -19,9 +21,11 @@ use Rattle.beet_app.specs.Jobs.{Job, Answering, Comparing, Auditing}
 
 -- the answer after a file was wanted: that of what goes on with its bytes, where it is held and no longer than its limit
 abbrev pub answer_with : List ℕ → ℕ → (List ℕ → Answer) → Option (List ℕ) → Answer
-answer_with name limit next None = text_answer ReadFault (read_fault_text name)
+answer_with name limit next None = text_answer (Refused ReadFault) (read_fault_text name)
 answer_with name limit next (Some bytes) =
-    if nat_lt limit (length bytes) then text_answer BadFile (fault_line_of name too_long.place too_long.reason) else next bytes
+    if nat_lt limit (length bytes)
+    then text_answer (Refused BadFile) (fault_line_of name too_long.place too_long.reason)
+    else next bytes
 
 -- the answer of an errand over these files
 abbrev pub answer_over : List File → Errand → Answer
@@ -41,7 +45,7 @@ status_of_first both = status_of (book_finish (first_book both) (words_read both
 abbrev pub IsDueOfViews : ReadViews → Status → Type 0
 IsDueOfViews read due =
     (OneRun read.grid read.views × (due ≡ (run_answer read).status))
-    ⊎ ((OneRun read.grid read.views → ⊥) × (due ≡ AuditRefused))
+    ⊎ ((OneRun read.grid read.views → ⊥) × (due ≡ Refused (Own OfAudit)))
 
 -- three transcripts lead to this status, whatever they are read as; or a file does before they are all read
 pub record IsDueOfAudit (files : List File) (auction one two three : List ℕ) (due : Status) : Type 0 where
@@ -51,7 +55,7 @@ pub record IsDueOfAudit (files : List File) (auction one two three : List ℕ) (
 -- the files lead a job to this status: that of the answer of its errand. Where two books are read, it is that of the first run if they agree
 -- for the server, and that of their refusal if they do not
 abbrev pub IsDue : List File → Option Job → Status → Type 0
-IsDue files None due = due ≡ Usage
+IsDue files None due = due ≡ Refused Usage
 IsDue files (Some (Answering errand)) due = due ≡ (answer_over files errand).status
 IsDue files (Some (Comparing auction servers first second s out)) due =
     due ≡ (answer_over files (compared_errand auction servers first second s (λ both. answers (status_of_first both) []))).status

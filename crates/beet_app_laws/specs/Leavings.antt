@@ -5,9 +5,10 @@ use Rattle.beet_store.specs.Files.{File}
 use Rattle.beet_store.specs.Desks.{Given}
 use Rattle.beet_store.specs.declared.desk.PutFault.TheVariants.{Failed, OutOfMemory}
 use Rattle.beet_errand.specs.Statuses.{code_of}
-use Rattle.beet_errand.specs.declared.answer.Status.{Status}
+use Rattle.beet_errand.specs.declared.answer.Refusal.{Refusal}
+use Rattle.beet_errand.specs.declared.answer.Status.TheVariants.{Refused}
 use Rattle.beet_errand.specs.Errands.{file_for}
-use Rattle.beet_answer.specs.Runs.{GivesAll, Said}
+use Rattle.beet_errand.specs.Runs.{GivesAll, Said}
 use Rattle.beet_app_laws.specs.Refusals.{IsLineOf}
 
 -- nothing was said
@@ -17,8 +18,8 @@ SaysNothing (Some given) now = IsSomeAnd now (λ later. later.said ≡ given.sai
 
 -- the line of a refusal with this exit status was said, and no other call was made, so that no file was put
 pub record SaysLine (status : ℕ) (given now : Option Given) : Type 0 where
-  pub refusal : Status
-  pub code : status ≡ code_of refusal
+  pub refusal : Refusal
+  pub code : status ≡ code_of (Refused refusal)
   pub line : List ℕ
   pub is_line : IsLineOf refusal line
   pub said : Said given now line
@@ -58,7 +59,7 @@ pub record GivesWhole (out : List ℕ) (given now : Option Given) : Type 0 where
 
 -- the exit statuses of jobs that are refused
 abbrev pub IsRefusal : ℕ → Type 0
-IsRefusal status = (status ≡ 2) ⊎ (status ≡ 3) ⊎ (status ≡ 5) ⊎ (status ≡ 7) ⊎ (status ≡ 8) ⊎ (status ≡ 9)
+IsRefusal status = (refusal : Refusal) × (status ≡ code_of (Refused refusal))
 
 -- what is left by each exit status of a command that ends with this word
 pub record LeavesBy (out : List ℕ) (status : ℕ) (given now : Option Given) : Type 0 where

@@ -13,7 +13,12 @@ use std::thread::Threads;
 /// How often a server that is held looks for the others before it is let go.
 const TURNS: u64 = 10_000_000;
 
-/// A gate that holds each server in round 0 until all three are there.
+/// How often a server that stays looks whether another goes on.
+const STAY: u64 = 2_000;
+
+/// A gate that holds each server in round 0 until all three are there. Server 1 stays in round 0, server 2 in round 1
+/// and server 3 in round 2. No other can go on from that round, since the one that stays has not put its messages
+/// yet.
 #[derive(Drop)]
 struct Meeting<R: Wait + Drop> {
     rt: R,
@@ -23,6 +28,10 @@ struct Meeting<R: Wait + Drop> {
     here: AtomicU64,
     /// How many of them were let go before all three were there.
     let_go: AtomicU64,
+    /// How many servers saw another go on from the round in which they stayed.
+    passed: AtomicU64,
+    /// How many seats each server took.
+    seats: Trio<AtomicU64>,
     /// How many notes of each server told the round that was next at its seat.
     met: Trio<AtomicU64>,
 }
@@ -39,22 +48,46 @@ fn hold(here: &AtomicU64, let_go: &AtomicU64) {
     let_go.fetch_add(1, Ordering::SeqCst);
 }
 
-impl<R: Wait + Sync + Drop> Gate for Meeting<R> {
-    /// The number of notes that were met.
-    type Seat = u32;
+/// Whether another server than this one comes to a later round while this one stays.
+fn is_passed(met: &Trio<AtomicU64>, note: Note) -> bool {
+    let here = u64::from(note.round) + 1;
+    for _ in 0..STAY {
+        for peer in note.server.others() {
+            if met.get(peer).load(Ordering::SeqCst) > here {
+                return true;
+            }
+        }
+        thread::yield_now();
+    }
+    false
+}
 
-    fn seat(&self, _server: Point) -> u32 {
-        0
+/// The seat of a server: whose it is, and the round in which it is to come next.
+#[derive(Drop)]
+struct Seat {
+    server: Point,
+    next: u32,
+}
+
+impl<R: Wait + Sync + Drop> Gate for Meeting<R> {
+    type Seat = Seat;
+
+    fn seat(&self, server: Point) -> Seat {
+        self.seats.get(server).fetch_add(1, Ordering::SeqCst);
+        Seat { server, next: 0 }
     }
 
-    fn meet(&self, seat: &mut u32, note: Note) {
-        if note.round == *seat {
+    fn meet(&self, seat: &mut Seat, note: Note) {
+        if note.server == seat.server && note.round == seat.next {
             self.met.get(note.server).fetch_add(1, Ordering::SeqCst);
         }
-        *seat = seat.saturating_add(1);
+        seat.next = seat.next.saturating_add(1);
         if note.round == 0 {
             let _sent = self.first.send(&self.rt, note);
             hold(&self.here, &self.let_go);
+        }
+        if u64::from(note.round) + 1 == note.server.number() && is_passed(&self.met, note) {
+            self.passed.fetch_add(1, Ordering::SeqCst);
         }
     }
 }
@@ -75,20 +108,28 @@ fn expect_first_notes(rt: &(impl Abort + Wait), notes: &Receiver<Note>) {
     assert!(rt; named == [1, 1, 1]);
 }
 
-/// What a gate has counted: who was there, who was let go, and the notes that were met of each server.
-fn counts_of<R: Wait + Sync + Drop>(gate: &Meeting<R>) -> [u64; 5] {
+/// What was counted of each server.
+fn counts_of(counts: &Trio<AtomicU64>) -> [u64; 3] {
     [
-        gate.here.load(Ordering::SeqCst),
-        gate.let_go.load(Ordering::SeqCst),
-        gate.met.one.load(Ordering::SeqCst),
-        gate.met.two.load(Ordering::SeqCst),
-        gate.met.three.load(Ordering::SeqCst),
+        counts.one.load(Ordering::SeqCst),
+        counts.two.load(Ordering::SeqCst),
+        counts.three.load(Ordering::SeqCst),
     ]
 }
 
-/// Compares what a gate has counted, with so many rounds of a run.
+/// Expects that all three servers were there, each in one seat and in each of so many rounds, and that none went on
+/// from a round in which another stayed.
 fn expect_met<R: Wait + Sync + Drop>(rt: &impl Abort, gate: &Meeting<R>, rounds: u64) {
-    assert!(rt; counts_of(gate) == [3, 0, rounds, rounds, rounds]);
+    assert_eq!(rt; gate.here.load(Ordering::SeqCst), 3);
+    assert_eq!(rt; gate.let_go.load(Ordering::SeqCst), 0);
+    assert_eq!(rt; gate.passed.load(Ordering::SeqCst), 0);
+    assert!(rt; counts_of(&gate.seats) == [1, 1, 1]);
+    assert!(rt; counts_of(&gate.met) == [rounds, rounds, rounds]);
+}
+
+/// None of each server.
+fn nothing() -> Trio<AtomicU64> {
+    Trio::of(|_| AtomicU64::new(0))
 }
 
 /// A gate at which no server has come, with the queue that it sends first notes to.
@@ -98,11 +139,9 @@ fn gate_of<R: Abort + Wait + Sync + Drop>(rt: R, first: Sender<Note>) -> Meeting
         first,
         here: AtomicU64::new(0),
         let_go: AtomicU64::new(0),
-        met: Trio {
-            one: AtomicU64::new(0),
-            two: AtomicU64::new(0),
-            three: AtomicU64::new(0),
-        },
+        passed: AtomicU64::new(0),
+        seats: nothing(),
+        met: nothing(),
     }
 }
 

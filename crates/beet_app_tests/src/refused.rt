@@ -145,8 +145,8 @@ fn expect_first(rt: &impl Abort, desk: &MemoryDesk, files: &[Put], count: usize)
     }
 }
 
-/// Does a job, of which this fetch and this call of the desk fail, and compares its status, how many of its files stand, and
-/// its text.
+/// Does a job, of which this fetch and this call of the desk fail, and compares its status, how many of its files stand,
+/// and its text.
 fn expect_end(
     rt: &(impl Abort + Threads + Wait + Sync),
     alloc: Global,
@@ -190,7 +190,8 @@ fn expect_write_faults(
     }
 }
 
-/// Each fetch and each call of the desk of a job fails once. It makes no more: where the next ones would fail, it is done.
+/// Each fetch and each call of the desk of a job fails once. It makes no more: where the next ones would fail, it is
+/// done.
 fn expect_each_refused(rt: &(impl Abort + Threads + Wait + Sync), alloc: Global, job: Job) {
     let (_, fetched, put, text) = job;
     expect_read_faults(rt, alloc, job, fetched);

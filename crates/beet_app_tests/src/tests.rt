@@ -1,6 +1,5 @@
-use beet_answer::give_answer;
 use beet_app::run;
-use beet_errand::{NewFile, Reply, Status};
+use beet_errand::{NewFile, Reply, Status, give_answer};
 use beet_link::{FreeGate, Gate};
 use beet_store::{Held, MemoryDesk, MemoryShelf};
 use std::alloc::Global;
@@ -8,8 +7,8 @@ use std::process::Abort;
 use std::sync::Wait;
 use std::thread::Threads;
 
-/// An auction of four prices with three bidders, another book of them that has the same outcome, an auction of one price with
-/// a bidder, and a list of no envelopes.
+/// An auction of four prices with three bidders, another book of them that has the same outcome, an auction of one price
+/// with a bidder, and a list of no envelopes.
 const FILES: [(&str, &str); 14] = [
     (
         "g.auc",

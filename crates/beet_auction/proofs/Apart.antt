@@ -39,7 +39,7 @@ wires_after_all n (b ∷ bs) = wires_after_all (wires_after n b) bs
 
 -- the wires of a mask, which has as many with any gates
 abbrev pub mask_wires : ℕ
-mask_wires = mask_wires_of Chain
+mask_wires = mask_wires_of 3
 
 module _ (start : ℕ) where
   -- a wire of the mask that begins at `start` or of the comparison with it, other than the masked difference

@@ -9,11 +9,11 @@ use Rattle.beet_bids.specs.Grids.{comparisons_of}
 use Rattle.beet_bids.specs.Outcomes.{clearing_place}
 use Rattle.beet_bids.specs.Sums.{supply_at, demand_at, sums_of}
 use Rattle.beet_compare.specs.Compare.{is_doubled_even}
-use Rattle.beet_compare.proofs.Parity.{doubled_even-≤}
+use Rattle.beet_compare.proofs.Parity.{doubled_even-≤, same_test}
 use Rattle.beet_gates.proofs.EachFacts.{length-each, item-each}
 use Rattle.beet_plan.specs.Auction.{Auction, auction_over}
 use Rattle.beet_plan.specs.Runs.{found, place_of_inputs, run_finish, run_rounds}
-use Rattle.beet_plan.specs.Search.{mask_at}
+use Rattle.beet_masking.specs.Masks.{mask_at}
 use Rattle.beet_plan.proofs.BookFacts.{found-outcome}
 use Rattle.beet_bids.proofs.BookSums.{book-turn, clearing-within, length-sums, sums-supply, sums-demand, small}
 use Rattle.beet_plan.proofs.Searches.{place-turn}
@@ -22,7 +22,6 @@ use Rattle.beet_sharing.specs.Runs.{opened_at}
 use Rattle.beet_sharing.proofs.Lined.{lined, opened-line}
 use Rattle.beet_auction.specs.AnyPoints.{points_finish, points_place, points_rounds, values_on}
 use Rattle.beet_auction.specs.Endings.{book_finish, book_rounds}
-use Rattle.beet_plan.proofs.BookRuns.{same_test}
 use Rattle.beet_bids.proofs.GridFacts.{below_comparisons}
 
 module _ (book : Book) where

@@ -7,9 +7,9 @@ use Rattle.beet_gates.specs.Scripts.{LawFrom, bounds_of, start_of}
 use Rattle.beet_bids.specs.Books.{Book, IsBook}
 use Rattle.beet_bids.specs.Outcomes.{clearing_place, outcome_of}
 use Rattle.beet_plan.specs.Auction.{Auction, auction_over, auction_plan, auction_batch, most_rounds, most_wires, most_masks, most_coefficients}
-use Rattle.beet_plan.specs.Runs.{AreMasks, RunEnds, finish_of, run_finish, run_rounds}
+use Rattle.beet_masking.specs.Masks.{AreMasks, mask_at}
+use Rattle.beet_plan.specs.Runs.{RunEnds, finish_of, run_finish, run_rounds}
 use Rattle.beet_bids.specs.Sums.{sums_of}
-use Rattle.beet_plan.specs.Search.{mask_at}
 use Rattle.beet_plan.proofs.BookRuns.{book-run}
 use Rattle.beet_bids.proofs.BookSums.{length-sums}
 use Rattle.beet_sharing.specs.Runs.{Setup, shared_at, rounds_among}

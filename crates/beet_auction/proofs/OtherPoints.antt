@@ -16,7 +16,8 @@ use Rattle.beet_gates.specs.Plans.{plan_finish}
 use Rattle.beet_gates.proofs.EachFacts.{length-each, item-each}
 use Rattle.beet_gates.proofs.PlanFacts.{Follows}
 use Rattle.beet_plan.specs.Auction.{Auction, auction_batch, auction_plan, most_rounds}
-use Rattle.beet_plan.specs.Runs.{AreMasks, found}
+use Rattle.beet_masking.specs.Masks.{AreMasks}
+use Rattle.beet_plan.specs.Runs.{found}
 use Rattle.beet_plan.specs.declared.Finish.{Finish}
 use Rattle.beet_plan.proofs.AuctionLaw.{follows-itself}
 use Rattle.beet_plan.proofs.AuctionRuns.{auction-run}
@@ -25,7 +26,7 @@ use Rattle.beet_sharing.specs.Runs.{Setup, opened_at, rounds_among}
 use Rattle.beet_sharing.proofs.Lined.{lined-each, lined-same, on-lines}
 use Rattle.beet_auction.specs.AnyPoints.{ArePoints, points_finish, points_place, points_rounds, values_on}
 use Rattle.beet_auction.specs.Endings.{AuctionEnds}
-use Rattle.beet_plan.specs.Blocks.{blocks_of}
+use Rattle.beet_masking.specs.Blocks.{blocks_of}
 use Rattle.beet_auction.proofs.OwnBlocks.{own-blocks}
 use Rattle.beet_auction.proofs.Apart.{with_third}
 use Rattle.beet_auction.proofs.Ends.{lines-end}
@@ -36,7 +37,8 @@ same-opened : (a : Auction) (o : Setup) (points : List ℕ) → o.next ≡ aucti
     (t : ℕ) → SameOpened o points t
 same-opened a o points next long as_long t =
     subst (SameOpened o points) (zero-add t)
-    (search-goes o points (blocks_of a.gates) (own-blocks a.gates) a.policy a.prices (comparisons_of a.prices + 3) 0 a.prices (2 * a.prices) 0 0 (start-alike o points (2 * a.prices) long as_long)
+    (search-goes o points (blocks_of a.gates) (own-blocks a.gates) a.policy a.prices (comparisons_of a.prices) 0 a.prices 2 (2 * a.prices) 0
+    (start-alike o points (2 * a.prices) long as_long)
     (subst (λ n. Follows n 0 [] (auction_plan a)) (sym next) (follows-itself a)) t)
 
 -- and end alike

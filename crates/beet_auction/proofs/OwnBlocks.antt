@@ -12,12 +12,12 @@ use Rattle.beet_gates.specs.declared.Batch.{Batch}
 use Rattle.beet_gates.specs.declared.Linear.{Linear}
 use Rattle.beet_gates.proofs.EachFacts.{length-each, each-zero, each-cons, each-suc, turns}
 use Rattle.beet_gates.proofs.LevelRuns.{next_item-has}
-use Rattle.beet_mask.specs.Mask.{bit_lets, bit_wire_of, chain_batches as mask_chain, mask_batches, product_batches, tree_batches as mask_tree, xor_let}
+use Rattle.beet_mask.specs.Mask.{bit_wire_of, chain_batches as mask_chain, mask_batches, product_batches, tree_batches as mask_tree, word_lets, xor_let}
 use Rattle.beet_compare.specs.Compare.{borrow_lets, compare_wires_of, chain_batches, last_batches, last_let, level_lets, level_products, masked_batch, next_less, next_same, borrow_batches, low_bit_batch, same_let, lowest_batch, bit_batch, answer_batch, tree_batches}
 use Rattle.beet_compare.proofs.CompareTable.{last_two}
 use Rattle.beet_gates.specs.declared.Gates.{Gates}
 use Rattle.beet_gates.specs.declared.Gates.TheVariants.{Chain, Tree}
-use Rattle.beet_plan.specs.Blocks.{Blocks, after_both, after_mask, blocks_of}
+use Rattle.beet_masking.specs.Blocks.{Blocks, after_both, after_mask, blocks_of}
 use Rattle.beet_auction.proofs.Apart.{IsOwn, TermsOwn, LetsOwn, PairsOwn, BatchOwn, BlockOwn, mask_wires, wires_after, wires_after_all}
 
 -- the wires of a mask before its bits
@@ -88,28 +88,26 @@ module _ (start : ℕ) where
     | inr e ↦ rw (ne_eqb bit 1 e) (inr own, (inl refl, (inl refl, tt)))
   ]
 
-  -- the bits of a mask, and the product of a chain
-  bits-own : (n : ℕ) → LetsOwn start n (bit_lets start)
-  bits-own n =
-      lets-each n (λ (k : ℕ). xor_let (start + 244 + k) (start + 122 + k) (start + 305 + k)) 61
-      (λ k l. (inr (omega arith, omega arith), (inr (omega arith, omega arith), (inr (omega arith, omega arith), tt))))
+  -- the exclusive or of two words, and the product of a chain
+  words-own : (n left right product : ℕ) → IsOwn start left → left + 61 ≤ start + before_bits → IsOwn start right → right + 61 ≤ start + before_bits →
+      IsOwn start product → product + 61 ≤ start + before_bits → LetsOwn start n (word_lets left right product)
+  words-own n left right product one one' two two' three three' =
+      lets-each n (λ (k : ℕ). xor_let (left + k) (right + k) (product + k)) 61
+      (λ k l. (inr (omega (arith, one), omega (arith, one')), (inr (omega (arith, two), omega (arith, two')), (inr (omega (arith, three), omega (arith, three')), tt))))
 
-  chain-own : (n : ℕ) → BlockOwn start n (mask_chain start) × (wires_after_all n (mask_chain start) ≡ n + 121)
-  chain-own n =
-      let rule = λ (j : ℕ). mul_batch [] ((start + 427 + j, start + 368 + j) ∷ []) in
-      let batch = mul_batch (bit_lets start) ((start + before_bits, start + (before_bits + 1)) ∷ []) in
+  chain-own : (n bits : ℕ) (lets : List Linear) → LetsOwn start n lets → length lets ≡ 61 → bits ≡ start + before_bits →
+      BlockOwn start n (mask_chain lets bits) × (wires_after_all n (mask_chain lets bits) ≡ n + 121)
+  chain-own n bits lets below count e =
+      let rule = λ (j : ℕ). mul_batch [] ((bits + 61 + j, bits + 2 + j) ∷ []) in
+      let batch = mul_batch lets ((bits, bits + 1) ∷ []) in
       let now = wires_after n batch in
-      let last = reveal_batch [] ((start + 486) ∷ []) in
-      let chain = own-each rule 1 now 59 (λ k l w. (
-        (tt, ((omega arith, omega arith), (omega arith, omega arith), tt)),
-        refl,
-        omega arith,
-      )) in
-      let end : wires_after_all n (mask_chain start) ≡ wires_after (wires_after_all now (each rule 59)) last =
+      let last = reveal_batch [] ((bits + 120) ∷ []) in
+      let chain = own-each rule 1 now 59 (λ k l w. ((tt, ((omega (arith, e), omega (arith, e, l)), (omega (arith, e), omega (arith, e, l)), tt)), refl, omega arith)) in
+      let end : wires_after_all n (mask_chain lets bits) ≡ wires_after (wires_after_all now (each rule 59)) last =
       wires_after_all-append now (each rule 59) (last ∷ []) in (
-        own-cons n batch _ (bits-own n, ((omega arith, omega arith), (omega arith, omega arith), tt)) refl
+        own-cons n batch _ (below, ((omega (arith, e), omega (arith, e)), (omega (arith, e), omega (arith, e)), tt)) refl
             (own-append now (each rule 59) (last ∷ []) chain.0 (own-last _ last (tt, tt) refl)),
-        omega (arith, end, chain.1, length-each (λ (k : ℕ). xor_let (start + 244 + k) (start + 122 + k) (start + 305 + k)) 61),
+        omega (arith, end, chain.1, count),
       )
 
   -- the product of a tree
@@ -131,32 +129,38 @@ module _ (start : ℕ) where
         omega (arith, m.1, length-each pair half, least, power),
       )
 
-  product-own : (gates : Gates) (n : ℕ) → BlockOwn start n (product_batches gates start) × (wires_after_all n (product_batches gates start) ≡ n + 121)
-  product-own Chain n = chain-own n
-  product-own Tree n =
-      let m = tree-own 6 61 (bit_lets start) (bit_wire_of start) (start + 427) n (bits-own n) (λ k l. (omega arith, omega (arith, l)))
-      (omega arith) (omega arith) (omega arith) (omega arith) in
-      (m.0, omega (arith, m.1, length-each (λ (k : ℕ). xor_let (start + 244 + k) (start + 122 + k) (start + 305 + k)) 61))
+  product-own : (gates : Gates) (n bits : ℕ) (lets : List Linear) → LetsOwn start n lets → length lets ≡ 61 → bits ≡ start + before_bits →
+      BlockOwn start n (product_batches gates lets bits) × (wires_after_all n (product_batches gates lets bits) ≡ n + 121)
+  product-own Chain n bits lets below count e = chain-own n bits lets below count e
+  product-own Tree n bits lets below count e =
+      let m = tree-own 6 61 lets (λ k. bits + k) (bits + 61) n below (λ k l. (omega (arith, e), omega (arith, e, l)))
+      (omega arith) (omega arith) (omega (arith, e)) (omega (arith, e)) in
+      (m.0, omega (arith, m.1, count))
 
   -- the block of a mask
-  pub mask-own : (gates : Gates) → BlockOwn start start (mask_batches gates start) × (wires_after_all start (mask_batches gates start) ≡ start + mask_wires)
+  pub mask-own : (gates : Gates) → BlockOwn start start (mask_batches gates 3 start) × (wires_after_all start (mask_batches gates 3 start) ≡ start + mask_wires)
   mask-own gates =
       let p1 : ℕ → ℕ × ℕ = λ k. (start + k, start + 61 + k) in
-      let l2 = λ (k : ℕ). xor_let (start + k) (start + 61 + k) (start + 183 + k) in
-      let p2 : ℕ → ℕ × ℕ = λ k. (start + 244 + k, start + 122 + k) in
+      let p2 : ℕ → ℕ × ℕ = λ k. (start + 183 + 61 + k, start + 61 + 61 + k) in
+      let l2 = word_lets start (start + 61) (start + 183) in
+      let l3 = word_lets (start + 183 + 61) (start + 61 + 61) (start + 183 + 122) in
       let b2 = mul_batch [] (each p1 61) in
-      let b3 = mul_batch (each l2 61) (each p2 61) in
+      let b3 = mul_batch l2 (each p2 61) in
       let w1 = wires_after start deal_batch in
       let w2 = wires_after w1 b2 in
       let w3 = wires_after w2 b3 in
-      let m = product-own gates w3 in (
+      let n2 = length-each (λ (k : ℕ). xor_let (start + k) (start + 61 + k) (start + 183 + k)) 61 in
+      let n3 = length-each (λ (k : ℕ). xor_let (start + 183 + 61 + k) (start + 61 + 61 + k) (start + 183 + 122 + k)) 61 in
+      let m = product-own gates w3 (start + 183 + 122 + 61) l3
+      (words-own w3 (start + 183 + 61) (start + 61 + 61) (start + 183 + 122) (omega arith, omega arith) (omega arith) (omega arith, omega arith) (omega arith) (omega arith, omega arith) (omega arith))
+      n3 (omega arith) in (
         own-cons start deal_batch _ (tt, tt) refl
             (own-cons w1 b2 _ (tt, pairs-each p1 61 (λ k l. ((omega arith, omega arith), (omega arith, omega arith)))) refl
             (own-cons w2 b3 _ (
-              lets-each w2 l2 61 (λ k l. (inr (omega arith, omega arith), (inr (omega arith, omega arith), (inr (omega arith, omega arith), tt)))),
+              words-own w2 start (start + 61) (start + 183) (omega arith, omega arith) (omega arith) (omega arith, omega arith) (omega arith) (omega arith, omega arith) (omega arith),
               pairs-each p2 61 (λ k l. ((omega arith, omega arith), (omega arith, omega arith))),
             ) refl m.0)),
-        omega (arith, m.1, length-each p1 61, length-each l2 61, length-each p2 61),
+        omega (arith, m.1, length-each p1 61, n2, length-each p2 61),
       )
 
   -- the opening of the masked difference

@@ -9,10 +9,11 @@ use Rattle.beet_gates.specs.declared.Act.{Act}
 use Rattle.beet_gates.specs.declared.Act.TheVariants.{Deal, Mul, Reveal, End}
 use Rattle.beet_gates.specs.declared.Batch.{Batch}
 use Rattle.beet_gates.proofs.PlanFacts.{Follows, follows-last, follows-now, follows-next, follows-tail, now-block, now-last}
-use Rattle.beet_plan.specs.Blocks.{Blocks, after_both, after_mask}
+use Rattle.beet_masking.specs.Accepting.{until_accepted}
+use Rattle.beet_masking.specs.Blocks.{Blocks, after_both, after_mask}
 use Rattle.beet_bids.specs.Outcomes.{shown_by}
 use Rattle.beet_bids.specs.declared.outcomes.Policy.{Policy}
-use Rattle.beet_plan.specs.Auction.{search_plan, end_plan, opening_plan, price_with, compare_plan, after_answer, after_product}
+use Rattle.beet_plan.specs.Auction.{search_plan, end_plan, opening_plan, price_with, after_answer, with_mask}
 use Rattle.beet_plan.specs.declared.Finish.{Finish}
 use Rattle.beet_plan.specs.declared.Finish.TheVariants.{NoPrice, MasksSpent}
 use Rattle.beet_sharing.specs.Runs.{Setup, Shared, batch_among, opened_at, opened_by, shared_at, with_batch_lets}
@@ -169,35 +170,49 @@ module _ (o : Setup) (points : List ℕ) where
       (λ g. opening-goes (shown_by policy (prices + place) place) (price_with place) start n t a g)
       (λ g. ended-goes NoPrice start n t a g)
 
-  -- the whole search
-  module _ (g : Blocks) (own : AreOwn g) (policy : Policy) where
-    pub search-goes : (prices n lo hi first rej t : ℕ) → AlikeAt first first t → FollowsAt t (search_plan g policy prices n lo hi first rej) → (j : ℕ) → SameOpened (t + j)
-    unfolding search_plan
-    search-goes prices zero lo hi first rej t a f = end-goes policy prices lo first first t a f
-    search-goes prices (suc n) lo hi first rej t a f =
-        let mid = (lo + hi) / 2 in
-        let next = after_mask g first in
-        let both = after_both g first in
-        let spent = if rej == 2 then Ended MasksSpent else search_plan g policy prices n lo hi next (rej + 1) in
-        let compares = compare_plan g prices next first mid (after_answer g (search_plan g policy prices n) lo hi first rej) in
-        let answers : ℕ → Plan Finish = λ c. Block (g.answer next first c) (after_answer g (search_plan g policy prices n) lo hi first rej) in
-        let masked = g.masked next first mid (prices + mid) in
-        let middle = wires_after_all next (masked ∷ []) in
-        follows-if o.next t (shared_at o t).opened (nat_lt lo hi) (Block (g.mask first) (after_product g prices (search_plan g policy prices n) lo hi first rej)) (end_plan policy prices lo) f
-        (λ f. block-goes first first (g.mask first) (after_product g prices (search_plan g policy prices n) lo hi first rej) t (own.mask first).0 a f
+  module _ (g : Blocks) (own : AreOwn g) where
+    -- masks until one is accepted
+    until-goes : {F : Type 0} (spent : F) (spare first t : ℕ) (next : ℕ → ℕ → Plan F) → AlikeAt first first t → FollowsAt t (until_accepted g spent spare first next) →
+        ((left mask u : ℕ) → AlikeAt mask (after_mask g mask) u → FollowsAt u (next left mask) → (j : ℕ) → SameOpened (u + j)) → (j : ℕ) → SameOpened (t + j)
+    unfolding until_accepted
+    until-goes spent zero first t next a f go =
+        block-goes first first (g.mask first) (λ product. if product == 1 then Ended spent else next zero first) t (own.mask first).0 a f
         (λ product u b h.
-        let b' : AlikeAt first next u = subst (λ m. AlikeAt first m u) (own.mask first).1 b in
-        follows-if o.next u (shared_at o u).opened (product == 1) spent compares h
-        (λ h'. follows-if o.next u (shared_at o u).opened (rej == 2) (Ended MasksSpent) (search_plan g policy prices n lo hi next (rej + 1)) h'
-        (λ g'. ended-goes MasksSpent first next u b' g')
-        (λ g'. search-goes prices n lo hi next (rej + 1) u (renew first next _ _ b') g'))
-        (λ h'. block-goes first next (masked ∷ []) answers u (own.masked first mid (prices + mid)) b' h'
+        let b' : AlikeAt first (after_mask g first) u = subst (λ m. AlikeAt first m u) (own.mask first).1 b in
+        follows-if o.next u (shared_at o u).opened (product == 1) (Ended spent) (next zero first) h
+        (λ h'. ended-goes spent first (after_mask g first) u b' h')
+        (λ h'. go zero first u b' h'))
+    until-goes spent (suc n) first t next a f go =
+        let again = until_accepted g spent n (after_mask g first) next in
+        block-goes first first (g.mask first) (λ product. if product == 1 then again else next (suc n) first) t (own.mask first).0 a f
+        (λ product u b h.
+        let b' : AlikeAt first (after_mask g first) u = subst (λ m. AlikeAt first m u) (own.mask first).1 b in
+        follows-if o.next u (shared_at o u).opened (product == 1) again (next (suc n) first) h
+        (λ h'. until-goes spent n (after_mask g first) u next (renew first (after_mask g first) _ _ b') h' go)
+        (λ h'. go (suc n) first u b' h'))
+
+    -- the whole search
+    pub search-goes : (policy : Policy) (prices n lo hi spare first t : ℕ) → AlikeAt first first t → FollowsAt t (search_plan g policy prices n lo hi spare first) →
+        (j : ℕ) → SameOpened (t + j)
+    unfolding search_plan
+    search-goes policy prices zero lo hi spare first t a f = end-goes policy prices lo first first t a f
+    search-goes policy prices (suc n) lo hi spare first t a f =
+        let mid = (lo + hi) / 2 in
+        let search = search_plan g policy prices n in
+        follows-if o.next t (shared_at o t).opened (nat_lt lo hi) (until_accepted g MasksSpent spare first (with_mask g prices search lo hi)) (end_plan policy prices lo) f
+        (λ f. until-goes MasksSpent spare first t (with_mask g prices search lo hi) a f
+        (λ left mask u b h.
+        let free = after_mask g mask in
+        let both = after_both g mask in
+        let masked = g.masked free mask mid (prices + mid) in
+        let answers : ℕ → Plan Finish = λ c. Block (g.answer free mask c) (after_answer g search lo hi left mask) in
+        block-goes mask free (masked ∷ []) answers u (own.masked mask mid (prices + mid)) b h
         (λ c v d i.
-        let answer = own.answer first mid (prices + mid) c in
-        block-goes first middle (g.answer next first c) (after_answer g (search_plan g policy prices n) lo hi first rej) v answer.0 d i
+        let answer = own.answer mask mid (prices + mid) c in
+        block-goes mask (wires_after_all free (masked ∷ [])) (g.answer free mask c) (after_answer g search lo hi left mask) v answer.0 d i
         (λ reached w x y.
-        let x' : AlikeAt both both w = renew first both _ _ (subst (λ m. AlikeAt first m w) answer.1 x) in
-        follows-if o.next w (shared_at o w).opened (reached == 1) (search_plan g policy prices n lo mid both rej) (search_plan g policy prices n (mid + 1) hi both rej) y
-        (λ z. search-goes prices n lo mid both rej w x' z)
-        (λ z. search-goes prices n (mid + 1) hi both rej w x' z))))))
+        let x' : AlikeAt both both w = renew mask both _ _ (subst (λ m. AlikeAt mask m w) answer.1 x) in
+        follows-if o.next w (shared_at o w).opened (reached == 1) (search lo mid left both) (search (mid + 1) hi left both) y
+        (λ z. search-goes policy prices n lo mid left both w x' z)
+        (λ z. search-goes policy prices n (mid + 1) hi left both w x' z)))))
         (λ f. end-goes policy prices lo first first t a f)

@@ -6,7 +6,7 @@ use Rattle.beet_gates.specs.Plans.{plan_finish}
 use Rattle.beet_bids.specs.Books.{Book, IsBook}
 use Rattle.beet_bids.specs.Grids.{Grid}
 use Rattle.beet_plan.specs.Auction.{Auction, auction_batch, auction_plan, auction_over}
-use Rattle.beet_plan.specs.Runs.{AreMasks}
+use Rattle.beet_masking.specs.Masks.{AreMasks}
 use Rattle.beet_bids.specs.Sums.{sums_of}
 use Rattle.beet_plan.specs.declared.Finish.{Finish}
 use Rattle.beet_server.specs.Cores.{Core}

@@ -7,7 +7,7 @@ use Rattle.beet_field.specs.declared.trio.Trio.{Trio}
 use Rattle.beet_gates.specs.Each.{each}
 use Rattle.beet_plan.specs.Auction.{Auction}
 use Rattle.beet_plan.specs.Runs.{found, place_of_inputs, run_finish, run_rounds}
-use Rattle.beet_plan.specs.Search.{mask_at}
+use Rattle.beet_masking.specs.Masks.{mask_at}
 use Rattle.beet_plan.specs.declared.Finish.{Finish}
 use Rattle.beet_sharing.specs.Runs.{opened_at}
 

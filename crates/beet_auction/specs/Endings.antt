@@ -7,7 +7,7 @@ use Rattle.beet_bids.specs.Books.{Book}
 use Rattle.beet_bids.specs.Outcomes.{clearing_place, outcome_of}
 use Rattle.beet_plan.specs.Auction.{Auction, auction_over, auction_plan, most_rounds}
 use Rattle.beet_plan.specs.Runs.{run_finish, run_rounds, finish_of}
-use Rattle.beet_plan.specs.Search.{mask_at}
+use Rattle.beet_masking.specs.Masks.{mask_at}
 use Rattle.beet_plan.specs.declared.Finish.{Finish}
 use Rattle.beet_sharing.specs.Runs.{Setup, HasRounds, shared_at, rounds_among}
 use Rattle.beet_delivery.specs.Events.{Triple, after, passed}

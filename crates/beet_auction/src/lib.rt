@@ -12,7 +12,7 @@ ghost use Rattle.beet_words.specs.Words.{accepted};
 ghost use Rattle.beet_book.specs.Dealing.{dealt_points, quantities};
 ghost use Rattle.beet_book.specs.Totals.{added, none_of, wires_of};
 ghost use Rattle.beet_plan.specs.Auction.{Auction, auction_batch, auction_over};
-ghost use Rattle.beet_plan.specs.Runs.{AreMasks};
+ghost use Rattle.beet_masking.specs.Masks.{AreMasks};
 ghost use Rattle.beet_bids.specs.Sums.{sums_of};
 ghost use Rattle.beet_server.specs.Cores.{Core};
 ghost use Rattle.beet_sharing.specs.Runs.{Setup};

@@ -26,6 +26,7 @@ use Rattle.beet_book.proofs.FarmerLists.{book-whole, farmers-bidders, farmers-wo
 use Rattle.beet_sharing.specs.Runs.{Setup, rounds_among}
 use Rattle.beet_sharing.proofs.Lined.{member-trio}
 use Rattle.beet_auction.specs.Setups.{auction_setup, book_setup}
+use Rattle.beet_load.specs.Counts.{counts_of}
 use Rattle.beet_load.specs.Servers.{HasEnough}
 use Rattle.beet_load.specs.Wholes.{CanDeal, CanStart}
 use Rattle.beet_view.specs.BookViews.{names, seen_at, view_for}
@@ -103,10 +104,11 @@ module _ (book : Book) (words : Words) (b : IsBook book) (can : CanStart book wo
 
   enough : (i : ℕ) → i < length farmers → 2 * grid.prices ≤ length (accepted (farmer i).words)
   enough i lt =
-      let all : All (CanDeal grid) (map (λ (f : Farmer). f.words) farmers) = subst (All (CanDeal grid)) (farmers-words book.bidders words.bidders can.lists) can.bidders in
+      let all : All (CanDeal (counts_of grid)) (map (λ (f : Farmer). f.words) farmers) = subst (All (CanDeal (counts_of grid)))
+      (farmers-words book.bidders words.bidders can.lists) can.bidders in
       let here = all i [] (omega (arith, length-map farmers (λ (f : Farmer). f.words), lt)) in
       let same = get_or-map (λ (f : Farmer). f.words) farmers i nobody [] lt in
-      (subst (CanDeal grid) same here).enough
+      (subst (CanDeal (counts_of grid)) same here).enough
 
   count : length views.one.bidders ≡ length farmers
   count = length-map farmers (seen_at grid One)
@@ -146,7 +148,7 @@ module _ (book : Book) (words : Words) (b : IsBook book) (can : CanStart book wo
     known = keeps i lt;
   }
 
-  has-words : (s : Point) → HasEnough grid (words_in (member views s))
+  has-words : (s : Point) → HasEnough (counts_of grid) (words_in (member views s))
   has-words One = can.servers.one
   has-words Two = can.servers.two
   has-words Three = can.servers.three

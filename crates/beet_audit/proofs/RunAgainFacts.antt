@@ -17,6 +17,7 @@ use Rattle.beet_server.specs.Lockstep.{HaveEnded, IsAtRound}
 use Rattle.beet_auction.specs.Setups.{inputs_of}
 use Rattle.beet_auction.proofs.AddedPoints.{inputs-many}
 use Rattle.beet_book.proofs.PointsAdded.{sums-more, sums-none}
+use Rattle.beet_load.specs.Counts.{counts_of}
 use Rattle.beet_load.specs.Servers.{HasEnough, HaveEnough, ServerWords}
 use Rattle.beet_run.specs.Runs.{EndsAuction, Starts, setup_with}
 use Rattle.beet_run.proofs.Ending.{ends-auction, has-ended-run}
@@ -45,8 +46,8 @@ module _ (grid : Grid) (views : Trio Viewed) (inputs : Trio (List ℕ)) (totals 
   pub many : (s : Point) → length (member inputs s) ≡ 2 * grid.prices
   many s = ap (λ t. length (member t s)) inputs-are ∙ inputs-many grid.prices (all_points views) s
 
-  pub enough : ((s : Point) → HasEnough grid (words_in (member views s))) → HaveEnough grid words
-  enough h = subst (HaveEnough grid) (sym w) (record { one = h One; two = h Two; three = h Three })
+  pub enough : ((s : Point) → HasEnough (counts_of grid) (words_in (member views s))) → HaveEnough (counts_of grid) words
+  enough h = subst (HaveEnough (counts_of grid)) (sym w) (record { one = h One; two = h Two; three = h Three })
 
   same-setup : setup_with grid inputs words ≡ run_of grid views
   same-setup = ap (λ (x : Trio (List ℕ)). setup_with grid x words) inputs-are ∙ ap (setup_with grid (inputs_at grid.prices (all_points views))) w

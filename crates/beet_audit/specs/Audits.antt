@@ -23,6 +23,7 @@ use Rattle.beet_book.specs.Totals.{points_on}
 use Rattle.beet_round.specs.Sides.{peer}
 use Rattle.beet_round.specs.declared.sides.Side.TheVariants.{Low, High}
 use Rattle.beet_sharing.specs.Runs.{Setup, message, rounds_among}
+use Rattle.beet_load.specs.Counts.{counts_of}
 use Rattle.beet_load.specs.Servers.{ServerWords, HasEnough}
 use Rattle.beet_run.specs.Runs.{EndsAuction, HasEndedRun, setup_with}
 use Rattle.beet_view.specs.declared.view.Seen.{Seen}
@@ -116,7 +117,7 @@ abbrev pub words_in : Viewed → ServerWords
 words_in view = record { masks = view.masks; coefficients = view.coefficients }
 
 abbrev pub Tapes : Grid → Trio Viewed → Point → Option AuditFault → Type 0
-Tapes grid views s = Wants (HasEnough grid (words_in (member views s))) (TooFewWords s)
+Tapes grid views s = Wants (HasEnough (counts_of grid) (words_in (member views s))) (TooFewWords s)
 
 -- the points of all bidders
 abbrev pub all_points : Trio Viewed → List (Trio (List ℕ))

@@ -7,6 +7,7 @@ use Rattle.beet_words.specs.Words.{accepted}
 use Rattle.beet_bids.specs.Curves.{Curve, IsCurve, IsOfGrid}
 use Rattle.beet_bids.specs.Grids.{Grid}
 use Rattle.beet_book.specs.Dealing.{AreShares, dealt_points, quantities}
+use Rattle.beet_load.specs.Counts.{counts_of}
 use Rattle.beet_load.specs.Servers.{HasEnough}
 use Rattle.beet_view.specs.RunViews.{rounds_seen}
 use Rattle.beet_view.specs.Views.{Viewed}
@@ -33,5 +34,5 @@ pub record OneRun (grid : Grid) (views : Trio Viewed) : Type 0 where
   pub marks : (s : Point) → marks_in (member views s) ≡ marks_in views.one
   pub curves : ℕ → Curve
   pub bids : (i : ℕ) → i < length views.one.bidders → Bids grid views i (curves i)
-  pub tapes : (s : Point) → HasEnough grid (words_in (member views s))
+  pub tapes : (s : Point) → HasEnough (counts_of grid) (words_in (member views s))
   pub rounds : (s : Point) → (member views s).rounds ≡ rounds_seen (run_of grid views) s (rounds_of grid views)

@@ -5,6 +5,7 @@ ghost use Rattle.beet_field.specs.Trio.{member, of_each};
 ghost use Rattle.beet_field.specs.declared.point.Point.{Point as Server};
 ghost use Rattle.beet_book.specs.Dealing.{HasLengths};
 ghost use Rattle.beet_book.specs.PointSums.{AddsUp};
+ghost use Rattle.beet_load.specs.Counts.{counts_of};
 ghost use Rattle.beet_load.specs.Servers.{HasEnough};
 ghost use Rattle.beet_audit.specs.Audits.{RunsAgain, all_points, bidder_at, points_of_bidder, words_in};
 ghost use Rattle.beet_audit.specs.declared.fault.AuditFault.TheVariants.{OutOfMemory as Memory};
@@ -108,7 +109,7 @@ pub(crate) fn run_again(
     requires few { length views.now.one.bidders < 2 ^ 32 }
     requires lengths { (i : ℕ) → i < length views.now.one.bidders
         → HasLengths (points_of_bidder views.now i) (2 * grid.now.prices) }
-    requires enough { (s : Server) → HasEnough grid.now (words_in (member views.now s)) }
+    requires enough { (s : Server) → HasEnough (counts_of grid.now) (words_in (member views.now s)) }
     ensures memory { IfErr result (λ fault. fault ≡ Memory) }
     ensures ran { IfOk result (RunsAgain grid.now views.now) }
 {

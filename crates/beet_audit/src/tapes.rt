@@ -1,6 +1,7 @@
 //! Whether the tapes of three views have the words of a run.
 
 ghost use Rattle.std.specs.Prelude.{◌↔◌, IsTrue};
+ghost use Rattle.beet_load.specs.Counts.{counts_of};
 ghost use Rattle.beet_load.specs.Servers.{HasEnough};
 ghost use Rattle.beet_audit.specs.Audits.{Tapes, words_in};
 ghost use Rattle.beet_audit.specs.Verdicts.{EachServer, Judges, Wants};
@@ -16,7 +17,7 @@ use beet_words::count_accepted;
 
 /// Whether both tapes of a view have as many words as the auction may want.
 fn has_words(grid: &Grid, view: &View) -> bool
-    ensures { IsTrue result ↔ HasEnough grid.now (words_in view.now) }
+    ensures { IsTrue result ↔ HasEnough (counts_of grid.now) (words_in view.now) }
 {
     let script = AuctionScript::over(grid);
     count_accepted(view.coefficients()) >= script.coefficients() as usize
@@ -25,7 +26,7 @@ fn has_words(grid: &Grid, view: &View) -> bool
 
 /// Refuses a server whose view has a tape of too few words.
 fn check_tape(grid: &Grid, s: Point, view: &View) -> Result<(), AuditFault>
-    ensures { Judges (Wants (HasEnough grid.now (words_in view.now)) (TooFew s)) result }
+    ensures { Judges (Wants (HasEnough (counts_of grid.now) (words_in view.now)) (TooFew s)) result }
 {
     if has_words(grid, view) {
         Ok(())

@@ -10,7 +10,7 @@ use Rattle.beet_words.specs.Words.{IsWord}
 use Rattle.beet_bids.specs.Books.{Book, IsBook}
 use Rattle.beet_bids.specs.Curves.{IsOfGrid}
 use Rattle.beet_book.specs.Farmers.{Farmer, farmers_of}
-use Rattle.beet_plan.proofs.AuctionRuns.{word-small}
+use Rattle.beet_masking.proofs.Words.{word-small}
 use Rattle.beet_book.proofs.FarmerLists.{farmers-words}
 use Rattle.beet_sharing.proofs.Lined.{member-trio}
 use Rattle.beet_load.specs.Wholes.{CanStart}

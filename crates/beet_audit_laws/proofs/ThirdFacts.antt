@@ -10,7 +10,7 @@ use Rattle.beet_words.specs.Words.{IsWord, accepted}
 use Rattle.beet_gates.proofs.EachFacts.{each-same, length-each}
 use Rattle.beet_bids.specs.Curves.{Curve, IsCurve, IsOfGrid}
 use Rattle.beet_bids.specs.Grids.{Grid}
-use Rattle.beet_plan.proofs.AuctionRuns.{word-small}
+use Rattle.beet_masking.proofs.Words.{word-small}
 use Rattle.beet_book.specs.Dealing.{quantities}
 use Rattle.beet_round.specs.Sides.{peer}
 use Rattle.beet_round.specs.declared.sides.Side.TheVariants.{Low, High}

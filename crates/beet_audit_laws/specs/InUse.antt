@@ -7,6 +7,7 @@ use Rattle.beet_words.specs.Words.{accepted}
 use Rattle.beet_bids.specs.Curves.{Curve}
 use Rattle.beet_bids.specs.Grids.{Grid}
 use Rattle.beet_sharing.specs.Runs.{Shared, shared_at}
+use Rattle.beet_load.specs.Counts.{counts_of}
 use Rattle.beet_load.specs.Servers.{HasEnough}
 use Rattle.beet_view.specs.declared.view.Seen.{Seen}
 use Rattle.beet_view.specs.Transcripts.{AreNumbers}
@@ -48,7 +49,7 @@ pub record SameInUse (grid : Grid) (dealt drawn : ℕ) (view other : Viewed) : T
   pub count : length other.bidders ≡ length view.bidders
   pub bidders : (i : ℕ) → i < length view.bidders → SeenAlike grid.prices (bidder_at view i) (bidder_at other i)
   pub rounds : other.rounds ≡ view.rounds
-  pub enough : HasEnough grid (words_in other)
+  pub enough : HasEnough (counts_of grid) (words_in other)
   pub masks : (n : ℕ) → n < dealt → slice_index other.masks n ≡ slice_index view.masks n
   pub numbers : SameDrawn drawn view.coefficients other.coefficients
 

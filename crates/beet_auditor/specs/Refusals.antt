@@ -32,7 +32,8 @@ on_side Sell = codes " side sell"
 -- a message of a round, by its sender and its receiver
 abbrev pub of_message : Point → Point → ℕ → List ℕ
 of_message sender receiver round =
-    codes " from " ++ decimal (number_of sender) ++ codes " to " ++ decimal (number_of receiver) ++ codes " round " ++ decimal round
+    codes " from " ++ decimal (number_of sender) ++ codes " to " ++ decimal (number_of receiver)
+    ++ codes " round " ++ decimal round
 
 -- what is held, and what was expected
 abbrev pub held_for : ℕ → ℕ → List ℕ

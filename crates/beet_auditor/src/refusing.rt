@@ -7,7 +7,7 @@ ghost use Rattle.beet_audit.specs.declared.fault.AuditFault.TheVariants.{OutOfMe
 ghost use Rattle.beet_auditor.specs.Refusals.{at_place, fault_text, held_for, of_bidder, of_message, of_server, on_side, refused_text};
 
 use beet_audit::{AuditFault, Side};
-use beet_errand::{Status, Stop};
+use beet_errand::{OwnRefusal, Refusal, Stop};
 use beet_field::{Fe, Point};
 use std::alloc::{AllocError, Global};
 
@@ -129,11 +129,11 @@ pub fn refused_line(alloc: Global, fault: AuditFault) -> Result<Vec<u8>, AllocEr
 
 /// Refuses three transcripts with which this is wrong.
 pub(crate) fn refusal(alloc: Global, fault: AuditFault) -> Stop
-    ensures refuses { Refuses Status.AuditRefused (fault_text fault) result }
+    ensures refuses { Refuses (Refusal.Own OwnRefusal.OfAudit) (fault_text fault) result }
     ensures memory { result ≢ Stop.OutOfMemory → fault ≢ Memory }
 {
-    match refused_line(alloc, fault) {
-        Ok(line) => Stop::Refused(Status::AuditRefused, line),
-        Err(_) => Stop::OutOfMemory,
-    }
+    Stop::of_line(
+        Refusal::Own(OwnRefusal::OfAudit),
+        refused_line(alloc, fault),
+    )
 }

@@ -1,7 +1,7 @@
 -- The sums of a book: supply never falls and demand never rises, and so supply reaches demand from one place on.
 use Rattle.std.proofs.Common.{◌≡◌, ℕ, zero, suc, ◌+◌, ◌-◌, ◌*◌, ◌^◌, ◌<◌, ◌≤◌, inl, inr, Bool, true, false, List, [], ◌∷◌, map, length, slice_index, get_or, Some, refl, ap, sym, ◌∙◌, arith}
 use Rattle.std.specs.Prelude.{All, find, unwrap_or, nat_le}
-use Rattle.std.specs.List.{range_with_len}
+use Rattle.std.specs.List.{range_with_len, sum_by}
 use Rattle.std.proofs.lemmas.Bool.{cases_eq, cases_lt, cases_Bool, leb-true}
 use Rattle.std.proofs.lemmas.Bool.Decides.{nat_tests}
 use Rattle.std.proofs.lemmas.List.{get_or_append_left, get_or-append-add, length-append}
@@ -32,34 +32,26 @@ buy-falls grid curve j k c g h l = elim (cases_eq j k) [
   | inr e ↦ c.buy_never_rises j k 0 (omega arith) (omega (arith, g.buy_length))
 ]
 
--- all bidders
-supply-rises : (grid : Grid) (bidders : List Bidder) (j k : ℕ) → All (λ b. IsCurve b.curve) bidders → All (λ b. IsOfGrid grid b.curve) bidders →
-    j ≤ k → k < grid.prices → supply_at bidders j ≤ supply_at bidders k
-supply-rises grid [] j k c g h l = omega arith
-supply-rises grid (b ∷ bs) j k c g h l =
-    let one = sell-rises grid b.curve j k (All-head (λ (b : Bidder). IsCurve b.curve) b bs c) (All-head (λ (b : Bidder). IsOfGrid grid b.curve) b bs g) h l in
-    let rest = supply-rises grid bs j k (All-tail (λ (b : Bidder). IsCurve b.curve) b bs c) (All-tail (λ (b : Bidder). IsOfGrid grid b.curve) b bs g) h l in
-    omega (
-      arith,
-      sum_by-cons (λ (b : Bidder). slice_index b.curve.sell j) b bs,
-      sum_by-cons (λ (b : Bidder). slice_index b.curve.sell k) b bs,
-      one,
-      rest,
-    )
+-- a sum of terms that are all at most those of another
+sum-at-most : {X : Type 0} (f g : X → ℕ) (xs : List X) → All (λ x. f x ≤ g x) xs → sum_by f xs ≤ sum_by g xs
+sum-at-most f g [] all = omega arith
+sum-at-most f g (x ∷ xs) all =
+    let first = All-head (λ x. f x ≤ g x) x xs all in
+    let rest = sum-at-most f g xs (All-tail (λ x. f x ≤ g x) x xs all) in
+    omega (arith, sum_by-cons f x xs, sum_by-cons g x xs, first, rest)
 
-demand-falls : (grid : Grid) (bidders : List Bidder) (j k : ℕ) → All (λ b. IsCurve b.curve) bidders → All (λ b. IsOfGrid grid b.curve) bidders →
-    j ≤ k → k < grid.prices → demand_at bidders k ≤ demand_at bidders j
-demand-falls grid [] j k c g h l = omega arith
-demand-falls grid (b ∷ bs) j k c g h l =
-    let one = buy-falls grid b.curve j k (All-head (λ (b : Bidder). IsCurve b.curve) b bs c) (All-head (λ (b : Bidder). IsOfGrid grid b.curve) b bs g) h l in
-    let rest = demand-falls grid bs j k (All-tail (λ (b : Bidder). IsCurve b.curve) b bs c) (All-tail (λ (b : Bidder). IsOfGrid grid b.curve) b bs g) h l in
-    omega (
-      arith,
-      sum_by-cons (λ (b : Bidder). slice_index b.curve.buy j) b bs,
-      sum_by-cons (λ (b : Bidder). slice_index b.curve.buy k) b bs,
-      one,
-      rest,
-    )
+-- all bidders
+module _ (grid : Grid) (bidders : List Bidder) (j k : ℕ) (curves : All (λ b. IsCurve b.curve) bidders) (of_grid : All (λ b. IsOfGrid grid b.curve) bidders)
+    (up : j ≤ k) (last : k < grid.prices) where
+  supply-rises : supply_at bidders j ≤ supply_at bidders k
+  supply-rises =
+      sum-at-most (λ (b : Bidder). slice_index b.curve.sell j) (λ (b : Bidder). slice_index b.curve.sell k) bidders
+      (λ i d lt. sell-rises grid (get_or bidders i d).curve j k (curves i d lt) (of_grid i d lt) up last)
+
+  demand-falls : demand_at bidders k ≤ demand_at bidders j
+  demand-falls =
+      sum-at-most (λ (b : Bidder). slice_index b.curve.buy k) (λ (b : Bidder). slice_index b.curve.buy j) bidders
+      (λ i d lt. buy-falls grid (get_or bidders i d).curve j k (curves i d lt) (of_grid i d lt) up last)
 
 -- the first number of a range at which a test gives true, or the end of the range
 module _ (test : ℕ → Bool) (end : ℕ) where

@@ -1,5 +1,5 @@
 -- The blocks of a comparison name only wires that stand.
-use Rattle.std.proofs.Common.{◌≡◌, ℕ, zero, suc, ◌+◌, ◌-◌, ◌*◌, ◌/◌, ◌^◌, ◌<◌, ◌≤◌, inl, inr, List, length, pow-suc, [], ◌∷◌, ◌++◌, refl, arith, eq-eqb, ne_eqb, length-append}
+use Rattle.std.proofs.Common.{◌≡◌, ◌∙◌, ℕ, zero, suc, ◌+◌, ◌-◌, ◌*◌, ◌/◌, ◌^◌, ◌<◌, ◌≤◌, inl, inr, List, length, pow-suc, [], ◌∷◌, ◌++◌, refl, arith, eq-eqb, ne_eqb, length-append}
 use Rattle.std.specs.Int.{bit_at}
 use Rattle.std.proofs.lemmas.Bool.{cases_eq}
 use Rattle.beet_gates.specs.Batches.{mul_batch}
@@ -31,7 +31,7 @@ masked-stands first mask supply demand s e hm hs hd =
     ((omega arith, (omega arith, (omega arith, tt))), tt) in (
       block-last s (masked_batch first mask supply demand)
           (((omega arith, (omega arith, (omega arith, tt))), sums), (omega arith, (omega arith, tt)), (omega arith, omega arith)) refl,
-      record { more_wires = omega arith; more_masks = omega arith; more_coefficients = omega arith },
+      record { more_wires = omega arith; more_masks = omega arith; more_coefficients = omega arith; dealers = refl },
     )
 
 same_let-below : (n bit w : ℕ) → w < n → TermsBelow n (same_let bit w).terms
@@ -57,7 +57,7 @@ last-stands lets borrow low mask c s e below few there bit =
       })
           (block-last now two
           (((omega (arith, e, len), (omega (arith, e, len, there), (omega (arith, e, len), tt))), tt), (omega arith, (omega (arith, e, len), tt)), (omega arith, omega arith)) refl),
-      record { more_wires = omega (arith, len); more_masks = omega arith; more_coefficients = omega arith },
+      record { more_wires = omega (arith, len); more_masks = omega arith; more_coefficients = omega arith; dealers = refl },
     )
 
 chain-stands : (first mask c : ℕ) (s : Standing) → s.wires ≡ first + 61 → mask + 487 ≤ first →
@@ -75,7 +75,7 @@ chain-stands first mask c s e hm =
         going = refl;
         silent = refl;
       },
-      record { more_wires = omega arith; more_masks = omega arith; more_coefficients = omega arith },
+      record { more_wires = omega arith; more_masks = omega arith; more_coefficients = omega arith; dealers = refl },
     )) in
     let s2 = after_all s1 (each (bit_batch first mask c) 59) in
     let w2 : s2.wires ≡ first + 241 = omega (arith, chain.1.more_wires) in
@@ -97,6 +97,7 @@ chain-stands first mask c s e hm =
         more_wires = omega (arith, chain.1.more_wires, last.1.more_wires);
         more_masks = omega (arith, chain.1.more_masks, last.1.more_masks);
         more_coefficients = omega (arith, chain.1.more_coefficients, last.1.more_coefficients);
+        dealers = last.1.dealers ∙ chain.1.dealers;
       }),
     )
 
@@ -107,7 +108,7 @@ tree-stands : (levels n : ℕ) (lets : List Linear) (g q : ℕ → ℕ) (free ma
 tree-stands zero n lets g q free mask c s e below few most least small hg hq bit =
     let one : n ≡ 1 = omega (arith, most, least) in
     let m = last-stands lets (g 0) free mask c s e below few (hg 0 (omega (arith, least))) bit in
-    (m.0, record { more_wires = omega (arith, m.1.more_wires, one); more_masks = m.1.more_masks; more_coefficients = omega (arith, m.1.more_coefficients, one) })
+    (m.0, record { more_wires = omega (arith, m.1.more_wires, one); more_masks = m.1.more_masks; more_coefficients = omega (arith, m.1.more_coefficients, one); dealers = m.1.dealers })
 tree-stands (suc levels) n lets g q free mask c s e below few most least small hg hq bit =
     let half = n / 2 in
     let power : 2 ^ suc levels ≡ 2 ^ levels * 2 = pow-suc 2 levels in
@@ -138,6 +139,7 @@ tree-stands (suc levels) n lets g q free mask c s e below few most least small h
         more_wires = omega (arith, m.1.more_wires, len, len', some);
         more_masks = omega (arith, m.1.more_masks);
         more_coefficients = omega (arith, m.1.more_coefficients, len, some);
+        dealers = m.1.dealers;
       },
     )
 
@@ -156,4 +158,4 @@ borrow-stands Tree first mask c s e hm =
     (λ i l. same_let-below (s.wires + (2 * i + 1)) (bit_at c i) (mask + 366 + i) (omega (arith, e, hm, l)))) in
     let m = tree-stands 6 61 (borrow_lets mask c) (λ k. first + 61 + 2 * k) (λ k. first + 62 + 2 * k) (first + 183) mask c s (omega (arith, e, len)) lets
     (omega (arith, len)) (omega arith) (omega arith) (omega arith) (λ k l. omega (arith, l)) (λ k l. omega (arith, l)) (omega (arith, hm)) in
-    (m.0, record { more_wires = omega (arith, m.1.more_wires, len); more_masks = m.1.more_masks; more_coefficients = m.1.more_coefficients })
+    (m.0, record { more_wires = omega (arith, m.1.more_wires, len); more_masks = m.1.more_masks; more_coefficients = m.1.more_coefficients; dealers = m.1.dealers })

@@ -1,7 +1,8 @@
 -- The meaning of the answer of a comparison.
-use Rattle.std.proofs.Common.{◌≡◌, ℕ, ◌+◌, ◌-◌, ◌%◌, ◌^◌, ◌<◌, ◌≤◌, inl, inr, refl, ◌∙◌, arith, eq-eqb}
-use Rattle.std.specs.Prelude.{nat_lt, if◌then◌else◌, ◌↔◌, IsTrue}
+use Rattle.std.proofs.Common.{◌≡◌, ℕ, ◌+◌, ◌-◌, ◌%◌, ◌^◌, ◌<◌, ◌≤◌, inl, inr, Bool, true, false, refl, sym, ◌∙◌, arith, eq-eqb}
+use Rattle.std.specs.Prelude.{nat_le, nat_lt, if◌then◌else◌, ◌↔◌, IsTrue}
 use Rattle.std.specs.Int.{bit_at}
+use Rattle.std.proofs.lemmas.Bool.{cases_Bool, iff_false}
 use Rattle.std.proofs.lemmas.Bool.Decides.{nat_tests}
 use Rattle.std.proofs.lemmas.Nat.Bits.{bit_at-lt, bit_at_lowest}
 use Rattle.beet_gates.proofs.Between.{part-all}
@@ -39,3 +40,10 @@ answer-even s d = elim (bit_cases (doubled s d % 2) (omega arith)) [
 -- and that is where supply is at least demand
 pub doubled_even-≤ : (s d : ℕ) → IsElement s → IsElement d → s < d + 2 ^ 59 → d < s + 2 ^ 59 → IsTrue (is_doubled_even s d) ↔ (d ≤ s)
 doubled_even-≤ s d hs hd close near = grind (arith, nat_tests)
+
+-- two tests agree where both say the same
+pub same_test : (b : Bool) (s d : ℕ) → IsTrue b ↔ (d ≤ s) → b ≡ nat_le d s
+same_test b s d e = elim (cases_Bool b) [
+  | inl t ↦ let h = e.0 t in t ∙ (let le : nat_le d s ≡ true = grind (arith, nat_tests, h) in sym le)
+  | inr f ↦ f ∙ (let h = iff_false e f in let le : nat_le d s ≡ false = grind (arith, nat_tests, h) in sym le)
+]

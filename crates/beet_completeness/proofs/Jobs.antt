@@ -39,7 +39,9 @@ use Rattle.beet_world.specs.declared.schedule.TheConstants.{SCHEDULE_LIMIT}
 use Rattle.beet_worlds.specs.declared.agreeing.MapFault.{MapFault}
 use Rattle.beet_errand.specs.Errands.{Errand, answers, reads}
 use Rattle.beet_errand.specs.declared.answer.Status.TheVariants.{Done, MasksSpent as Spent}
-use Rattle.beet_load.specs.Farmers.{farmers_errand, words_wanted}
+use Rattle.beet_load.specs.Counts.{counts_of, words_wanted}
+use Rattle.beet_load.specs.Wanted.{wanted_of}
+use Rattle.beet_load.specs.Farmers.{farmers_errand}
 use Rattle.beet_load.specs.Loading.{Loaded, loaded_errand}
 use Rattle.beet_load.specs.Servers.{HaveEnough, ServerWords, all_words_errand, enough_of_all, masks_of}
 use Rattle.beet_load.specs.Wholes.{limited_errand}
@@ -78,7 +80,7 @@ module _ (files : List File) where
       then-done files (reads auction AUCTION_LIMIT auction_of) can.grid _ can.grid_read (
       passes-done files (one_price auction can.grid) _ (rw (eq-eqb can.grid.prices 1 can.one_price) refl) (
       then-done files (reads list BOOK_LIMIT book_of) can.entries _ can.entries_read (
-      then-done files (farmers_errand can.grid None [] can.entries) can.farmers _ can.farmers_read refl)))
+      then-done files (farmers_errand (wanted_of None can.grid) can.grid None [] can.entries) can.farmers _ can.farmers_read refl)))
 
   clear-done : (auction servers list : List ℕ) → CanClear files (loaded_errand auction servers list) → IsDoneOver files (clear_errand auction servers list)
   clear-done auction servers list can =
@@ -104,7 +106,7 @@ module _ (files : List File) where
       then-done files (reads auction AUCTION_LIMIT auction_of) can.grid _ can.grid_read (
       then-done files (reads servers SERVERS_LIMIT servers_of) can.sources _ can.sources_read (
       then-done files (reads list LIST_LIMIT list_of) can.entries _ can.entries_read (
-      then-done files (all_words_errand can.grid None can.sources) can.words _ can.words_read (
+      then-done files (all_words_errand (wanted_of None can.grid) None can.sources) can.words _ can.words_read (
       then-done files (bidders_errand can.grid [] can.entries) can.bidders _ can.bidders_read
       (points-done (auction_over can.grid) (inputs_at can.grid.prices can.bidders) (masks_of can.words.servers) can.masks)))))
 
@@ -136,18 +138,19 @@ module _ (files : List File) where
 
   -- ---- a trial
 
-  servers-pass : (grid : Grid) (servers : Trio ServerWords) → HaveEnough grid servers → (next : Errand) → enough_of_all grid servers next ≡ next
+  servers-pass : (grid : Grid) (servers : Trio ServerWords) → HaveEnough (counts_of grid) servers → (next : Errand) → enough_of_all
+      (wanted_of None grid) servers next ≡ next
   servers-pass grid servers h next =
-      (counts_pass grid 1 servers.one h.one.coefficients h.one.masks).passes _
-      ∙ (counts_pass grid 2 servers.two h.two.coefficients h.two.masks).passes _
-      ∙ (counts_pass grid 3 servers.three h.three.coefficients h.three.masks).passes next
+      (counts_pass (wanted_of None grid) 1 servers.one h.one.coefficients h.one.masks).passes _
+      ∙ (counts_pass (wanted_of None grid) 2 servers.two h.two.coefficients h.two.masks).passes _
+      ∙ (counts_pass (wanted_of None grid) 3 servers.three h.three.coefficients h.three.masks).passes next
 
   farmers-pass : (grid : Grid) (number : ℕ) (farmers : List Farmer) → HaveWords grid farmers → (next : Errand) →
       enough_of_each grid number farmers next ≡ next
   farmers-pass grid number [] h next = refl
   farmers-pass grid number (farmer ∷ farmers) h next =
       let enough : Farmer → Type 0 = λ farmer. words_wanted grid ≤ length (accepted farmer.words) in
-      (words_pass number (words_wanted grid) farmer.words (All-head enough farmer farmers h)).passes _
+      (words_pass None number (words_wanted grid) farmer.words (All-head enough farmer farmers h)).passes _
       ∙ farmers-pass grid (number + 1) farmers (All-tail enough farmer farmers h) next
 
   trial-done : (first second : List ℕ) (can : CanRunTrial first second) → IsDoneOver files (trial_errand can.bidders can.prices)
@@ -155,7 +158,7 @@ module _ (files : List File) where
       let grid = trial_grid can.prices in
       let servers = trial_servers grid in
       let farmers = trial_farmers grid can.bidders in
-      passes-done files (enough_of_all grid servers) _ (servers-pass grid servers can.servers _) (
+      passes-done files (enough_of_all (wanted_of None grid) servers) _ (servers-pass grid servers can.servers _) (
       passes-done files (enough_of_each grid 1 farmers) _ (farmers-pass grid 1 farmers can.farmers _)
       (book-done (trial_book grid can.bidders) (masks_of servers) can.masks))
 

@@ -10,7 +10,8 @@ use Rattle.beet_bids.specs.declared.outcomes.Outcome.TheVariants.{Price, No}
 use Rattle.beet_bids.specs.declared.outcomes.Policy.{Policy}
 use Rattle.beet_plan.specs.Auction.{Auction, price_with}
 use Rattle.beet_plan.specs.Runs.{finish_of, found, run_finish}
-use Rattle.beet_plan.specs.Search.{is_spent, mask_at, path}
+use Rattle.beet_masking.specs.Masks.{is_spent, mask_at}
+use Rattle.beet_plan.specs.Search.{path}
 use Rattle.beet_plan.specs.declared.Finish.{Finish}
 use Rattle.beet_plan.specs.declared.Finish.TheVariants.{NoPrice, MasksSpent}
 use Rattle.beet_auction.specs.AnyPoints.{points_finish, points_place, values_on}

@@ -15,8 +15,9 @@ use Rattle.beet_world.specs.declared.schedule.Delivery.{Delivery}
 use Rattle.beet_errand.specs.Errands.{Answer, Ends, Errand, Wants}
 use Rattle.beet_errand.specs.Fetches.{Went}
 use Rattle.beet_errand.specs.Statuses.{code_of}
-use Rattle.beet_errand.specs.declared.answer.Status.TheVariants.{ReadFault}
-use Rattle.beet_answer.specs.Runs.{EndsBy, GivesAll, Runs, Said, status_after}
+use Rattle.beet_errand.specs.declared.answer.Refusal.TheVariants.{ReadFault}
+use Rattle.beet_errand.specs.declared.answer.Status.TheVariants.{Refused}
+use Rattle.beet_errand.specs.Runs.{EndsBy, GivesAll, Runs, Said, status_after}
 use Rattle.beet_load.specs.Loading.{Loaded}
 use Rattle.beet_load.specs.Servers.{masks_of}
 use Rattle.beet_rehearse.specs.Rehearse.{rehearse_errand, rehearsed}
@@ -33,12 +34,12 @@ use Rattle.beet_completeness.proofs.Leading.{book-ends, passes-both}
 
 -- ---- a run with the status 0 has given its answer whole
 
-read-all : (answer over : Answer) (status : ℕ) → status ≡ 0 → status ≡ code_of answer.status → (answer.status ≡ ReadFault) ⊎ (over ≡ answer) → over ≡ answer
+read-all : (answer over : Answer) (status : ℕ) → status ≡ 0 → status ≡ code_of answer.status → (answer.status ≡ Refused ReadFault) ⊎ (over ≡ answer) → over ≡ answer
 read-all answer over status zero e (inl unread) = absurd (omega (arith, zero, e ∙ ap code_of unread))
 read-all answer over status zero e (inr is) = is
 
 given-whole : (answer over : Answer) (given now : Option Given) (status : ℕ) (done : CallDone) → status ≡ 0 →
-    status ≡ code_of (status_after answer.status done) → (answer.status ≡ ReadFault) ⊎ (over ≡ answer) → GivesAll given now answer.files answer.text done →
+    status ≡ code_of (status_after answer.status done) → (answer.status ≡ Refused ReadFault) ⊎ (over ≡ answer) → GivesAll given now answer.files answer.text done →
     GivesAll given now over.files over.text (Ok tt)
 given-whole answer over given now status (Ok tt) zero e led calls =
     subst (λ (a : Answer). GivesAll given now a.files a.text (Ok tt)) (sym (read-all answer over status zero e led)) calls

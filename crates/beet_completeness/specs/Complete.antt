@@ -27,13 +27,16 @@ use Rattle.beet_farmer.specs.Lists.{list_of}
 use Rattle.beet_farmer.specs.declared.list_file.ListEntry.{ListEntry}
 use Rattle.beet_farmer.specs.declared.list_file.TheConstants.{LIST_LIMIT}
 use Rattle.beet_plan.specs.Auction.{auction_over}
-use Rattle.beet_plan.specs.Search.{is_spent, mask_at, path}
+use Rattle.beet_masking.specs.Masks.{is_spent, mask_at}
+use Rattle.beet_plan.specs.Search.{path}
 use Rattle.beet_auction.specs.AnyPoints.{points_place}
 use Rattle.beet_worlds.specs.Agreement.{Agree}
 use Rattle.beet_world.specs.Schedules.{schedule_of}
 use Rattle.beet_world.specs.declared.schedule.Delivery.{Delivery}
 use Rattle.beet_world.specs.declared.schedule.TheConstants.{SCHEDULE_LIMIT}
 use Rattle.beet_errand.specs.Errands.{Step, reads}
+use Rattle.beet_load.specs.Counts.{counts_of}
+use Rattle.beet_load.specs.Wanted.{wanted_of}
 use Rattle.beet_load.specs.Farmers.{farmers_errand}
 use Rattle.beet_load.specs.Loading.{Loaded, loaded_errand}
 use Rattle.beet_load.specs.Servers.{AllWords, HaveEnough, all_words_errand, masks_of}
@@ -67,7 +70,7 @@ pub record CanTally (files : List File) (auction book : List ℕ) : Type 0 where
   pub entries : List Entry
   pub entries_read : ReadsTo files (reads book BOOK_LIMIT book_of) entries
   pub farmers : List Farmer
-  pub farmers_read : ReadsTo files (farmers_errand grid None [] entries) farmers
+  pub farmers_read : ReadsTo files (farmers_errand (wanted_of None grid) grid None [] entries) farmers
 
 -- `clear` and `record`: by this step an auction is read with its servers and its book, and the masks suffice
 pub record CanClear (files : List File) (step : Step Loaded) : Type 0 where
@@ -101,7 +104,7 @@ pub record CanOpen (files : List File) (auction servers list : List ℕ) : Type 
   pub entries : List ListEntry
   pub entries_read : ReadsTo files (reads list LIST_LIMIT list_of) entries
   pub words : AllWords
-  pub words_read : ReadsTo files (all_words_errand grid None sources) words
+  pub words_read : ReadsTo files (all_words_errand (wanted_of None grid) None sources) words
   pub bidders : List (Trio (List ℕ))
   pub bidders_read : ReadsTo files (bidders_errand grid [] entries) bidders
   pub masks : MasksSuffice grid.prices (points_place (auction_over grid) (inputs_at grid.prices bidders)) (masks_of words.servers)
@@ -111,7 +114,7 @@ pub record CanRunTrial (first second : List ℕ) : Type 0 where
   pub bidders : ℕ
   pub prices : ℕ
   pub sizes : sizes_of first second ≡ Some (bidders, prices)
-  pub servers : HaveEnough (trial_grid prices) (trial_servers (trial_grid prices))
+  pub servers : HaveEnough (counts_of (trial_grid prices)) (trial_servers (trial_grid prices))
   pub farmers : HaveWords (trial_grid prices) (trial_farmers (trial_grid prices) bidders)
   pub masks : MasksSufficeFor (trial_book (trial_grid prices) bidders) (masks_of (trial_servers (trial_grid prices)))
 

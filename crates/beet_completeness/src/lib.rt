@@ -21,7 +21,7 @@ ghost use Rattle.beet_world.specs.Worlds.{named_in};
 ghost use Rattle.beet_world.specs.declared.schedule.Delivery.{Delivery};
 ghost use Rattle.beet_view.specs.Views.{Viewed};
 ghost use Rattle.beet_errand.specs.Errands.{reads};
-ghost use Rattle.beet_answer.specs.Runs.{Said};
+ghost use Rattle.beet_errand.specs.Runs.{Said};
 ghost use Rattle.beet_app_laws.specs.Dues.{ReadsTo};
 ghost use Rattle.beet_app_laws.specs.Held.{IsHeld};
 ghost use Rattle.beet_load.specs.Loading.{Loaded, loaded_errand};

@@ -1,5 +1,6 @@
 -- A finish that tells an outcome tells no other, and is never that of spent masks.
 use Rattle.std.proofs.Common.{◌≡◌, ◌≢◌, ℕ, Option, Some, None, false, true, refl, sym, ◌∙◌}
+use Rattle.std.proofs.lemmas.Option.{same_Some}
 use Rattle.beet_words.specs.Bundles.{Words}
 use Rattle.beet_bids.specs.Books.{Book}
 use Rattle.beet_bids.specs.Grids.{Grid, price_of}
@@ -10,7 +11,6 @@ use Rattle.beet_plan.specs.Runs.{finish_of}
 use Rattle.beet_plan.specs.declared.Finish.{Finish}
 use Rattle.beet_plan.specs.declared.Finish.TheVariants.{Price, NoPrice, MasksSpent}
 use Rattle.beet_auction.specs.Endings.{book_finish}
-use Rattle.beet_worlds.proofs.MasksBack.{some-same}
 use Rattle.beet_headline.specs.Halves.{are_spent}
 
 pub never-spent : (outcome : Outcome) → finish_of outcome ≢ MasksSpent
@@ -30,7 +30,7 @@ outcome-told book (Some place) = refl
 
 pub one-outcome : (one other : Book) → other.grid ≡ one.grid → finish_of (outcome_of other) ≡ finish_of (outcome_of one) → outcome_of other ≡ outcome_of one
 one-outcome one other grids e =
-    some-same (outcome_of other) (outcome_of one)
+    same_Some (outcome_of other) (outcome_of one)
     (sym (outcome-told other (reached_place other)) ∙ (λ i. outcome-in (grids i) (e i)) ∙ outcome-told one (reached_place one))
 
 pub unspent : (book : Book) (words : Words) → are_spent book words ≡ false → book_finish book words.masks ≡ finish_of (outcome_of book)

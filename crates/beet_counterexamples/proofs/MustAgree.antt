@@ -3,6 +3,7 @@ use Rattle.std.proofs.Common.{◌≡◌, ℕ, zero, suc, inl, inr, List, [], ◌
 use Rattle.std.specs.Prelude.{Result}
 use Rattle.std.proofs.lemmas.Bool.{cases_Bool}
 use Rattle.std.proofs.lemmas.List.{length-map}
+use Rattle.std.proofs.lemmas.Option.{same_Some}
 use Rattle.beet_field.specs.declared.point.Point.{Point}
 use Rattle.beet_words.specs.Bundles.{Words}
 use Rattle.beet_bids.specs.Books.{Book, IsBook}
@@ -12,7 +13,7 @@ use Rattle.beet_bids.specs.Outcomes.{outcome_of}
 use Rattle.beet_bids.specs.declared.book.Bidder.{Bidder}
 use Rattle.beet_book.specs.Farmers.{Farmer, farmers_of}
 use Rattle.beet_plan.specs.Kept.{words_kept}
-use Rattle.beet_delivery.proofs.EventFacts.{same_self}
+use Rattle.beet_delivery.proofs.ThreeServers.{same_self}
 use Rattle.beet_view.specs.BookViews.{kept_if, names, seen_at}
 use Rattle.beet_view.specs.Transcripts.{view_bytes, view_in}
 use Rattle.beet_view.specs.Views.{Viewed}
@@ -20,7 +21,7 @@ use Rattle.beet_view.specs.declared.view.Seen.{Seen}
 use Rattle.beet_view.proofs.ViewAgain.{view_in-view}
 use Rattle.beet_worlds.specs.Agreement.{Agree}
 use Rattle.beet_worlds.specs.ViewsWith.{transcript_with, view_with}
-use Rattle.beet_worlds.proofs.MasksBack.{get-map, some-same}
+use Rattle.beet_worlds.proofs.MasksBack.{get-map}
 use Rattle.beet_headline.specs.Halves.{CanRun, are_spent}
 use Rattle.beet_headline.proofs.Telling.{equal-ends}
 use Rattle.beet_counterexamples.specs.Transcribed.{CanStand}
@@ -42,7 +43,7 @@ pub farmer-at : (bidders : List Bidder) (words : List (List ℕ)) (k : ℕ) (b :
     (list : List ℕ) × (slice_get (farmers_of bidders words) k ≡ Some (farmer b list))
 farmer-at [] words k b e at = cc at
 farmer-at (c ∷ cs) [] k b e at = absurd (omega arith)
-farmer-at (c ∷ cs) (w ∷ ws) zero b e at = (w, ap (λ (x : Bidder). Some (farmer x w)) (some-same c b at))
+farmer-at (c ∷ cs) (w ∷ ws) zero b e at = (w, ap (λ (x : Bidder). Some (farmer x w)) (same_Some c b at))
 farmer-at (c ∷ cs) (w ∷ ws) (suc k) b e at = let few : length ws ≡ length cs = omega arith in farmer-at cs ws k b few at
 
 own-curve : (s : Point) (known : Option Point) (one other : Curve) (list list' : List ℕ) → known ≡ Some s →
@@ -51,7 +52,7 @@ own-curve s known one other list list' e same =
     let own : names known s ≡ true = ap (λ k. names k s) e ∙ same_self s in
     let both : kept_if true other list' ≡ kept_if true one list =
     subst (λ (b : Bool). kept_if b other list' ≡ kept_if b one list) own same in
-    ap (λ (q : Curve × List ℕ). q.0) (some-same (other, list') (one, list) both)
+    ap (λ (q : Curve × List ℕ). q.0) (same_Some (other, list') (one, list) both)
 
 -- the curves of the server's own bidders
 seen-own : (grid grid' : Grid) (s : Point) (bidders others : List Bidder) (words words' : List (List ℕ)) → length words ≡ length bidders → length words' ≡ length others →
@@ -63,7 +64,7 @@ seen-own grid grid' s bidders others words words' e e' same k one other at at' k
     let seen : Seen = seen_at grid s (farmer one here.0) in
     let seen' : Seen = seen_at grid' s (farmer other there.0) in
     let alike : seen' ≡ seen =
-    some-same seen' seen
+    same_Some seen' seen
     (sym (get-map (seen_at grid' s) (farmers_of others words') k (farmer other there.0) there.1) ∙ ap (λ l. slice_get l k) same
     ∙ get-map (seen_at grid s) (farmers_of bidders words) k (farmer one here.0) here.1) in
     let mark : other.known ≡ one.known = ap (λ (x : Seen). x.known) alike in

@@ -2,6 +2,7 @@
 use Rattle.std.proofs.Common.{◌≡◌, ◌≢◌, ◌≤◌, ℕ, true≢false, inl, inr, List, [], Bool, true, false, Some, sym, ap, ◌∙◌, arith}
 use Rattle.std.specs.Prelude.{◌↔◌}
 use Rattle.std.proofs.lemmas.Bool.{cases_eq, cases_lt, cases_Bool}
+use Rattle.std.proofs.lemmas.Option.{same_Some}
 use Rattle.beet_field.specs.declared.point.Point.{Point}
 use Rattle.beet_field.specs.declared.point.Point.TheVariants.{One}
 use Rattle.beet_words.specs.Bundles.{Words}
@@ -15,12 +16,11 @@ use Rattle.beet_plan.specs.declared.Finish.TheVariants.{MasksSpent}
 use Rattle.beet_sharing.specs.Runs.{HasRounds, Setup, coming}
 use Rattle.beet_delivery.specs.Events.{Triple, after, nothing, passed}
 use Rattle.beet_round.specs.declared.sides.Side.TheVariants.{Low}
-use Rattle.beet_delivery.proofs.EventFacts.{passed_in}
+use Rattle.beet_delivery.proofs.ThreeServers.{passed_in, three-is}
 use Rattle.beet_delivery.proofs.Undelivered.{none_undelivered}
 use Rattle.beet_server.specs.Endings.{Ending, Ends, Waits}
 use Rattle.beet_auction.specs.Setups.{rounds_for, setup_for}
 use Rattle.beet_auction.specs.Endings.{book_rounds}
-use Rattle.beet_worlds.proofs.MasksBack.{some-same}
 use Rattle.beet_headline.specs.Halves.{AllDelivered, CanRun, are_spent, standing}
 use Rattle.beet_headline.proofs.Delivering.{to-the-end}
 use Rattle.beet_headline.proofs.Standings.{all-ended, ends, stands, waiting}
@@ -67,7 +67,7 @@ module _ (book : Book) (words : Words) (b : IsBook book) (runs : CanRun book wor
 
   pub none-opened : (es : List Triple) (s : Point) (outcome : Outcome) → are_spent book words ≡ true → standing book words es s ≢ Ends (Some (finish_of outcome))
   none-opened es s outcome many e =
-      never-spent outcome (some-same (finish_of outcome) MasksSpent ((stands book words b runs es s).spent many (Some (finish_of outcome)) e))
+      never-spent outcome (same_Some (finish_of outcome) MasksSpent ((stands book words b runs es s).spent many (Some (finish_of outcome)) e))
 
   pub other-rounds : (rounds : ℕ) → HasRounds (setup_for book words) rounds → rounds ≡ book_rounds book words.masks
   other-rounds rounds h = one-number (setup_for book words) rounds (book_rounds book words.masks) h (ends book words b runs).has_rounds
@@ -75,7 +75,7 @@ module _ (book : Book) (words : Words) (b : IsBook book) (runs : CanRun book wor
   pub none-waits : (es : List Triple) → ((s : Point) (round : ℕ) → standing book words es s ≢ Waits round) → AllDelivered book words es
   none-waits es never =
       let rounds : ℕ = rounds_for book words in
-      none_undelivered rounds (after rounds es)
+      none_undelivered three-is rounds (after rounds es)
       (λ s. elim (cases_eq (passed rounds (after rounds es) s) rounds) [
         | inl all_passed ↦ all_passed
         | inr some ↦ absurd (never s (passed rounds (after rounds es) s) (waiting book words b runs es s some))

@@ -74,7 +74,7 @@ other-words s first second words words' m =
           bidders = m.are_words'.bidders;
         };
         masks = m.masks;
-        bidders = m.bidders;
+        bidders = m.dealers;
         own = beside-own s words'.coefficients ∙ m.own;
         numbers = subst (λ (o : Setup). GateMapped s (rounds_for first words) (setup_for first words) o) same m.numbers;
       },

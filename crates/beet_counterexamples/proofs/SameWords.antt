@@ -1,7 +1,6 @@
 -- Words that are mapped to themselves deal equal quantities.
-use Rattle.std.proofs.Common.{◌≡◌, ◌<◌, ◌*◌, ℕ, zero, suc, inl, inr, List, [], ◌∷◌, slice_get, slice_index, Some, subst, sym, ap, ◌∙◌, arith}
-use Rattle.std.specs.Prelude.{All}
-use Rattle.std.proofs.lemmas.List.Elements.{All-head, All-tail}
+use Rattle.std.proofs.Common.{◌≡◌, ◌<◌, ◌*◌, ℕ, zero, suc, inl, inr, List, [], ◌∷◌, map, slice_get, slice_index, Some, sym, ap, ◌∙◌, arith}
+use Rattle.std.proofs.lemmas.Option.{same_Some}
 use Rattle.beet_field.specs.Field.{IsElement, add_of, mul_of}
 use Rattle.beet_field.specs.Point.{number_of}
 use Rattle.beet_field.specs.declared.point.Point.{Point}
@@ -9,16 +8,22 @@ use Rattle.beet_shamir.specs.Line.{point_of}
 use Rattle.beet_words.specs.Bundles.{Words}
 use Rattle.beet_words.specs.Words.{accepted}
 use Rattle.beet_bids.specs.Books.{Book, IsBook}
-use Rattle.beet_bids.specs.Curves.{IsCurve, quantity}
+use Rattle.beet_bids.specs.Curves.{IsCurve, IsOfGrid, quantity}
+use Rattle.beet_book.specs.Dealing.{quantities}
 use Rattle.beet_bids.specs.declared.book.Bidder.{Bidder}
 use Rattle.beet_book.specs.Farmers.{Farmer, farmers_of}
+use Rattle.beet_book.proofs.Quantities.{quantities-many}
 use Rattle.beet_map.specs.Mapped.{moved_of}
 use Rattle.beet_map.proofs.Moves.{moved_same}
 use Rattle.beet_worlds.specs.Agreement.{Agree}
 use Rattle.beet_worlds.specs.MappedWords.{Mapped}
-use Rattle.beet_worlds.proofs.BidderFacts.{known-or, quantity-small}
-use Rattle.beet_worlds.proofs.EachMapped.{as-many}
-use Rattle.beet_worlds.proofs.MasksBack.{some-same}
+use Rattle.beet_mapped.proofs.DealerFacts.{element-at, known-or}
+use Rattle.beet_turned.proofs.MasksBack.{all-at}
+use Rattle.beet_worlds.proofs.BidderFacts.{curve-elements, dealer_of, farmers-dealers}
+use Rattle.beet_worlds.proofs.Marks.{as-many}
+use Rattle.beet_worlds.proofs.MasksBack.{get-map}
+use Rattle.beet_worlds.specs.MappedBidders.{party_of}
+use Rattle.beet_mapped.specs.Dealers.{dealers_of}
 use Rattle.beet_headline.specs.Halves.{CanRun}
 use Rattle.beet_counterexamples.proofs.MustAgree.{farmer, farmer-at}
 
@@ -30,15 +35,14 @@ moved-to-itself : (s : Point) (number x y : ℕ) → IsElement x → IsElement y
 moved-to-itself s number x y h l e =
     cancelled x y (mul_of number (number_of s)) h l (ap (λ a. point_of y a s) e ∙ moved_same s number x y l)
 
-all-at : {A : Type 0} (P : A → Type 0) (xs : List A) (k : ℕ) (x : A) → All P xs → slice_get xs k ≡ Some x → P x
-all-at P [] k x all e = cc e
-all-at P (y ∷ ys) zero x all e = subst P (some-same y x e) (All-head P y ys all)
-all-at P (y ∷ ys) (suc k) x all e = all-at P ys k x (All-tail P y ys all) e
+at-dealer : (bidders : List Bidder) (words : List (List ℕ)) (k : ℕ) (f : Farmer) → slice_get (farmers_of bidders words) k ≡ Some f →
+    slice_get (dealers_of (map party_of bidders) words) k ≡ Some (dealer_of f)
+at-dealer bidders words k f at = ap (λ l. slice_get l k) (farmers-dealers bidders words) ∙ get-map dealer_of (farmers_of bidders words) k f at
 
 words-at : (bidders : List Bidder) (words : List (List ℕ)) (k : ℕ) (f : Farmer) → slice_get (farmers_of bidders words) k ≡ Some f → slice_get words k ≡ Some f.words
 words-at [] words k f e = cc e
 words-at (b ∷ bs) [] k f e = cc e
-words-at (b ∷ bs) (w ∷ ws) zero f e = ap (λ (x : Farmer). Some x.words) (some-same (farmer b w) f e)
+words-at (b ∷ bs) (w ∷ ws) zero f e = ap (λ (x : Farmer). Some x.words) (same_Some (farmer b w) f e)
 words-at (b ∷ bs) (w ∷ ws) (suc k) f e = words-at bs ws k f e
 
 pub same-bids : (s : Point) (first second : Book) (words : Words) (k n : ℕ) (one other : Bidder) → IsBook first → IsBook second → CanRun first words →
@@ -51,14 +55,16 @@ same-bids s first second words k n one other b b' runs agree m at at' lt =
     let f : Farmer = farmer one here.0 in
     let g : Farmer = farmer other there.0 in
     let same : there.0 ≡ here.0 =
-    some-same there.0 here.0 (sym (words-at second.bidders words.bidders k g there.1) ∙ words-at first.bidders words.bidders k f here.1) in
-    let both = m.bidders.each_one k f g here.1 there.1 in
+    same_Some there.0 here.0 (sym (words-at second.bidders words.bidders k g there.1) ∙ words-at first.bidders words.bidders k f here.1) in
+    let dealt = at-dealer first.bidders words.bidders k f here.1 in
+    let dealt' = at-dealer second.bidders words.bidders k g there.1 in
+    let both = m.dealers.each_one k (dealer_of f) (dealer_of g) dealt dealt' in
     elim (known-or one.known s) [
       | inl known ↦ ap (λ c. quantity c n) (agree.own k one other at at' known)
       | inr unknown ↦
           let one_curve : IsCurve one.curve = all-at (λ (x : Bidder). IsCurve x.curve) first.bidders k one b.curves at in
           let other_curve : IsCurve other.curve = all-at (λ (x : Bidder). IsCurve x.curve) second.bidders k other b'.curves at' in
-          moved-to-itself s (slice_index (accepted here.0) n) (quantity one.curve n) (quantity other.curve n) (quantity-small one.curve one_curve n)
-          (quantity-small other.curve other_curve n)
-          (ap (λ l. slice_index (accepted l) n) (sym same) ∙ (both.moved unknown).moves n lt)
+          moved-to-itself s (slice_index (accepted here.0) n) (quantity one.curve n) (quantity other.curve n) (element-at (quantities one.curve) (curve-elements one.curve one_curve) n)
+          (element-at (quantities other.curve) (curve-elements other.curve other_curve) n)
+          (ap (λ l. slice_index (accepted l) n) (sym same) ∙ (both.moved unknown).moves n (omega (arith, lt, quantities-many first.grid one.curve (all-at (λ (x : Bidder). IsOfGrid first.grid x.curve) first.bidders k one b.of_grid at))))
     ]

@@ -14,7 +14,7 @@ ghost use Rattle.beet_bids.specs.Outcomes.{outcome_of};
 ghost use Rattle.beet_bids.specs.declared.book.Bidder.{Bidder};
 ghost use Rattle.beet_bids.specs.declared.outcomes.Outcome.{Outcome};
 ghost use Rattle.beet_plan.specs.Runs.{finish_of};
-ghost use Rattle.beet_plan.specs.Search.{is_spent};
+ghost use Rattle.beet_masking.specs.Masks.{is_spent};
 ghost use Rattle.beet_plan.specs.declared.Finish.TheVariants.{MasksSpent};
 ghost use Rattle.beet_delivery.specs.Events.{Triple};
 ghost use Rattle.beet_server.specs.Endings.{Ends, Waits};

@@ -1,149 +1,117 @@
--- A message that is delivered is one fewer undelivered, and each that is sent for the first time is one more.
-use Rattle.std.proofs.Common.{◌≡◌, ◌≤◌, ◌<◌, ◌+◌, ◌==◌, ◌&&◌, ◌||◌, not, ℕ, zero, suc, Bool, true, false, true≢false, List, [], ◌∷◌, length, cond, sym, refl, ap, subst, ◌∙◌, inl, inr, arith}
+-- How often a message stands in a list, and what a delivery changes in the number of undelivered messages.
+use Rattle.std.proofs.Common.{◌≡◌, ◌≢◌, ◌≤◌, ◌<◌, ◌+◌, ◌==◌, ◌&&◌, ◌||◌, not, ℕ, zero, suc, Bool, true, false, true≢false, List, [], ◌∷◌, cond, sym, refl, ap, subst, ◌∙◌, inl, inr, arith}
 use Rattle.std.proofs.lemmas.Bool.{cases_lt, eq-eqb, ne_eqb}
-use Rattle.std.proofs.lemmas.List.{length-append}
-use Rattle.std.proofs.lemmas.List.Elements.{filter-append}
-use Rattle.std.specs.Prelude.{filter, count_by}
-use Rattle.std.proofs.lemmas.List.Sums.{length-filter}
-use Rattle.std.specs.List.{range_with_len, flat_map}
-use Rattle.beet_field.specs.declared.point.Point.{Point}
-use Rattle.beet_field.specs.declared.point.Point.TheVariants.{One, Two, Three}
-use Rattle.beet_delivery.specs.Events.{Triple, Delivered, same, has, with_triple, is_sent, triples_of, all_triples, undelivered}
-use Rattle.beet_delivery.proofs.Undelivered.{none_left}
-use Rattle.beet_delivery.proofs.EventFacts.{triple_is, within_with, sent_parts, sent_grows, WasSent}
+use Rattle.std.proofs.lemmas.List.Sums.{length-filter, sum_by-append, sum_by-cons}
+use Rattle.std.specs.List.{range_with_len, flat_map, sum_by}
+use Rattle.std.specs.Prelude.{count_by}
+use Rattle.beet_delivery.specs.Networks.{Network, Triple, Delivered, has, with_triple, is_sent, triples_of, all_triples, undelivered}
+use Rattle.beet_delivery.proofs.NetworkFacts.{IsNetwork, WasSent, is_at, sent_grows, sent_parts, triple_is, within_with}
 
-abbrev pub one : Bool → ℕ
-one true = 1
-one false = 0
+-- terms of which two together are as the other two
+sums_same : {X : Type 0} (f g h k : X → ℕ) → ((x : X) → f x + g x ≡ h x + k x) → (xs : List X)
+    → sum_by f xs + sum_by g xs ≡ sum_by h xs + sum_by k xs
+sums_same f g h k each_same [] = refl
+sums_same f g h k each_same (x ∷ xs) =
+    let here = each_same x in
+    let rest = sums_same f g h k each_same xs in
+    omega (arith, here, rest, sum_by-cons f x xs, sum_by-cons g x xs, sum_by-cons h x xs, sum_by-cons k x xs)
 
-pub count_more : (p : Triple → Bool) (d : Triple) (xs : List Triple) → length (filter p (d ∷ xs)) ≡ one (p d) + length (filter p xs)
-count_more p d xs = by_test (p d)
-  where
-    by_test : (b : Bool) → length (cond b (d ∷ filter p xs) (filter p xs)) ≡ one b + length (filter p xs)
-    by_test true = omega arith
-    by_test false = omega arith
+-- a test that nothing passes counts nothing
+pub count_none : {X : Type 0} (p : X → Bool) → ((x : X) → p x ≡ false) → (xs : List X) → count_by p xs ≡ 0
+count_none p none [] = refl
+count_none p none (x ∷ xs) =
+    let rest = count_none p none xs in
+    let out : cond {A = ℕ} (p x) 1 0 ≡ 0 = ap (λ b. cond b 1 0) (none x) in
+    omega (arith, sum_by-cons (λ y. cond (p y) 1 0) x xs, rest, out)
 
--- four tests of which two together pass as often as the other two
-count_same : (a r b n : Triple → Bool) → ((d : Triple) → one (a d) + one (r d) ≡ one (b d) + one (n d)) → (xs : List Triple)
-    → length (filter a xs) + length (filter r xs) ≡ length (filter b xs) + length (filter n xs)
-count_same a r b n each_same [] = refl
-count_same a r b n each_same (d ∷ xs) =
-    let here = each_same d in
-    let rest = count_same a r b n each_same xs in
-    let p = count_more a d xs in
-    let q = count_more r d xs in
-    let s = count_more b d xs in
-    let t = count_more n d xs in
-    rw (p, q, s, t) (omega (arith, here, rest))
+module _ {P : Type 0} {net : Network P} (law : IsNetwork net) where
+  -- the messages of so many rounds, from one on
+  abbrev from_round : ℕ → ℕ → List (Triple P)
+  from_round a n = flat_map (triples_of net) (range_with_len a n)
 
--- a message stands once among all
+  -- a message stands once among those of all rounds
+  module _ (e : Triple P) (may : net.sends e.from e.to ≡ true) where
+    one_more : (n a : ℕ)
+        → count_by (is_at net e) (from_round a (suc n)) ≡ cond (a == e.round) 1 0 + count_by (is_at net e) (from_round (a + 1) n)
+    one_more n a =
+        sum_by-append (λ d. cond (is_at net e d) 1 0) (triples_of net a) (from_round (a + 1) n)
+        ∙ ap (λ m. m + count_by (is_at net e) (from_round (a + 1) n)) (law.once e a may)
 
-abbrev pub is_at : Triple → Triple → Bool
-is_at e d = same d.from e.from && same d.to e.to && (d.round == e.round)
+    one_less : (n a : ℕ) → a ≢ e.round → count_by (is_at net e) (from_round a (suc n)) ≡ count_by (is_at net e) (from_round (a + 1) n)
+    one_less n a other =
+        let out : cond {A = ℕ} (a == e.round) 1 0 ≡ 0 = ap (λ b. cond b 1 0) (ne_eqb a e.round other) in
+        omega (arith, one_more n a, out)
 
-at_test : (b : Bool) (d : Triple) → length (cond b (d ∷ []) []) ≡ one b
-at_test true d = refl
-at_test false d = refl
+    none_later : (n a : ℕ) → e.round < a → count_by (is_at net e) (from_round a n) ≡ 0
+    none_later zero a lt = refl
+    none_later (suc n) a lt = one_less n a (λ k. omega (arith, k, lt)) ∙ none_later n (a + 1) (omega (arith, lt))
 
-among_six : (f g : Point) (k t : ℕ) → same f g ≡ false
-    → length (filter (is_at (record { from = f; to = g; round = k })) (triples_of t)) ≡ one (t == k)
-among_six One One k t e = absurd (true≢false e)
-among_six Two Two k t e = absurd (true≢false e)
-among_six Three Three k t e = absurd (true≢false e)
-among_six One Two k t e = at_test (t == k) (record { from = One; to = Two; round = t })
-among_six One Three k t e = at_test (t == k) (record { from = One; to = Three; round = t })
-among_six Two One k t e = at_test (t == k) (record { from = Two; to = One; round = t })
-among_six Two Three k t e = at_test (t == k) (record { from = Two; to = Three; round = t })
-among_six Three One k t e = at_test (t == k) (record { from = Three; to = One; round = t })
-among_six Three Two k t e = at_test (t == k) (record { from = Three; to = Two; round = t })
+    once_from : (n a : ℕ) → a ≤ e.round → e.round < a + n → count_by (is_at net e) (from_round a n) ≡ 1
+    once_from zero a low high = absurd (omega (arith, low, high))
+    once_from (suc n) a low high = elim (cases_lt a e.round) [
+      | inl lt ↦ one_less n a (λ k. omega (arith, k, lt)) ∙ once_from n (a + 1) (omega (arith, lt)) (omega (arith, high))
+      | inr le ↦
+          let here : cond {A = ℕ} (a == e.round) 1 0 ≡ 1 = ap (λ b. cond b 1 0) (eq-eqb a e.round (omega (arith, low, le))) in
+          omega (arith, one_more n a, here, none_later n (a + 1) (omega (arith, le)))
+    ]
 
-from_round : (e : Triple) → same e.from e.to ≡ false → (n a : ℕ)
-    → length (filter (is_at e) (flat_map triples_of (range_with_len a (suc n))))
-    ≡ one (a == e.round) + length (filter (is_at e) (flat_map triples_of (range_with_len (a + 1) n)))
-from_round e other n a =
-    let six = among_six e.from e.to e.round a other in
-    ap length (filter-append (is_at e) (triples_of a) (flat_map triples_of (range_with_len (a + 1) n)))
-    ∙ length-append (filter (is_at e) (triples_of a)) (filter (is_at e) (flat_map triples_of (range_with_len (a + 1) n)))
-    ∙ ap (λ m. m + length (filter (is_at e) (flat_map triples_of (range_with_len (a + 1) n)))) six
+    pub one_there : (rounds : ℕ) → e.round < rounds → count_by (is_at net e) (all_triples net rounds) ≡ 1
+    one_there rounds lt = once_from rounds 0 (omega arith) (omega (arith, lt))
 
-none_later : (e : Triple) → same e.from e.to ≡ false → (n a : ℕ) → e.round < a
-    → length (filter (is_at e) (flat_map triples_of (range_with_len a n))) ≡ 0
-none_later e other zero a lt = refl
-none_later e other (suc n) a lt =
-    let out : (a == e.round) ≡ false = ne_eqb a e.round (λ k. absurd (omega (arith, k, lt))) in
-    let first = from_round e other n a in
-    let rest = none_later e other n (a + 1) (omega (arith, lt)) in
-    let zero_here : one (a == e.round) ≡ 0 = ap one out in
-    omega (arith, first, rest, zero_here)
+  -- the tests at a message, before and after one more is delivered
+  same_counts : (rounds : ℕ) (x : Delivered P) (e : Triple P) → WasSent net rounds x → is_sent net rounds x e ≡ true
+      → has x e ≡ false → (d : Triple P)
+      → cond (is_sent net rounds (with_triple net x e) d && not (has (with_triple net x e) d)) 1 0 + cond (is_at net e d) 1 0
+      ≡ cond (is_sent net rounds x d && not (has x d)) 1 0
+      + cond (is_sent net rounds (with_triple net x e) d && not (is_sent net rounds x d)) 1 0
+  same_counts rounds x e was sent new d =
+      by_cases (is_sent net rounds x d) (is_sent net rounds (with_triple net x e) d) (has x d) (is_at net e d)
+      (sent_grows law rounds x (with_triple net x e) d (within_with law x e))
+      (was d)
+      (λ i. subst (λ (k : Triple P). is_sent net rounds x k ≡ true) (sym (triple_is law d e i)) sent)
+      (λ i. subst (λ (k : Triple P). has x k ≡ false) (sym (triple_is law d e i)) new)
+    where
+      by_cases : (before now there is : Bool) → (before ≡ true → now ≡ true) → (there ≡ true → before ≡ true) → (is ≡ true → before ≡ true)
+          → (is ≡ true → there ≡ false)
+          → cond (now && not (there || is)) 1 0 + cond is 1 0 ≡ cond (before && not there) 1 0 + cond (now && not before) 1 0
+      by_cases true true true false g w s n = refl
+      by_cases true true false true g w s n = refl
+      by_cases true true false false g w s n = refl
+      by_cases true true true true g w s n = absurd (true≢false (n refl))
+      by_cases true false there is g w s n = absurd (true≢false (sym (g refl)))
+      by_cases false now true is g w s n = absurd (true≢false (sym (w refl)))
+      by_cases false now false true g w s n = absurd (true≢false (sym (s refl)))
+      by_cases false true false false g w s n = refl
+      by_cases false false false false g w s n = refl
 
-pub one_there : (e : Triple) → same e.from e.to ≡ false → (n a : ℕ) → a ≤ e.round → e.round < a + n
-    → length (filter (is_at e) (flat_map triples_of (range_with_len a n))) ≡ 1
-one_there e other zero a low high = absurd (omega (arith, low, high))
-one_there e other (suc n) a low high = elim (cases_lt a e.round) [
-  | inl lt ↦
-      let out : (a == e.round) ≡ false = ne_eqb a e.round (λ k. absurd (omega (arith, k, lt))) in
-      let first = from_round e other n a in
-      let rest = one_there e other n (a + 1) (omega (arith, lt)) (omega (arith, high)) in
-      let zero_here : one (a == e.round) ≡ 0 = ap one out in
-      omega (arith, first, rest, zero_here)
-  | inr le ↦
-      let here : (a == e.round) ≡ true = eq-eqb a e.round (omega (arith, low, le)) in
-      let rest = none_later e other n (a + 1) (omega (arith, le)) in
-      let first = from_round e other n a in
-      let one_here : one (a == e.round) ≡ 1 = ap one here in
-      omega (arith, first, rest, one_here)
-]
+  -- a delivery of what was sent takes one away and adds what is sent by it
+  pub counts_down : (rounds : ℕ) (x : Delivered P) (e : Triple P) → WasSent net rounds x → is_sent net rounds x e ≡ true → has x e ≡ false
+      → undelivered net rounds (with_triple net x e) + 1
+      ≡ undelivered net rounds x
+      + count_by (λ d. is_sent net rounds (with_triple net x e) d && not (is_sent net rounds x d)) (all_triples net rounds)
+  counts_down rounds x e was sent new =
+      let p = sent_parts law rounds x e sent in
+      let y : Delivered P = with_triple net x e in
+      let all = all_triples net rounds in
+      let sum = sums_same (λ d. cond (is_sent net rounds y d && not (has y d)) 1 0) (λ d. cond (is_at net e d) 1 0)
+      (λ d. cond (is_sent net rounds x d && not (has x d)) 1 0) (λ d. cond (is_sent net rounds y d && not (is_sent net rounds x d)) 1 0)
+      (same_counts rounds x e was sent new) all in
+      (λ i. length-filter (λ d. is_sent net rounds y d && not (has y d)) all i + sym (one_there e p.0 rounds p.1.0) i) ∙ sum
+      ∙ ap (λ m. m + count_by (λ d. is_sent net rounds y d && not (is_sent net rounds x d)) all)
+      (sym (length-filter (λ d. is_sent net rounds x d && not (has x d)) all))
 
--- the tests at a message, before and after one more is delivered
-same_counts : (rounds : ℕ) (x : Delivered) (e : Triple) → WasSent rounds x → is_sent rounds x e ≡ true → has x e ≡ false → (d : Triple)
-    → one (is_sent rounds (with_triple x e) d && not (has (with_triple x e) d)) + one (is_at e d)
-    ≡ one (is_sent rounds x d && not (has x d)) + one (is_sent rounds (with_triple x e) d && not (is_sent rounds x d))
-same_counts rounds x e was sent new d =
-    by_cases (is_sent rounds x d) (is_sent rounds (with_triple x e) d) (has x d) (is_at e d)
-    (sent_grows rounds x (with_triple x e) d (within_with x e))
-    (was d)
-    (λ i. subst (λ (k : Triple). is_sent rounds x k ≡ true) (sym (triple_is d e i)) sent)
-    (λ i. subst (λ (k : Triple). has x k ≡ false) (sym (triple_is d e i)) new)
-  where
-    by_cases : (before now there is : Bool) → (before ≡ true → now ≡ true) → (there ≡ true → before ≡ true) → (is ≡ true → before ≡ true)
-        → (is ≡ true → there ≡ false) → one (now && not (there || is)) + one is ≡ one (before && not there) + one (now && not before)
-    by_cases true true true false g w s n = refl
-    by_cases true true false true g w s n = refl
-    by_cases true true false false g w s n = refl
-    by_cases true true true true g w s n = absurd (true≢false (n refl))
-    by_cases true false there is g w s n = absurd (true≢false (sym (g refl)))
-    by_cases false now true is g w s n = absurd (true≢false (sym (w refl)))
-    by_cases false now false true g w s n = absurd (true≢false (sym (s refl)))
-    by_cases false true false false g w s n = refl
-    by_cases false false false false g w s n = refl
-
--- a delivery of what was sent takes one away and adds what is sent by it
-pub counts_down : (rounds : ℕ) (x : Delivered) (e : Triple) → WasSent rounds x → is_sent rounds x e ≡ true → has x e ≡ false
-    → undelivered rounds (with_triple x e) + 1
-    ≡ undelivered rounds x + count_by (λ d. is_sent rounds (with_triple x e) d && not (is_sent rounds x d)) (all_triples rounds)
-counts_down rounds x e was sent new =
-    let p = sent_parts rounds x e sent in
-    let once = one_there e p.0 rounds 0 (omega arith) (omega (arith, p.1.0)) in
-    let sum = count_same (λ d. is_sent rounds (with_triple x e) d && not (has (with_triple x e) d)) (is_at e)
-    (λ d. is_sent rounds x d && not (has x d)) (λ d. is_sent rounds (with_triple x e) d && not (is_sent rounds x d))
-    (same_counts rounds x e was sent new) (all_triples rounds) in
-    ap (λ m. undelivered rounds (with_triple x e) + m) (sym once) ∙ sum
-    ∙ ap (λ m. undelivered rounds x + m) (length-filter (λ d. is_sent rounds (with_triple x e) d && not (is_sent rounds x d)) (all_triples rounds))
-
--- one fewer where nothing is sent by it
-pub one_fewer : (rounds : ℕ) (x : Delivered) (e : Triple) → WasSent rounds x → is_sent rounds x e ≡ true → has x e ≡ false
-    → ((d : Triple) → is_sent rounds (with_triple x e) d ≡ true → is_sent rounds x d ≡ true)
-    → undelivered rounds (with_triple x e) + 1 ≡ undelivered rounds x
-one_fewer rounds x e was sent new none =
-    let down = counts_down rounds x e was sent new in
-    let zero_more : count_by (λ d. is_sent rounds (with_triple x e) d && not (is_sent rounds x d)) (all_triples rounds) ≡ 0 =
-    sym (length-filter (λ d. is_sent rounds (with_triple x e) d && not (is_sent rounds x d)) (all_triples rounds))
-    ∙ ap length (none_left (λ d. is_sent rounds (with_triple x e) d && not (is_sent rounds x d))
-    (λ d. no_news (is_sent rounds x d) (is_sent rounds (with_triple x e) d) (none d)) (all_triples rounds)) in
-    omega (arith, down, zero_more)
-  where
-    no_news : (before now : Bool) → (now ≡ true → before ≡ true) → (now && not before) ≡ false
-    no_news true true h = refl
-    no_news true false h = refl
-    no_news false true h = absurd (true≢false (sym (h refl)))
-    no_news false false h = refl
+  -- one fewer where nothing is sent by it
+  pub one_fewer : (rounds : ℕ) (x : Delivered P) (e : Triple P) → WasSent net rounds x → is_sent net rounds x e ≡ true → has x e ≡ false
+      → ((d : Triple P) → is_sent net rounds (with_triple net x e) d ≡ true → is_sent net rounds x d ≡ true)
+      → undelivered net rounds (with_triple net x e) + 1 ≡ undelivered net rounds x
+  one_fewer rounds x e was sent new none =
+      let down = counts_down rounds x e was sent new in
+      let zero_more = count_none (λ d. is_sent net rounds (with_triple net x e) d && not (is_sent net rounds x d))
+      (λ d. no_news (is_sent net rounds x d) (is_sent net rounds (with_triple net x e) d) (none d)) (all_triples net rounds) in
+      omega (arith, down, zero_more)
+    where
+      no_news : (before now : Bool) → (now ≡ true → before ≡ true) → (now && not before) ≡ false
+      no_news true true h = refl
+      no_news true false h = refl
+      no_news false true h = absurd (true≢false (sym (h refl)))
+      no_news false false h = refl

@@ -1,4 +1,6 @@
-pub mod EventFacts
-pub mod Undelivered
+pub mod NetworkFacts
+mod Adding
 pub mod Counting
-pub mod Listing
+mod Listing
+pub mod Undelivered
+pub mod ThreeServers

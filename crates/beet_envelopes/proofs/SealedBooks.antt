@@ -26,7 +26,7 @@ use Rattle.beet_plan.specs.Auction.{auction_over}
 use Rattle.beet_book.specs.Farmers.{Farmer, book_inputs, book_with, point_for, summed_point}
 use Rattle.beet_auction.proofs.BookLines.{book-lines, slopes_of}
 use Rattle.beet_auction.proofs.BookPoints.{points-finish, points-rounds}
-use Rattle.beet_load.specs.Farmers.{words_wanted}
+use Rattle.beet_load.specs.Counts.{words_wanted}
 use Rattle.beet_load.specs.Servers.{ServerWords, masks_of}
 use Rattle.beet_run.specs.Outcomes.{outcome_answer}
 use Rattle.beet_auction.specs.AnyPoints.{points_finish, points_rounds}

@@ -17,7 +17,7 @@ use Rattle.beet_bids.specs.Books.{IsBook}
 use Rattle.beet_book.specs.Farmers.{Farmer, book_with}
 use Rattle.beet_errand.specs.Errands.{Errand, reads}
 use Rattle.beet_errand.specs.Fetches.{Leads}
-use Rattle.beet_load.specs.Farmers.{words_wanted}
+use Rattle.beet_load.specs.Counts.{words_wanted}
 use Rattle.beet_load.proofs.Farming.{lt_false}
 use Rattle.beet_envelopes.specs.Gather.{envelopes_errand, bidders_errand}
 use Rattle.beet_envelopes.specs.Seal.{sealed_envelope}

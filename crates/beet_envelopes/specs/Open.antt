@@ -9,6 +9,7 @@ use Rattle.beet_farmer.specs.Lists.{list_of}
 use Rattle.beet_farmer.specs.declared.list_file.ListEntry.{ListEntry}
 use Rattle.beet_plan.specs.Auction.{auction_over}
 use Rattle.beet_errand.specs.Errands.{Answer, Errand, Ends, Step, ◌>>=◌, gives, reads}
+use Rattle.beet_load.specs.Wanted.{wanted_of}
 use Rattle.beet_load.specs.Servers.{ServerWords, all_words_errand, masks_of}
 use Rattle.beet_run.specs.Outcomes.{outcome_answer}
 use Rattle.beet_auction.specs.AnyPoints.{points_finish, points_rounds}
@@ -29,7 +30,7 @@ opened_answer grid servers bidders =
 -- the bids in the envelopes of these entries are opened: the words of the servers come first, and a bundle may have any number of bidders
 unfoldable pub entries_job : Grid → Servers → List ListEntry → Step Answer
 entries_job grid sources entries = do
-  words ← all_words_errand grid None sources
+  words ← all_words_errand (wanted_of None grid) None sources
   bidders ← bidders_errand grid [] entries
   gives (opened_answer grid words.servers bidders)
 

@@ -13,11 +13,11 @@ use Rattle.beet_book.specs.Dealing.{dealt_points}
 use Rattle.beet_book.specs.declared.entries.BidderSource.{BidderSource}
 use Rattle.beet_farmer.specs.declared.envelope.Envelope.{Envelope}
 use Rattle.beet_farmer.specs.Envelopes.{envelope_bytes}
-use Rattle.beet_errand.specs.Errands.{Answer, Errand, Ends, Step, ◌>>=◌, ◌>>◌, file_for, gives, reads}
+use Rattle.beet_errand.specs.Errands.{Answer, Errand, Ends, Step, ◌>>=◌, file_for, gives, reads}
 use Rattle.beet_errand.specs.Texts.{line_of}
 use Rattle.beet_errand.specs.declared.answer.Status.TheVariants.{Done}
-use Rattle.beet_plan.specs.Kept.{words_kept}
-use Rattle.beet_load.specs.Farmers.{words_wanted, words_errand, enough_words}
+use Rattle.beet_load.specs.Wanted.{wanted_of}
+use Rattle.beet_load.specs.Farmers.{bidder_errand}
 use Rattle.beet_bids.specs.declared.auction_file.TheConstants.{AUCTION_LIMIT}
 use Rattle.beet_bids.specs.declared.bid_file.TheConstants.{BID_LIMIT}
 
@@ -48,10 +48,7 @@ sealed_answer grid out curve words = record {
 
 -- the words of the farmer, who is the bidder 1, of which there have to be enough
 abbrev pub own_words_errand : Grid → BidderSource → Step (List ℕ)
-own_words_errand grid source = do
-  words ← words_errand None source (words_kept grid.prices)
-  enough_words 1 (words_wanted grid) words
-  gives words
+own_words_errand grid source = bidder_errand (wanted_of None grid) None 1 source
 
 -- the whole job
 unfoldable pub seal_job : List ℕ → List ℕ → BidderSource → List ℕ → Step Answer

@@ -10,7 +10,7 @@ use Rattle.beet_book.specs.Dealing.{dealt_points}
 use Rattle.beet_farmer.specs.Envelopes.{envelope_bytes}
 use Rattle.beet_farmer.specs.declared.list_file.ListEntry.{ListEntry}
 use Rattle.beet_book.specs.Farmers.{Farmer}
-use Rattle.beet_load.specs.Farmers.{words_wanted}
+use Rattle.beet_load.specs.Counts.{words_wanted}
 use Rattle.beet_envelopes.specs.Seal.{sealed_envelope}
 use Rattle.beet_farmer.specs.declared.envelope.TheConstants.{ENVELOPE_LIMIT}
 

@@ -16,7 +16,7 @@ ghost use Rattle.beet_errand.specs.Errands.{Errand};
 ghost use Rattle.beet_errand.specs.Fetches.{Leads};
 ghost use Rattle.beet_auction.specs.Endings.{book_finish, book_rounds};
 ghost use Rattle.beet_book.specs.Farmers.{Farmer, book_inputs, book_with};
-ghost use Rattle.beet_load.specs.Farmers.{words_wanted};
+ghost use Rattle.beet_load.specs.Counts.{words_wanted};
 ghost use Rattle.beet_load.specs.Servers.{ServerWords, masks_of};
 ghost use Rattle.beet_run.specs.Outcomes.{outcome_answer};
 ghost use Rattle.beet_envelopes.specs.Gather.{bidders_errand};

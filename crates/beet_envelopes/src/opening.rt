@@ -14,7 +14,7 @@ use beet_book::Servers;
 use beet_errand::{Reply, Stop, fetch_file, judge};
 use beet_farmer::{LIST_LIMIT, ListEntry, read_list};
 use beet_link::Gate;
-use beet_load::{AllWords, read_grid, read_sources, read_words};
+use beet_load::{AllWords, auction_wants, read_grid, read_sources, read_words};
 use beet_run::outcome_reply;
 use beet_store::Shelf;
 use std::alloc::Global;
@@ -44,7 +44,7 @@ fn open_entries<S: Shelf, R: Threads + Wait + Sync, G: Gate>(
     ensures reads { Reads (λ reply. reply) (S.seen shelf.old) (S.seen shelf.new)
         (entries_job grid.now sources.now entries.now) result }
 {
-    let words = read_words(alloc, shelf, grid, sources, None)?;
+    let words = read_words(alloc, shelf, &auction_wants(None, grid), sources, None)?;
     let totals = match add_bidders(alloc, shelf, grid, entries) {
         Ok(totals) => totals,
         Err(stop) => {

@@ -6,7 +6,8 @@ ghost use Rattle.beet_bids.specs.Curves.{IsOfGrid};
 ghost use Rattle.beet_book.specs.Dealing.{HasLengths};
 ghost use Rattle.beet_farmer.specs.Envelopes.{envelope_bytes};
 ghost use Rattle.beet_farmer.specs.Sealing.{points_in};
-ghost use Rattle.beet_load.specs.Farmers.{words_wanted, words_errand};
+ghost use Rattle.beet_load.specs.Counts.{words_wanted};
+ghost use Rattle.beet_load.specs.Farmers.{words_errand};
 ghost use Rattle.beet_errand.specs.Errands.{file_for};
 ghost use Rattle.beet_errand.specs.Fetches.{Reads};
 ghost use Rattle.beet_envelopes.specs.Seal.{own_words_errand, seal_job, sealed_answer, sealed_text};
@@ -17,7 +18,7 @@ use beet_bids::{Curve, Grid};
 use beet_errand::{NewFile, Reply, Status, Stop};
 use beet_farmer::{Envelope, seal, write_envelope};
 use beet_field::Trio;
-use beet_load::{check_words, read_curve, read_grid, read_tape_file};
+use beet_load::{auction_wants, check_words, read_curve, read_grid, read_tape_file};
 use beet_plan::words_kept;
 use beet_store::Shelf;
 use beet_words::Tape;
@@ -56,7 +57,7 @@ fn read_words<S: Shelf>(
         (own_words_errand grid.now (named_source source.entry)) result }
 {
     let tape = read_source(alloc, shelf, source, words_kept(grid))?;
-    check_words(alloc, grid, FARMER, &tape)?;
+    check_words(alloc, &auction_wants(None, grid), FARMER, &tape)?;
     Ok(tape)
 }
 

@@ -2,31 +2,31 @@
 use Rattle.std.proofs.Common.{◌≡◌, ◌≤◌, ◌∙◌, ℕ, List, Result, Ok, Err, IfOk, IfErr, arith, refl, sym, subst}
 use Rattle.std.specs.Prelude.{IsErrAnd}
 use Rattle.std.proofs.lemmas.Result.{err_from_is_err_and}
-use Rattle.beet_store.specs.Causes.{Rose}
 use Rattle.beet_store.specs.Files.{Seen}
 use Rattle.beet_forms.specs.FaultLines.{fault_line_of}
 use Rattle.beet_forms.specs.Faults.{Reading, Answers}
 use Rattle.beet_forms.specs.declared.faults.ReadFault.{ReadFault}
 use Rattle.beet_forms.specs.declared.faults.ReadFault.TheVariants.{Bad, OutOfMemory as MemoryOut}
-use Rattle.beet_errand.specs.Errands.{Answer, Errand, Ends, Step, ◌>>=◌, ◌>>◌, gives, answers, judged}
-use Rattle.beet_errand.specs.Fetches.{ReadsFor, Reads, Reached, Tests, Does, Causes, Judges, Refuses}
-use Rattle.beet_errand.specs.declared.answer.Status.TheVariants.{Done, OutOfMemory as NoMemory, Usage, ReadFault as Unread, WriteFault, BadFile, MasksSpent, WorldsRefused, AuditRefused, TooFewWords}
+use Rattle.beet_errand.specs.Errands.{Answer, Errand, Ends, Step, ◌>>=◌, ◌>>◌, gives, refuses, judged}
+use Rattle.beet_errand.specs.Fetches.{ReadsFor, Reads, Reached, Tests, Does, CauseOf, Causes, Judges, Refuses}
+use Rattle.beet_errand.specs.declared.answer.OwnRefusal.{OwnRefusal}
+use Rattle.beet_errand.specs.declared.answer.Refusal.{Refusal}
+use Rattle.beet_errand.specs.declared.answer.Refusal.TheVariants.{Usage, ReadFault as Unread, BadFile, TooFewWords, Own}
 use Rattle.beet_errand.specs.declared.answer.Stop.{Stop}
 use Rattle.beet_errand.specs.declared.answer.Stop.TheVariants.{Refused, OutOfMemory}
 use Rattle.beet_errand.proofs.Steps.{went_none, went_on, stops_before, stops_after}
 
 -- a cause that came later is a cause
+cause_on : (unnamed : Type 0) (own : OwnRefusal → Type 0) (before middle now : ℕ) (refusal : Refusal) → before ≤ middle →
+    CauseOf unnamed own middle now refusal → CauseOf unnamed own before now refusal
+cause_on unnamed own before middle now Usage le h = h
+cause_on unnamed own before middle now Unread le h = λ last. let up = h last in omega arith
+cause_on unnamed own before middle now BadFile le h = tt
+cause_on unnamed own before middle now TooFewWords le h = tt
+cause_on unnamed own before middle now (Own refusal) le h = h
+
 causes_on : (before middle now : ℕ) (stop : Stop) → before ≤ middle → Causes middle now stop → Causes before now stop
-causes_on before middle now (Refused Done text) le h = absurd h
-causes_on before middle now (Refused NoMemory text) le h = absurd h
-causes_on before middle now (Refused Usage text) le h = absurd h
-causes_on before middle now (Refused Unread text) le h = λ last. let up = h last in omega arith
-causes_on before middle now (Refused WriteFault text) le h = absurd h
-causes_on before middle now (Refused BadFile text) le h = tt
-causes_on before middle now (Refused MasksSpent text) le h = absurd h
-causes_on before middle now (Refused WorldsRefused text) le h = absurd h
-causes_on before middle now (Refused AuditRefused text) le h = absurd h
-causes_on before middle now (Refused TooFewWords text) le h = tt
+causes_on before middle now (Refused refusal line) le h = cause_on ⊥ (λ own. ⊥) before middle now refusal le h
 causes_on before middle now OutOfMemory le h = tt
 
 module _ {A B T U : Type 0} {shows : T → A → Type 0} {last : U → B → Type 0} {old middle now : Seen} {step : Step A} {rest : A → Step B} where
@@ -71,15 +71,18 @@ module _ {B U : Type 0} {last : U → B → Type 0} where
   passed {test = test} {step = step} {result = Ok u} t r =
       let (b, shown, went) = r.gives in
       record { gives = (b, shown, λ next. rw (t.passes (step next)) (went next)); cause = tt; later = r.later }
-  passed {test = test} {step = step} {result = Err (Refused status line)} t r =
+  passed {test = test} {step = step} {result = Err (Refused refusal line)} t r =
       record { gives = λ next. rw (t.passes (step next)) (r.gives next); cause = r.cause; later = r.later }
   passed {test = test} {step = step} {result = Err OutOfMemory} t r =
       record { gives = λ next. rw (t.passes (step next)) (r.gives next); cause = tt; later = r.later }
 
   -- a test stops
   pub tested : {test : Errand → Errand} {seen : Seen} {step : Step B} {stop : Stop} → Tests test (Err stop) → ReadsFor last seen seen (test >> step) (Err stop)
-  tested {test = test} {seen = seen} {step = step} {stop = Refused status line} t =
-      record { gives = λ next. rw (t.passes (step next)) (went_none seen.told (answers status line.items)); cause = t.cause seen.faults seen.faults; later = omega arith }
+  tested {test = test} {seen = seen} {step = step} {stop = Refused refusal line} t = record {
+    gives = λ next. rw (t.passes (step next)) (went_none seen.told (refuses refusal line.items));
+    cause = t.cause seen.faults seen.faults;
+    later = omega arith;
+  }
   tested {test = test} {seen = seen} {step = step} {stop = OutOfMemory} t =
       record { gives = λ next. (test (step next), went_none seen.told (test (step next))); cause = tt; later = omega arith }
 
@@ -100,20 +103,20 @@ pub handed : {A T : Type 0} {shows : T → A → Type 0} {old now : Seen} {step 
     ReadsFor shows old now step given → ReadsFor shows old now step result
 handed {shows = shows} {old = old} {now = now} {step = step} e r = subst (ReadsFor shows old now step) e r
 
--- a file that cannot be fetched is a cause where the count of faults rose
-pub unread_cause : (before now : ℕ) (text : List ℕ) (stop : Stop) → Refuses Unread text stop → Rose before now → Causes before now stop
-unread_cause before now text (Refused status line) r rose = rw r.0 rose
-unread_cause before now text OutOfMemory r rose = tt
+-- a refusal has its cause
+pub refused_cause : (refusal : Refusal) (text : List ℕ) (before now : ℕ) (stop : Stop) → Refuses refusal text stop →
+    CauseOf ⊥ (λ own. ⊥) before now refusal → Causes before now stop
+refused_cause refusal text before now (Refused r line) is cause = rw is.0 cause
+refused_cause refusal text before now OutOfMemory is cause = tt
 
--- too few words are a cause
-pub few_cause : (before now : ℕ) (text : List ℕ) (stop : Stop) → Refuses TooFewWords text stop → Causes before now stop
-few_cause before now text (Refused status line) r = rw r.0 tt
-few_cause before now text OutOfMemory r = tt
-
--- a file that breaks its format is a cause
-pub bad_cause : (before now : ℕ) (text : List ℕ) (stop : Stop) → Refuses BadFile text stop → Causes before now stop
-bad_cause before now text (Refused status line) r = rw r.0 tt
-bad_cause before now text OutOfMemory r = tt
+-- a test stops by the line that was made for it
+pub test_refused : {test : Errand → Errand} (refusal : Refusal) (text : List ℕ) (stop : Stop) →
+    ((next : Errand) → test next ≡ refuses refusal text) → Refuses refusal text stop → ((before now : ℕ) → CauseOf ⊥ (λ own. ⊥) before now refusal) → Tests test (Err stop)
+test_refused refusal text (Refused r line) fails is cause = record {
+  passes = λ next. rw (is.0, is.1) (fails next);
+  cause = λ before now. rw is.0 (cause before now);
+}
+test_refused refusal text OutOfMemory fails is cause = record { passes = tt; cause = λ before now. tt }
 
 -- a file that was fetched is judged
 pub judges : {A T : Type 0} {view : T → A} {seen : Seen} (name : List ℕ) (reading : Reading A) (read : Result T ReadFault) (result : Result T Stop) →
@@ -124,13 +127,13 @@ judges {view = view} {seen = seen} name reading (Ok value) (Ok v) a j =
 judges name reading (Ok value) (Err stop) a j = absurd j
 judges name reading (Err (Bad place reason)) (Ok v) a j = absurd cc
 judges name reading (Err MemoryOut) (Ok v) a j = absurd cc
-judges {seen = seen} name reading (Err (Bad place reason)) (Err (Refused status line)) a j = record {
-  gives = λ next. rw (a, j.0, j.1) (went_none seen.told (answers BadFile (fault_line_of name place reason)));
-  cause = bad_cause seen.faults seen.faults (fault_line_of name place reason) (Refused status line) j;
+judges {seen = seen} name reading (Err (Bad place reason)) (Err (Refused refusal line)) a j = record {
+  gives = λ next. rw (a, j.0, j.1) (went_none seen.told (refuses BadFile (fault_line_of name place reason)));
+  cause = rw j.0 tt;
   later = omega arith;
 }
 judges name reading (Err (Bad place reason)) (Err OutOfMemory) a j = no_memory
-judges name reading (Err MemoryOut) (Err (Refused status line)) a j = absurd cc
+judges name reading (Err MemoryOut) (Err (Refused refusal line)) a j = absurd cc
 judges name reading (Err MemoryOut) (Err OutOfMemory) a j = no_memory
 
 -- a value that is computed, unless memory runs out
@@ -142,17 +145,17 @@ computed (Err stop) is memory = rw memory no_memory
 -- a job whose answer is given
 pub does : {old now : Seen} {job : Step Answer} (result : Result Answer Stop) → Reads (λ answer. answer) old now job result → Does old now (job Ends) result
 does (Ok answer) r = let (a, is, went) = r.gives in record { finishes = rw is at (went Ends); cause = tt; later = r.later }
-does (Err (Refused status line)) r = record { finishes = r.gives Ends; cause = r.cause; later = r.later }
+does (Err (Refused refusal line)) r = record { finishes = r.gives Ends; cause = r.cause; later = r.later }
 does (Err OutOfMemory) r = record { finishes = r.gives Ends; cause = tt; later = r.later }
 
 -- two tests, one after the other
 pub both : {first second : Errand → Errand} (result : Result (Unit {0}) Stop) → Tests first (Ok tt) → Tests second result → Tests (λ next. first (second next)) result
 both {second = second} (Ok tt) t u = record { passes = λ next. t.passes (second next) ∙ u.passes next; cause = λ before now. tt }
-both {second = second} (Err (Refused status line)) t u = record { passes = λ next. t.passes (second next) ∙ u.passes next; cause = u.cause }
+both {second = second} (Err (Refused refusal line)) t u = record { passes = λ next. t.passes (second next) ∙ u.passes next; cause = u.cause }
 both (Err OutOfMemory) t u = record { passes = tt; cause = λ before now. tt }
 
 pub first_fails : {first second : Errand → Errand} (stop : Stop) → Tests first (Err stop) → Tests (λ next. first (second next)) (Err stop)
-first_fails {second = second} (Refused status line) t = record { passes = λ next. t.passes (second next); cause = t.cause }
+first_fails {second = second} (Refused refusal line) t = record { passes = λ next. t.passes (second next); cause = t.cause }
 first_fails OutOfMemory t = record { passes = tt; cause = λ before now. tt }
 
 -- what the exit of a `?` returns
@@ -179,12 +182,12 @@ module _ {A T : Type 0} {shows : T → A → Type 0} {old middle now : Seen} whe
       let le = h.later in
       let le' = r.later in
       record { gives = (a, is, λ next. went_on old.told middle.told now.told _ _ _ (h.went next) (went next)); cause = tt; later = omega arith }
-  reached_last {result = Err (Refused status line)} h r =
+  reached_last {result = Err (Refused refusal line)} h r =
       let le = h.later in
       let le' = r.later in
       record {
         gives = λ next. went_on old.told middle.told now.told _ _ _ (h.went next) (r.gives next);
-        cause = causes_on old.faults middle.faults now.faults (Refused status line) le r.cause;
+        cause = causes_on old.faults middle.faults now.faults (Refused refusal line) le r.cause;
         later = omega arith;
       }
   reached_last {result = Err OutOfMemory} h r =

@@ -5,12 +5,12 @@ use Rattle.std.proofs.lemmas.Grind.{common_steps}
 use Rattle.beet_store.specs.Files.{File, Fetch, Told, TellsFetch, bytes_of, fetch_of}
 use Rattle.beet_store.specs.declared.shelf.FetchFault.TheVariants.{Failed, TooLong, OutOfMemory as NoMemory}
 use Rattle.beet_errand.specs.declared.fetching.TheConstants.{TOO_LONG}
-use Rattle.beet_errand.specs.Errands.{Errand, Ends, Wants, FetchAnswer, Bytes, Longer, Nothing, unread, bad_file, too_long, after_fetch, after_answer}
+use Rattle.beet_errand.specs.Errands.{Answer, Errand, Ends, Wants, FetchAnswer, Bytes, Longer, Nothing, unread, bad_file, too_long, after_fetch, after_answer}
 use Rattle.beet_errand.specs.Fetches.{Leads, LeadsBy, Went, Stops, Refuses}
 use Rattle.beet_errand.specs.Texts.{read_fault_text}
 use Rattle.beet_forms.specs.FaultLines.{fault_line_of}
 use Rattle.beet_forms.specs.declared.faults.Place.TheVariants.{Row}
-use Rattle.beet_errand.specs.declared.answer.Status.TheVariants.{ReadFault as Unread, BadFile}
+use Rattle.beet_errand.specs.declared.answer.Refusal.TheVariants.{ReadFault as Unread, BadFile}
 use Rattle.beet_errand.specs.declared.answer.Stop.{Stop}
 use Rattle.beet_errand.specs.declared.answer.Stop.TheVariants.{Refused, OutOfMemory}
 
@@ -40,9 +40,9 @@ fetched_gives (Some told) now name limit bytes t within next =
 pub failed_stops : (told now : Option Told) (name : List ℕ) (limit : ℕ) (stop : Stop) →
     TellsFetch told now name limit (Err Failed) → Refuses Unread (read_fault_text name) stop →
     Stops told now (Wants name limit) stop
-failed_stops None now name limit (Refused s line) t r = λ next. (t, Nothing ∷ [], (tt, cc))
+failed_stops None now name limit (Refused refusal line) t r = λ next. (t, Nothing ∷ [], (tt, cc))
 failed_stops None now name limit OutOfMemory t r = λ next. (unread name, (t, Nothing ∷ [], (tt, refl)))
-failed_stops (Some told) now name limit (Refused s line) t r = λ next. (fetch_of name limit true ∷ [], t.1, (refl, refl, cc))
+failed_stops (Some told) now name limit (Refused refusal line) t r = λ next. (fetch_of name limit true ∷ [], t.1, (refl, refl, cc))
 failed_stops (Some told) now name limit OutOfMemory t r = λ next. (unread name, (fetch_of name limit true ∷ [], t.1, (refl, refl, refl)))
 
 lt_true : {m n : ℕ} → m < n → nat_lt m n ≡ true
@@ -60,9 +60,9 @@ long_after files name limit n next (Some bytes) e s above =
 pub long_stops : (told now : Option Told) (name : List ℕ) (limit n : ℕ) (stop : Stop) →
     TellsFetch told now name limit (Err (TooLong n)) → limit < n → Refuses BadFile (fault_line_of name (Row 0) TOO_LONG) stop →
     Stops told now (Wants name limit) stop
-long_stops None now name limit n (Refused s line) t above r = λ next. (t, Longer ∷ [], (tt, cc))
+long_stops None now name limit n (Refused refusal line) t above r = λ next. (t, Longer ∷ [], (tt, cc))
 long_stops None now name limit n OutOfMemory t above r = λ next. (bad_file name too_long, (t, Longer ∷ [], (tt, refl)))
-long_stops (Some told) now name limit n (Refused s line) t above r = λ next. (
+long_stops (Some told) now name limit n (Refused refusal line) t above r = λ next. (
   fetch_of name limit false ∷ [],
   t.1,
   (refl, refl, long_after told.files name limit n next (bytes_of told.files name) refl t.0 above ∙ cc),
@@ -115,6 +115,13 @@ after_telling told (Some next) now errand half rest first e l (second, f, m) =
       leads_on told.files first second errand half rest l (rw files at m),
     )
 
+-- an errand at its end goes nowhere
+pub at_end : (told now : Option Told) (answer : Answer) (rest : Errand) → Went told now (Ends answer) rest → Ends answer ≡ rest
+at_end None now answer rest (none, [], e) = e
+at_end None now answer rest (none, fetch ∷ fetches, l) = absurd l
+at_end (Some told) now answer rest ([], is, e) = e
+at_end (Some told) now answer rest (fetch ∷ fetches, is, l) = absurd l
+
 pub went_on : (old middle now : Option Told) (errand half rest : Errand) →
     Went old middle errand half → Went middle now half rest → Went old now errand rest
 went_on None middle now errand half rest (e, first, l) w = after_silence middle now errand half rest first e l w
@@ -124,14 +131,14 @@ went_on (Some told) middle now errand half rest (first, e, l) w =
 -- a step that stops, before another that would take its value
 pub stops_before : {A B : Type 0} (old now : Option Told) (step : (A → Errand) → Errand) (inner : A → (B → Errand) → Errand) (stop : Stop) →
     Stops old now step stop → Stops {A = B} old now (λ next. step (λ a. inner a next)) stop
-stops_before old now step inner (Refused status line) s = λ next. s (λ a. inner a next)
+stops_before old now step inner (Refused refusal line) s = λ next. s (λ a. inner a next)
 stops_before old now step inner OutOfMemory s = λ next. s (λ a. inner a next)
 
 -- a step that stops, after another that gave its value
 pub stops_after : {A B : Type 0} (old middle now : Option Told) (step : (A → Errand) → Errand) (inner : A → (B → Errand) → Errand) (value : A) (stop : Stop) →
     ((next : A → Errand) → Went old middle (step next) (next value)) → Stops middle now (inner value) stop →
     Stops {A = B} old now (λ next. step (λ a. inner a next)) stop
-stops_after old middle now step inner value (Refused status line) w s = λ next.
+stops_after old middle now step inner value (Refused refusal line) w s = λ next.
     went_on old middle now _ _ _ (w (λ a. inner a next)) (s next)
 stops_after old middle now step inner value OutOfMemory w s = λ next.
     let (rest, went) = s next in (rest, went_on old middle now _ _ _ (w (λ a. inner a next)) went)

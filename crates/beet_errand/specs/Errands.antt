@@ -5,8 +5,10 @@ use Rattle.beet_field.specs.declared.point.Point.{Point}
 use Rattle.beet_store.specs.Files.{File, bytes_of}
 use Rattle.beet_forms.specs.Faults.{Fault, Reading, at_row}
 use Rattle.beet_errand.specs.declared.fetching.TheConstants.{TOO_LONG}
+use Rattle.beet_errand.specs.declared.answer.Refusal.{Refusal}
+use Rattle.beet_errand.specs.declared.answer.Refusal.TheVariants.{ReadFault, BadFile}
 use Rattle.beet_errand.specs.declared.answer.Status.{Status}
-use Rattle.beet_errand.specs.declared.answer.Status.TheVariants.{ReadFault, BadFile}
+use Rattle.beet_errand.specs.declared.answer.Status.TheVariants.{Refused}
 use Rattle.beet_errand.specs.Texts.{read_fault_text}
 use Rattle.beet_forms.specs.FaultLines.{fault_line_of}
 
@@ -51,13 +53,17 @@ text_answer status text = record { status = status; files = []; text = text }
 abbrev pub answers : Status → List ℕ → Errand
 answers status text = Ends (text_answer status text)
 
+-- the errand is refused, by this line
+abbrev pub refuses : Refusal → List ℕ → Errand
+refuses refusal line = answers (Refused refusal) line
+
 -- the file cannot be fetched
 abbrev pub unread : List ℕ → Errand
-unread name = answers ReadFault (read_fault_text name)
+unread name = refuses ReadFault (read_fault_text name)
 
 -- the file breaks its format at a place, for a reason
 abbrev pub bad_file : List ℕ → Fault → Errand
-bad_file name fault = answers BadFile (fault_line_of name fault.place fault.reason)
+bad_file name fault = refuses BadFile (fault_line_of name fault.place fault.reason)
 
 -- what stands for a file that is longer than its limit
 abbrev pub too_long : Fault

@@ -2,9 +2,12 @@
 use Rattle.std.specs.Prelude.{◌≡◌, ◌≤◌, ◌⊎◌, ℕ, List, [], ◌∷◌, ◌++◌, length, Option, Some, None, Result, Ok, Err, IfErr}
 use Rattle.beet_store.specs.Causes.{Rose}
 use Rattle.beet_store.specs.Files.{File, Fetch, Told, Seen}
-use Rattle.beet_errand.specs.Errands.{Answer, Errand, Step, Ends, Wants, FetchAnswer, Bytes, Longer, Nothing, after_fetch, after_answer, answers}
+use Rattle.beet_errand.specs.Errands.{Answer, Errand, Step, Ends, Wants, FetchAnswer, Bytes, Longer, Nothing, after_fetch, after_answer, refuses}
+use Rattle.beet_errand.specs.declared.answer.OwnRefusal.{OwnRefusal}
+use Rattle.beet_errand.specs.declared.answer.Refusal.{Refusal}
+use Rattle.beet_errand.specs.declared.answer.Refusal.TheVariants.{Usage, ReadFault as Unread, BadFile, TooFewWords, Own}
 use Rattle.beet_errand.specs.declared.answer.Status.{Status}
-use Rattle.beet_errand.specs.declared.answer.Status.TheVariants.{Done, OutOfMemory as NoMemory, Usage, ReadFault as Unread, WriteFault, BadFile, MasksSpent, WorldsRefused, AuditRefused, TooFewWords}
+use Rattle.beet_errand.specs.declared.answer.Status.TheVariants.{Done, MasksSpent}
 use Rattle.beet_forms.specs.FaultLines.{fault_line_of}
 use Rattle.beet_forms.specs.declared.faults.ReadFault.{ReadFault}
 use Rattle.beet_forms.specs.declared.faults.ReadFault.TheVariants.{Bad, OutOfMemory as MemoryOut}
@@ -39,22 +42,26 @@ Went (Some told) now errand rest =
     (fetches : List Fetch) × (now ≡ Some (record told { fetches = told.fetches ++ fetches }))
     × Leads told.files fetches errand rest
 
+-- a step reads a value: the fetches lead through it, whatever comes next
+abbrev pub IsRead : {A : Type 0} → Option Told → Option Told → Step A → A → Type 0
+IsRead {A = A} old now step value = (next : A → Errand) → Went old now (step next) (next value)
+
 -- a step of an errand ends it with the line that was made for it, or memory ran out on the way
-abbrev pub Stops : {A : Type 0} → Option Told → Option Told → ((A → Errand) → Errand) → Stop → Type 0
-Stops {A = A} old now step (Refused status text) =
-    (next : A → Errand) → Went old now (step next) (answers status text.items)
+abbrev pub Stops : {A : Type 0} → Option Told → Option Told → Step A → Stop → Type 0
+Stops {A = A} old now step (Refused refusal line) =
+    (next : A → Errand) → Went old now (step next) (refuses refusal line.items)
 Stops {A = A} old now step OutOfMemory = (next : A → Errand) → (rest : Errand) × Went old now (step next) rest
 
 -- a test that fetches nothing: the errand goes on, or the test ends it with the line that was made for it, unless memory ran out
 abbrev pub Passes : (Errand → Errand) → Result (Unit {0}) Stop → Type 0
 Passes test (Ok done) = (next : Errand) → test next ≡ next
-Passes test (Err (Refused status text)) = (next : Errand) → test next ≡ answers status text.items
+Passes test (Err (Refused refusal line)) = (next : Errand) → test next ≡ refuses refusal line.items
 Passes test (Err OutOfMemory) = Unit {0}
 
--- the job is refused with this status and this line, unless memory ran out
-abbrev pub Refuses : Status → List ℕ → Stop → Type 0
-Refuses status text (Refused s line) = (s ≡ status) × (line.items ≡ text)
-Refuses status text OutOfMemory = Unit {0}
+-- the job is refused by this line, unless memory ran out
+abbrev pub Refuses : Refusal → List ℕ → Stop → Type 0
+Refuses refusal text (Refused r line) = (r ≡ refusal) × (line.items ≡ text)
+Refuses refusal text OutOfMemory = Unit {0}
 
 -- the value of a file that was read, or the line that names its first fault
 abbrev pub Judges : {T : Type 0} → List ℕ → Result T ReadFault → Result T Stop → Type 0
@@ -63,23 +70,23 @@ Judges name (Ok v) (Err stop) = ⊥
 Judges name (Err (Bad place reason)) (Err stop) = Refuses BadFile (fault_line_of name place reason) stop
 Judges name (Err MemoryOut) (Err stop) = stop ≡ OutOfMemory
 
--- why a job is refused: by a file that cannot be fetched only where the count of faults rose
+-- the cause of each refusal: words name no job where `unnamed` holds, a file cannot be fetched only where the count of
+-- faults rose, and `own` tells which refusals of its own a job has
+abbrev pub CauseOf : Type 0 → (OwnRefusal → Type 0) → ℕ → ℕ → Refusal → Type 0
+CauseOf unnamed own before now Usage = unnamed
+CauseOf unnamed own before now Unread = Rose before now
+CauseOf unnamed own before now BadFile = Unit {0}
+CauseOf unnamed own before now TooFewWords = Unit {0}
+CauseOf unnamed own before now (Own refusal) = own refusal
+
+-- a step stops with a cause: it is refused by what it reads alone
 abbrev pub Causes : ℕ → ℕ → Stop → Type 0
-Causes before now (Refused Done text) = ⊥
-Causes before now (Refused NoMemory text) = ⊥
-Causes before now (Refused Usage text) = ⊥
-Causes before now (Refused Unread text) = Rose before now
-Causes before now (Refused WriteFault text) = ⊥
-Causes before now (Refused BadFile text) = Unit {0}
-Causes before now (Refused MasksSpent text) = ⊥
-Causes before now (Refused WorldsRefused text) = ⊥
-Causes before now (Refused AuditRefused text) = ⊥
-Causes before now (Refused TooFewWords text) = Unit {0}
+Causes before now (Refused refusal line) = CauseOf ⊥ (λ own. ⊥) before now refusal
 Causes before now OutOfMemory = Unit {0}
 
 -- what a step of an errand gives: a value, for one that the next step takes; or it stops
 abbrev pub GivesFor : {A T : Type 0} → (T → A → Type 0) → Option Told → Option Told → Step A → Result T Stop → Type 0
-GivesFor {A = A} shows old now step (Ok value) = (a : A) × shows value a × ((next : A → Errand) → Went old now (step next) (next a))
+GivesFor {A = A} shows old now step (Ok value) = (a : A) × shows value a × IsRead old now step a
 GivesFor shows old now step (Err stop) = Stops old now step stop
 
 -- a call over a shelf does what the step says and no more, in order: it gives a value, for one that the next step takes, or it stops
@@ -109,13 +116,8 @@ IsDone status = (status ≡ Done) ⊎ (status ≡ MasksSpent)
 -- a job has gone from its errand to its end, unless memory ran out on the way
 abbrev pub Finishes : Option Told → Option Told → Errand → Result Answer Stop → Type 0
 Finishes old now errand (Ok answer) = Went old now errand (Ends answer)
-Finishes old now errand (Err (Refused status text)) = Went old now errand (answers status text.items)
+Finishes old now errand (Err (Refused refusal line)) = Went old now errand (refuses refusal line.items)
 Finishes old now errand (Err OutOfMemory) = (rest : Errand) × Went old now errand rest
-
--- a fact holds of an answer that shows this much; or of the errand that reads so far, however it would go on, so that the job ends in it
-abbrev pub WithShown : {A : Type 0} → Option Told → Option Told → Step A → (Answer → Type 0) → (Option Told → Errand → Type 0) → Type 0
-WithShown {A = A} old now step shows P =
-    ((answer : Answer) × shows answer × P now (Ends answer)) ⊎ ((next : A → Errand) → P old (step next))
 
 -- a whole job does what its errand says and no more: it has gone to its end, or it stops with a cause
 pub record Does (old now : Seen) (errand : Errand) (result : Result Answer Stop) : Type 0 where

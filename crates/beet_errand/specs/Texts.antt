@@ -8,3 +8,7 @@ line_of text = text ++ 10 ∷ []
 -- the file of this name cannot be fetched
 abbrev pub read_fault_text : List ℕ → List ℕ
 read_fault_text name = line_of (codes "read fault: " ++ name)
+
+-- the words name no job
+abbrev pub usage_text : List ℕ
+usage_text = line_of (codes "usage: beet COMMAND WORDS")

@@ -1,6 +1,6 @@
 //! How a run of the program ends.
 
-ghost use Rattle.std.specs.Prelude.{◌≡◌, IfOk};
+ghost use Rattle.std.specs.Prelude.{◌≡◌, IfErr, IfOk};
 ghost use Rattle.beet_errand.specs.Errands.{file_for, text_answer};
 ghost use Rattle.beet_errand.specs.Statuses.{code_of};
 
@@ -8,29 +8,43 @@ use beet_field::Point;
 use std::alloc::{AllocError, Global};
 use std::marker::Model;
 
+/// A refusal that only one kind of job has.
+#[derive(Clone, Copy, PartialEq, Eq, Debug)]
+pub enum OwnRefusal {
+    /// Two books do not agree for a server.
+    OfWorlds,
+    /// Three transcripts are not those of one run.
+    OfAudit,
+}
+
+/// Why words or a job are refused.
+#[derive(Clone, Copy, PartialEq, Eq, Debug)]
+pub enum Refusal {
+    /// The words name no job.
+    Usage,
+    /// A file cannot be fetched.
+    ReadFault,
+    /// A file is too long, breaks its format, or breaks a limit of the job.
+    BadFile,
+    /// A tape holds too few words.
+    TooFewWords,
+    /// What was read is right, and the job refuses it by a refusal of its own.
+    Own(OwnRefusal),
+}
+
 /// The end of a run.
 #[derive(Clone, Copy, PartialEq, Eq, Debug)]
 pub enum Status {
     /// The job is done.
     Done,
-    /// Memory ran out.
-    OutOfMemory,
-    /// The words name no job.
-    Usage,
-    /// A file cannot be fetched.
-    ReadFault,
-    /// A file or a text is not taken.
-    WriteFault,
-    /// A file is too long, breaks its format, or breaks a limit of the job.
-    BadFile,
     /// The job is done, and a run of it has met the third rejected mask.
     MasksSpent,
-    /// Two books do not agree for a server.
-    WorldsRefused,
-    /// Three transcripts are not those of one run.
-    AuditRefused,
-    /// A tape holds too few words.
-    TooFewWords,
+    /// Memory ran out.
+    OutOfMemory,
+    /// A file or a text is not taken.
+    WriteFault,
+    /// The words or the job are refused.
+    Refused(Refusal),
 }
 
 impl Status {
@@ -41,14 +55,14 @@ impl Status {
         match self {
             Status::Done => 0,
             Status::OutOfMemory => 1,
-            Status::Usage => 2,
-            Status::ReadFault => 3,
+            Status::Refused(Refusal::Usage) => 2,
+            Status::Refused(Refusal::ReadFault) => 3,
             Status::WriteFault => 4,
-            Status::BadFile => 5,
+            Status::Refused(Refusal::BadFile) => 5,
             Status::MasksSpent => 6,
-            Status::WorldsRefused => 7,
-            Status::AuditRefused => 8,
-            Status::TooFewWords => 9,
+            Status::Refused(Refusal::Own(OwnRefusal::OfWorlds)) => 7,
+            Status::Refused(Refusal::Own(OwnRefusal::OfAudit)) => 8,
+            Status::Refused(Refusal::TooFewWords) => 9,
         }
     }
 }
@@ -119,10 +133,23 @@ impl Reply {
 /// Why a step of a job does not give its value.
 #[derive(Debug, Drop)]
 pub enum Stop {
-    /// The job is refused: it ends with this status and says this line.
-    Refused(Status, Vec<u8>),
+    /// The job is refused, and says this line.
+    Refused(Refusal, Vec<u8>),
     /// Memory ran out.
     OutOfMemory,
+}
+
+impl Stop {
+    /// Refuses a job by the line that was made for it. Where there was no memory for the line, the job stops for that.
+    pub fn of_line(refusal: Refusal, line: Result<Vec<u8>, AllocError>) -> Stop
+        ensures refused { IfOk line (λ line. result ≡ Stop.Refused refusal line) }
+        ensures memory { IfErr line (λ error. result ≡ Stop.OutOfMemory) }
+    {
+        match line {
+            Ok(line) => Stop::Refused(refusal, line),
+            Err(AllocError) => Stop::OutOfMemory,
+        }
+    }
 }
 
 impl From<AllocError> for Stop {

@@ -6,7 +6,7 @@ ghost use Rattle.beet_errand.specs.Texts.{read_fault_text};
 ghost use Rattle.beet_errand.specs.Errands.{Wants};
 ghost use Rattle.beet_errand.specs.Fetches.{Reads, Judges, Refuses};
 
-use crate::answer::{Status, Stop};
+use crate::answer::{Refusal, Stop};
 use beet_forms::{Place, ReadFault, fault_line};
 use beet_store::{FetchFault, Shelf};
 use std::alloc::{AllocError, Global};
@@ -23,22 +23,16 @@ pub const TOO_LONG: u32 = 20;
 
 /// Refuses a job whose file cannot be fetched.
 fn unread(alloc: Global, name: &str) -> Stop
-    ensures { Refuses Status.ReadFault (read_fault_text name.now) result }
+    ensures { Refuses Refusal.ReadFault (read_fault_text name.now) result }
 {
-    match read_fault_line(alloc, name) {
-        Ok(line) => Stop::Refused(Status::ReadFault, line),
-        Err(_) => Stop::OutOfMemory,
-    }
+    Stop::of_line(Refusal::ReadFault, read_fault_line(alloc, name))
 }
 
 /// Refuses a file at the first place that breaks its format.
 pub fn refuse(alloc: Global, name: &str, place: Place, reason: u32) -> Stop
-    ensures { Refuses Status.BadFile (fault_line_of name.now place reason) result }
+    ensures { Refuses Refusal.BadFile (fault_line_of name.now place reason) result }
 {
-    match fault_line(alloc, name, place, reason) {
-        Ok(line) => Stop::Refused(Status::BadFile, line),
-        Err(_) => Stop::OutOfMemory,
-    }
+    Stop::of_line(Refusal::BadFile, fault_line(alloc, name, place, reason))
 }
 
 /// The whole file of the name, of at most `limit` bytes.

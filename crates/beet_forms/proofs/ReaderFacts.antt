@@ -30,8 +30,9 @@ known_after s s2 (Some xs) None found fields some reads = absurd reads
 known_after s s2 (Some xs) (Some ys) found fields some reads =
     (some, first_left default_config s s2 xs ys (next_record default_config s [] [] xs) found fields refl reads)
 
--- a reader reads on, and gives the first of the rows that were left, where memory suffices
-pub read_on : (old new : Reader (Bor (List ℕ))) (result : Result Bool Error) (fields : List (List ℕ)) → IsReading old →
+-- what a read tells, where the reader before it was reading
+abbrev ReadsOn : Reader (Bor (List ℕ)) → Reader (Bor (List ℕ)) → Result Bool Error → List (List ℕ) → Type 0
+ReadsOn old new result fields =
     (has_failed old ≡ true → result ≡ Ok false) →
     (reader_trim old ≡ trim.None → OnOk result (took_first new ≡ true)) →
     IfOk result (λ found. reader_trim old ≡ trim.None → Ready old → ReadRecord (λ s. Some s.now) old new found fields) →
@@ -40,25 +41,20 @@ pub read_on : (old new : Reader (Bor (List ℕ))) (result : Result Bool Error) (
     IfErr result (λ e. has_failed new ≡ stops_reader (error_kind e)) →
     IfErr result (λ e. Ready old → ExplainsRead (λ s. Some s.now) old new false (error_kind e)) →
     IsReading new × IfOk result (λ found. Gives found (rows_left old) fields (rows_left new)) × OnErr result (rows_left new ≡ [])
-read_on old new result fields reading failed ready reads flexible goes fails why = by (has_failed old) refl result refl failed ready reads flexible goes fails why where
-  by : (f : Bool) → has_failed old ≡ f → (r : Result Bool Error) → result ≡ r →
-      (has_failed old ≡ true → r ≡ Ok false) →
-      (reader_trim old ≡ trim.None → OnOk r (took_first new ≡ true)) →
-      IfOk r (λ found. reader_trim old ≡ trim.None → Ready old → ReadRecord (λ s. Some s.now) old new found fields) →
-      OnOk r (is_flexible new ≡ is_flexible old) →
-      OnOk r (has_failed new ≡ has_failed old) →
-      IfErr r (λ e. has_failed new ≡ stops_reader (error_kind e)) →
-      IfErr r (λ e. Ready old → ExplainsRead (λ s. Some s.now) old new false (error_kind e)) →
-      IsReading new × IfOk r (λ found. Gives found (rows_left old) fields (rows_left new)) × OnErr r (rows_left new ≡ [])
-  by true f (Ok true) is failed ready reads flexible goes fails why = cc (failed f)
-  by true f (Ok false) is failed ready reads flexible goes fails why =
+
+-- a reader reads on, and gives the first of the rows that were left, where memory suffices
+pub read_on : (old new : Reader (Bor (List ℕ))) (result : Result Bool Error) (fields : List (List ℕ)) → IsReading old → ReadsOn old new result fields
+read_on old new result fields reading = by (has_failed old) refl result where
+  by : (f : Bool) → has_failed old ≡ f → (r : Result Bool Error) → ReadsOn old new r fields
+  by true f (Ok true) failed ready reads flexible goes fails why = cc (failed f)
+  by true f (Ok false) failed ready reads flexible goes fails why =
       ((λ g. absurd (true≢false (sym f ∙ (sym goes ∙ g)))), rw f refl, tt)
-  by true f (Err e) is failed ready reads flexible goes fails why = cc (failed f)
-  by false f (Err e) is failed ready reads flexible goes fails why =
+  by true f (Err e) failed ready reads flexible goes fails why = cc (failed f)
+  by false f (Err e) failed ready reads flexible goes fails why =
       let here = reading f in
       let failed_now : has_failed new ≡ true = fails ∙ stops (λ s. Some s.now) old new (error_kind e) here.flexible (why here.ready) in
       ((λ g. absurd (true≢false (sym failed_now ∙ g))), tt, rw failed_now refl)
-  by false f (Ok found) is failed ready reads flexible goes fails why =
+  by false f (Ok found) failed ready reads flexible goes fails why =
       let here = reading f in
       let read = reads here.trim here.ready in
       let known = known_after old.state new.state (text_left old) (text_left new) found fields here.known (rw read.1 (rw here.config at read.0)) in (

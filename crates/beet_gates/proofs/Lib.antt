@@ -7,7 +7,11 @@ pub mod Segments
 pub mod Sums
 pub mod Bits
 pub mod PlanFacts
+pub mod PlanPlaces
+pub mod PlanNumbers
+pub mod Ended
 pub mod Standings
 pub mod Laws
 pub mod ClearFacts
+pub mod AllAlong
 pub mod ClearAt

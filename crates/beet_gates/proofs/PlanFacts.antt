@@ -1,21 +1,19 @@
 -- A script that follows a plan: its law and its run on plain values.
-use Rattle.std.proofs.Common.{◌≡◌, ℕ, zero, suc, ◌+◌, ◌-◌, ◌<◌, ◌≤◌, inl, inr, true, false, List, [], ◌∷◌, ◌++◌, drop, map, length, slice_index, slice_get, Some, refl, ap, sym, ◌∙◌, arith, append_assoc, append-nil, add-one, add-zero, zero-add}
+use Rattle.std.proofs.Common.{◌≡◌, ℕ, zero, suc, ◌+◌, ◌-◌, ◌<◌, ◌≤◌, inl, inr, Bool, true, false, List, [], ◌∷◌, ◌++◌, drop, map, length, slice_index, slice_get, Some, None, refl, ap, sym, ◌∙◌, arith, append_assoc, append-nil, add-one, add-zero, zero-add}
 use Rattle.std.specs.Prelude.{nat_lt, if◌then◌else◌}
 use Rattle.std.proofs.Math.Seq.{drop-append_seam}
 use Rattle.std.proofs.lemmas.Bool.{cases_eq, cases_lt}
 use Rattle.std.proofs.lemmas.Bool.Decides.{nat_tests}
 use Rattle.std.proofs.lemmas.List.{get_or-append-add, nil_from_length}
-use Rattle.beet_field.specs.declared.trio.Trio.{Trio}
 use Rattle.beet_gates.specs.declared.Act.{Act}
 use Rattle.beet_gates.specs.declared.Act.TheVariants.{Deal, Mul, Reveal, End}
 use Rattle.beet_gates.specs.declared.Batch.{Batch}
 use Rattle.beet_gates.specs.Batches.{end_batch}
-use Rattle.beet_gates.specs.Clear.{Values, batch_on, batches_on, act_on, with_lets, is_end, start_values, clear_at, clear_act, clear_values, rounds_run}
-use Rattle.beet_gates.specs.Deals.{deals_of}
+use Rattle.beet_gates.specs.Clear.{Values, batch_on, batches_on, act_on, with_lets, is_end, start_values, clear_at, clear_act, rounds_dealt, values_dealt}
 use Rattle.beet_gates.proofs.ClearAt.{rounds-are}
 use Rattle.beet_gates.proofs.ClearFacts.{opens-more, done-after}
 use Rattle.beet_gates.specs.Scripts.{Standing, BatchStands, IsWithin, LawFrom, after, acted, revealed}
-use Rattle.beet_gates.specs.Plans.{Plan, Ended, Block, Last, all_opened_by, plan_batch, plan_run, plan_rounds, plan_end, opened_by, BlockStands, PlanStands, after_all, plan_length, plan_after, plan_finish, batch_at}
+use Rattle.beet_gates.specs.Plans.{Plan, Ended, Block, Quiet, Last, all_opened_by, plan_batch, plan_run, plan_rounds, plan_end, opened_by, BlockStands, PlanStands, after_all, plan_length, plan_after, plan_finish, batch_at}
 
 -- from here on the script is the plan
 pub record Follows {F : Type 0} (next : ℕ → List ℕ → Batch) (done : ℕ) (opened : List ℕ) (plan : Plan F) : Type 0 where
@@ -30,6 +28,10 @@ module _ {F : Type 0} where
   pub now-ended : (f : F) → plan_batch (Ended f) 0 [] ≡ end_batch
   unfolding plan_batch
   now-ended f = refl
+
+  pub now-quiet : (b : Batch) (rest : Plan F) → plan_batch (Quiet b rest) 0 [] ≡ b
+  unfolding plan_batch
+  now-quiet b rest = refl
 
   pub now-last : (b : Batch) (n : ℕ) (named : List ℕ → F) → plan_batch (Last b n named) 0 [] ≡ b
   unfolding plan_batch
@@ -88,6 +90,18 @@ module _ {F : Type 0} (next : ℕ → List ℕ → Batch) where
         rw (e, append_assoc opened (x ∷ []) more) (f.batch (suc d) (x ∷ more) ∙ last-block b k d x more);
   }
 
+  -- after a batch that opens nothing
+  past-quiet : (b : Batch) (rest : Plan F) (d : ℕ) (more : List ℕ) → plan_batch (Quiet b rest) (suc d) more ≡ plan_batch rest d more
+  unfolding plan_batch
+  past-quiet b rest d more = refl
+
+  pub follows-quiet : (done : ℕ) (opened : List ℕ) (b : Batch) (rest : Plan F) → Follows next done opened (Quiet b rest) → Follows next (done + 1) opened rest
+  follows-quiet done opened b rest f = record {
+    batch = λ d more.
+        let e : done + 1 + d ≡ done + suc d = omega arith in
+        rw e (f.batch (suc d) more ∙ past-quiet b rest d more);
+  }
+
 -- a batch that opens numbers is not the end
 pub opens-some : (a : Act) → 1 ≤ revealed a → is_end a ≡ false
 opens-some Deal h = absurd (omega arith)
@@ -96,7 +110,7 @@ opens-some (Reveal shown) h = refl
 opens-some End h = absurd (omega arith)
 
 -- a batch that opens no number, and one that opens one
-opened-none : (deals : ℕ → List ℕ) (b : Batch) (v : Values) → revealed b.act ≡ 0 → (batch_on deals b v).opened ≡ v.opened
+pub opened-none : (deals : ℕ → List ℕ) (b : Batch) (v : Values) → revealed b.act ≡ 0 → (batch_on deals b v).opened ≡ v.opened
 opened-none deals b v h = by_act b.act (record v { wires = with_lets v.wires b.lets.items }) h where
   by_act : (a : Act) (w : Values) → revealed a ≡ 0 → (act_on deals a w).opened ≡ w.opened
   by_act Deal w h = refl
@@ -178,7 +192,7 @@ module _ (next : ℕ → List ℕ → Batch) (deals : ℕ → List ℕ) (inputs 
       }
 
 -- what is left of the bounds after a block
-plan-next : {F : Type 0} (bounds s : Standing) (n : ℕ) (bs : List Batch) (next : ℕ → Plan F) → PlanStands bounds n s (Block bs next) →
+pub plan-next : {F : Type 0} (bounds s : Standing) (n : ℕ) (bs : List Batch) (next : ℕ → Plan F) → PlanStands bounds n s (Block bs next) →
     BlockStands s bs × (length bs ≤ n) × ((x : ℕ) → PlanStands bounds (n - length bs) (after_all s bs) (next x))
 unfolding PlanStands
 plan-next bounds s n bs next h = (h.0, h.2, h.3)
@@ -187,6 +201,12 @@ plan-last : {F : Type 0} (bounds s : Standing) (n : ℕ) (b : Batch) (k : ℕ) (
     BatchStands s b × IsWithin bounds (after s b) × (revealed b.act ≡ k) × (1 ≤ k) × (1 ≤ n)
 unfolding PlanStands
 plan-last bounds s n b k named h = h
+
+pub plan-quiet : {F : Type 0} (bounds s : Standing) (n : ℕ) (b : Batch) (rest : Plan F) → PlanStands bounds n s (Quiet b rest) →
+    BatchStands s b × IsWithin bounds (after s b) × (is_end b.act ≡ false) × (revealed b.act ≡ 0) × (1 ≤ n)
+    × (plan_finish rest [] ≡ None) × PlanStands bounds (n - 1) (after s b) rest
+unfolding PlanStands
+plan-quiet bounds s n b rest h = h
 
 -- the run of a script that follows a plan is that of the plan: none of its batches is the end, and then it comes
 record AfterPlan {F : Type 0} (next : ℕ → List ℕ → Batch) (deals : ℕ → List ℕ) (inputs : List ℕ) (plan : Plan F) (n done : ℕ) (v : Values) : Type 0 where
@@ -223,6 +243,23 @@ plan-clear next deals inputs bounds (Last b k named) s n done v is h g =
           rw e (ap is_end (act-is next deals inputs done v b is now) ∙ opens-some b.act (omega (arith, q.2, q.3)));
       few = q.4;
     }
+plan-clear next deals inputs bounds (Quiet b rest) s n done v is h g =
+    let q = plan-quiet bounds s n b rest h in
+    let now : next done v.opened ≡ b = follows-now next done v.opened (Quiet b rest) g ∙ now-quiet b rest in
+    let w = batch_on deals b v in
+    let same : w.opened ≡ v.opened = opened-none deals b v q.3 in
+    let there : w ≡ clear_at next deals inputs (done + 1) = stepped next deals inputs done v b is now in
+    let later = plan-clear next deals inputs bounds rest (after s b) (n - 1) (done + 1) w there q.6 (rw same (follows-quiet next done v.opened b rest g)) in
+    let e : done + suc (plan_rounds deals rest w) ≡ done + 1 + plan_rounds deals rest w = omega arith in
+    record {
+      values = rw e later.values;
+      ends = rw e later.ends;
+      going = λ i l m. elim (cases_eq i done) [
+        | inl first ↦ rw first (ap is_end (act-is next deals inputs done v b is now) ∙ q.2)
+        | inr other ↦ later.going i (omega (arith, other, l)) (omega (arith, m))
+      ];
+      few = omega (arith, q.4, later.few);
+    }
 plan-clear next deals inputs bounds (Block bs k) s n done v is h g =
     let p = plan-next bounds s n bs k h in
     let after = batches_on deals bs v in
@@ -240,20 +277,19 @@ plan-clear next deals inputs bounds (Block bs k) s n done v is h g =
       few = omega (arith, p.1, rest.few);
     }
 
--- the run on inputs and mask words of a script that follows a plan has the plan's rounds, and ends with its values
-pub record RunsAsPlan {F : Type 0} (next : ℕ → List ℕ → Batch) (most : ℕ) (inputs : List ℕ) (words : Trio (List ℕ)) (plan : Plan F) : Type 0 where
-  pub rounds : rounds_run next most inputs words ≡ plan_rounds (deals_of words) plan (start_values inputs)
-  pub values : clear_values next most inputs words ≡ plan_run (deals_of words) plan (start_values inputs)
+-- the run on inputs and deals of a script that follows a plan has the plan's rounds, and ends with its values
+pub record RunsAsPlan {F : Type 0} (next : ℕ → List ℕ → Batch) (most : ℕ) (inputs : List ℕ) (deals : ℕ → List ℕ) (plan : Plan F) : Type 0 where
+  pub rounds : rounds_dealt next most inputs deals ≡ plan_rounds deals plan (start_values inputs)
+  pub values : values_dealt next most inputs deals ≡ plan_run deals plan (start_values inputs)
 
-pub plan-runs : {F : Type 0} (next : ℕ → List ℕ → Batch) (words : Trio (List ℕ)) (inputs : List ℕ) (bounds : Standing) (plan : Plan F) (s : Standing) (most : ℕ) →
-    PlanStands bounds most s plan → Follows next 0 [] plan → RunsAsPlan next most inputs words plan
-plan-runs next words inputs bounds plan s most h g =
-    let deals = deals_of words in
+pub plan-runs : {F : Type 0} (next : ℕ → List ℕ → Batch) (deals : ℕ → List ℕ) (inputs : List ℕ) (bounds : Standing) (plan : Plan F) (s : Standing) (most : ℕ) →
+    PlanStands bounds most s plan → Follows next 0 [] plan → RunsAsPlan next most inputs deals plan
+plan-runs next deals inputs bounds plan s most h g =
     let start = start_values inputs in
     let r = plan-clear next deals inputs bounds plan s most 0 start refl h g in
     let n = plan_rounds deals plan start in
     let none : 0 + n ≡ n = zero-add n in
-    let rounds = rounds-are next words inputs most n (rw none at r.ends, λ k l. r.going k (omega arith) (rw none l)) r.few in
+    let rounds = rounds-are next deals inputs most n (rw none at r.ends, λ k l. r.going k (omega arith) (rw none l)) r.few in
     record {
       rounds = rounds;
       values = ap (λ m. clear_at next deals inputs (suc m)) rounds ∙ sym (rw none at r.values);
@@ -326,6 +362,16 @@ plan-law next bounds (Last b k named) s (suc n) opened h g =
     let later = follows-last next s.done opened new b k named g in
     rw d (follows-now next (s.done + 1) (opened ++ new) (Ended (named new)) later ∙ now-ended (named new)) in
     rw now (h.0, h.1, inr (λ new len. law-ended next bounds (after s b) n (opened ++ new) (end new) h.1))
+plan-law next bounds (Quiet b rest) s zero opened h g = absurd (omega (arith, h.4))
+plan-law next bounds (Quiet b rest) s (suc n) opened h g =
+    let now : next s.done opened ≡ b = follows-now next s.done opened (Quiet b rest) g ∙ now-quiet b rest in
+    let m : suc n - 1 ≡ n = omega arith in
+    let d = done-after s b h.2 in
+    let there : LawFrom next bounds n (after s b) opened =
+    plan-law next bounds rest (after s b) n opened (rw m at h.6) (rw d (follows-quiet next s.done opened b rest g)) in
+    let go : (new : List ℕ) → length new ≡ 0 → LawFrom next bounds n (after s b) (opened ++ new) =
+    λ new e. rw (nil_from_length new e, append-nil opened) there in
+    rw now (h.0, h.1, inr (rw h.3 go))
 plan-law next bounds (Block bs k) s n opened h g =
     block-law next bounds bs k s n opened h.0 h.1 g h.2
     (λ x f. plan-law next bounds (k x) (after_all s bs) (n - length bs) (opened ++ x ∷ []) (h.3 x) f)
@@ -345,6 +391,11 @@ pub plan-step : {F : Type 0} (plan : Plan F) (done x : ℕ) (xs : List ℕ) → 
 unfolding plan_batch
 plan-step (Ended f) done x xs = let t : nat_lt done 0 ≡ false = grind (arith, nat_tests) in rw t refl
 plan-step (Block bs next) done x xs = refl
+plan-step (Quiet b rest) zero x xs = let t : nat_lt 0 (suc (plan_length rest)) ≡ true = grind (arith, nat_tests) in rw t refl
+plan-step (Quiet b rest) (suc done) x xs =
+    let t : nat_lt (suc done) (suc (plan_length rest)) ≡ nat_lt done (plan_length rest) = grind (arith, nat_tests) in
+    let e : suc done - suc (plan_length rest) ≡ done - plan_length rest = omega arith in
+    rw (t, e) (plan-step rest done x xs)
 plan-step (Last b n named) zero x xs = refl
 plan-step (Last b n named) (suc done) x xs =
     let t : nat_lt (suc done) 1 ≡ false = grind (arith, nat_tests) in
@@ -354,6 +405,7 @@ pub plan-finish-step : {F : Type 0} (plan : Plan F) (x : ℕ) (xs : List ℕ) �
 unfolding plan_finish
 plan-finish-step (Ended f) x xs = refl
 plan-finish-step (Block bs next) x xs = refl
+plan-finish-step (Quiet b rest) x xs = plan-finish-step rest x xs
 plan-finish-step (Last b zero named) x xs = refl
 plan-finish-step (Last b (suc zero) named) x xs = refl
 plan-finish-step (Last b (suc (suc n)) named) x xs = refl
@@ -365,7 +417,7 @@ finish-last b named [] more = refl
 finish-last b named (x ∷ xs) more = finish-last end_batch (λ rest. named (x ∷ rest)) xs more
 
 -- a block opens one number
-block-opened : (deals : ℕ → List ℕ) (bs : List Batch) (s : Standing) (v : Values) → BlockStands s bs → (x : ℕ) × ((batches_on deals bs v).opened ≡ v.opened ++ x ∷ [])
+pub block-opened : (deals : ℕ → List ℕ) (bs : List Batch) (s : Standing) (v : Values) → BlockStands s bs → (x : ℕ) × ((batches_on deals bs v).opened ≡ v.opened ++ x ∷ [])
 unfolding BlockStands
 block-opened deals [] s v h = absurd h
 block-opened deals (b ∷ []) s v h = opened-one deals b v h.1
@@ -384,6 +436,11 @@ plan-ends deals bounds (Last b k named) s n v h =
     let count : length o.0 ≡ k = o.1 ∙ q.2 in
     let all : all_opened_by v (batch_on deals b v) ≡ o.0 = ap (drop (length v.opened)) o.2 ∙ drop-append_seam v.opened o.0 in
     (o.0, o.2, rw (← count, all) (rw append-nil at (finish-last b named o.0 [])))
+plan-ends deals bounds (Quiet b rest) s n v h =
+    let q = plan-quiet bounds s n b rest h in
+    let same : (batch_on deals b v).opened ≡ v.opened = opened-none deals b v q.3 in
+    let later = plan-ends deals bounds rest (after s b) (n - 1) (batch_on deals b v) q.6 in
+    (later.0, later.1 ∙ ap (λ (l : List ℕ). l ++ later.0) same, later.2)
 plan-ends deals bounds (Block bs k) s n v h =
     let p = plan-next bounds s n bs k h in
     let after = batches_on deals bs v in
@@ -400,3 +457,26 @@ pub batch-there : (bs : List Batch) (k : ℕ) → k < length bs → Some (batch_
 batch-there [] k h = absurd (omega arith)
 batch-there (b ∷ bs) zero h = refl
 batch-there (b ∷ bs) (suc k) h = batch-there bs k (omega arith)
+
+pub opened-new : (before after : Values) (x : ℕ) → after.opened ≡ before.opened ++ x ∷ [] → opened_by before after ≡ x
+opened-new before after x e = ap (λ (l : List ℕ). slice_index l (length before.opened)) e ∙ opened-last before.opened x
+
+-- what each form of a plan asks
+module _ {F : Type 0} (bounds : Standing) (n : ℕ) (s : Standing) where
+  pub stands-ended : (f : F) → IsWithin bounds s → PlanStands bounds n s (Ended f)
+  unfolding PlanStands
+  stands-ended f h = h
+
+  pub stands-block : (bs : List Batch) (next : ℕ → Plan F) → BlockStands s bs → IsWithin bounds (after_all s bs) → length bs ≤ n →
+      ((x : ℕ) → PlanStands bounds (n - length bs) (after_all s bs) (next x)) → PlanStands bounds n s (Block bs next)
+  unfolding PlanStands
+  stands-block bs next a b c d = (a, b, c, d)
+
+  pub stands-last : (b : Batch) (k : ℕ) (named : List ℕ → F) → BatchStands s b → IsWithin bounds (after s b) → revealed b.act ≡ k → 1 ≤ k → 1 ≤ n →
+      PlanStands bounds n s (Last b k named)
+  unfolding PlanStands
+  stands-last b k named h w e some l = (h, w, e, some, l)
+
+  pub stands-if : (b : Bool) (p q : Plan F) → PlanStands bounds n s p → PlanStands bounds n s q → PlanStands bounds n s (if b then p else q)
+  stands-if true p q h k = h
+  stands-if false p q h k = k

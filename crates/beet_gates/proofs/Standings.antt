@@ -68,13 +68,14 @@ pub record Moved (s t : Standing) (wires masks coefficients : ℕ) : Type 0 wher
   pub more_wires : t.wires ≡ s.wires + wires
   pub more_masks : t.masks ≡ s.masks + masks
   pub more_coefficients : t.coefficients ≡ s.coefficients + coefficients
+  pub dealers : t.dealers ≡ s.dealers
 
 -- batches by a rule, each of which appends the same number of wires and draws one coefficient
 pub quiet-each : (rule : ℕ → Batch) (grow : ℕ) (s : Standing) (n : ℕ) →
     ((k : ℕ) → k < n → (t : Standing) → t.wires ≡ s.wires + grow * k → Quiet t (rule k) × Moved t (after t (rule k)) grow 0 1) →
     AllQuiet s (each rule n) × Moved s (after_all s (each rule n)) (grow * n) 0 n
 quiet-each rule grow s zero h =
-    rw (each-zero rule) (tt, record { more_wires = rw mul-zero (sym (add-zero s.wires)); more_masks = omega arith; more_coefficients = omega arith })
+    rw (each-zero rule) (tt, record { more_wires = rw mul-zero (sym (add-zero s.wires)); more_masks = omega arith; more_coefficients = omega arith; dealers = refl })
 quiet-each rule grow s (suc n) h =
     let m = quiet-each rule grow s n (λ k l. h k (omega arith)) in
     let here = after_all s (each rule n) in
@@ -86,5 +87,6 @@ quiet-each rule grow s (suc n) h =
         more_wires = omega (arith, one.1.more_wires, m.1.more_wires, mul-suc grow n);
         more_masks = omega (arith, one.1.more_masks, m.1.more_masks);
         more_coefficients = omega (arith, one.1.more_coefficients, m.1.more_coefficients);
+        dealers = one.1.dealers ∙ m.1.dealers;
       }),
     )

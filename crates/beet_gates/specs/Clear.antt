@@ -80,10 +80,17 @@ EndsAfter next deals inputs r =
 abbrev pub first_end : (ℕ → Act) → ℕ → ℕ
 first_end acts most = position_or_len (λ t. is_end (acts t)) (range_with_len 0 most)
 
--- the rounds of the run of a script of at most so many, on inputs and mask words: the batches before the first end
-unfoldable pub rounds_run : (ℕ → List ℕ → Batch) → ℕ → List ℕ → Trio (List ℕ) → ℕ
-rounds_run next most inputs words = first_end (clear_act next (deals_of words) inputs) most
+-- the rounds of the run of a script of at most so many, on inputs and deals: the batches before the first end
+unfoldable pub rounds_dealt : (ℕ → List ℕ → Batch) → ℕ → List ℕ → (ℕ → List ℕ) → ℕ
+rounds_dealt next most inputs deals = first_end (clear_act next deals inputs) most
 
 -- the values at its end; the lets of the end are appended too
+abbrev pub values_dealt : (ℕ → List ℕ → Batch) → ℕ → List ℕ → (ℕ → List ℕ) → Values
+values_dealt next most inputs deals = clear_at next deals inputs (suc (rounds_dealt next most inputs deals))
+
+-- the same where three servers deal words
+abbrev pub rounds_run : (ℕ → List ℕ → Batch) → ℕ → List ℕ → Trio (List ℕ) → ℕ
+rounds_run next most inputs words = rounds_dealt next most inputs (deals_of words)
+
 abbrev pub clear_values : (ℕ → List ℕ → Batch) → ℕ → List ℕ → Trio (List ℕ) → Values
-clear_values next most inputs words = clear_at next (deals_of words) inputs (suc (rounds_run next most inputs words))
+clear_values next most inputs words = values_dealt next most inputs (deals_of words)

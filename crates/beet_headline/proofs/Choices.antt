@@ -2,12 +2,11 @@
 use Rattle.std.proofs.Common.{◌≡◌, ◌≢◌, ◌<◌, ℕ, zero, suc, List, [], ◌∷◌, length, get_or, slice_get, Some, refl, sym, subst, arith, AllPairs}
 use Rattle.std.specs.Prelude.{All}
 use Rattle.std.proofs.lemmas.List.Elements.{All-cons, All-head, All-tail}
-use Rattle.std.proofs.lemmas.Option.{slice_get-get_or}
+use Rattle.std.proofs.lemmas.Option.{same_Some, slice_get-get_or}
 use Rattle.beet_field.specs.declared.point.Point.{Point}
 use Rattle.beet_words.specs.Bundles.{Words}
 use Rattle.beet_bids.specs.Books.{Book}
 use Rattle.beet_worlds.specs.MappedWords.{Mapped}
-use Rattle.beet_worlds.proofs.MasksBack.{some-same}
 use Rattle.beet_headline.specs.Halves.{AreChoices, AreOnePair, ArePairs, AreTwoBooks, CanRun}
 use Rattle.beet_headline.proofs.Pairing.{first-there, second-there}
 
@@ -16,7 +15,7 @@ module _ (s : Point) (first second : Book) where
   pairs-more a b these those p ps = record { as_many = omega (arith, ps.as_many); each_one = each_one } where
     each_one : (k : ℕ) (words words' : Words) → slice_get (a ∷ these) k ≡ Some words → slice_get (b ∷ those) k ≡ Some words' → AreOnePair s first words second words'
     each_one zero words words' e f =
-        subst (λ x. AreOnePair s first x second words') (some-same a words e) (subst (λ y. AreOnePair s first a second y) (some-same b words' f) p)
+        subst (λ x. AreOnePair s first x second words') (same_Some a words e) (subst (λ y. AreOnePair s first a second y) (same_Some b words' f) p)
     each_one (suc k) words words' e f = ps.each_one k words words' e f
 
   pairs-none : ArePairs s first [] second []

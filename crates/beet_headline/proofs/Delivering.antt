@@ -1,6 +1,6 @@
 -- Whatever was delivered, the messages of all rounds in order bring a run to its end.
-use Rattle.std.proofs.Common.{◌≡◌, ◌≤◌, ◌<◌, ℕ, zero, suc, true, false, inl, inr, List, [], ◌∷◌, ◌++◌, sym, subst, ap, ◌∙◌, refl, arith, append_assoc}
-use Rattle.std.specs.Prelude.{All}
+use Rattle.std.proofs.Common.{◌≡◌, ◌≤◌, ◌<◌, ℕ, zero, suc, true, inl, inr, List, [], ◌∷◌, ◌++◌, sym, subst, ap, ◌∙◌, refl, arith, append_assoc}
+use Rattle.std.specs.Prelude.{All, not}
 use Rattle.std.proofs.lemmas.Bool.{cases_lt}
 use Rattle.std.proofs.lemmas.List.Elements.{All-cons, All-head, All-nil, All-tail}
 use Rattle.beet_field.specs.declared.point.Point.{Point}
@@ -9,14 +9,15 @@ use Rattle.beet_round.specs.Sides.{peer}
 use Rattle.beet_round.specs.declared.sides.Side.{Side}
 use Rattle.beet_round.specs.declared.sides.Side.TheVariants.{Low, High}
 use Rattle.beet_delivery.specs.Events.{Delivered, Triple, after, after_from, deliver, has, is_sent, nothing, passed, same, triples_of, undelivered}
-use Rattle.beet_delivery.proofs.EventFacts.{Within, after_append, deliver_sent, has_with, passed_in, passed_largest, passed_most, sent_from, sent_grows, within_after, within_deliver}
+use Rattle.beet_delivery.proofs.NetworkFacts.{Within, after_append, deliver_sent, has_with, passed_most, sent_from, sent_grows, within_after, within_deliver}
+use Rattle.beet_delivery.proofs.ThreeServers.{passed_in, passed_largest, three-is}
 use Rattle.beet_delivery.proofs.Undelivered.{none_undelivered}
 
 module _ (rounds : ℕ) where
   sent-later : (x y : Delivered) → Within x y → (es : List Triple) → All (λ e. is_sent rounds x e ≡ true) es → All (λ e. is_sent rounds y e ≡ true) es
   sent-later x y sub [] all = All-nil (λ e. is_sent rounds y e ≡ true)
   sent-later x y sub (e ∷ es) all =
-      All-cons (λ e. is_sent rounds y e ≡ true) e es (sent_grows rounds x y e sub (All-head (λ e. is_sent rounds x e ≡ true) e es all))
+      All-cons (λ e. is_sent rounds y e ≡ true) e es (sent_grows three-is rounds x y e sub (All-head (λ e. is_sent rounds x e ≡ true) e es all))
       (sent-later x y sub es (All-tail (λ e. is_sent rounds x e ≡ true) e es all))
 
   -- messages that are sent are in, once they are delivered
@@ -25,9 +26,9 @@ module _ (rounds : ℕ) where
   all-in (e ∷ es) x all =
       let y : Delivered = deliver rounds x e in
       let here : has y e ≡ true =
-      subst (λ (z : Delivered). has z e ≡ true) (sym (deliver_sent rounds x e (All-head (λ e. is_sent rounds x e ≡ true) e es all))) (has_with x e) in
-      All-cons (λ d. has (after_from rounds y es) d ≡ true) e es (within_after rounds es y e.from e.to e.round here)
-      (all-in es y (sent-later x y (within_deliver rounds x e) es (All-tail (λ e. is_sent rounds x e ≡ true) e es all)))
+      subst (λ (z : Delivered). has z e ≡ true) (sym (deliver_sent three-is rounds x e (All-head (λ e. is_sent rounds x e ≡ true) e es all))) (has_with three-is x e) in
+      All-cons (λ d. has (after_from rounds y es) d ≡ true) e es (within_after three-is rounds es y e.from e.to e.round here)
+      (all-in es y (sent-later x y (within_deliver three-is rounds x e) es (All-tail (λ e. is_sent rounds x e ≡ true) e es all)))
 
   module _ (x : Delivered) (t : ℕ) (lt : t < rounds) (there : (s : Point) → t ≤ passed rounds x s) where
     abbrev round : List Triple
@@ -44,8 +45,8 @@ module _ (rounds : ℕ) where
 
     all-sent : All IsSent round
     all-sent =
-        let to : (from to : Point) → same from to ≡ false → IsSent (message from to) =
-        λ from to other. sent_from rounds x (message from to) other lt (there from) in
+        let to : (from to : Point) → not (same from to) ≡ true → IsSent (message from to) =
+        λ from to other. sent_from three-is rounds x (message from to) other lt (there from) in
         let five : List Triple = message Three Two ∷ [] in
         let four : List Triple = message Three One ∷ five in
         let three : List Triple = message Two Three ∷ four in
@@ -74,7 +75,7 @@ module _ (rounds : ℕ) where
         passed_largest rounds later s (suc t) (omega (arith, lt))
         (λ r below side. elim (cases_lt r t) [
           | inl early ↦
-              within_after rounds round x (peer s side) s r (passed_in rounds x s r (omega (arith, early, there s)) side)
+              within_after three-is rounds round x (peer s side) s r (passed_in rounds x s r (omega (arith, early, there s)) side)
           | inr late ↦
               let is : t ≡ r = omega (arith, below, late) in
               subst (λ n. later (peer s side) s n ≡ true) is (from-side s side)
@@ -91,7 +92,7 @@ module _ (rounds : ℕ) where
       let x : Delivered = after rounds (es ++ r.more) in
       let lt : t < rounds = omega (arith, le) in
       let is : after rounds (es ++ (r.more ++ triples_of t)) ≡ after_from rounds x (triples_of t) =
-      ap (after rounds) (sym (append_assoc es r.more (triples_of t))) ∙ after_append rounds (es ++ r.more) (triples_of t) nothing in
+      ap (after rounds) (sym (append_assoc es r.more (triples_of t))) ∙ after_append three-is rounds (es ++ r.more) (triples_of t) nothing in
       record {
         more = r.more ++ triples_of t;
         all_there = λ s. subst (λ (y : Delivered). suc t ≤ passed rounds y s) (sym is) (passed-more x t lt r.all_there s);
@@ -101,4 +102,4 @@ module _ (rounds : ℕ) where
   to-the-end es =
       let r = brings es rounds (omega arith) in
       let x : Delivered = after rounds (es ++ r.more) in
-      (r.more, none_undelivered rounds x (λ s. omega (arith, r.all_there s, passed_most rounds x s)))
+      (r.more, none_undelivered three-is rounds x (λ s. omega (arith, r.all_there s, passed_most three-is rounds x s)))

@@ -1,7 +1,6 @@
 pub mod Standings
 pub mod Lengths
-pub mod Masks
-pub mod Bidders
+pub mod Dealers
 pub mod Inputs
 pub mod Pairing
 pub mod Choices

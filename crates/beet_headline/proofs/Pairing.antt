@@ -1,41 +1,45 @@
 -- The words of two worlds of an auction that go with each other.
-use Rattle.std.proofs.Common.{◌≡◌, ◌*◌, ℕ, List, length, slice_index, sym, refl, ap, subst, ◌∙◌}
+use Rattle.std.proofs.Common.{◌≡◌, ◌*◌, ℕ, List, map, length, slice_index, sym, refl, ap, subst, ◌∙◌}
 use Rattle.std.specs.Prelude.{All}
-use Rattle.std.proofs.lemmas.List.Elements.{All-from_get_or}
+use Rattle.std.proofs.lemmas.List.{length-map}
+use Rattle.std.proofs.lemmas.List.Elements.{All-from_get_or, All-map}
+use Rattle.std.proofs.lemmas.Simd.{map-map}
 use Rattle.beet_field.specs.declared.point.Point.{Point}
 use Rattle.beet_field.specs.declared.point.Point.TheVariants.{One, Two, Three}
 use Rattle.beet_field.specs.declared.trio.Trio.{Trio}
 use Rattle.beet_words.specs.Bundles.{AreWords, Words}
 use Rattle.beet_words.specs.Words.{IsWord}
-use Rattle.beet_bids.specs.Books.{Book, IsBook}
+use Rattle.beet_bids.specs.Books.{Book}
 use Rattle.beet_bids.specs.Grids.{Grid}
 use Rattle.beet_plan.specs.Auction.{auction_batch, auction_over, most_coefficients, most_masks, most_rounds, most_wires}
-use Rattle.beet_plan.specs.Runs.{AreMasks}
+use Rattle.beet_masking.specs.Masks.{AreMasks}
 use Rattle.beet_plan.proofs.AuctionLaw.{auction-law}
-use Rattle.beet_book.specs.Farmers.{Farmer, book_with, farmers_of}
-use Rattle.beet_book.proofs.FarmerLists.{book-whole}
+use Rattle.beet_book.proofs.Quantities.{quantities-many}
 use Rattle.beet_view.specs.Transcripts.{view_bytes}
 use Rattle.beet_map.specs.Mapped.{AreWords as AreAllWords}
 use Rattle.beet_map.specs.Secrets.{Secrets}
 use Rattle.beet_map_laws.specs.Pairs.{AreTwoWorlds, CanDraw, GoTogether}
 use Rattle.beet_map_laws.proofs.Images.{image, source, two-back}
 use Rattle.beet_worlds.specs.Enough.{AreEnough}
-use Rattle.beet_worlds.specs.MappedBidders.{BiddersMapped}
-use Rattle.beet_worlds.specs.MappedMasks.{MasksMapped}
+use Rattle.beet_mapped.specs.Dealers.{Party}
+use Rattle.beet_mapped.proofs.WorldFacts.{all-words, are-masks}
+use Rattle.beet_worlds.specs.MappedBidders.{BiddersMapped, party_of}
+use Rattle.beet_turned.specs.MappedMasks.{MasksMapped}
+use Rattle.beet_turned.proofs.MasksThere.{masks-there}
+use Rattle.beet_worlds.specs.Losses.{losses_of}
 use Rattle.beet_worlds.specs.MappedWords.{Mapped}
-use Rattle.beet_worlds.specs.Worlds.{CoefficientsMapped, WorldsMapped}
-use Rattle.beet_worlds.proofs.BidderFacts.{mapped-back}
-use Rattle.beet_worlds.proofs.Drawn.{all-drawn, farmers-words}
-use Rattle.beet_worlds.proofs.EachMapped.{as-many}
+use Rattle.beet_worlds.specs.Worlds.{WorldsMapped}
+use Rattle.beet_worlds.proofs.BidderFacts.{bidders-back}
+use Rattle.beet_worlds.proofs.Drawn.{all-drawn}
+use Rattle.beet_worlds.proofs.Marks.{as-many}
 use Rattle.beet_worlds.proofs.EnoughFacts.{mapped-enough}
-use Rattle.beet_worlds.proofs.MasksBack.{agree-back, masks-back}
-use Rattle.beet_worlds.proofs.Small.{mapped-masks}
-use Rattle.beet_worlds.proofs.WorldFacts.{Stands, all-words, are-masks, enough-numbers, look-same-in, secrets-first, secrets-second, worlds-mapped}
+use Rattle.beet_worlds.proofs.MasksBack.{agree-back, books-back}
+use Rattle.beet_turned.proofs.Small.{mapped-masks}
+use Rattle.beet_worlds.proofs.WorldFacts.{Stands, enough-numbers, look-same-in, secrets-first, secrets-second, worlds-mapped}
 use Rattle.beet_headline.specs.Halves.{AreOnePair, AreTwoBooks, CanRun}
-use Rattle.beet_headline.proofs.Bidders.{MovedBidders, bidders-there}
+use Rattle.beet_headline.proofs.Dealers.{MovedDealers, dealers-there}
 use Rattle.beet_headline.proofs.Inputs.{lines-there, lines_of, values-small}
 use Rattle.beet_headline.proofs.Lengths.{as-long}
-use Rattle.beet_headline.proofs.Masks.{masks-there}
 
 words-of : (list : List ℕ) → ((n : ℕ) → IsWord (slice_index list n)) → All IsWord list
 words-of list few = All-from_get_or IsWord list 0 (λ i lt. few i)
@@ -48,22 +52,27 @@ all-are masks coefficients bidders m c all = record {
   bidders = all;
 }
 
-mapped-by : (grid : Grid) (s : Point) (w w' : Secrets) (words words' : Trio (List ℕ)) →
-    GoTogether (auction_batch (auction_over grid)) (most_rounds (auction_over grid)) s w w' words words' → CoefficientsMapped grid s w w' words words'
-mapped-by grid s w w' words words' p = record { mapped = p.mapped; looks = p.looks; only = p.only; back = p.back }
-
 -- mask words and bidders' words of the second world, and the lines of both
 module _ (s : Point) (first second : Book) (two : AreTwoBooks s first second) (words : Words) (runs : CanRun first words) where
   abbrev prices : ℕ
   prices = first.grid.prices
 
-  masks : (words' : Trio (List ℕ)) × MasksMapped s first second words.masks words'
-  masks = masks-there first second words.masks s
+  masks : (words' : Trio (List ℕ)) × MasksMapped s (losses_of first second) words.masks words'
+  masks = masks-there (losses_of first second) words.masks s
 
-  lists : MovedBidders s prices first.bidders second.bidders words.bidders
+  abbrev deals : Party → Type 0
+  deals party = length party.quantities ≡ 2 * prices
+
+  lists : MovedDealers s (map party_of first.bidders) (map party_of second.bidders) words.bidders
   lists =
-      bidders-there s prices first.bidders second.bidders words.bidders runs.enough.count two.agree.marks runs.are_words.bidders
-      (all-drawn (2 * prices) words.bidders runs.enough.bidders)
+      let known = λ (party : Party). party.known in
+      dealers-there s (2 * prices) (map party_of first.bidders) (map party_of second.bidders) words.bidders
+      (runs.enough.count ∙ sym (length-map first.bidders party_of))
+      (map-map known party_of second.bidders ∙ two.agree.marks ∙ sym (map-map known party_of first.bidders))
+      (All-map deals party_of first.bidders (λ k d lt. quantities-many first.grid _ (two.first_book.of_grid k d lt)))
+      (All-map deals party_of second.bidders
+      (λ k d lt. quantities-many second.grid _ (two.second_book.of_grid k d lt) ∙ ap (λ (g : Grid). 2 * g.prices) two.agree.grids))
+      runs.are_words.bidders (all-drawn (2 * prices) words.bidders runs.enough.bidders)
 
   many : length lists.lists ≡ length second.bidders
   many = lists.count ∙ runs.enough.count ∙ sym (as-many first.bidders second.bidders two.agree.marks)
@@ -75,7 +84,7 @@ module _ (s : Point) (first second : Book) (two : AreTwoBooks s first second) (w
   there = record { inputs = lines_of second lists.lists; masks = masks.0 }
 
   are-masks-there : AreMasks masks.0
-  are-masks-there = mapped-masks first second s words.masks masks.0 (are-masks words runs.are_words) masks.1
+  are-masks-there = mapped-masks (losses_of first second) s words.masks masks.0 (are-masks words runs.are_words) masks.1
 
   stands : Stands s first second words masks.0 lists.lists here.inputs there.inputs
   stands = record {
@@ -132,7 +141,7 @@ second-there s first second words two runs =
       words',
       one-pair s first words second words' two runs are'
           (worlds-mapped s first second words bidders'.lists w w' two.agree.grids first.grid refl refl (stands s first second two words runs) found.0
-          (mapped-by first.grid s w w' words.coefficients found.0 found.2) are'),
+          found.2 are'),
     )
 
 -- all words that are mapped are these
@@ -153,10 +162,10 @@ module _ (s : Point) (first second : Book) (two : AreTwoBooks s first second) (w
   abbrev w' : Secrets
   w' = here s second first back words' runs
 
-  abbrev masks' : (t : Trio (List ℕ)) × MasksMapped s second first words'.masks t
+  abbrev masks' : (t : Trio (List ℕ)) × MasksMapped s (losses_of second first) words'.masks t
   masks' = masks s second first back words' runs
 
-  abbrev bidders' : MovedBidders s second.grid.prices second.bidders first.bidders words'.bidders
+  abbrev bidders' : MovedDealers s (map party_of second.bidders) (map party_of first.bidders) words'.bidders
   bidders' = lists s second first back words' runs
 
   drawn : (c : Trio (List ℕ)) × CanDraw (most_coefficients (auction_over second.grid)) c
@@ -178,16 +187,9 @@ module _ (s : Point) (first second : Book) (two : AreTwoBooks s first second) (w
       mapped-enough s second first words' words back.agree masks'.1 (λ j. sym (drawn.2.mapped.places j)) (many s second first back words' runs) bidders'.mapped
       runs.enough
 
-  bidders-mapped : BiddersMapped s first.grid.prices (farmers_of first.bidders bidders'.lists) (farmers_of second.bidders words'.bidders)
+  bidders-mapped : BiddersMapped s first.bidders bidders'.lists second.bidders words'.bidders
   bidders-mapped =
-      let farmers : List Farmer = farmers_of second.bidders words'.bidders in
-      let farmers' : List Farmer = farmers_of first.bidders bidders'.lists in
-      let book : IsBook (book_with second.grid farmers) = subst IsBook (sym (book-whole second words'.bidders runs.enough.count)) two.second_book in
-      let book' : IsBook (book_with second.grid farmers') =
-      subst (λ g. IsBook (book_with g farmers')) (sym two.agree.grids)
-      (subst IsBook (sym (book-whole first bidders'.lists (many s second first back words' runs))) two.first_book) in
-      subst (λ (g : Grid). BiddersMapped s g.prices farmers' farmers) two.agree.grids
-      (mapped-back s second.grid farmers farmers' book' book (farmers-words second.bidders words'.bidders runs.are_words.bidders) bidders'.mapped)
+      bidders-back s second.bidders first.bidders words'.bidders bidders'.lists two.second_book.curves two.first_book.curves runs.are_words.bidders bidders'.mapped
 
   stands-back : Stands s first second words words'.masks words'.bidders w.inputs w'.inputs
   stands-back = record {
@@ -197,7 +199,7 @@ module _ (s : Point) (first second : Book) (two : AreTwoBooks s first second) (w
     is_book' = two.second_book;
     are_words = are;
     lists = sym bidders'.count;
-    masks_mapped = masks-back s second first back.agree words'.masks masks'.0 (are-masks words' runs.are_words) masks'.1;
+    masks_mapped = books-back s second first back.agree words'.masks masks'.0 (are-masks words' runs.are_words) masks'.1;
     bidders_mapped = bidders-mapped;
     here = (stands s second first back words' runs).there;
     there = (stands s second first back words' runs).here;
@@ -208,5 +210,5 @@ module _ (s : Point) (first second : Book) (two : AreTwoBooks s first second) (w
     words,
     one-pair s first words second words' two (record { are_words = are; enough = enough }) runs.are_words
         (worlds-mapped s first second words words'.bidders w w' two.agree.grids second.grid two.agree.grids refl stands-back words'.coefficients
-        (mapped-by second.grid s w w' drawn.0 words'.coefficients drawn.2) runs.are_words),
+        drawn.2 runs.are_words),
   )

@@ -15,7 +15,8 @@ use Rattle.beet_plan.specs.declared.Finish.TheVariants.{MasksSpent}
 use Rattle.beet_book.specs.Farmers.{book_with, farmers_of}
 use Rattle.beet_book.proofs.FarmerLists.{book-whole}
 use Rattle.beet_delivery.specs.Events.{Triple, after, passed}
-use Rattle.beet_delivery.proofs.EventFacts.{passed_most}
+use Rattle.beet_delivery.proofs.NetworkFacts.{passed_most}
+use Rattle.beet_delivery.proofs.ThreeServers.{three-is}
 use Rattle.beet_delivery.proofs.Undelivered.{passed_all}
 use Rattle.beet_sharing.specs.Runs.{shared_at}
 use Rattle.beet_server.specs.Cores.{Core}
@@ -27,7 +28,7 @@ use Rattle.beet_auction.specs.WorldEnds.{IsAuctionCore, StandsBy, auction_in}
 use Rattle.beet_auction.proofs.BookLines.{book-lines, slopes_of}
 use Rattle.beet_auction.proofs.Ends.{book-ends}
 use Rattle.beet_auction.proofs.WorldEnds.{stands-by}
-use Rattle.beet_worlds.proofs.WorldFacts.{are-masks}
+use Rattle.beet_mapped.proofs.WorldFacts.{are-masks}
 use Rattle.beet_headline.proofs.Delivering.{to-the-end}
 use Rattle.beet_headline.specs.Halves.{AllDelivered, AllEndWith, AllHaveEnded, CanRun, OpensTheOutcome, are_spent, standing}
 
@@ -90,7 +91,7 @@ module _ (book : Book) (words : Words) (b : IsBook book) (runs : CanRun book wor
             let here : t ≡ at = same-round (standing book words es s) t at e (waiting some) in
             elim (cases_lt at rounds) [
               | inl lt ↦ omega (arith, here, lt, ends.counted)
-              | inr past ↦ absurd (some (omega (arith, past, passed_most rounds (after rounds es) s)))
+              | inr past ↦ absurd (some (omega (arith, past, passed_most three-is rounds (after rounds es) s)))
             ]
       ];
       rounds = ends.counted;
@@ -99,7 +100,7 @@ module _ (book : Book) (words : Words) (b : IsBook book) (runs : CanRun book wor
   pub all-ended : (es : List Triple) → AllDelivered book words es → AllHaveEnded book words es
   all-ended es none =
       let rounds : ℕ = rounds_for book words in
-      let all : (s : Point) → passed rounds (after rounds es) s ≡ rounds = passed_all rounds (after rounds es) none in
+      let all : (s : Point) → passed rounds (after rounds es) s ≡ rounds = passed_all three-is rounds (after rounds es) none in
       elim (cases_Bool (are_spent book words)) [
         | inl many ↦ inr (many, λ s. ended es s (all s) ∙ (λ i. Ends (Some (if many i then MasksSpent else finish_of (outcome_of book)))))
         | inr few ↦ inl (few, λ s. ended es s (all s) ∙ (λ i. Ends (Some (if few i then MasksSpent else finish_of (outcome_of book)))))
@@ -109,7 +110,7 @@ module _ (book : Book) (words : Words) (b : IsBook book) (runs : CanRun book wor
   only finish all =
       let rounds : ℕ = rounds_for book words in
       let end = to-the-end rounds [] in
-      let there : passed rounds (after rounds end.0) One ≡ rounds = passed_all rounds (after rounds end.0) end.1 One in
+      let there : passed rounds (after rounds end.0) One ≡ rounds = passed_all three-is rounds (after rounds end.0) end.1 One in
       sym (same-finish (book_finish book words.masks) finish (all end.0 One (Some (book_finish book words.masks)) (ended end.0 One there)))
 
   pub cores : (w : World Auction) (s : Point) (c : Core Auction) → w.start.one.script ≡ auction_over book.grid → auction_in w ≡ setup_for book words →

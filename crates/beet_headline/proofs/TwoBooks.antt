@@ -3,6 +3,7 @@ use Rattle.std.proofs.Common.{◌≡◌, ◌≢◌, ◌≤◌, ℕ, zero, suc, [
 use Rattle.std.specs.Prelude.{All}
 use Rattle.std.proofs.lemmas.List.Elements.{All-cons, All-nil}
 use Rattle.std.proofs.lemmas.List.Kept.{AllPairs-cons}
+use Rattle.std.proofs.lemmas.Option.{same_Some}
 use Rattle.beet_field.specs.declared.point.Point.TheVariants.{One}
 use Rattle.beet_bids.specs.Books.{Book, IsBook}
 use Rattle.beet_bids.specs.Curves.{IsCurve, IsOfGrid}
@@ -10,7 +11,6 @@ use Rattle.beet_bids.specs.declared.book.Bidder.{Bidder}
 use Rattle.beet_bids.specs.declared.curve.TheConstants.{LARGEST_QUANTITY}
 use Rattle.beet_bids.specs.declared.outcomes.Outcome.TheVariants.{No, Price}
 use Rattle.beet_worlds.specs.Agreement.{SameKnown}
-use Rattle.beet_worlds.proofs.MasksBack.{some-same}
 use Rattle.beet_headline.specs.Examples.{book_selling, buyer, seller_of, two_prices}
 use Rattle.beet_headline.specs.Halves.{AreTwoBooks}
 
@@ -53,9 +53,9 @@ is-book amount few = record {
 }
 
 own : SameKnown One (book_selling 5) (book_selling 7)
-own zero one other e f known = ap (λ (b : Bidder). b.curve) (sym (some-same buyer other f) ∙ some-same buyer one e)
+own zero one other e f known = ap (λ (b : Bidder). b.curve) (sym (same_Some buyer other f) ∙ same_Some buyer one e)
 own (suc zero) one other e f known =
-    let none : None ≡ Some One = ap (λ (b : Bidder). b.known) (some-same (seller_of 5) one e) ∙ known in cc none
+    let none : None ≡ Some One = ap (λ (b : Bidder). b.known) (same_Some (seller_of 5) one e) ∙ known in cc none
 own (suc (suc k)) one other e f known = cc e
 
 pub agree : AreTwoBooks One (book_selling 5) (book_selling 7)

@@ -8,7 +8,8 @@ use Rattle.beet_bids.specs.Books.{Book, IsBook}
 use Rattle.beet_bids.specs.Outcomes.{clearing_place, outcome_of}
 use Rattle.beet_plan.specs.Auction.{auction_over, auction_plan}
 use Rattle.beet_plan.specs.Runs.{finish_of}
-use Rattle.beet_plan.specs.Search.{is_spent, mask_at, path}
+use Rattle.beet_masking.specs.Masks.{is_spent, mask_at}
+use Rattle.beet_plan.specs.Search.{path}
 use Rattle.beet_plan.specs.declared.Finish.{Finish}
 use Rattle.beet_plan.specs.declared.Finish.TheVariants.{MasksSpent}
 use Rattle.beet_delivery.specs.Events.{Triple, after, undelivered}

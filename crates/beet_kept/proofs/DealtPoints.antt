@@ -23,6 +23,7 @@ use Rattle.beet_book.proofs.Pairs.{length-pairwise, item-pairwise}
 use Rattle.beet_book.specs.Farmers.{Farmer, book_inputs, farmers_of, point_for, summed_points}
 use Rattle.beet_auction.proofs.Adding.{summed-none, summed-more}
 use Rattle.beet_plan.specs.Kept.{words_kept}
+use Rattle.beet_load.specs.Counts.{counts_of}
 use Rattle.beet_load.specs.Wholes.{CanDeal}
 use Rattle.beet_view.specs.BookViews.{seen_at, seen_with}
 use Rattle.beet_view.specs.declared.view.Seen.{Seen}
@@ -31,7 +32,7 @@ use Rattle.beet_kept.specs.declared.dealing.DealtPart.{DealtPart}
 
 -- a tape of words that are all kept has them left
 pub tape-left : (grid : Grid) (kept : ℕ) (tape : Tape) (words : List ℕ) → tape ≡ record { words = take kept words; passed = 0 } →
-    kept ≡ words_kept grid.prices → CanDeal grid words → left_of tape ≡ accepted words
+    kept ≡ words_kept grid.prices → CanDeal (counts_of grid) words → left_of tape ≡ accepted words
 tape-left grid kept tape words e same can =
     let few : length words ≤ kept = omega (arith, can.kept, same) in
     ap left_of e ∙ ap accepted (take_all kept words few)

@@ -16,10 +16,10 @@ use Rattle.beet_bids.specs.Curves.{Curve, IsOfGrid}
 use Rattle.beet_bids.specs.Grids.{Grid}
 use Rattle.beet_bids.specs.declared.book.Bidder.{Bidder}
 use Rattle.beet_plan.specs.Auction.{Auction, auction_batch, auction_plan, most_rounds, auction_over}
-use Rattle.beet_plan.specs.Runs.{AreMasks}
+use Rattle.beet_masking.specs.Masks.{AreMasks}
 use Rattle.beet_plan.specs.declared.Finish.{Finish}
 use Rattle.beet_bids.proofs.BookSums.{length-sums}
-use Rattle.beet_delivery.proofs.EventFacts.{same_is, not_same}
+use Rattle.beet_delivery.proofs.ThreeServers.{not_same, same_is}
 use Rattle.beet_server.specs.Cores.{Core, has_ended, setup_of}
 use Rattle.beet_delivery.specs.Events.{Delivered, same}
 use Rattle.beet_server.specs.Fits.{Fits}
@@ -31,6 +31,7 @@ use Rattle.beet_book.specs.Farmers.{Farmer, book_inputs, book_with, farmers_of, 
 use Rattle.beet_auction.specs.Setups.{inputs_of, setup_for, rounds_for}
 use Rattle.beet_auction.proofs.BookLines.{book-lines, slopes_of}
 use Rattle.beet_auction.proofs.Ends.{book-ends}
+use Rattle.beet_load.specs.Counts.{counts_of}
 use Rattle.beet_load.specs.Servers.{ServerWords, AreCut, HaveEnough, masks_of, cut_servers}
 use Rattle.beet_load.specs.Wholes.{CanStart, by_server}
 use Rattle.beet_book.proofs.FarmerLists.{book-whole}
@@ -45,7 +46,8 @@ use Rattle.beet_view.specs.declared.view.Seen.{Seen}
 use Rattle.beet_kept.specs.BookRuns.{CanShow, CanWrite, HasRun, Ran}
 
 -- words that are cut already are those of the tapes
-pub cut-same : (grid : Grid) (words : Words) → AreCut grid (by_server words) → cut_servers grid words ≡ by_server words
+pub cut-same : (grid : Grid) (words : Words) → AreCut (counts_of grid) (by_server words) → cut_servers
+    (counts_of grid) words ≡ by_server words
 cut-same grid words h = λ i. record {
   one = record { masks = take_all _ words.masks.one h.one.masks i; coefficients = take_all _ words.coefficients.one h.one.coefficients i };
   two = record { masks = take_all _ words.masks.two h.two.masks i; coefficients = take_all _ words.coefficients.two h.two.coefficients i };
@@ -161,15 +163,16 @@ shows book words ran s h =
 -- the same with the grid, the lists and the tapes that the program has
 module _ (book : Book) (words : Words) (b : IsBook book) (can : CanStart book words) (grid : Grid) (g : grid ≡ book.grid) (lists : List (List ℕ))
     (l : lists ≡ words.bidders) (inputs : Trio (List ℕ)) (e : inputs ≡ book_inputs book.grid.prices (farmers_of book.bidders lists))
-    (tapes : Trio ServerWords) (t : tapes ≡ cut_servers grid words) where
+    (tapes : Trio ServerWords) (t : tapes ≡ cut_servers (counts_of grid) words) where
   inputs-are : inputs ≡ book_inputs book.grid.prices (farmers_of book.bidders words.bidders)
   inputs-are = e ∙ ap (λ (x : List (List ℕ)). book_inputs book.grid.prices (farmers_of book.bidders x)) l
 
   tapes-are : tapes ≡ by_server words
-  tapes-are = t ∙ ap (λ (x : Grid). cut_servers x words) g ∙ cut-same book.grid words can.cut
+  tapes-are = t ∙ ap (λ (x : Grid). cut_servers (counts_of x) words) g ∙ cut-same book.grid words can.cut
 
-  pub tapes-enough : HaveEnough grid tapes
-  tapes-enough = subst (λ (x : Grid). HaveEnough x tapes) (sym g) (subst (HaveEnough book.grid) (sym tapes-are) can.servers)
+  pub tapes-enough : HaveEnough (counts_of grid) tapes
+  tapes-enough = subst (λ (x : Grid). HaveEnough (counts_of x) tapes) (sym g)
+      (subst (HaveEnough (counts_of book.grid)) (sym tapes-are) can.servers)
 
   pub inputs-enough : (i : Point) → length (member inputs i) ≡ 2 * grid.prices
   inputs-enough i = inputs-long book words b can inputs inputs-are i ∙ ap (λ (x : Grid). 2 * x.prices) (sym g)

@@ -9,6 +9,7 @@ use Rattle.beet_bids.specs.declared.book.Bidder.{Bidder}
 use Rattle.beet_book.specs.Totals.{Totals}
 use Rattle.beet_book.specs.Farmers.{Farmer, summed_points}
 use Rattle.beet_delivery.specs.Events.{same}
+use Rattle.beet_load.specs.Counts.{counts_of}
 use Rattle.beet_load.specs.Wholes.{CanDeal}
 use Rattle.beet_view.specs.BookViews.{seen_at}
 use Rattle.beet_view.specs.declared.view.Seen.{Seen}
@@ -17,7 +18,7 @@ use Rattle.beet_view.specs.declared.view.Seen.{Seen}
 pub record CanDealAll (grid : Grid) (bidders : List Bidder) (words : List (List ℕ)) : Type 0 where
   pub paired : length words ≡ length bidders
   pub of_grid : All (λ bidder. IsOfGrid grid bidder.curve) bidders
-  pub enough : All (CanDeal grid) words
+  pub enough : All (CanDeal (counts_of grid)) words
 
 -- whether bidders are kept for a server: for one that is named, or for each
 abbrev pub shows : Option Point → Point → Bool

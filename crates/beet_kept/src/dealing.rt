@@ -7,6 +7,7 @@ ghost use Rattle.std.specs.Thread.{IsSync};
 ghost use Rattle.beet_bids.specs.Curves.{IsOfGrid};
 ghost use Rattle.beet_bids.specs.Grids.{Grid as Lattice};
 ghost use Rattle.beet_book.specs.Farmers.{Farmer, book_inputs, farmers_of};
+ghost use Rattle.beet_load.specs.Counts.{counts_of};
 ghost use Rattle.beet_load.specs.Wholes.{CanDeal};
 ghost use Rattle.beet_view.specs.BookViews.{seen_at, own_at, seen_with};
 ghost use Rattle.beet_kept.specs.DealtBooks.{CanDealAll, HasDealt, shows};
@@ -187,7 +188,7 @@ fn deal_one(
     seen: &mut SeenByAll,
 ) -> Result<(), AllocError>
     requires of_grid { IsOfGrid grid.now bidder.now.curve }
-    requires words { CanDeal grid.now words.now }
+    requires words { CanDeal (counts_of grid.now) words.now }
     requires prices { totals.old.prices ≡ grid.now.prices }
     ensures { (farmers : List Farmer) → HasDealt grid.now whom farmers totals.old seen.old
         → OnOk result (HasDealt grid.now whom (farmers ++ record { bidder = bidder.now; words = words.now } ∷ [])
@@ -347,7 +348,7 @@ pub(crate) fn deal_book<R: Threads + Sync>(
     words: &[WordList],
 ) -> Result<DealtBook, AllocError>
     requires lists { length words.now ≡ length book.now.bidders }
-    requires words { All (CanDeal book.now.grid) words.now }
+    requires words { All (CanDeal (counts_of book.now.grid)) words.now }
     ensures inputs { IfOk result (λ dealt. dealt.inputs
         ≡ book_inputs book.now.grid.prices (farmers_of book.now.bidders words.now)) }
     ensures seen { IfOk result (λ dealt. (s : Server) → shows whom s ≡ true → member dealt.seen s

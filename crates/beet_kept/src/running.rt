@@ -7,6 +7,7 @@ ghost use Rattle.beet_words.specs.Bundles.{Words as Lists};
 ghost use Rattle.beet_bids.specs.Books.{Book as Bids, IsBook};
 ghost use Rattle.beet_bids.specs.Grids.{IsGrid};
 ghost use Rattle.beet_book.specs.Farmers.{book_inputs, farmers_of};
+ghost use Rattle.beet_load.specs.Counts.{counts_of};
 ghost use Rattle.beet_load.specs.Servers.{cut_servers};
 ghost use Rattle.beet_load.specs.Wholes.{CanStart};
 ghost use Rattle.beet_view.specs.Transcripts.{view_bytes};
@@ -20,7 +21,7 @@ use beet_bids::{Book, Grid};
 use beet_errand::Stop;
 use beet_field::{Point, Trio};
 use beet_forms::beside;
-use beet_load::{ServerWords, cut_three};
+use beet_load::{ServerWords, auction_counts, cut_three};
 use beet_plan::Finish;
 use beet_run::{finish_at, run_on_one_thread};
 use beet_search::AuctionScript;
@@ -219,11 +220,11 @@ pub fn make_ready<R: Threads + Sync>(
         ≡ map (seen_at book.now.grid s) (farmers_of book.now.bidders words.now.bidders)) }
     ensures inputs { IfOk result (λ ready. ready.inputs
         ≡ book_inputs book.now.grid.prices (farmers_of book.now.bidders words.now.bidders)) }
-    ensures tapes { IfOk result (λ ready. ready.tapes ≡ cut_servers ready.grid words.now) }
+    ensures tapes { IfOk result (λ ready. ready.tapes ≡ cut_servers (counts_of ready.grid) words.now) }
 {
     let grid = grid_of(book);
     let dealt = deal_book(rt, alloc, whom, book, words.bidders.as_slice())?;
-    let (dealt, tapes) = beside(dealt, cut_three(alloc, &grid, words))?;
+    let (dealt, tapes) = beside(dealt, cut_three(alloc, &auction_counts(&grid), words))?;
     Ok(Ready {
         grid,
         seen: dealt.seen,

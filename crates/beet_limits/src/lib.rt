@@ -18,7 +18,7 @@ ghost use Rattle.beet_bids.specs.declared.grid.TheConstants.{LARGEST_BASE, LARGE
 ghost use Rattle.beet_bids.specs.declared.lines.TheConstants.{BUY_RISES, NO_BASE, NOT_ASCENDING, OFF_GRID, QUANTITY_TOO_LARGE, SELL_FALLS};
 ghost use Rattle.beet_mask.specs.Mask.{mask_rounds_of, mask_wires_of};
 ghost use Rattle.beet_compare.specs.Compare.{compare_rounds_of, compare_wires_of};
-ghost use Rattle.beet_plan.specs.declared.TheConstants.{MASK_COEFFICIENTS, SPARE_MASKS, SPARE_WORDS};
+ghost use Rattle.beet_masking.specs.declared.TheConstants.{MASK_COEFFICIENTS, SPARE_MASKS, SPARE_WORDS};
 ghost use Rattle.beet_book.specs.declared.book_file.TheConstants.{BOOK_LIMIT, MOST_PRODUCT, OVER_PRODUCT};
 ghost use Rattle.beet_book.specs.declared.entries.TheConstants.{BAD_SOURCE};
 ghost use Rattle.beet_book.specs.declared.named_file.TheConstants.{ONE_TOO_MANY, SAME_NAME, TOO_MANY};
@@ -80,10 +80,11 @@ pub fn trials_have_these_numbers()
 pub fn blocks_have_these_sizes()
     ensures message { MOST_NUMBERS ≡ 64 }
     ensures lets { MOST_LETS ≡ 128 }
-    ensures mask_chain { mask_rounds_of Chain ≡ 64 }
-    ensures mask_tree { mask_rounds_of Tree ≡ 10 }
-    ensures mask_wires { mask_wires_of Chain ≡ 487 }
-    ensures mask_tree_wires { mask_wires_of Tree ≡ 487 }
+    ensures mask_chain { mask_rounds_of Chain 3 ≡ 64 }
+    ensures mask_tree { mask_rounds_of Tree 3 ≡ 10 }
+    ensures mask_wires { mask_wires_of 3 ≡ 487 }
+    ensures five_wires { mask_wires_of 5 ≡ 853 }
+    ensures five_rounds { mask_rounds_of Chain 5 ≡ 66 }
     ensures mask_bits { WIRES_BEFORE_BITS ≡ 366 }
     ensures compare_chain { compare_rounds_of Chain ≡ 63 }
     ensures compare_tree { compare_rounds_of Tree ≡ 9 }

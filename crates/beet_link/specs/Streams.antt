@@ -1,5 +1,5 @@
 -- The messages from one server to another.
-use Rattle.std.specs.Prelude.{ℕ, List}
+use Rattle.std.specs.Prelude.{ℕ, List, max}
 use Rattle.beet_field.specs.declared.point.Point.{Point}
 use Rattle.beet_field.specs.declared.trio.Trio.{Trio}
 use Rattle.beet_gates.specs.Each.{each}
@@ -8,6 +8,7 @@ use Rattle.beet_round.specs.declared.message.RoundMessage.{RoundMessage}
 use Rattle.beet_sharing.specs.Runs.{Setup, rounds_among}
 use Rattle.beet_server.specs.Cores.{Core, setup_of}
 use Rattle.beet_server.specs.Fits.{message_of}
+use Rattle.beet_link.specs.Ends.{LinkEnd, end_at}
 
 -- those of a run of so many rounds, round by round
 abbrev pub stream : Setup → ℕ → Point → Point → List RoundMessage
@@ -21,3 +22,8 @@ module _ {S : Type 0} (next : S → ℕ → List ℕ → Batch) (inputs most : S
   -- all messages of that run from one server to another
   abbrev pub stream_of : Trio (Core S) → Point → Point → List RoundMessage
   stream_of cores from to = stream (setup_of next inputs cores) (rounds_from cores) from to
+
+  -- an end of the link for these that has moved so many: the link has room for as many as the script has rounds, and at
+  -- least for one
+  abbrev pub link_at : Trio (Core S) → Point → Point → ℕ → LinkEnd
+  link_at cores from to = end_at (max (most cores.one.script) 1) (stream_of cores from to)

@@ -1,92 +1,157 @@
 //! The two ends of a link.
 
-ghost use Rattle.std.specs.Prelude.{◌≡◌, IsFalse, IsTrue};
+ghost use Rattle.std.specs.Prelude.{◌≡◌, IfNone, IfSome};
 ghost use Rattle.beet_link.specs.Ends.{IsNext, one_on};
 
-use crate::parcel::{Free, Parcel, Read};
-use crate::rule::{Puts, Queue, QueuePass, Takes};
+use crate::parcel::Parcel;
+use crate::sleeper::Sleeper;
+use beet_queue::{Puts, Queue, QueuePass, Takes};
 use beet_round::RoundMessage;
 use std::alloc::Global;
+use std::hint::spin_loop;
 use std::marker::Model;
 use std::sync::{Arc, Wait};
 
+/// The most looks of a receiver before it sleeps. They take some twenty microseconds, longer than a message is on its
+/// way where each server has a processor, and not much longer than to sleep and to be woken. A receiver does not give
+/// up its turn between two looks: beside busy processes it would lose a whole time slice by that, and in each round
+/// one.
+pub(crate) const MOST_LOOKS: u32 = 2_000;
+
+/// How many looks more a receiver makes the next time after looks that found its message. After looks in vain it
+/// makes half as many: so it sleeps soon where the other server cannot run while it looks.
+const MORE_LOOKS: u32 = 16;
+
+/// What the two ends of a link share: the messages on their way, and what the receiver sleeps on.
+#[derive(Drop)]
+pub struct Line {
+    pub queue: Queue<Parcel>,
+    pub receiver: Sleeper,
+}
+
 /// The end of the server that puts. Contracts see the messages of the run from this server to the
-/// other, in order, and how many of them were put.
+/// other, in order, how many of them were put, and for how many the link has room.
 #[derive(Drop)]
 pub struct LinkTx {
-    pub(crate) queue: Arc<Queue, Global>,
-    pub(crate) pass: QueuePass,
-    pub(crate) free: Free,
+    pub(crate) line: Arc<Line, Global>,
+    pub(crate) pass: QueuePass<Parcel>,
 }
 
 impl Model for LinkTx {
-    ghost use Rattle.std.specs.Prelude.{◌≡◌, ◌≤◌, true, false, length};
+    ghost use Rattle.std.specs.Prelude.{◌≡◌, ◌≤◌, true};
     ghost use Rattle.std.specs.Arc.{arc_value};
     ghost use Rattle.crossbeam_queue.specs.Passes.{view as known, IsPassOf, ruled_capacity};
+    ghost use Rattle.beet_field.specs.Trio.{with_member};
+    ghost use Rattle.beet_field.specs.declared.point.Point.TheVariants.{One};
+    ghost use Rattle.beet_queue.specs.Rule.{all_named, no_one};
     ghost use Rattle.beet_link.specs.Ends.{LinkEnd, end_at};
 
     ghost Value = { LinkEnd };
 
-    ghost view = { λ t. end_at (known t.pass).stream (known t.pass).moved };
+    ghost view = { λ t. end_at (ruled_capacity (arc_value t.line).queue)
+        (known t.pass).streams.one (known t.pass).put.one };
 
-    ghost invariant = { λ t. IsPassOf (arc_value t.queue) t.pass
-        × ((known t.pass).puts ≡ true)
-        × ((known t.pass).takes ≡ false)
-        × (length (known t.pass).stream ≤ ruled_capacity (arc_value t.queue)) };
+    ghost invariant = { λ t. IsPassOf (arc_value t.line).queue t.pass
+        × ((known t.pass).puts ≡ with_member no_one One true)
+        × (all_named (known t.pass).streams ≤ ruled_capacity (arc_value t.line).queue) };
 }
 
 /// The end of the server that takes. Contracts see the messages of the run from the other server to
-/// this one, in order, and how many of them were taken.
+/// this one, in order, how many of them were taken, and for how many the link has room.
 #[derive(Drop)]
 pub struct LinkRx {
-    pub(crate) queue: Arc<Queue, Global>,
-    pub(crate) pass: QueuePass,
-    pub(crate) read: Read,
+    pub(crate) line: Arc<Line, Global>,
+    pub(crate) pass: QueuePass<Parcel>,
+    /// How often it looks for the next message before it sleeps.
+    pub(crate) looks: u32,
 }
 
 impl Model for LinkRx {
-    ghost use Rattle.std.specs.Prelude.{◌≡◌, true, false};
+    ghost use Rattle.std.specs.Prelude.{◌≡◌, true};
     ghost use Rattle.std.specs.Arc.{arc_value};
-    ghost use Rattle.crossbeam_queue.specs.Passes.{view as known, IsPassOf};
-    ghost use Rattle.beet_link.specs.Ends.{LinkEnd, end_at};
+    ghost use Rattle.crossbeam_queue.specs.Passes.{view as known, IsPassOf, ruled_capacity};
+    ghost use Rattle.beet_link.specs.Ends.{LinkEnd, count_taken, end_at};
 
     ghost Value = { LinkEnd };
 
-    ghost view = { λ t. end_at (known t.pass).stream (known t.pass).moved };
+    ghost view = { λ t. end_at (ruled_capacity (arc_value t.line).queue)
+        (known t.pass).streams.one (count_taken (known t.pass).taken) };
 
-    ghost invariant = { λ t. IsPassOf (arc_value t.queue) t.pass
-        × ((known t.pass).puts ≡ false)
+    ghost invariant = { λ t. IsPassOf (arc_value t.line).queue t.pass
         × ((known t.pass).takes ≡ true) };
 }
 
 impl LinkTx {
-    /// Puts the next message of the run. It is never refused, and takes no memory. Where it has many numbers, and the buffers of both such
-    /// messages before it are still to be read, it waits.
-    pub fn put<R: Wait>(&mut self, rt: &R, message: &RoundMessage)
-        requires { IsNext self.old message.now }
+    /// Puts the next message of the run, which moves to the other server as it lies, and wakes that server if it
+    /// sleeps. It is never refused, never waits, and takes no memory.
+    pub fn put<R: Wait>(&mut self, rt: &R, message: Box<RoundMessage>)
+        requires { IsNext self.old message.value }
         ensures { self.new ≡ one_on self.old }
     {
-        let parcel = Parcel::pack(rt, &mut self.free, message);
-        match self.queue.push_as::<Puts, R>(rt, &mut self.pass, parcel) {
-            Ok(()) => (),
+        match self
+            .line
+            .queue
+            .push_as::<Puts, R>(rt, &mut self.pass, Parcel { message })
+        {
+            Ok(()) => self.line.receiver.wake(),
             Err(_) => unreachable!(),
         }
     }
 }
 
 impl LinkRx {
-    /// Takes the front of the link, and makes the message equal to it. The answer is false only where the link was empty at a moment of
-    /// the call, and then nothing changes. No memory is taken.
-    pub fn take<R: Wait>(&mut self, rt: &R, message: &mut RoundMessage) -> bool
-        ensures taken { IsTrue result → IsNext self.old message.new × (self.new ≡ one_on self.old) }
-        ensures empty { IsFalse result → (self.new ≡ self.old) × (message.new ≡ message.old) }
+    /// Takes the front of the link. `None` where the other server's next put has not ended, and then nothing changes.
+    /// No memory is taken.
+    pub fn take<R: Wait>(&mut self, _rt: &R) -> Option<Box<RoundMessage>>
+        ensures taken { IfSome result (λ m. IsNext self.old m.value × (self.new ≡ one_on self.old)) }
+        ensures empty { IfNone result (self.new ≡ self.old) }
     {
-        match self.queue.pop_as::<Takes, R>(rt, &mut self.pass) {
-            Some(parcel) => {
-                parcel.unpack(&mut self.read, message);
-                true
+        let parcel = self.line.queue.try_pop_as::<Takes>(&mut self.pass)?;
+        Some(parcel.message)
+    }
+
+    /// Takes the front of the link, once it is there. No memory is taken.
+    pub fn wait<R: Wait>(&mut self, rt: &R) -> Box<RoundMessage>
+        ensures { IsNext self.old result.value × (self.new ≡ one_on self.old) }
+    {
+        match self.look(rt) {
+            Some(message) => {
+                self.looks = self.looks.saturating_add(MORE_LOOKS).min(MOST_LOOKS);
+                message
             }
-            None => false,
+            None => {
+                self.looks = self.looks / 2 + 1;
+                self.sleep(rt)
+            }
         }
+    }
+
+    /// Takes the front of the link if it is there soon.
+    fn look<R: Wait>(&mut self, rt: &R) -> Option<Box<RoundMessage>>
+        ensures taken { IfSome result (λ m. IsNext self.old m.value × (self.new ≡ one_on self.old)) }
+        ensures empty { IfNone result (self.new ≡ self.old) }
+    {
+        for _ in 0..self.looks {
+            if let Some(message) = self.take(rt) {
+                return Some(message);
+            }
+            spin_loop();
+        }
+        None
+    }
+
+    /// Sleeps until the front of the link is there, and takes it.
+    fn sleep<R: Wait>(&mut self, rt: &R) -> Box<RoundMessage>
+        ensures { IsNext self.old result.value × (self.new ≡ one_on self.old) }
+    {
+        for _ in rt.forever() {
+            self.line.receiver.lie_down();
+            if let Some(message) = self.take(rt) {
+                self.line.receiver.get_up();
+                return message;
+            }
+            self.line.receiver.sleep(rt);
+        }
+        unreachable!()
     }
 }

@@ -23,32 +23,12 @@ pub trait Gate: Sync {
 
     /// Meets the server of this seat.
     fn meet(&self, seat: &mut Self::Seat, note: Note);
-
-    /// Whether three servers must meet it: then each runs in a thread of its own. Where they need not, they run on one thread without it.
-    fn must_be_met(&self) -> bool {
-        true
-    }
 }
 
-/// The gate that does nothing, and that no server need meet.
+/// The gate that does nothing.
 pub struct FreeGate;
 
 impl Gate for FreeGate {
-    type Seat = ();
-
-    fn seat(&self, _server: Point) {}
-
-    fn meet(&self, _seat: &mut (), _note: Note) {}
-
-    fn must_be_met(&self) -> bool {
-        false
-    }
-}
-
-/// The gate that does nothing either, but that each server must meet.
-pub struct MetGate;
-
-impl Gate for MetGate {
     type Seat = ();
 
     fn seat(&self, _server: Point) {}

@@ -6,8 +6,8 @@ mod ends;
 mod gates;
 mod making;
 mod parcel;
-mod rule;
+mod sleeper;
 
 pub use ends::{LinkRx, LinkTx};
-pub use gates::{FreeGate, Gate, MetGate, Note};
+pub use gates::{FreeGate, Gate, Note};
 pub use making::link;

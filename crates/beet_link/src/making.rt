@@ -1,50 +1,25 @@
 //! How a link is made.
 
-ghost use Rattle.std.specs.Prelude.{◌≡◌, ◌≢◌, ◌≤◌, ◌<◌, length, IfOk};
+ghost use Rattle.std.specs.Prelude.{◌≡◌, ◌≢◌, ◌≤◌, ◌<◌, IfOk};
 ghost use Rattle.beet_server.specs.Cores.{AreFresh};
+ghost use Rattle.beet_queue.specs.Rule.{all_named};
 ghost use Rattle.beet_link.specs.Ends.{end_at};
-ghost use Rattle.beet_link.specs.Streams.{stream_of};
+ghost use Rattle.beet_link.specs.Streams.{link_at};
 
-use crate::ends::{LinkRx, LinkTx};
-use crate::parcel::buffers;
-use crate::rule::{Known, Queue};
+use crate::ends::{Line, LinkRx, LinkTx, MOST_LOOKS};
+use crate::parcel::Parcel;
+use crate::sleeper::Sleeper;
 use beet_field::{Point, Trio};
 use beet_gates::Script;
+use beet_queue::{GivesAway, Named, Queue, ToOne};
 use beet_server::ServerCore;
-use crossbeam_queue::protocol::Split;
 use std::alloc::{AllocError, Global};
-use std::marker::{Brand, PhantomData};
+use std::marker::Brand;
 use std::sync::Arc;
 
-/// The messages that go over a link.
-pub trait Named {
-    ghost use Rattle.std.specs.Prelude.{List};
-    ghost use Rattle.beet_round.specs.declared.message.RoundMessage.{RoundMessage};
-
-    ghost stream: { List RoundMessage };
-}
-
-impl Named for Brand {
-    ghost use Rattle.std.specs.Prelude.{[]};
-
-    ghost stream = { [] };
-}
-
-/// The first pass becomes the two of a link whose messages are named.
-struct TwoEnds<K> {
-    of: PhantomData<K>,
-}
-
-impl<K: Named> Split<Known> for TwoEnds<K> {
-    ghost use Rattle.beet_link.specs.Rule.{putting, taking};
-
-    ghost left = { λ v. putting K.stream 0 };
-
-    ghost right = { λ v. taking K.stream 0 };
-}
-
 /// The link for the messages of the run of three fresh servers from one of them to another. It has
-/// room for all of them, so that no put is refused; no other call takes memory.
+/// room for as many messages as the script has rounds, and at least for one. That is for all of them, so
+/// that no put is refused; no other call takes memory.
 pub fn link<S: Script>(
     alloc: Global,
     cores: &Trio<ServerCore<S>>,
@@ -53,42 +28,40 @@ pub fn link<S: Script>(
 ) -> Result<(LinkTx, LinkRx), AllocError>
     requires fresh { AreFresh S.batch_of S.inputs_of cores.now }
     requires apart { from ≢ to }
-    ensures put { IfOk result (λ ends. ends.0
-        ≡ end_at (stream_of S.batch_of S.inputs_of S.rounds_of cores.now from to) 0) }
-    ensures take { IfOk result (λ ends. ends.1
-        ≡ end_at (stream_of S.batch_of S.inputs_of S.rounds_of cores.now from to) 0) }
+    ensures put { IfOk result (λ ends. ends.0 ≡ link_at S.batch_of S.inputs_of S.rounds_of cores.now from to 0) }
+    ensures take { IfOk result (λ ends. ends.1 ≡ link_at S.batch_of S.inputs_of S.rounds_of cores.now from to 0) }
 {
     let capacity = (cores.one.script().rounds() as usize).max(1);
     open::<Brand, S>(alloc, cores, from, to, capacity)
 }
 
 /// A link with room for so many messages.
-fn open<K: Named, S: Script>(
+fn open<K: Named<Parcel>, S: Script>(
     alloc: Global,
     _cores: &Trio<ServerCore<S>>,
-    from: Point,
-    to: Point,
+    _from: Point,
+    _to: Point,
     capacity: usize,
 ) -> Result<(LinkTx, LinkRx), AllocError>
     requires positive { 0 < capacity }
-    requires room { length K.stream ≤ capacity }
-    ensures { IfOk result (λ ends. (ends.0 ≡ end_at K.stream 0) × (ends.1 ≡ end_at K.stream 0)) }
+    requires room { all_named K.streams ≤ capacity }
+    ensures { IfOk result (λ ends. (ends.0 ≡ end_at capacity K.streams.one 0)
+        × (ends.1 ≡ end_at capacity K.streams.one 0)) }
 {
     let (queue, mut first) = Queue::ruled(alloc, capacity)?;
-    let other = queue.another::<TwoEnds<K>>(&mut first);
-    let queue = Arc::new(alloc, queue)?;
-    let theirs = Arc::try_clone(&queue)?;
-    let (free, read) = buffers(alloc, from, to)?;
+    let sender = queue.another::<GivesAway<K, ToOne>>(&mut first);
+    let line = Line {
+        queue,
+        receiver: Sleeper::new(),
+    };
+    let line = Arc::new(alloc, line)?;
+    let theirs = Arc::try_clone(&line)?;
     Ok((
-        LinkTx {
-            queue,
-            pass: first,
-            free,
-        },
+        LinkTx { line, pass: sender },
         LinkRx {
-            queue: theirs,
-            pass: other,
-            read,
+            line: theirs,
+            pass: first,
+            looks: MOST_LOOKS,
         },
     ))
 }

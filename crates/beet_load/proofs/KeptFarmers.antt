@@ -16,7 +16,9 @@ use Rattle.beet_errand.specs.Errands.{reads}
 use Rattle.beet_errand.specs.Fetches.{ReadsFor, Reads, Reached}
 use Rattle.beet_errand.specs.declared.answer.Stop.{Stop}
 use Rattle.beet_errand.proofs.Frame.{reached_none, reached_more, reached_last, stopped}
+use Rattle.beet_load.specs.declared.wanted.Wanted.{Wanted}
 use Rattle.beet_load.specs.Farmers.{list_at, farmer_errand, farmers_errand}
+use Rattle.beet_load.specs.Counts.{counts_of}
 use Rattle.beet_load.specs.Loading.{Loaded}
 use Rattle.beet_load.specs.Servers.{ServerWords, HaveEnough, AreCut}
 use Rattle.beet_load.specs.Wholes.{AreKept, CanDeal, CanStart, IsFarmer, Keeps, KeepsBids, KeepsFarmer, all_words, bids_errand, by_server}
@@ -24,13 +26,13 @@ use Rattle.beet_load.proofs.Summing.{next_entry, none_left}
 use Rattle.beet_bids.specs.declared.bid_file.TheConstants.{BID_LIMIT}
 
 -- no bidder is read yet
-pub keeps_none : (grid : Grid) (lists : Option (List (List ℕ))) (entries : List Entry) (seen : Seen) → Keeps grid lists entries entries seen seen []
+pub keeps_none : {wanted : Wanted} (grid : Grid) (lists : Option (List (List ℕ))) (entries : List Entry) (seen : Seen) → Keeps wanted grid lists entries entries seen seen []
 keeps_none grid lists entries seen = record { read = reached_none; count = omega arith; each = All-nil _ }
 
-module _ (grid : Grid) (lists : Option (List (List ℕ))) (entries : List Entry) (i : ℕ) (entry : Entry) (given : Option (List ℕ)) (old middle now : Seen)
+module _ {wanted : Wanted} (grid : Grid) (lists : Option (List (List ℕ))) (entries : List Entry) (i : ℕ) (entry : Entry) (given : Option (List ℕ)) (old middle now : Seen)
     (before : List Farmer) (lt : i < length entries) (e : entry ≡ get_or entries i entry) (same : given ≡ list_at lists i)
-    (h : Keeps grid lists entries (drop i entries) old middle before) where
-  here : Keeps grid lists entries (entry ∷ drop (i + 1) entries) old middle before
+    (h : Keeps wanted grid lists entries (drop i entries) old middle before) where
+  here : Keeps wanted grid lists entries (entry ∷ drop (i + 1) entries) old middle before
   here = rw (next_entry entries i entry lt e) at h
 
   many : length before ≡ i
@@ -38,8 +40,8 @@ module _ (grid : Grid) (lists : Option (List (List ℕ))) (entries : List Entry)
 
   -- the bidder at a place is read and kept
   pub keeps_at : (after : List Farmer) →
-      ReadsFor (λ (done : Unit {0}) farmer. KeepsFarmer grid before after farmer) middle now (farmer_errand grid given (i + 1) entry) (Ok tt) →
-      Keeps grid lists entries (drop (i + 1) entries) old now after
+      ReadsFor (λ (done : Unit {0}) farmer. KeepsFarmer wanted.counts grid before after farmer) middle now (farmer_errand wanted grid given (i + 1) entry) (Ok tt) →
+      Keeps wanted grid lists entries (drop (i + 1) entries) old now after
   unfolding here many
   keeps_at after r =
       let r' = rw (sym many) at (rw same at r) in
@@ -47,29 +49,29 @@ module _ (grid : Grid) (lists : Option (List (List ℕ))) (entries : List Entry)
       let farmer = r'.gives.0 in
       let long : length after ≡ length before + 1 = ap length k.kept ∙ length-append before (farmer ∷ []) in
       record {
-        read = rw k.kept (reached_more (λ f. farmers_errand grid lists (before ++ f ∷ []) (drop (i + 1) entries)) here.read r');
+        read = rw k.kept (reached_more (λ f. farmers_errand wanted grid lists (before ++ f ∷ []) (drop (i + 1) entries)) here.read r');
         count = let c = here.count in omega (arith, long, c);
-        each = rw k.kept (All-append (IsFarmer grid) before (farmer ∷ []) here.each (All-cons (IsFarmer grid) farmer [] k.is_farmer (All-nil (IsFarmer grid))));
+        each = let P = IsFarmer wanted.counts grid in rw k.kept (All-append P before (farmer ∷ []) here.each (All-cons P farmer [] k.is_farmer (All-nil P)));
       }
 
   -- the bidder at a place stops the job
   pub keeps_stopped_at : {T U : Type 0} {shows : T → Farmer → Type 0} {last : U → List Farmer → Type 0} (stop : Stop) →
-      ReadsFor shows middle now (farmer_errand grid given (i + 1) entry) (Err stop) →
-      ReadsFor last old now (farmers_errand grid lists [] entries) (Err stop)
+      ReadsFor shows middle now (farmer_errand wanted grid given (i + 1) entry) (Err stop) →
+      ReadsFor last old now (farmers_errand wanted grid lists [] entries) (Err stop)
   unfolding here many
   keeps_stopped_at stop r =
-      reached_last here.read (stopped {rest = λ f. farmers_errand grid lists (before ++ f ∷ []) (drop (i + 1) entries)} (rw (sym many) at (rw same at r)))
+      reached_last here.read (stopped {rest = λ f. farmers_errand wanted grid lists (before ++ f ∷ []) (drop (i + 1) entries)} (rw (sym many) at (rw same at r)))
 
 -- all bidders are read
-pub keeps_all : {grid : Grid} {lists : Option (List (List ℕ))} {entries : List Entry} {old now : Seen} {kept : List Farmer} (i : ℕ) → length entries ≤ i →
-    Keeps grid lists entries (drop i entries) old now kept → ReadsFor (AreKept grid entries) old now (farmers_errand grid lists [] entries) (Ok kept)
+pub keeps_all : {wanted : Wanted} {grid : Grid} {lists : Option (List (List ℕ))} {entries : List Entry} {old now : Seen} {kept : List Farmer} (i : ℕ) → length entries ≤ i →
+    Keeps wanted grid lists entries (drop i entries) old now kept → ReadsFor (AreKept wanted.counts grid entries) old now (farmers_errand wanted grid lists [] entries) (Ok kept)
 keeps_all {entries = entries} {kept = kept} i ge k =
     let h = rw (none_left entries i ge) at k in
     let c = h.count in
     record { gives = (kept, record { same = refl; count = omega arith; each = h.each }, h.read.went); cause = tt; later = h.read.later }
 
 -- the book of bidders that are kept, and their words
-module _ (grid : Grid) (kept : List Farmer) (each : All (IsFarmer grid) kept) (bidders : List Bidder)
+module _ (grid : Grid) (kept : List Farmer) (each : All (IsFarmer (counts_of grid) grid) kept) (bidders : List Bidder)
     (is : bidders ≡ map (λ farmer. farmer.bidder) kept) where
   pub kept-many : length bidders ≡ length kept
   kept-many = ap length is ∙ length-map kept (λ farmer. farmer.bidder)
@@ -81,10 +83,11 @@ module _ (grid : Grid) (kept : List Farmer) (each : All (IsFarmer grid) kept) (b
 
   pub kept-runs : (servers : Trio ServerWords) (all : List (List ℕ)) (book : Book) (made : Words) → all ≡ map (λ farmer. farmer.words) kept →
       book ≡ record { grid = grid; bidders = bidders } → made ≡ all_words servers all →
-      HaveEnough grid servers → AreCut grid servers → CanStart book made
+      HaveEnough (counts_of grid) servers → AreCut (counts_of grid) servers → CanStart book made
   kept-runs servers all book made these b m enough cut =
       let many : length all ≡ length bidders = ap length these ∙ length-map kept (λ farmer. farmer.words) ∙ sym kept-many in
-      let deal : All (CanDeal grid) all = subst (All (CanDeal grid)) (sym these) (All-map (CanDeal grid) (λ farmer. farmer.words) kept (λ i d lt. (each i d lt).words)) in
+      let P = CanDeal (counts_of grid) in
+      let deal : All P all = subst (All P) (sym these) (All-map P (λ farmer. farmer.words) kept (λ i d lt. (each i d lt).words)) in
       rw (b, m) (record { servers = enough; cut = cut; lists = many; bidders = deal })
 
 -- what is loaded, by what is kept of it
@@ -130,9 +133,3 @@ pub bids_all : {grid : Grid} {entries : List Entry} {old now : Seen} {T : Type 0
 bids_all {entries = entries} i view kept e ge k =
     let h = rw (none_left entries i ge, sym e) at k in
     record { gives = (view kept, refl, h.read.went); cause = tt; later = h.read.later }
-
--- a bidder is kept with a copy of its words
-pub kept-copy : (before after : List Farmer) (bidder : Bidder) (made list : List ℕ) → after ≡ before ++ record { bidder = bidder; words = made } ∷ [] →
-    made ≡ list → after ≡ before ++ record { bidder = bidder; words = list } ∷ []
-kept-copy before after bidder made list h e =
-    let kept_with : List ℕ → List Farmer = λ words. before ++ record { bidder = bidder; words = words } ∷ [] in h ∙ ap kept_with e

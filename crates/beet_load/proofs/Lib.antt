@@ -1,4 +1,5 @@
 pub mod Farming
+pub mod SettingSteps
 pub mod Summing
 pub mod FewBidders
 pub mod ServerSteps

@@ -18,6 +18,7 @@ use Rattle.beet_book.specs.Dealing.{quantities}
 use Rattle.beet_book.specs.Totals.{Totals, none_of, points_on, summed_quantities, CarriesValues}
 use Rattle.beet_book.proofs.Summed.{shares-none, summed-more, supply-recombined, demand-recombined}
 use Rattle.beet_load.specs.Collecting.{curves_of, AddsFarmer, AddsFarmers, AreCollected, Collects}
+use Rattle.beet_load.specs.declared.wanted.Wanted.{Wanted}
 use Rattle.beet_load.specs.Farmers.{list_at, farmer_errand, farmers_errand, bidders_of}
 use Rattle.beet_book.specs.Farmers.{Farmer}
 use Rattle.beet_errand.specs.Fetches.{ReadsFor}
@@ -26,8 +27,8 @@ use Rattle.beet_errand.proofs.Frame.{reached_none, reached_more, reached_last, s
 use Rattle.beet_words.specs.declared.bundle.TheConstants.{MOST_BIDDERS}
 
 -- no bidder is read yet
-pub collects_none : (grid : Grid) (lists : Option (List (List ℕ))) (entries : List Entry) (seen : Seen) →
-    Collects grid lists entries entries seen seen (none_of grid.prices) 0
+pub collects_none : {wanted : Wanted} (grid : Grid) (lists : Option (List (List ℕ))) (entries : List Entry) (seen : Seen) →
+    Collects wanted grid lists entries entries seen seen (none_of grid.prices) 0
 collects_none grid lists entries seen = record {
   farmers = [];
   read = reached_none;
@@ -71,21 +72,21 @@ pub next_entry : (entries : List Entry) (i : ℕ) (entry : Entry) → i < length
     drop i entries ≡ entry ∷ drop (i + 1) entries
 next_entry entries i entry h e = drop_more entries i entry h ∙ ap (λ x. x ∷ drop (i + 1) entries) (sym e)
 
-module _ (grid : Grid) (lists : Option (List (List ℕ))) (entries : List Entry) (i : ℕ) (entry : Entry) (given : Option (List ℕ)) (old middle now : Seen)
+module _ {wanted : Wanted} (grid : Grid) (lists : Option (List (List ℕ))) (entries : List Entry) (i : ℕ) (entry : Entry) (given : Option (List ℕ)) (old middle now : Seen)
     (before : Totals) (lt : i < length entries) (e : entry ≡ get_or entries i entry) (same : given ≡ list_at lists i)
-    (h : Collects grid lists entries (drop i entries) old middle before i) where
-  collects_here : Collects grid lists entries (entry ∷ drop (i + 1) entries) old middle before i
+    (h : Collects wanted grid lists entries (drop i entries) old middle before i) where
+  collects_here : Collects wanted grid lists entries (entry ∷ drop (i + 1) entries) old middle before i
   collects_here = rw (next_entry entries i entry lt e) at h
 
   -- the bidder at a place is read and added
   pub collected_at : (after : Totals) →
-      ReadsFor (λ (done : Unit {0}) farmer. AddsFarmer grid before after farmer) middle now (farmer_errand grid given (i + 1) entry) (Ok tt) →
-      Collects grid lists entries (drop (i + 1) entries) old now after (i + 1)
+      ReadsFor (λ (done : Unit {0}) farmer. AddsFarmer grid before after farmer) middle now (farmer_errand wanted grid given (i + 1) entry) (Ok tt) →
+      Collects wanted grid lists entries (drop (i + 1) entries) old now after (i + 1)
   collected_at after r =
       let here = collects_here in
       let r' = rw (sym here.many) at (rw same at r) in
       let farmer = r'.gives.0 in
-      let rest = λ (f : Farmer). farmers_errand grid lists (here.farmers ++ f ∷ []) (drop (i + 1) entries) in
+      let rest = λ (f : Farmer). farmers_errand wanted grid lists (here.farmers ++ f ∷ []) (drop (i + 1) entries) in
       record {
         farmers = here.farmers ++ farmer ∷ [];
         read = reached_more rest here.read r';
@@ -95,17 +96,17 @@ module _ (grid : Grid) (lists : Option (List (List ℕ))) (entries : List Entry)
 
   -- the bidder at a place stops the job
   pub stopped_at : {T U : Type 0} {shows : T → Farmer → Type 0} {last : U → List Farmer → Type 0} (stop : Stop) →
-      ReadsFor shows middle now (farmer_errand grid given (i + 1) entry) (Err stop) →
-      ReadsFor last old now (farmers_errand grid lists [] entries) (Err stop)
+      ReadsFor shows middle now (farmer_errand wanted grid given (i + 1) entry) (Err stop) →
+      ReadsFor last old now (farmers_errand wanted grid lists [] entries) (Err stop)
   stopped_at stop r =
       let here = collects_here in
-      let rest = λ (f : Farmer). farmers_errand grid lists (here.farmers ++ f ∷ []) (drop (i + 1) entries) in
+      let rest = λ (f : Farmer). farmers_errand wanted grid lists (here.farmers ++ f ∷ []) (drop (i + 1) entries) in
       reached_last here.read (stopped {rest = rest} (rw (sym here.many) at (rw same at r)))
 
 -- all bidders are read and added
-pub all_collected : {grid : Grid} {lists : Option (List (List ℕ))} {entries : List Entry} {old now : Seen} {totals : Totals} (i : ℕ) →
-    i ≤ length entries → length entries ≤ i → Collects grid lists entries (drop i entries) old now totals i →
-    ReadsFor (AreCollected grid entries) old now (farmers_errand grid lists [] entries) (Ok totals)
+pub all_collected : {wanted : Wanted} {grid : Grid} {lists : Option (List (List ℕ))} {entries : List Entry} {old now : Seen} {totals : Totals} (i : ℕ) →
+    i ≤ length entries → length entries ≤ i → Collects wanted grid lists entries (drop i entries) old now totals i →
+    ReadsFor (AreCollected grid entries) old now (farmers_errand wanted grid lists [] entries) (Ok totals)
 all_collected {entries = entries} i le ge c =
     let h = rw (none_left entries i ge) at c in
     let many = h.many in

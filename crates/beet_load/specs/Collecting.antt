@@ -7,6 +7,7 @@ use Rattle.beet_book.specs.declared.entries.Entry.{Entry}
 use Rattle.beet_book.specs.Dealing.{AreShares}
 use Rattle.beet_book.specs.Totals.{Totals, AddsQuantities, summed_quantities}
 use Rattle.beet_load.specs.Farmers.{farmers_errand}
+use Rattle.beet_load.specs.declared.wanted.Wanted.{Wanted}
 use Rattle.beet_book.specs.Farmers.{Farmer}
 use Rattle.beet_errand.specs.Fetches.{Reached}
 
@@ -22,10 +23,10 @@ pub record AddsFarmers (grid : Grid) (totals : Totals) (farmers : List Farmer) :
   pub of_grid : All (IsOfGrid grid) (curves_of farmers)
 
 -- so many bidders are read, and the points of their quantities are added up
-pub record Collects (grid : Grid) (lists : Option (List (List ℕ))) (entries rest : List Entry) (old now : Seen)
-    (totals : Totals) (count : ℕ) : Type 0 where
+pub record Collects (wanted : Wanted) (grid : Grid) (lists : Option (List (List ℕ))) (entries rest : List Entry)
+    (old now : Seen) (totals : Totals) (count : ℕ) : Type 0 where
   pub farmers : List Farmer
-  pub read : Reached old now (farmers_errand grid lists [] entries) (farmers_errand grid lists farmers rest)
+  pub read : Reached old now (farmers_errand wanted grid lists [] entries) (farmers_errand wanted grid lists farmers rest)
   pub many : length farmers ≡ count
   pub adds : AddsFarmers grid totals farmers
 

@@ -1,5 +1,5 @@
 -- What is read of the bidders of a book: of each its bid, and then its words, of which there have to be enough.
-use Rattle.std.specs.Prelude.{ℕ, ◌+◌, ◌*◌, List, [], ◌∷◌, ◌++◌, length, map, take, slice_get, nat_lt, if◌then◌else◌, Option, Some, None, option_and_then}
+use Rattle.std.specs.Prelude.{ℕ, ◌+◌, List, [], ◌∷◌, ◌++◌, length, map, take, slice_get, nat_lt, if◌then◌else◌, Option, Some, None, option_and_then}
 use Rattle.beet_words.specs.Words.{accepted}
 use Rattle.beet_words.specs.Seeds.{seed_words}
 use Rattle.beet_words.specs.TapeFiles.{tape_of}
@@ -10,16 +10,13 @@ use Rattle.beet_book.specs.Farmers.{Farmer}
 use Rattle.beet_book.specs.declared.entries.Entry.{Entry}
 use Rattle.beet_book.specs.declared.entries.BidderSource.{BidderSource}
 use Rattle.beet_book.specs.declared.entries.BidderSource.TheVariants.{Seed, Tape}
-use Rattle.beet_errand.specs.Errands.{Errand, Step, ◌>>=◌, ◌>>◌, answers, gives, reads}
+use Rattle.beet_errand.specs.Errands.{Errand, Step, ◌>>=◌, ◌>>◌, gives, reads, refuses}
+use Rattle.beet_load.specs.Counts.{with_spare}
 use Rattle.beet_load.specs.WordTexts.{too_few_text}
-use Rattle.beet_errand.specs.declared.answer.Status.TheVariants.{TooFewWords}
+use Rattle.beet_load.specs.declared.wanted.Wanted.{Wanted}
+use Rattle.beet_errand.specs.declared.answer.Refusal.TheVariants.{TooFewWords}
 use Rattle.beet_words.specs.declared.tape_file.TheConstants.{TAPE_LIMIT}
 use Rattle.beet_bids.specs.declared.bid_file.TheConstants.{BID_LIMIT}
-use Rattle.beet_plan.specs.Kept.{words_kept}
-
--- a bidder draws a number for each quantity, two at each price
-abbrev pub words_wanted : Grid → ℕ
-words_wanted grid = 2 * grid.prices
 
 -- the list of the bidder at a place, where lists are given
 abbrev pub list_at : Option (List (List ℕ)) → ℕ → Option (List ℕ)
@@ -32,25 +29,32 @@ words_errand None (Seed seed) kept = gives (seed_words seed 0 kept)
 words_errand None (Tape name) kept = reads name TAPE_LIMIT (λ bytes. tape_of bytes kept)
 
 -- of these words enough are accepted, or the bidder with this number has too few
-abbrev pub enough_words : ℕ → ℕ → List ℕ → Errand → Errand
-enough_words number wanted words next =
-    if nat_lt (length (accepted words)) wanted then answers TooFewWords (too_few_text number (length (accepted words)) wanted)
+abbrev pub enough_words : Option ℕ → ℕ → ℕ → List ℕ → Errand → Errand
+enough_words lot number wanted words next =
+    if nat_lt (length (accepted words)) wanted
+    then refuses TooFewWords (too_few_text lot number (length (accepted words)) wanted)
     else next
 
+-- the words of the bidder with this number: those that are given, or else those of its source
+abbrev pub bidder_errand : Wanted → Option (List ℕ) → ℕ → BidderSource → Step (List ℕ)
+bidder_errand wanted given number source = do
+  words ← words_errand given source (with_spare wanted.counts.words)
+  enough_words wanted.lot number wanted.counts.words words
+  gives words
+
 -- the bidder of an entry, with this number: first its bid, then its words, unless they are given
-abbrev pub farmer_errand : Grid → Option (List ℕ) → ℕ → Entry → Step Farmer
-farmer_errand grid given number entry = do
+abbrev pub farmer_errand : Wanted → Grid → Option (List ℕ) → ℕ → Entry → Step Farmer
+farmer_errand wanted grid given number entry = do
   curve ← reads entry.bid BID_LIMIT (bid_of grid)
-  words ← words_errand given entry.source (words_kept grid.prices)
-  enough_words number (words_wanted grid) words
+  words ← bidder_errand wanted given number entry.source
   gives (record { bidder = record { known = entry.known; curve = curve }; words = words })
 
 -- the bidders of a book in order, after those that are read, with the lists of words that are given; they are numbered from 1
-abbrev pub farmers_errand : Grid → Option (List (List ℕ)) → List Farmer → List Entry → Step (List Farmer)
-farmers_errand grid lists read [] = gives read
-farmers_errand grid lists read (entry ∷ entries) = do
-  farmer ← farmer_errand grid (list_at lists (length read)) (length read + 1) entry
-  farmers_errand grid lists (read ++ farmer ∷ []) entries
+abbrev pub farmers_errand : Wanted → Grid → Option (List (List ℕ)) → List Farmer → List Entry → Step (List Farmer)
+farmers_errand wanted grid lists read [] = gives read
+farmers_errand wanted grid lists read (entry ∷ entries) = do
+  farmer ← farmer_errand wanted grid (list_at lists (length read)) (length read + 1) entry
+  farmers_errand wanted grid lists (read ++ farmer ∷ []) entries
 
 -- the bidders alone
 abbrev pub bidders_of : List Farmer → List Bidder

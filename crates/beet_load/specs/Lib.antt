@@ -1,3 +1,6 @@
+pub mod Counts
+pub mod Wanted
+pub mod Lots
 pub mod WordTexts
 pub mod Servers
 pub mod Farmers

@@ -1,5 +1,5 @@
 -- Reading an auction, its servers and its book: what three servers begin with.
-use Rattle.std.specs.Prelude.{◌≡◌, ℕ, List, [], length, Some}
+use Rattle.std.specs.Prelude.{◌≡◌, ℕ, List, [], length, Option, Some, None}
 use Rattle.beet_field.specs.declared.trio.Trio.{Trio}
 use Rattle.beet_bids.specs.Grids.{Grid}
 use Rattle.beet_bids.specs.Books.{IsBook}
@@ -10,6 +10,7 @@ use Rattle.beet_book.specs.Farmers.{Farmer, book_with}
 use Rattle.beet_load.specs.Farmers.{farmers_errand}
 use Rattle.beet_load.specs.Servers.{ServerWords, all_words_errand}
 use Rattle.beet_load.specs.Settings.{Setting, setting_errand}
+use Rattle.beet_load.specs.Wanted.{wanted_of}
 
 -- an auction that is read: its grid, the words of its servers, and the bidders of its book
 pub record Loaded : Type 0 where
@@ -18,17 +19,17 @@ pub record Loaded : Type 0 where
   pub farmers : List Farmer
 
 -- what is read after the setting: the words of the servers, and then the bidders
-unfoldable pub rest_errand : Setting → Step Loaded
-rest_errand setting = do
-  words ← all_words_errand setting.grid (Some (length setting.entries)) setting.sources
-  farmers ← farmers_errand setting.grid words.bidders [] setting.entries
+unfoldable pub rest_errand : Option ℕ → Setting → Step Loaded
+rest_errand lot setting = do
+  words ← all_words_errand (wanted_of lot setting.grid) (Some (length setting.entries)) setting.sources
+  farmers ← farmers_errand (wanted_of lot setting.grid) setting.grid words.bidders [] setting.entries
   gives (record { grid = setting.grid; servers = words.servers; farmers = farmers })
 
 -- an auction, its servers and its book: the words of the servers come after the entries of the book, and the bidders after them
 unfoldable pub loaded_errand : List ℕ → List ℕ → List ℕ → Step Loaded
 loaded_errand auction servers book = do
   setting ← setting_errand auction servers book
-  rest_errand setting
+  rest_errand None setting
 
 -- what the program keeps of an auction that is read: of the bidders it keeps the points of their sums alone
 pub record Kept : Type 0 where

@@ -1,5 +1,5 @@
 -- Reading an auction, its servers and its book, where the whole book is kept.
-use Rattle.std.specs.Prelude.{◌≡◌, ◌≤◌, ◌+◌, ℕ, List, [], ◌∷◌, ◌++◌, length, All, Option}
+use Rattle.std.specs.Prelude.{◌≡◌, ◌≤◌, ◌+◌, ℕ, List, [], ◌∷◌, ◌++◌, length, All, Option, None}
 use Rattle.beet_field.specs.declared.trio.Trio.{Trio}
 use Rattle.beet_store.specs.Files.{Seen}
 use Rattle.beet_words.specs.Words.{accepted}
@@ -14,24 +14,25 @@ use Rattle.beet_book.specs.declared.entries.Entry.{Entry}
 use Rattle.beet_book.specs.Farmers.{Farmer}
 use Rattle.beet_errand.specs.Errands.{Step, ◌>>=◌, ◌>>◌, gives, reads}
 use Rattle.beet_errand.specs.Fetches.{Reached}
-use Rattle.beet_plan.specs.Kept.{words_kept}
-use Rattle.beet_load.specs.Farmers.{words_wanted, farmers_errand}
+use Rattle.beet_load.specs.Counts.{Counts, counts_of, with_spare}
+use Rattle.beet_load.specs.Farmers.{farmers_errand}
 use Rattle.beet_load.specs.Limits.{within_product}
 use Rattle.beet_load.specs.Loading.{Loaded, rest_errand}
 use Rattle.beet_load.specs.Servers.{ServerWords, HaveEnough, AreCut, masks_of, coefficients_of}
 use Rattle.beet_load.specs.Settings.{Setting, setting_errand}
+use Rattle.beet_load.specs.declared.wanted.Wanted.{Wanted}
 use Rattle.beet_book.specs.declared.book_file.TheConstants.{BOOK_LIMIT}
 use Rattle.beet_bids.specs.declared.bid_file.TheConstants.{BID_LIMIT}
 
--- what is read after the setting, of which the limit is tested first
-abbrev pub limited_rest : List ℕ → Setting → Step Loaded
-limited_rest book setting = within_product book setting.grid (length setting.entries) >> rest_errand setting
+-- what is read after the setting, of which the limit is tested first, with what the lots before have of it
+abbrev pub limited_rest : Option ℕ → ℕ → List ℕ → Setting → Step Loaded
+limited_rest lot before book setting = within_product before book setting.grid (length setting.entries) >> rest_errand lot setting
 
 -- an auction, its servers and its book, of which the limit is tested right after it is read
 unfoldable pub limited_errand : List ℕ → List ℕ → List ℕ → Step Loaded
 limited_errand auction servers book = do
   setting ← setting_errand auction servers book
-  limited_rest book setting
+  limited_rest None 0 book setting
 
 -- the bidders of entries in order, after those that are read: of each its bid alone
 abbrev pub bids_errand : Grid → List Bidder → List Entry → Step (List Bidder)
@@ -41,10 +42,10 @@ bids_errand grid read (entry ∷ entries) = do
   bids_errand grid (read ++ record { known = entry.known; curve = curve } ∷ []) entries
 
 -- the bidders of a book that is within the limit, without their words
-abbrev pub curves_errand : List ℕ → Grid → Step (List Bidder)
-curves_errand book grid = do
+abbrev pub curves_errand : ℕ → List ℕ → Grid → Step (List Bidder)
+curves_errand before book grid = do
   entries ← reads book BOOK_LIMIT book_of
-  within_product book grid (length entries)
+  within_product before book grid (length entries)
   bids_errand grid [] entries
 
 -- the words of the servers, server by server
@@ -60,38 +61,39 @@ abbrev pub all_words : Trio ServerWords → List (List ℕ) → Words
 all_words servers lists = record { masks = masks_of servers; coefficients = coefficients_of servers; bidders = lists }
 
 -- the words of a bidder are enough, and no more than are kept
-pub record CanDeal (grid : Grid) (words : List ℕ) : Type 0 where
-  pub enough : words_wanted grid ≤ length (accepted words)
-  pub kept : length words ≤ words_kept grid.prices
+pub record CanDeal (counts : Counts) (words : List ℕ) : Type 0 where
+  pub enough : counts.words ≤ length (accepted words)
+  pub kept : length words ≤ with_spare counts.words
 
 -- three servers can run the auction of a book with these words
 pub record CanStart (book : Book) (words : Words) : Type 0 where
-  pub servers : HaveEnough book.grid (by_server words)
-  pub cut : AreCut book.grid (by_server words)
+  pub servers : HaveEnough (counts_of book.grid) (by_server words)
+  pub cut : AreCut (counts_of book.grid) (by_server words)
   pub lists : length words.bidders ≡ length book.bidders
-  pub bidders : All (CanDeal book.grid) words.bidders
+  pub bidders : All (CanDeal (counts_of book.grid)) words.bidders
 
 -- a bidder that is read with its words
-pub record IsFarmer (grid : Grid) (farmer : Farmer) : Type 0 where
+pub record IsFarmer (counts : Counts) (grid : Grid) (farmer : Farmer) : Type 0 where
   pub curve : IsCurve farmer.bidder.curve
   pub of_grid : IsOfGrid grid farmer.bidder.curve
-  pub words : CanDeal grid farmer.words
+  pub words : CanDeal counts farmer.words
 
 -- these bidders are read and kept, and the others of the entries are left
-pub record Keeps (grid : Grid) (lists : Option (List (List ℕ))) (entries rest : List Entry) (old now : Seen) (farmers : List Farmer) : Type 0 where
-  pub read : Reached old now (farmers_errand grid lists [] entries) (farmers_errand grid lists farmers rest)
+pub record Keeps (wanted : Wanted) (grid : Grid) (lists : Option (List (List ℕ))) (entries rest : List Entry)
+    (old now : Seen) (farmers : List Farmer) : Type 0 where
+  pub read : Reached old now (farmers_errand wanted grid lists [] entries) (farmers_errand wanted grid lists farmers rest)
   pub count : length farmers + length rest ≡ length entries
-  pub each : All (IsFarmer grid) farmers
+  pub each : All (IsFarmer wanted.counts grid) farmers
 
 -- what is kept of all bidders of the entries
-pub record AreKept (grid : Grid) (entries : List Entry) (kept farmers : List Farmer) : Type 0 where
+pub record AreKept (counts : Counts) (grid : Grid) (entries : List Entry) (kept farmers : List Farmer) : Type 0 where
   pub same : farmers ≡ kept
   pub count : length kept ≡ length entries
-  pub each : All (IsFarmer grid) kept
+  pub each : All (IsFarmer counts grid) kept
 
 -- one bidder is kept after the others
-pub record KeepsFarmer (grid : Grid) (before after : List Farmer) (farmer : Farmer) : Type 0 where
-  pub is_farmer : IsFarmer grid farmer
+pub record KeepsFarmer (counts : Counts) (grid : Grid) (before after : List Farmer) (farmer : Farmer) : Type 0 where
+  pub is_farmer : IsFarmer counts grid farmer
   pub kept : after ≡ before ++ farmer ∷ []
 
 -- the bidders of the first entries are read without their words, and kept

@@ -1,37 +1,20 @@
 //! Adding up the points of all bidders.
 
 ghost use Rattle.std.specs.Prelude.{◌≡◌, ◌≤◌, [], length, option_map};
-ghost use Rattle.beet_load.specs.Collecting.{AddsFarmer, AreCollected};
-ghost use Rattle.beet_load.specs.Farmers.{farmer_errand, farmers_errand, list_at};
+ghost use Rattle.beet_load.specs.Collecting.{AreCollected};
+ghost use Rattle.beet_load.specs.Farmers.{farmers_errand, list_at};
+ghost use Rattle.beet_load.specs.Wanted.{wanted_of};
 ghost use Rattle.beet_errand.specs.Fetches.{ReadsFor};
 ghost use Rattle.beet_words.specs.declared.bundle.TheConstants.{MOST_BIDDERS};
 
 use crate::farmers::read_farmer;
+use crate::wanted::auction_wants;
 use beet_bids::Grid;
 use beet_book::{Entry, Totals};
 use beet_errand::Stop;
 use beet_store::Shelf;
 use beet_words::WordList;
 use std::alloc::Global;
-
-/// Reads the bidder of an entry, which has this number, and deals its quantities straight into the sums.
-fn add_farmer<S: Shelf>(
-    alloc: Global,
-    shelf: &mut S,
-    grid: &Grid,
-    given: Option<&WordList>,
-    number: u32,
-    entry: &Entry,
-    totals: &mut Totals,
-) -> Result<(), Stop>
-    requires { totals.old.prices ≡ grid.now.prices }
-    ensures { ReadsFor (λ done farmer. AddsFarmer grid.now totals.old totals.new farmer) (S.seen shelf.old) (S.seen shelf.new)
-        (farmer_errand grid.now (option_map (λ words. words.now) given.entry) number entry.now) result }
-{
-    let mut farmer = read_farmer(alloc, shelf, grid, given, number, entry)?;
-    totals.deal(&farmer.curve, &mut farmer.tape);
-    Ok(())
-}
 
 /// The list at a place, where lists are given.
 pub(crate) fn list_of<'a>(lists: Option<&'a [WordList]>, i: usize) -> Option<&'a WordList>
@@ -43,22 +26,26 @@ pub(crate) fn list_of<'a>(lists: Option<&'a [WordList]>, i: usize) -> Option<&'a
     }
 }
 
-/// Reads and deals each bidder in order, with the words that are given or those of its source, and adds up the points.
+/// Reads each bidder of an auction alone or of a lot in order, with the words that are given or those of its source, and
+/// deals its quantities straight into the sums.
 pub fn add_farmers<S: Shelf>(
     alloc: Global,
     shelf: &mut S,
+    lot: Option<u32>,
     grid: &Grid,
     lists: Option<&[WordList]>,
     entries: &[Entry],
 ) -> Result<Totals, Stop>
     requires few { length entries.now ≤ MOST_BIDDERS }
     ensures { ReadsFor (AreCollected grid.now entries.now) (S.seen shelf.old) (S.seen shelf.new)
-        (farmers_errand grid.now (option_map (λ all. all.now) lists.entry) [] entries.now) result }
+        (farmers_errand (wanted_of lot grid.now) grid.now (option_map (λ all. all.now) lists.entry) [] entries.now) result }
 {
+    let wanted = auction_wants(lot, grid);
     let mut totals = Totals::new(alloc, grid)?;
     for (i, entry) in entries.iter().enumerate() {
         let given = list_of(lists, i);
-        add_farmer(alloc, shelf, grid, given, i as u32 + 1, entry, &mut totals)?;
+        let mut farmer = read_farmer(alloc, shelf, &wanted, grid, given, i as u32 + 1, entry)?;
+        totals.deal(&farmer.curve, &mut farmer.tape);
     }
     Ok(totals)
 }

@@ -1,6 +1,6 @@
 //! Reading a book without its words.
 
-ghost use Rattle.std.specs.Prelude.{◌≡◌, ◌≤◌, ◌*◌, [], IfOk, length};
+ghost use Rattle.std.specs.Prelude.{◌≡◌, ◌≤◌, ◌+◌, ◌*◌, [], IfOk, length};
 ghost use Rattle.beet_bids.specs.Books.{IsBook};
 ghost use Rattle.beet_errand.specs.Fetches.{Reads};
 ghost use Rattle.beet_load.specs.Wholes.{bids_errand, curves_errand};
@@ -49,16 +49,18 @@ fn read_bids<S: Shelf>(
 pub fn load_curves<S: Shelf>(
     alloc: Global,
     shelf: &mut S,
+    before: u64,
     grid: &Grid,
     book: &str,
 ) -> Result<Book, Stop>
+    requires { before ≤ MOST_PRODUCT }
     ensures book { IfOk result (λ book. IsBook book) }
     ensures grid { IfOk result (λ book. book.grid ≡ grid.now) }
-    ensures product { IfOk result (λ book. length book.bidders * book.grid.prices ≤ MOST_PRODUCT) }
+    ensures product { IfOk result (λ book. before + length book.bidders * book.grid.prices ≤ MOST_PRODUCT) }
     ensures reads { Reads (λ book. book.bidders) (S.seen shelf.old) (S.seen shelf.new)
-        (curves_errand book.now grid.now) result }
+        (curves_errand before book.now grid.now) result }
 {
     let entries = read_entries(alloc, shelf, book)?;
-    check_product(alloc, book, grid, entries.len())?;
+    check_product(alloc, before, book, grid, entries.len())?;
     read_bids(alloc, shelf, grid, entries.as_slice())
 }

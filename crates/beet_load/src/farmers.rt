@@ -9,19 +9,20 @@ ghost use Rattle.beet_bids.specs.Curves.{IsOfGrid, IsCurve, Curve};
 ghost use Rattle.beet_bids.specs.BidFiles.{bid_of};
 ghost use Rattle.beet_load.specs.WordTexts.{too_few_text};
 ghost use Rattle.beet_errand.specs.Errands.{reads};
-ghost use Rattle.beet_plan.specs.Kept.{words_kept as kept_of};
-ghost use Rattle.beet_load.specs.Farmers.{words_errand, words_wanted, farmer_errand, enough_words};
+ghost use Rattle.beet_load.specs.Counts.{with_spare};
+ghost use Rattle.beet_load.specs.Farmers.{words_errand, bidder_errand, farmer_errand, enough_words};
 ghost use Rattle.beet_load.specs.FarmerViews.{farmer_of};
 ghost use Rattle.beet_errand.specs.Fetches.{Reads, Refuses, Tests};
 ghost use Rattle.beet_bids.specs.declared.bid_file.TheConstants.{BID_LIMIT};
 ghost use Rattle.beet_forms.specs.declared.faults.TheConstants.{LONGEST_FILE};
 ghost use Rattle.beet_words.specs.declared.tape_file.TheConstants.{TAPE_LIMIT};
 
+use crate::lots::lot_words;
+use crate::wanted::Wanted;
 use beet_bids::{BID_LIMIT, Curve, Grid, read_bid};
 use beet_book::{BidderSource, Entry};
-use beet_errand::{Status, Stop, fetch_file, judge};
+use beet_errand::{Refusal, Stop, fetch_file, judge};
 use beet_forms::ReadFault;
-use beet_plan::words_kept;
 use beet_store::Shelf;
 use beet_words::{TAPE_LIMIT, Tape, WordList, read_tape};
 use std::alloc::{AllocError, Global};
@@ -116,35 +117,69 @@ fn bidder_tape<S: Shelf>(
 }
 
 /// The line for a bidder whose words are too few.
-fn too_few_line(alloc: Global, number: u32, held: u32, wanted: u32) -> Result<Vec<u8>, AllocError>
-    ensures { IfOk result (λ line. line.items ≡ too_few_text number held wanted) }
+fn too_few_line(
+    alloc: Global,
+    lot: Option<u32>,
+    number: u32,
+    held: u32,
+    wanted: u32,
+) -> Result<Vec<u8>, AllocError>
+    ensures { IfOk result (λ line. line.items ≡ too_few_text lot number held wanted) }
 {
-    Ok(format!(in alloc; "too few words: bidder {number} {held} of {wanted}\n")?.into_bytes())
+    let of = lot_words(alloc, lot)?;
+    let line = format!(in alloc; "too few words: {of}bidder {number} {held} of {wanted}\n")?;
+    Ok(line.into_bytes())
 }
 
 /// Refuses a bidder whose words are too few.
-pub(crate) fn too_few_words(alloc: Global, number: u32, held: u32, wanted: u32) -> Stop
-    ensures { Refuses Status.TooFewWords (too_few_text number held wanted) result }
+pub(crate) fn too_few_words(
+    alloc: Global,
+    lot: Option<u32>,
+    number: u32,
+    held: u32,
+    wanted: u32,
+) -> Stop
+    ensures { Refuses Refusal.TooFewWords (too_few_text lot number held wanted) result }
 {
-    match too_few_line(alloc, number, held, wanted) {
-        Ok(line) => Stop::Refused(Status::TooFewWords, line),
-        Err(_) => Stop::OutOfMemory,
-    }
+    let line = too_few_line(alloc, lot, number, held, wanted);
+    Stop::of_line(Refusal::TooFewWords, line)
 }
 
 /// Refuses the bidder of this number where its tape, at its first word, has fewer accepted words than it wants, with the
 /// line `too few words: bidder N H of W`. Want of memory is the only other error.
-pub fn check_words(alloc: Global, grid: &Grid, number: u32, tape: &Tape) -> Result<(), Stop>
+pub fn check_words(alloc: Global, wanted: &Wanted, number: u32, tape: &Tape) -> Result<(), Stop>
     requires { tape.now.passed ≡ 0 }
-    ensures tests { Tests (enough_words number (words_wanted grid.now) tape.now.words) result }
-    ensures enough { OnOk result (words_wanted grid.now ≤ length (accepted tape.now.words)) }
+    ensures tests { Tests (enough_words wanted.now.lot number wanted.now.counts.words tape.now.words) result }
+    ensures enough { OnOk result (wanted.now.counts.words ≤ length (accepted tape.now.words)) }
 {
-    let wanted = 2 * grid.prices();
+    let want = wanted.counts.words();
     let held = tape.accepted_left();
-    if held < wanted {
-        return Err(too_few_words(alloc, number, held, wanted));
+    if held < want {
+        return Err(too_few_words(alloc, wanted.lot, number, held, want));
     }
     Ok(())
+}
+
+/// The tape of the bidder of this number, at its first word: the words that are given or those of its source, cut to those
+/// that are kept. Where they are fewer than are wanted, it is refused as by `check_words`; a tape file that cannot be
+/// fetched, is too long or breaks the format is refused with its line.
+pub fn read_bidder<S: Shelf>(
+    alloc: Global,
+    shelf: &mut S,
+    wanted: &Wanted,
+    given: Option<&WordList>,
+    number: u32,
+    source: &BidderSource,
+) -> Result<Tape, Stop>
+    ensures fresh { IfOk result (λ tape. tape.passed ≡ 0) }
+    ensures enough { IfOk result (λ tape. wanted.now.counts.words ≤ length (accepted tape.words)) }
+    ensures cut { IfOk result (λ tape. length tape.words ≤ with_spare wanted.now.counts.words) }
+    ensures reads { Reads (λ tape. tape.words) (S.seen shelf.old) (S.seen shelf.new)
+        (bidder_errand wanted.now (option_map (λ words. words.now) given.entry) number source.now) result }
+{
+    let tape = bidder_tape(alloc, shelf, given, source, wanted.counts.words_kept())?;
+    check_words(alloc, wanted, number, &tape)?;
+    Ok(tape)
 }
 
 /// A bidder's curve, and the tape that it deals its quantities with.
@@ -158,6 +193,7 @@ pub struct Farmer {
 pub(crate) fn read_farmer<S: Shelf>(
     alloc: Global,
     shelf: &mut S,
+    wanted: &Wanted,
     grid: &Grid,
     given: Option<&WordList>,
     number: u32,
@@ -166,13 +202,12 @@ pub(crate) fn read_farmer<S: Shelf>(
     ensures of_grid { IfOk result (λ farmer. IsOfGrid grid.now farmer.curve) }
     ensures curve { IfOk result (λ farmer. IsCurve farmer.curve) }
     ensures fresh { IfOk result (λ farmer. farmer.tape.passed ≡ 0) }
-    ensures enough { IfOk result (λ farmer. words_wanted grid.now ≤ length (accepted farmer.tape.words)) }
-    ensures cut { IfOk result (λ farmer. length farmer.tape.words ≤ kept_of grid.now.prices) }
+    ensures enough { IfOk result (λ farmer. wanted.now.counts.words ≤ length (accepted farmer.tape.words)) }
+    ensures cut { IfOk result (λ farmer. length farmer.tape.words ≤ with_spare wanted.now.counts.words) }
     ensures reads { Reads (farmer_of entry.now) (S.seen shelf.old) (S.seen shelf.new)
-        (farmer_errand grid.now (option_map (λ words. words.now) given.entry) number entry.now) result }
+        (farmer_errand wanted.now grid.now (option_map (λ words. words.now) given.entry) number entry.now) result }
 {
     let curve = read_curve(alloc, shelf, grid, entry.bid.as_str())?;
-    let tape = bidder_tape(alloc, shelf, given, &entry.source, words_kept(grid))?;
-    check_words(alloc, grid, number, &tape)?;
+    let tape = read_bidder(alloc, shelf, wanted, given, number, &entry.source)?;
     Ok(Farmer { curve, tape })
 }

@@ -2,15 +2,17 @@
 
 ghost use Rattle.std.specs.Prelude.{◌≡◌, ◌≤◌, ◌++◌, ◌∷◌, [], OnOk, length, map, option_map};
 ghost use Rattle.beet_errand.specs.Fetches.{ReadsFor};
-ghost use Rattle.beet_load.specs.Farmers.{farmer_errand, farmers_errand};
-ghost use Rattle.beet_load.specs.Wholes.{AreKept, KeepsFarmer};
+ghost use Rattle.beet_load.specs.Farmers.{farmers_errand};
+ghost use Rattle.beet_load.specs.Wholes.{AreKept};
 ghost use Rattle.beet_words.specs.declared.bundle.TheConstants.{MOST_BIDDERS};
 
 use crate::collecting::list_of;
-use crate::farmers::read_farmer;
+use crate::farmers::{Farmer, read_farmer};
+use crate::wanted::Wanted;
 use beet_bids::{Bidder, Grid};
 use beet_book::Entry;
 use beet_errand::Stop;
+use beet_field::Point;
 use beet_store::Shelf;
 use beet_words::WordList;
 use std::alloc::{AllocError, Global};
@@ -47,10 +49,16 @@ impl Farmers {
         }
     }
 
-    /// Keeps one bidder more.
-    fn push(&mut self, bidder: Bidder, words: WordList) -> Result<(), AllocError>
-        ensures { OnOk result (self.new ≡ self.old ++ record { bidder = bidder; words = words } ∷ []) }
+    /// Keeps one bidder more, with the server that knows it.
+    fn push(&mut self, known: Option<Point>, farmer: Farmer) -> Result<(), AllocError>
+        ensures { OnOk result (self.new ≡ self.old
+            ++ record { bidder = record { known = known; curve = farmer.curve }; words = farmer.tape.words } ∷ []) }
     {
+        let bidder = Bidder {
+            known,
+            curve: farmer.curve,
+        };
+        let words = farmer.tape.into_words();
         self.bidders.reserve(1)?;
         self.words.reserve(1)?;
         self.bidders.push_reserved(bidder);
@@ -68,44 +76,24 @@ impl Farmers {
     }
 }
 
-/// Reads the bidder of an entry, which has this number, and keeps it with its words.
-fn keep_farmer<S: Shelf>(
-    alloc: Global,
-    shelf: &mut S,
-    grid: &Grid,
-    given: Option<&WordList>,
-    number: u32,
-    entry: &Entry,
-    farmers: &mut Farmers,
-) -> Result<(), Stop>
-    ensures { ReadsFor (λ done farmer. KeepsFarmer grid.now farmers.old farmers.new farmer) (S.seen shelf.old) (S.seen shelf.new)
-        (farmer_errand grid.now (option_map (λ words. words.now) given.entry) number entry.now) result }
-{
-    let farmer = read_farmer(alloc, shelf, grid, given, number, entry)?;
-    let bidder = Bidder {
-        known: entry.known,
-        curve: farmer.curve,
-    };
-    farmers.push(bidder, farmer.tape.into_words())?;
-    Ok(())
-}
-
 /// Reads each bidder in order, with the words that are given or those of its source.
 pub(crate) fn read_farmers<S: Shelf>(
     alloc: Global,
     shelf: &mut S,
+    wanted: &Wanted,
     grid: &Grid,
     lists: Option<&[WordList]>,
     entries: &[Entry],
 ) -> Result<Farmers, Stop>
     requires few { length entries.now ≤ MOST_BIDDERS }
-    ensures { ReadsFor (AreKept grid.now entries.now) (S.seen shelf.old) (S.seen shelf.new)
-        (farmers_errand grid.now (option_map (λ all. all.now) lists.entry) [] entries.now) result }
+    ensures { ReadsFor (AreKept wanted.now.counts grid.now entries.now) (S.seen shelf.old) (S.seen shelf.new)
+        (farmers_errand wanted.now grid.now (option_map (λ all. all.now) lists.entry) [] entries.now) result }
 {
     let mut farmers = Farmers::new(alloc);
     for (i, entry) in entries.iter().enumerate() {
         let given = list_of(lists, i);
-        keep_farmer(alloc, shelf, grid, given, i as u32 + 1, entry, &mut farmers)?;
+        let farmer = read_farmer(alloc, shelf, wanted, grid, given, i as u32 + 1, entry)?;
+        farmers.push(entry.known, farmer)?;
     }
     Ok(farmers)
 }

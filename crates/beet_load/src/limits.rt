@@ -1,6 +1,6 @@
 //! The limit on a book of which everything is kept.
 
-ghost use Rattle.std.specs.Prelude.{◌≡◌, ◌≤◌, ◌*◌, ℕ, IfErr, IfOk};
+ghost use Rattle.std.specs.Prelude.{◌≡◌, ◌≤◌, ◌+◌, ◌*◌, ℕ, IfErr, IfOk};
 ghost use Rattle.beet_errand.specs.Fetches.{Tests};
 ghost use Rattle.beet_load.specs.Limits.{within_product};
 ghost use Rattle.beet_words.specs.declared.bundle.TheConstants.{MOST_BIDDERS};
@@ -12,18 +12,21 @@ use beet_errand::{Stop, refuse};
 use beet_forms::Place;
 use std::alloc::Global;
 
-/// Refuses the book of this name where its bidders, at most 2,000, are too many for the prices of the grid.
-pub(crate) fn check_product(
+/// Refuses the book of this name at row 0 for the reason 6 where its bidders, at most 2,000, each counted once for each
+/// price of the grid, are more than 500,000 with those of the books before it. Want of memory is the only other error.
+pub fn check_product(
     alloc: Global,
+    before: u64,
     book: &str,
     grid: &Grid,
     count: usize,
 ) -> Result<(), Stop>
-    requires { count ≤ MOST_BIDDERS }
-    ensures tests { Tests (within_product book.now grid.now count) result }
-    ensures within { IfOk result (λ done. count * grid.now.prices ≤ MOST_PRODUCT) }
+    requires count { count ≤ MOST_BIDDERS }
+    requires before { before ≤ MOST_PRODUCT }
+    ensures tests { Tests (within_product before book.now grid.now count) result }
+    ensures within { IfOk result (λ done. before + count * grid.now.prices ≤ MOST_PRODUCT) }
 {
-    let product = count as u64 * grid.prices() as u64;
+    let product = before + count as u64 * grid.prices() as u64;
     if product > MOST_PRODUCT {
         return Err(refuse(alloc, book, Place::Row(0), OVER_PRODUCT));
     }

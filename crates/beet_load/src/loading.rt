@@ -1,13 +1,16 @@
 //! Reading an auction, its servers and its book: what three servers begin with.
 
-ghost use Rattle.std.specs.Prelude.{◌≡◌, option_map};
+ghost use Rattle.std.specs.Prelude.{◌≡◌, ◌≤◌, length, option_map};
+ghost use Rattle.beet_words.specs.declared.bundle.TheConstants.{MOST_BIDDERS};
 ghost use Rattle.beet_errand.specs.Fetches.{ReadsFor};
 ghost use Rattle.beet_load.specs.Loading.{IsKeptOf, loaded_errand, rest_errand};
 
 use crate::collecting::add_farmers;
 use crate::servers::{AllWords, ServerWords, read_words};
-use crate::setting::{Setting, read_setting};
+use crate::setting::read_setting;
+use crate::wanted::auction_wants;
 use beet_bids::Grid;
+use beet_book::{Entry, Servers};
 use beet_errand::Stop;
 use beet_field::Trio;
 use beet_store::Shelf;
@@ -25,6 +28,7 @@ pub struct Loaded {
 }
 
 impl Model for Loaded {
+    ghost use Rattle.beet_load.specs.Counts.{counts_of};
     ghost use Rattle.beet_load.specs.Loading.{Kept};
     ghost use Rattle.beet_load.specs.Servers.{HaveEnough};
 
@@ -32,7 +36,7 @@ impl Model for Loaded {
 
     ghost view = { λ a. record { grid = a.grid; servers = a.servers; inputs = a.inputs } };
 
-    ghost invariant = { λ a. HaveEnough a.grid a.servers };
+    ghost invariant = { λ a. HaveEnough (counts_of a.grid) a.servers };
 }
 
 /// The lists of the bidders, where a bundle has them.
@@ -45,17 +49,22 @@ pub(crate) fn lists_in(words: &AllWords) -> Option<&[WordList]>
     }
 }
 
-/// Reads what stands after the setting: the words of the servers, and the bidders, whose points are added up.
-fn add_up<S: Shelf>(alloc: Global, shelf: &mut S, setting: &Setting) -> Result<Loaded, Stop>
-    ensures { ReadsFor IsKeptOf (S.seen shelf.old) (S.seen shelf.new) (rest_errand setting.now) result }
+/// Reads what stands after the setting, of an auction alone or of a lot: the words of the servers, and the bidders, whose points are added up.
+pub fn load_rest<S: Shelf>(
+    alloc: Global,
+    shelf: &mut S,
+    lot: Option<u32>,
+    grid: &Grid,
+    sources: &Servers,
+    entries: &[Entry],
+) -> Result<Loaded, Stop>
+    requires { length entries.now ≤ MOST_BIDDERS }
+    ensures { ReadsFor IsKeptOf (S.seen shelf.old) (S.seen shelf.new)
+        (rest_errand lot (record { grid = grid.now; sources = sources.now; entries = entries.now })) result }
 {
-    let Setting {
-        grid,
-        sources,
-        entries,
-    } = setting;
-    let words = read_words(alloc, shelf, grid, sources, Some(entries.len()))?;
-    match add_farmers(alloc, shelf, grid, lists_in(&words), entries.as_slice()) {
+    let wanted = auction_wants(lot, grid);
+    let words = read_words(alloc, shelf, &wanted, sources, Some(entries.len()))?;
+    match add_farmers(alloc, shelf, lot, grid, lists_in(&words), entries) {
         Ok(totals) => Ok(Loaded {
             grid: *grid,
             servers: words.into_servers(),
@@ -80,7 +89,14 @@ pub fn load<S: Shelf>(
         (loaded_errand auction.now servers.now book.now) result }
 {
     let setting = read_setting(alloc, shelf, auction, servers, book)?;
-    let loaded = add_up(alloc, shelf, &setting);
+    let loaded = load_rest(
+        alloc,
+        shelf,
+        None,
+        &setting.grid,
+        &setting.sources,
+        setting.entries.as_slice(),
+    );
     drop(setting);
     loaded
 }

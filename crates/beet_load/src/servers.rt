@@ -12,12 +12,12 @@ ghost use Rattle.beet_forms.specs.declared.faults.TheConstants.{LONGEST_FILE};
 ghost use Rattle.beet_book.specs.declared.server_file.TheConstants.{SERVERS_LIMIT};
 
 use crate::farmers::{front, read_tape_file};
-use beet_bids::Grid;
+use crate::lots::{first_stream, lot_words};
+use crate::wanted::{Counts, Wanted};
 use beet_book::{SERVERS_LIMIT, ServerSource, Servers, read_servers};
-use beet_errand::{Status, Stop, fetch_file, judge};
+use beet_errand::{Refusal, Stop, fetch_file, judge};
 use beet_field::Trio;
 use beet_forms::{LONGEST_FILE, Name, ReadFault, beside};
-use beet_plan::{coefficients_kept, masks_kept, most_coefficients, most_masks};
 use beet_store::Shelf;
 use beet_words::{Tape, WRONG_COUNT, WordList, Words, read_bundle};
 use std::alloc::{AllocError, Global};
@@ -80,12 +80,18 @@ impl AllWords {
 }
 
 /// The words of a seed.
-pub fn seed_words(alloc: Global, grid: &Grid, seed: &[u8; 32]) -> Result<ServerWords, AllocError>
-    ensures { IfOk result (λ words. words ≡ seeded grid.now seed.now) }
+pub fn seed_words(
+    alloc: Global,
+    wanted: &Wanted,
+    seed: &[u8; 32],
+) -> Result<ServerWords, AllocError>
+    ensures { IfOk result (λ words. words ≡ seeded wanted.now seed.now) }
 {
+    let counts = wanted.counts;
+    let stream = first_stream(wanted.lot);
     Ok(ServerWords {
-        masks: Tape::of_seed(alloc, seed, 1, masks_kept(grid))?,
-        coefficients: Tape::of_seed(alloc, seed, 0, coefficients_kept(grid))?,
+        masks: Tape::of_seed(alloc, seed, stream + 1, counts.masks())?,
+        coefficients: Tape::of_seed(alloc, seed, stream, counts.coefficients_kept())?,
     })
 }
 
@@ -93,16 +99,17 @@ pub fn seed_words(alloc: Global, grid: &Grid, seed: &[u8; 32]) -> Result<ServerW
 fn read_tapes<S: Shelf>(
     alloc: Global,
     shelf: &mut S,
-    grid: &Grid,
+    wanted: &Wanted,
     coefficients: &str,
     masks: &str,
 ) -> Result<ServerWords, Stop>
-    ensures cut { IfOk result (IsCut grid.now) }
+    ensures cut { IfOk result (IsCut wanted.now.counts) }
     ensures reads { Reads (λ words. words) (S.seen shelf.old) (S.seen shelf.new)
-        (source_errand grid.now (ServerSource.Tapes coefficients.now masks.now)) result }
+        (source_errand wanted.now (ServerSource.Tapes coefficients.now masks.now)) result }
 {
-    let coefficients = read_tape_file(alloc, shelf, coefficients, coefficients_kept(grid))?;
-    let masks = read_tape_file(alloc, shelf, masks, masks_kept(grid))?;
+    let counts = wanted.counts;
+    let coefficients = read_tape_file(alloc, shelf, coefficients, counts.coefficients_kept())?;
+    let masks = read_tape_file(alloc, shelf, masks, counts.masks())?;
     Ok(ServerWords {
         masks,
         coefficients,
@@ -113,82 +120,98 @@ fn read_tapes<S: Shelf>(
 fn read_source<S: Shelf>(
     alloc: Global,
     shelf: &mut S,
-    grid: &Grid,
+    wanted: &Wanted,
     source: &ServerSource,
 ) -> Result<ServerWords, Stop>
-    ensures cut { IfOk result (IsCut grid.now) }
+    ensures cut { IfOk result (IsCut wanted.now.counts) }
     ensures reads { Reads (λ words. words) (S.seen shelf.old) (S.seen shelf.new)
-        (source_errand grid.now source.now) result }
+        (source_errand wanted.now source.now) result }
 {
     match source {
-        ServerSource::Seed(seed) => match seed_words(alloc, grid, seed) {
+        ServerSource::Seed(seed) => match seed_words(alloc, wanted, seed) {
             Ok(words) => Ok(words),
             Err(_) => Err(Stop::OutOfMemory),
         },
         ServerSource::Tapes {
             coefficients,
             masks,
-        } => read_tapes(alloc, shelf, grid, coefficients.as_str(), masks.as_str()),
+        } => read_tapes(alloc, shelf, wanted, coefficients.as_str(), masks.as_str()),
     }
 }
 
 /// The line for a server that has too few words of a kind.
 fn too_few_line(
     alloc: Global,
+    lot: Option<u32>,
     server: u32,
     kind: &str,
     held: u32,
     wanted: u32,
 ) -> Result<Vec<u8>, AllocError>
-    ensures { IfOk result (λ line. line.items ≡ server_short_text server kind.now held wanted) }
+    ensures { IfOk result (λ line. line.items ≡ server_short_text lot server kind.now held wanted) }
 {
-    let line = format!(in alloc; "too few words: server {server} {kind} {held} of {wanted}\n")?;
+    let of = lot_words(alloc, lot)?;
+    let line = format!(in alloc; "too few words: {of}server {server} {kind} {held} of {wanted}\n")?;
     Ok(line.into_bytes())
 }
 
 /// Refuses a server that has too few words of a kind.
-fn too_few_words(alloc: Global, server: u32, kind: &str, held: u32, wanted: u32) -> Stop
-    ensures { Refuses Status.TooFewWords (server_short_text server kind.now held wanted) result }
+fn too_few_words(
+    alloc: Global,
+    lot: Option<u32>,
+    server: u32,
+    kind: &str,
+    held: u32,
+    wanted: u32,
+) -> Stop
+    ensures { Refuses Refusal.TooFewWords (server_short_text lot server kind.now held wanted) result }
 {
-    match too_few_line(alloc, server, kind, held, wanted) {
-        Ok(line) => Stop::Refused(Status::TooFewWords, line),
-        Err(_) => Stop::OutOfMemory,
-    }
+    let line = too_few_line(alloc, lot, server, kind, held, wanted);
+    Stop::of_line(Refusal::TooFewWords, line)
 }
 
 /// Refuses the server of this number where it has too few words, of which those for numbers are counted first.
-fn check_counts(alloc: Global, grid: &Grid, server: u32, words: &ServerWords) -> Result<(), Stop>
-    ensures tests { Tests (enough_of grid.now server words.now) result }
-    ensures enough { IfOk result (λ done. HasEnough grid.now words.now) }
+fn check_counts(
+    alloc: Global,
+    wanted: &Wanted,
+    server: u32,
+    words: &ServerWords,
+) -> Result<(), Stop>
+    ensures tests { Tests (enough_of wanted.now server words.now) result }
+    ensures enough { IfOk result (λ done. HasEnough wanted.now.counts words.now) }
 {
-    let wanted = most_coefficients(grid.prices());
+    let lot = wanted.lot;
+    let want = wanted.counts.coefficients();
     let held = words.coefficients.accepted_left();
-    if held < wanted {
-        return Err(too_few_words(alloc, server, "coefficients", held, wanted));
+    if held < want {
+        return Err(too_few_words(alloc, lot, server, "coefficients", held, want));
     }
-    let wanted = most_masks(grid.prices());
+    let want = wanted.counts.masks();
     let held = words.masks.masks_left();
-    if held < wanted {
-        return Err(too_few_words(alloc, server, "masks", held, wanted));
+    if held < want {
+        return Err(too_few_words(alloc, lot, server, "masks", held, want));
     }
     Ok(())
 }
 
-/// The words of the server of this number, which are enough.
-fn read_server<S: Shelf>(
+/// The words of the server of this number, cut to those that are kept. Where they are fewer than are wanted, the server is
+/// refused with the line `too few words: server S coefficients H of W` or `too few words: server S masks H of W`, which
+/// names a lot before the server; a tape file that cannot be fetched, is too long or breaks the format is refused with its
+/// line.
+pub fn read_server<S: Shelf>(
     alloc: Global,
     shelf: &mut S,
-    grid: &Grid,
+    wanted: &Wanted,
     server: u32,
     source: &ServerSource,
 ) -> Result<ServerWords, Stop>
-    ensures enough { IfOk result (HasEnough grid.now) }
-    ensures cut { IfOk result (IsCut grid.now) }
+    ensures enough { IfOk result (HasEnough wanted.now.counts) }
+    ensures cut { IfOk result (IsCut wanted.now.counts) }
     ensures reads { Reads (λ words. words) (S.seen shelf.old) (S.seen shelf.new)
-        (server_errand grid.now server source.now) result }
+        (server_errand wanted.now server source.now) result }
 {
-    let words = read_source(alloc, shelf, grid, source)?;
-    let checked = check_counts(alloc, grid, server, &words);
+    let words = read_source(alloc, shelf, wanted, source)?;
+    let checked = check_counts(alloc, wanted, server, &words);
     let (words, ()) = beside(words, checked)?;
     Ok(words)
 }
@@ -197,19 +220,19 @@ fn read_server<S: Shelf>(
 fn read_three<S: Shelf>(
     alloc: Global,
     shelf: &mut S,
-    grid: &Grid,
+    wanted: &Wanted,
     sources: &Trio<ServerSource>,
 ) -> Result<Trio<ServerWords>, Stop>
-    ensures enough { IfOk result (HaveEnough grid.now) }
-    ensures cut { IfOk result (AreCut grid.now) }
+    ensures enough { IfOk result (HaveEnough wanted.now.counts) }
+    ensures cut { IfOk result (AreCut wanted.now.counts) }
     ensures reads { Reads (λ servers. servers) (S.seen shelf.old) (S.seen shelf.new)
-        (three_errand grid.now sources.now) result }
+        (three_errand wanted.now sources.now) result }
 {
-    let one = read_server(alloc, shelf, grid, 1, &sources.one)?;
-    let (one, two) = beside(one, read_server(alloc, shelf, grid, 2, &sources.two))?;
+    let one = read_server(alloc, shelf, wanted, 1, &sources.one)?;
+    let (one, two) = beside(one, read_server(alloc, shelf, wanted, 2, &sources.two))?;
     let ((one, two), three) = beside(
         (one, two),
-        read_server(alloc, shelf, grid, 3, &sources.three),
+        read_server(alloc, shelf, wanted, 3, &sources.three),
     )?;
     Ok(Trio { one, two, three })
 }
@@ -252,33 +275,44 @@ fn fetch_bundle<S: Shelf>(
 /// The words of one server in a bundle, cut as those of tape files are.
 fn cut(
     alloc: Global,
-    grid: &Grid,
+    counts: &Counts,
     masks: &WordList,
     coefficients: &WordList,
 ) -> Result<ServerWords, AllocError>
-    ensures { IfOk result (λ words. words ≡ cut_server grid.now masks.now coefficients.now) }
+    ensures { IfOk result (λ words. words ≡ cut_server counts.now masks.now coefficients.now) }
 {
     Ok(ServerWords {
-        masks: front(alloc, masks, masks_kept(grid))?,
-        coefficients: front(alloc, coefficients, coefficients_kept(grid))?,
+        masks: front(alloc, masks, counts.masks())?,
+        coefficients: front(alloc, coefficients, counts.coefficients_kept())?,
     })
 }
 
 /// The words of the servers in a bundle, cut as those of tape files are, at their first words.
-pub fn cut_three(alloc: Global, grid: &Grid, words: &Words) -> Result<Trio<ServerWords>, AllocError>
-    ensures { IfOk result (λ servers. servers ≡ cut_servers grid.now words.now) }
+pub fn cut_three(
+    alloc: Global,
+    counts: &Counts,
+    words: &Words,
+) -> Result<Trio<ServerWords>, AllocError>
+    ensures { IfOk result (λ servers. servers ≡ cut_servers counts.now words.now) }
 {
-    Trio::try_of(|at| { cut(alloc, grid, words.masks.get(at), words.coefficients.get(at)) })
+    Trio::try_of(|at| {
+        cut(
+            alloc,
+            counts,
+            words.masks.get(at),
+            words.coefficients.get(at),
+        )
+    })
 }
 
 /// Refuses the first server that has too few words.
-pub fn check_three(alloc: Global, grid: &Grid, servers: &Trio<ServerWords>) -> Result<(), Stop>
-    ensures tests { Tests (enough_of_all grid.now servers.now) result }
-    ensures enough { IfOk result (λ done. HaveEnough grid.now servers.now) }
+pub fn check_three(alloc: Global, wanted: &Wanted, servers: &Trio<ServerWords>) -> Result<(), Stop>
+    ensures tests { Tests (enough_of_all wanted.now servers.now) result }
+    ensures enough { IfOk result (λ done. HaveEnough wanted.now.counts servers.now) }
 {
-    check_counts(alloc, grid, 1, &servers.one)?;
-    check_counts(alloc, grid, 2, &servers.two)?;
-    check_counts(alloc, grid, 3, &servers.three)
+    check_counts(alloc, wanted, 1, &servers.one)?;
+    check_counts(alloc, wanted, 2, &servers.two)?;
+    check_counts(alloc, wanted, 3, &servers.three)
 }
 
 /// The words of the bidders in a bundle, given away. Those of the servers are let go.
@@ -289,13 +323,13 @@ fn into_bidders(words: Words) -> Vec<WordList>
 }
 
 /// The words of a bundle: those of the servers, cut as those of tape files are, and those of the bidders.
-fn cut_bundle(alloc: Global, grid: &Grid, words: Words) -> Result<AllWords, AllocError>
+fn cut_bundle(alloc: Global, counts: &Counts, words: Words) -> Result<AllWords, AllocError>
     ensures { IfOk result (λ all. all ≡ record {
-      servers = cut_servers grid.now words;
+      servers = cut_servers counts.now words;
       bidders = Some words.bidders;
     }) }
 {
-    let servers = cut_three(alloc, grid, &words);
+    let servers = cut_three(alloc, counts, &words);
     let (words, servers) = beside(words, servers)?;
     Ok(AllWords {
         servers,
@@ -307,18 +341,18 @@ fn cut_bundle(alloc: Global, grid: &Grid, words: Words) -> Result<AllWords, Allo
 fn read_bundled<S: Shelf>(
     alloc: Global,
     shelf: &mut S,
-    grid: &Grid,
+    wanted: &Wanted,
     name: &Name,
     count: Option<usize>,
 ) -> Result<AllWords, Stop>
-    ensures enough { IfOk result (λ words. HaveEnough grid.now words.servers) }
-    ensures cut { IfOk result (λ words. AreCut grid.now words.servers) }
+    ensures enough { IfOk result (λ words. HaveEnough wanted.now.counts words.servers) }
+    ensures cut { IfOk result (λ words. AreCut wanted.now.counts words.servers) }
     ensures reads { Reads (λ words. words) (S.seen shelf.old) (S.seen shelf.new)
-        (all_words_errand grid.now count (Servers.Bundle name.now)) result }
+        (all_words_errand wanted.now count (Servers.Bundle name.now)) result }
 {
     let words = fetch_bundle(alloc, shelf, name.as_str(), count)?;
-    let words = cut_bundle(alloc, grid, words)?;
-    let checked = check_three(alloc, grid, &words.servers);
+    let words = cut_bundle(alloc, &wanted.counts, words)?;
+    let checked = check_three(alloc, wanted, &words.servers);
     let (words, ()) = beside(words, checked)?;
     Ok(words)
 }
@@ -327,24 +361,24 @@ fn read_bundled<S: Shelf>(
 pub fn read_words<S: Shelf>(
     alloc: Global,
     shelf: &mut S,
-    grid: &Grid,
+    wanted: &Wanted,
     servers: &Servers,
     count: Option<usize>,
 ) -> Result<AllWords, Stop>
-    ensures enough { IfOk result (λ words. HaveEnough grid.now words.servers) }
-    ensures cut { IfOk result (λ words. AreCut grid.now words.servers) }
+    ensures enough { IfOk result (λ words. HaveEnough wanted.now.counts words.servers) }
+    ensures cut { IfOk result (λ words. AreCut wanted.now.counts words.servers) }
     ensures reads { Reads (λ words. words) (S.seen shelf.old) (S.seen shelf.new)
-        (all_words_errand grid.now count servers.now) result }
+        (all_words_errand wanted.now count servers.now) result }
 {
     match servers {
         Servers::Three(sources) => {
-            let servers = read_three(alloc, shelf, grid, sources)?;
+            let servers = read_three(alloc, shelf, wanted, sources)?;
             Ok(AllWords {
                 servers,
                 bidders: None,
             })
         }
-        Servers::Bundle(name) => read_bundled(alloc, shelf, grid, name, count),
+        Servers::Bundle(name) => read_bundled(alloc, shelf, wanted, name, count),
     }
 }
 

@@ -2,8 +2,10 @@
 
 ghost use Rattle.std.specs.Prelude.{◌≡◌, ◌≤◌, ◌*◌, All, length};
 ghost use Rattle.beet_errand.specs.Fetches.{Reads};
+ghost use Rattle.beet_load.specs.Counts.{counts_of};
+ghost use Rattle.beet_load.specs.Loading.{rest_errand};
 ghost use Rattle.beet_load.specs.Servers.{AreCut, HaveEnough};
-ghost use Rattle.beet_load.specs.Wholes.{IsFarmer, all_words, limited_errand, limited_rest};
+ghost use Rattle.beet_load.specs.Wholes.{IsFarmer, all_words, limited_errand};
 ghost use Rattle.beet_load.specs.WholeViews.{loaded_of};
 ghost use Rattle.beet_words.specs.declared.bundle.TheConstants.{MOST_BIDDERS};
 ghost use Rattle.beet_book.specs.declared.book_file.TheConstants.{MOST_PRODUCT};
@@ -12,9 +14,11 @@ use crate::keeping::{Farmers, read_farmers};
 use crate::limits::check_product;
 use crate::loading::lists_in;
 use crate::servers::{ServerWords, read_words};
-use crate::setting::{Setting, read_setting};
+use crate::setting::read_setting;
+use crate::wanted::auction_wants;
 use crate::whole::Whole;
 use beet_bids::{Book, Grid};
+use beet_book::{Entry, Servers};
 use beet_errand::Stop;
 use beet_field::Trio;
 use beet_forms::beside;
@@ -55,11 +59,11 @@ fn words_with(servers: Trio<ServerWords>, bidders: Vec<WordList>) -> Words
 
 /// The whole of an auction over the grid, of which the servers and the bidders are read.
 fn whole_of(grid: &Grid, servers: Trio<ServerWords>, farmers: Farmers) -> Whole
-    requires enough { HaveEnough grid.now servers }
-    requires cut { AreCut grid.now servers }
+    requires enough { HaveEnough (counts_of grid.now) servers }
+    requires cut { AreCut (counts_of grid.now) servers }
     requires few { length farmers ≤ MOST_BIDDERS }
     requires within { length farmers * grid.now.prices ≤ MOST_PRODUCT }
-    requires each { All (IsFarmer grid.now) farmers }
+    requires each { All (IsFarmer (counts_of grid.now) grid.now) farmers }
     ensures { loaded_of result ≡ record { grid = grid.now; servers = servers; farmers = farmers } }
 {
     let (bidders, lists) = farmers.into_parts();
@@ -70,24 +74,24 @@ fn whole_of(grid: &Grid, servers: Trio<ServerWords>, farmers: Farmers) -> Whole
     }
 }
 
-/// Tests the limit, and reads what stands after the setting: the words of the servers, and the bidders, which are kept.
-fn read_rest<S: Shelf>(
+/// Reads what stands after the setting, of an auction alone or of a lot: the words of the servers, and the bidders, which
+/// are kept.
+pub fn load_whole_rest<S: Shelf>(
     alloc: Global,
     shelf: &mut S,
-    book: &str,
-    setting: &Setting,
+    lot: Option<u32>,
+    grid: &Grid,
+    sources: &Servers,
+    entries: &[Entry],
 ) -> Result<Whole, Stop>
-    ensures { Reads loaded_of (S.seen shelf.old) (S.seen shelf.new) (limited_rest book.now setting.now) result }
+    requires few { length entries.now ≤ MOST_BIDDERS }
+    requires within { length entries.now * grid.now.prices ≤ MOST_PRODUCT }
+    ensures { Reads loaded_of (S.seen shelf.old) (S.seen shelf.new)
+        (rest_errand lot (record { grid = grid.now; sources = sources.now; entries = entries.now })) result }
 {
-    let Setting {
-        grid,
-        sources,
-        entries,
-    } = setting;
-    let count = entries.len();
-    check_product(alloc, book, grid, count)?;
-    let words = read_words(alloc, shelf, grid, sources, Some(count))?;
-    let farmers = read_farmers(alloc, shelf, grid, lists_in(&words), entries.as_slice());
+    let wanted = auction_wants(lot, grid);
+    let words = read_words(alloc, shelf, &wanted, sources, Some(entries.len()))?;
+    let farmers = read_farmers(alloc, shelf, &wanted, grid, lists_in(&words), entries);
     let (words, farmers) = beside(words, farmers)?;
     Ok(whole_of(grid, words.into_servers(), farmers))
 }
@@ -105,7 +109,9 @@ pub fn load_whole<S: Shelf>(
         (limited_errand auction.now servers.now book.now) result }
 {
     let setting = read_setting(alloc, shelf, auction, servers, book)?;
-    let whole = read_rest(alloc, shelf, book, &setting);
+    let entries = setting.entries.as_slice();
+    check_product(alloc, 0, book, &setting.grid, entries.len())?;
+    let whole = load_whole_rest(alloc, shelf, None, &setting.grid, &setting.sources, entries);
     drop(setting);
     whole
 }

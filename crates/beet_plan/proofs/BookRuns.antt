@@ -1,30 +1,22 @@
 -- How the run of a book ends, and after how many rounds.
-use Rattle.std.proofs.Common.{◌≡◌, ◌↔◌, ℕ, ◌+◌, ◌<◌, ◌≤◌, inl, inr, Bool, true, false, List, slice_index, sym, ◌∙◌, arith}
-use Rattle.std.specs.Prelude.{nat_le, IsTrue}
-use Rattle.std.proofs.lemmas.Bool.{cases_Bool, iff_false}
-use Rattle.std.proofs.lemmas.Bool.Decides.{nat_tests}
+use Rattle.std.proofs.Common.{◌≡◌, ℕ, ◌+◌, ◌<◌, List, slice_index, ◌∙◌, arith}
+use Rattle.std.specs.Prelude.{nat_le}
 use Rattle.beet_field.specs.declared.trio.Trio.{Trio}
 use Rattle.beet_bids.specs.Grids.{comparisons_of}
 use Rattle.beet_bids.specs.Books.{Book, IsBook}
 use Rattle.beet_bids.specs.Sums.{supply_at, demand_at, sums_of}
 use Rattle.beet_bids.specs.Outcomes.{clearing_place, outcome_of}
 use Rattle.beet_compare.specs.Compare.{is_doubled_even}
-use Rattle.beet_compare.proofs.Parity.{doubled_even-≤}
+use Rattle.beet_compare.proofs.Parity.{doubled_even-≤, same_test}
 use Rattle.beet_plan.specs.Auction.{auction_over}
 use Rattle.beet_plan.specs.Search.{place_found}
-use Rattle.beet_plan.specs.Runs.{AreMasks, RunEnds, found, finish_of}
+use Rattle.beet_masking.specs.Masks.{AreMasks}
+use Rattle.beet_plan.specs.Runs.{RunEnds, found, finish_of}
 use Rattle.beet_plan.proofs.AuctionRuns.{auction-run}
 use Rattle.beet_plan.proofs.BookFacts.{found-outcome}
 use Rattle.beet_bids.proofs.BookSums.{book-turn, clearing-within, length-sums, sums-supply, sums-demand, sums-elements, small}
 use Rattle.beet_plan.proofs.Searches.{place-turn}
 use Rattle.beet_bids.proofs.GridFacts.{below_comparisons}
-
--- two tests agree where both say the same
-pub same_test : (b : Bool) (s d : ℕ) → IsTrue b ↔ (d ≤ s) → b ≡ nat_le d s
-same_test b s d e = elim (cases_Bool b) [
-  | inl t ↦ let h = e.0 t in t ∙ (let le : nat_le d s ≡ true = grind (arith, nat_tests, h) in sym le)
-  | inr f ↦ f ∙ (let h = iff_false e f in let le : nat_le d s ≡ false = grind (arith, nat_tests, h) in sym le)
-]
 
 pub book-run : (book : Book) (words : Trio (List ℕ)) → IsBook book → AreMasks words →
     RunEnds (auction_over book.grid) (sums_of book) words (clearing_place book) (finish_of (outcome_of book))

@@ -1,12 +1,9 @@
-pub mod Counts
 pub mod Searches
-pub mod BlockLaws
 pub mod BlockSteps
-pub mod AuctionEnd
+pub mod SearchClaims
 pub mod AuctionStands
 pub mod AuctionLaw
-pub mod AuctionRounds
 pub mod AuctionRuns
+pub mod FiveRuns
 pub mod BookFacts
 pub mod BookRuns
-pub mod Ended

@@ -11,8 +11,10 @@ use Rattle.beet_gates.specs.Plans.{Plan, Ended, Block, Last, plan_batch}
 use Rattle.beet_gates.specs.declared.Gates.{Gates}
 use Rattle.beet_gates.specs.declared.Gates.TheVariants.{Tree}
 use Rattle.beet_compare.specs.Compare.{compare_wires_of}
-use Rattle.beet_plan.specs.Blocks.{Blocks, blocks_of, after_mask, after_both}
-use Rattle.beet_plan.specs.declared.TheConstants.{MASK_COEFFICIENTS, SPARE_MASKS}
+use Rattle.beet_masking.specs.Accepting.{most_rounds_for, until_accepted}
+use Rattle.beet_masking.specs.Masks.{masks_for}
+use Rattle.beet_masking.specs.Blocks.{Blocks, blocks_of, after_mask, after_both}
+use Rattle.beet_masking.specs.declared.TheConstants.{MASK_COEFFICIENTS, SPARE_MASKS}
 use Rattle.beet_plan.specs.declared.Finish.{Finish}
 use Rattle.beet_plan.specs.declared.Finish.TheVariants.{Price, NoPrice, MasksSpent}
 
@@ -51,30 +53,31 @@ abbrev pub end_plan : Policy → ℕ → ℕ → Plan Finish
 end_plan policy prices place =
     if nat_lt place prices then opening_plan (shown_by policy (prices + place) place) (price_with place) else Ended NoPrice
 
--- how a search goes on after the answer of a comparison: between which places, from which free wire on, and with how many rejected masks
+-- how a search goes on after the answer of a comparison: between which places, and from which free wire on
 abbrev pub after_answer : Blocks → (ℕ → ℕ → ℕ → ℕ → Plan Finish) → ℕ → ℕ → ℕ → ℕ → ℕ → Plan Finish
-after_answer blocks search lo hi first rejected answer =
-    if answer == 1 then search lo ((lo + hi) / 2) (after_both blocks first) rejected
-    else search ((lo + hi) / 2 + 1) hi (after_both blocks first) rejected
+after_answer blocks search lo hi spare mask answer =
+    if answer == 1 then search lo ((lo + hi) / 2) spare (after_both blocks mask)
+    else search ((lo + hi) / 2 + 1) hi spare (after_both blocks mask)
 
--- how it goes on after the opened product of a mask's bits
-abbrev pub after_product : Blocks → ℕ → (ℕ → ℕ → ℕ → ℕ → Plan Finish) → ℕ → ℕ → ℕ → ℕ → ℕ → Plan Finish
-after_product blocks prices search lo hi first rejected product =
-    if product == 1 then
-    (if rejected == SPARE_MASKS then Ended MasksSpent else search lo hi (after_mask blocks first) (rejected + 1))
-    else compare_plan blocks prices (after_mask blocks first) first ((lo + hi) / 2) (after_answer blocks search lo hi first rejected)
+-- how it goes on with the mask that is accepted: the comparison at the middle place
+abbrev pub with_mask : Blocks → ℕ → (ℕ → ℕ → ℕ → ℕ → Plan Finish) → ℕ → ℕ → ℕ → ℕ → Plan Finish
+with_mask blocks prices search lo hi spare mask =
+    compare_plan blocks prices (after_mask blocks mask) mask ((lo + hi) / 2) (after_answer blocks search lo hi spare mask)
 
--- the search between two places, where `first` is the first free wire, so many masks were rejected, and at most n more are dealt
+-- the search between two places, with at most n comparisons, where so many masks may be rejected, and `first` is the first free wire
 unfoldable pub search_plan : Blocks → Policy → ℕ → ℕ → ℕ → ℕ → ℕ → ℕ → Plan Finish
-search_plan blocks policy prices zero lo hi first rejected = end_plan policy prices lo
-search_plan blocks policy prices (suc n) lo hi first rejected =
-    if nat_lt lo hi then
-    Block (blocks.mask first) (after_product blocks prices (search_plan blocks policy prices n) lo hi first rejected)
+search_plan blocks policy prices zero lo hi spare first = end_plan policy prices lo
+search_plan blocks policy prices (suc n) lo hi spare first =
+    if nat_lt lo hi then until_accepted blocks MasksSpent spare first (with_mask blocks prices (search_plan blocks policy prices n) lo hi)
     else end_plan policy prices lo
 
--- the whole script: a mask for each comparison, and three that may be rejected
+-- the whole script with these blocks: a mask for each comparison, and those that may be rejected
+abbrev pub plan_with : Blocks → Policy → ℕ → Plan Finish
+plan_with blocks policy prices = search_plan blocks policy prices (comparisons_of prices) 0 prices SPARE_MASKS (2 * prices)
+
+-- the script of an auction
 abbrev pub auction_plan : Auction → Plan Finish
-auction_plan a = search_plan (blocks_of a.gates) a.policy a.prices (comparisons_of a.prices + (SPARE_MASKS + 1)) 0 a.prices (2 * a.prices) 0
+auction_plan a = plan_with (blocks_of a.gates) a.policy a.prices
 
 -- the batch after so many, with these numbers opened
 abbrev pub auction_batch : Auction → ℕ → List ℕ → Batch
@@ -82,13 +85,14 @@ auction_batch a done opened = plan_batch (auction_plan a) done opened
 
 -- the bounds of the script: rounds, mask words and coefficients of each server, which the number of prices tells, and wires; for each
 -- comparison there is room for the wires of a tree, whatever the gates
+abbrev pub most_rounds_with : Blocks → ℕ → ℕ
+most_rounds_with blocks prices = most_rounds_for blocks (comparisons_of prices) 1
+
 abbrev pub most_rounds : Auction → ℕ
-most_rounds a =
-    let blocks = blocks_of a.gates in
-    comparisons_of a.prices * (blocks.mask_rounds + blocks.compare_rounds) + SPARE_MASKS * blocks.mask_rounds + 1
+most_rounds a = most_rounds_with (blocks_of a.gates) a.prices
 
 abbrev pub most_masks_of : ℕ → ℕ
-most_masks_of prices = comparisons_of prices + SPARE_MASKS
+most_masks_of prices = masks_for (comparisons_of prices)
 
 abbrev pub most_coefficients_of : ℕ → ℕ
 most_coefficients_of prices = MASK_COEFFICIENTS * most_masks_of prices
@@ -99,5 +103,8 @@ most_masks a = most_masks_of a.prices
 abbrev pub most_coefficients : Auction → ℕ
 most_coefficients a = most_coefficients_of a.prices
 
+abbrev pub most_wires_with : Blocks → ℕ → ℕ
+most_wires_with blocks prices = 2 * prices + blocks.mask_wires * most_masks_of prices + compare_wires_of Tree * comparisons_of prices
+
 abbrev pub most_wires : Auction → ℕ
-most_wires a = 2 * a.prices + (blocks_of a.gates).mask_wires * most_masks a + compare_wires_of Tree * comparisons_of a.prices
+most_wires a = most_wires_with (blocks_of a.gates) a.prices

@@ -2,7 +2,7 @@
 use Rattle.std.specs.Prelude.{ℕ, ◌+◌, ◌*◌}
 use Rattle.beet_bids.specs.Grids.{Grid}
 use Rattle.beet_plan.specs.Auction.{auction_over, most_coefficients, most_masks}
-use Rattle.beet_plan.specs.declared.TheConstants.{SPARE_WORDS}
+use Rattle.beet_masking.specs.declared.TheConstants.{SPARE_WORDS}
 
 -- of a bidder, where there are so many prices
 abbrev pub words_kept : ℕ → ℕ

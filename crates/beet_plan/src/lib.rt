@@ -8,15 +8,7 @@ ghost use Rattle.beet_plan.specs.Kept.{words_kept, masks_kept, coefficients_kept
 
 use beet_bids::{Grid, comparisons};
 use beet_field::Fe;
-
-/// Room for the numbers that each server draws for a mask and the comparison with it, whatever the gates.
-pub const MASK_COEFFICIENTS: u32 = 512;
-
-/// Masks that may be rejected in a run, beside those that are used.
-pub const SPARE_MASKS: u32 = 2;
-
-/// Words that are kept of a tape beyond the numbers that are wanted of it, for words that are passed over.
-pub const SPARE_WORDS: u32 = 8;
+use beet_masking::{MASK_COEFFICIENTS, SPARE_MASKS, SPARE_WORDS, masks_for};
 
 /// The most mask words that a run with so many prices wants of each server.
 pub fn most_masks(prices: u32) -> u32
@@ -24,7 +16,7 @@ pub fn most_masks(prices: u32) -> u32
     ensures value { result ≡ most_masks_of prices }
     ensures few { result ≤ MOST_COMPARISONS + SPARE_MASKS }
 {
-    comparisons(prices) + SPARE_MASKS
+    masks_for(comparisons(prices))
 }
 
 /// The most numbers that each server draws in a run with so many prices.

@@ -23,10 +23,10 @@ use Rattle.beet_view.specs.BookViews.{transcript_of_book, view_for}
 use Rattle.beet_view.specs.Transcripts.{view_bytes, view_in}
 use Rattle.beet_view.specs.Views.{Viewed}
 use Rattle.beet_errand.specs.Errands.{Answer, Errand, answers, file_for, reads}
-use Rattle.beet_errand.specs.Fetches.{IsDone}
 use Rattle.beet_errand.specs.Statuses.{IsDoneCode, code_of}
 use Rattle.beet_errand.specs.declared.answer.Status.{Status}
-use Rattle.beet_errand.specs.declared.answer.Status.TheVariants.{AuditRefused}
+use Rattle.beet_errand.specs.Runs.{Said}
+use Rattle.beet_errand.specs.declared.answer.OwnRefusal.TheVariants.{OfAudit}
 use Rattle.beet_load.specs.Loading.{Loaded}
 use Rattle.beet_load.specs.Servers.{coefficients_of, masks_of}
 use Rattle.beet_load.specs.Wholes.{CanStart, limited_errand}
@@ -36,10 +36,9 @@ use Rattle.beet_kept.proofs.FittingViews.{view-again, view-short}
 use Rattle.beet_audit.specs.OneRuns.{OneRun}
 use Rattle.beet_audit.specs.declared.fault.AuditFault.{AuditFault}
 use Rattle.beet_audit.proofs.BookRunFacts.{one-run, same-book}
-use Rattle.beet_auditor.specs.Ending.{audit_answer, run_answer}
+use Rattle.beet_auditor.specs.Ending.{ShowsAudit, audit_answer, run_answer}
 use Rattle.beet_auditor.specs.Reading.{read_errand}
 use Rattle.beet_auditor.specs.declared.reading.ReadViews.{ReadViews}
-use Rattle.beet_answer.specs.Runs.{Said}
 use Rattle.beet_app.specs.Jobs.{Job, Answering, Auditing, are_names, job_of}
 use Rattle.beet_app.proofs.Showing.{Hold, three_stand}
 use Rattle.beet_app_laws.specs.Dues.{EndsAsDue, IsDue, IsDueOfAudit, IsDueOfViews, ReadsTo}
@@ -48,8 +47,8 @@ use Rattle.beet_app_laws.proofs.Led.{led, read-to}
 use Rattle.beet_app_laws.proofs.Reading.{reads-to}
 use Rattle.beet_app_laws.proofs.Telling.{one-value, told-views}
 use Rattle.beet_program_laws.specs.Accepted.{HoldsRun, IsAccepted, audit_words}
-use Rattle.beet_program_laws.proofs.Audits.{not-refused}
-use Rattle.beet_program_laws.proofs.Ends.{Found, Ran, WentOut, answer-ends, found, named, run-ends}
+use Rattle.beet_program_laws.proofs.Audits.{undone}
+use Rattle.beet_program_laws.proofs.Ends.{Found, Ran, WentOut, found, named, shown-ends}
 use Rattle.beet_program_laws.proofs.Grids.{grid-is}
 use Rattle.beet_program_laws.proofs.Read.{IsLimited, can-run, can-run-cut, farmers-back, is-book, limited, the_book, the_words}
 
@@ -165,14 +164,13 @@ module _ (told : Told) (told_now : Option Told) (given now : Option Given) (end 
 
   -- an audit that is done says how the run ended
   says-it : (w : IsDoneCode end) → Ran told told_now given now end w (Some (Auditing name one two three)) → Said given now (run_answer views).text
-  says-it w (inl (answer, shows, r)) =
-      let put : WentOut answer given now end = answer-ends told_now told_now answer given now end w r in
-      finding shows.read (only shows.read (read-to told told_now (read_errand name one two three) shows.read shows.are_read)) shows.tells.found shows.tells.one_run
-      (subst (λ (x : Answer). WentOut x given now end) shows.tells.is put)
-  says-it w (inr f) =
-      let next : ReadViews → Errand = λ views. answers AuditRefused [] in
-      let e = run-ends told told_now given now end w (read_errand name one two three next) (f next) in
-      absurd (not-refused (subst (λ (x : Answer). IsDone x.status) (sym e.is ∙ read next) e.out.done))
+  says-it w r =
+      shown-ends told told_now given now end w {C = Said given now (run_answer views).text} OfAudit
+      (read_errand name one two three) (ShowsAudit name one two three)
+      (undone told.files name one two three) (λ answer shows put.
+      finding shows.value (only shows.value (read-to told told_now (read_errand name one two three) shows.value shows.read))
+      shows.shown.found shows.shown.one_run
+      (subst (λ (x : Answer). WentOut x given now end) shows.shown.is put)) r
 
 -- words that name a job, which pass two tests, name this one
 is-job : (b c : Bool) (job : Option Job) → (if b then if c then job else None else None) ≢ None → (if b then if c then job else None else None) ≡ job

@@ -1,5 +1,5 @@
 -- What the job `audit` has read and said.
-use Rattle.std.proofs.Common.{◌≡◌, inl, inr, ◌≤◌, ◌<◌, ◌*◌, ℕ, List, [], ◌∷◌, length, map, min, Option, Some, None, Ok, refl, sym, ap, subst, ◌∙◌, arith}
+use Rattle.std.proofs.Common.{◌≡◌, inl, ◌≤◌, ◌<◌, ◌*◌, ℕ, List, [], ◌∷◌, length, map, min, Option, Some, None, Ok, refl, sym, ap, subst, ◌∙◌, arith}
 use Rattle.std.specs.Prelude.{All, IfOk, MatchOption, codes, if◌then◌else◌}
 use Rattle.beet_field.specs.Field.{IsElement}
 use Rattle.beet_field.specs.Trio.{member, of_each}
@@ -33,26 +33,29 @@ use Rattle.beet_view.specs.Views.{Viewed}
 use Rattle.beet_view.specs.declared.reading.TheConstants.{MOST_ROUNDS}
 use Rattle.beet_worlds.specs.Enough.{HasAccepted}
 use Rattle.beet_headline.specs.Halves.{CanRun}
-use Rattle.beet_errand.specs.Errands.{Answer, Errand, answers, reads}
+use Rattle.beet_errand.specs.Errands.{Answer, Errand, answers, reads, refuses}
 use Rattle.beet_errand.specs.Fetches.{IsDone}
-use Rattle.beet_errand.specs.declared.answer.Status.TheVariants.{AuditRefused, Done}
+use Rattle.beet_errand.specs.declared.answer.OwnRefusal.TheVariants.{OfAudit}
+use Rattle.beet_errand.specs.declared.answer.Refusal.TheVariants.{Own}
+use Rattle.beet_errand.specs.declared.answer.Status.TheVariants.{Done}
+use Rattle.beet_errand.proofs.Statuses.{not_done}
 use Rattle.beet_errand.specs.Statuses.{IsDoneCode}
-use Rattle.beet_load.specs.Servers.{coefficients_wanted}
+use Rattle.beet_load.specs.Counts.{coefficients_wanted}
 use Rattle.beet_audit.specs.Audits.{HaveElements, curve_of, points_of_bidder, recombined_bidder, recombined_book, run_of}
 use Rattle.beet_audit.specs.OneRuns.{OneRun}
 use Rattle.beet_audit.specs.declared.fault.AuditFault.{AuditFault}
 use Rattle.beet_audit.proofs.BidFacts.{OnOwnLines, is-line, on-own-line, own_slope, recombines}
 use Rattle.beet_audit.proofs.FinishFacts.{all-accepted, farmers, is-recombined, same-inputs, slopes}
 use Rattle.beet_audit.proofs.PointFacts.{item-shares, lengths-shares}
-use Rattle.beet_auditor.specs.Ending.{audit_answer, run_answer}
+use Rattle.beet_auditor.specs.Ending.{ShowsAudit, audit_answer, run_answer}
 use Rattle.beet_auditor.specs.Reading.{read_errand}
 use Rattle.beet_auditor.specs.declared.reading.ReadViews.{ReadViews}
 use Rattle.beet_app.specs.Jobs.{Auditing, are_names, job_of}
-use Rattle.beet_app_laws.specs.Dues.{ReadsTo}
+use Rattle.beet_app_laws.specs.Dues.{ReadsTo, answer_over}
 use Rattle.beet_app_laws.proofs.Led.{read-to}
 use Rattle.beet_app_laws.proofs.Telling.{one-value, told-views}
 use Rattle.beet_program_laws.specs.Commands.{AuditsOneRun}
-use Rattle.beet_program_laws.proofs.Ends.{Ran, WentOut, answer-ends, named, run-ends, servers-open, tells}
+use Rattle.beet_program_laws.proofs.Ends.{Ran, WentOut, named, servers-open, shown-ends, tells}
 use Rattle.beet_program_laws.proofs.Files.{AreFew, any-reads, counted-are, then-reads, words-are}
 use Rattle.beet_program_laws.proofs.Read.{farmers-back, has-accepted}
 use Rattle.beet_program_laws.proofs.Steps.{Yields, any-yield, gives-yield, reads-yield, then-yields}
@@ -220,9 +223,13 @@ module _ (grid : Grid) (views : Trio Viewed) (limits : (s : Point) → IsReadVie
     };
   }
 
-pub not-refused : IsDone AuditRefused → ⊥
-not-refused (inl e) = cc
-not-refused (inr e) = cc
+-- an errand that goes on from an auction and three transcripts to a refusal is not done
+pub undone : (files : List File) (auction one two three : List ℕ) →
+    IsDone (answer_over files (read_errand auction one two three (λ read. refuses (Own OfAudit) []))).status → ⊥
+undone files auction one two three done =
+    let next : ReadViews → Errand = λ read. refuses (Own OfAudit) [] in
+    let (read, reads, h) = views-yield files auction one two three next done in
+    not_done (Own OfAudit) (subst (λ (a : Answer). IsDone a.status) (reads next) done)
 
 module _ (told : Told) (told_now : Option Told) (given now : Option Given) (status : ℕ) (w : IsDoneCode status) (auction one two three : List ℕ) where
   abbrev Audited : Type 0
@@ -251,19 +258,16 @@ module _ (told : Told) (told_now : Option Told) (given now : Option Given) (stat
   finding : (read : ReadViews) → ReadsTo told.files (read_errand auction one two three) read → (found : Option AuditFault) →
       MatchOption found (OneRun read.grid read.views) (λ fault. OneRun read.grid read.views → ⊥) → WentOut (audit_answer read found) given now status → Audited
   finding read r None one_run put = told-of read r one_run put
-  finding read r (Some fault) not put = absurd (not-refused put.done)
+  finding read r (Some fault) not put = absurd (not_done (Own OfAudit) put.done)
 
   audits-by : Ran told told_now given now status w (Some (Auditing auction one two three)) → Audited
-  audits-by (inl (answer, shows, r)) =
-      let put : WentOut answer given now status = answer-ends told_now told_now answer given now status w r in
-      let read = read-to told told_now (read_errand auction one two three) shows.read shows.are_read in
-      finding shows.read read shows.tells.found shows.tells.one_run (subst (λ (a : Answer). WentOut a given now status) shows.tells.is put)
-  audits-by (inr f) =
-      let next : ReadViews → Errand = λ read. answers AuditRefused [] in
-      let e = run-ends told told_now given now status w (read_errand auction one two three next) (f next) in
-      let done = subst (λ (a : Answer). IsDone a.status) (sym e.is) e.out.done in
-      let (read, reads, h) = views-yield told.files auction one two three next done in
-      absurd (not-refused (subst (λ (a : Answer). IsDone a.status) (reads next) done))
+  audits-by r =
+      shown-ends told told_now given now status w {C = Audited} OfAudit (read_errand auction one two three)
+      (ShowsAudit auction one two three)
+      (undone told.files auction one two three) (λ answer shows put.
+      finding shows.value (read-to told told_now (read_errand auction one two three) shows.value shows.read)
+      shows.shown.found shows.shown.one_run
+      (subst (λ (a : Answer). WentOut a given now status) shows.shown.is put)) r
 
   pub audits : Ran told told_now given now status w (job_of (codes "audit" ∷ auction ∷ one ∷ two ∷ three ∷ [])) → Audited
   audits ran =

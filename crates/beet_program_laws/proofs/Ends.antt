@@ -1,5 +1,5 @@
 -- How a run over told files ends with status 0 or 6: with the answer of its job, which went out whole.
-use Rattle.std.proofs.Common.{◌≡◌, ◌⊎◌, inl, inr, ℕ, List, Bool, true, false, Option, Some, None, Ok, Err, if◌then◌else◌, refl, sym, subst, ◌∙◌, arith}
+use Rattle.std.proofs.Common.{◌≡◌, ◌⊎◌, inl, inr, ℕ, List, [], Bool, true, false, Option, Some, None, Ok, Err, if◌then◌else◌, refl, sym, subst, ◌∙◌, arith}
 use Rattle.beet_store.specs.Files.{File, Told}
 use Rattle.beet_store.specs.Desks.{Done, Given}
 use Rattle.beet_store.specs.declared.desk.PutFault.TheVariants.{Failed, OutOfMemory as NoMemoryToPut}
@@ -13,21 +13,25 @@ use Rattle.beet_plan.specs.declared.Finish.TheVariants.{MasksSpent}
 use Rattle.beet_auction.specs.Endings.{book_finish, book_rounds}
 use Rattle.beet_headline.specs.Halves.{CanRun, are_spent}
 use Rattle.beet_headline.proofs.Standings.{stands}
-use Rattle.beet_errand.specs.Errands.{Answer, Errand, Ends, Step, Wants, answers}
+use Rattle.beet_errand.specs.Errands.{Answer, Errand, Ends, Step, Wants, refuses}
 use Rattle.beet_errand.specs.Fetches.{IsDone, Went}
 use Rattle.beet_errand.specs.Statuses.{IsDoneCode, code_of}
-use Rattle.beet_errand.specs.declared.answer.Status.{Status}
-use Rattle.beet_errand.specs.declared.answer.Status.TheVariants.{Done as JobDone, OutOfMemory, Usage, ReadFault, WriteFault, BadFile, MasksSpent as Spent, WorldsRefused, AuditRefused, TooFewWords}
-use Rattle.beet_answer.specs.Runs.{EndsBy, GivesAll, Runs, status_after}
+use Rattle.beet_errand.specs.Runs.{EndsBy, GivesAll, Runs, status_after}
+use Rattle.beet_errand.specs.Tasks.{RunsTask, Shows, ToShow}
+use Rattle.beet_errand.specs.Texts.{usage_text}
+use Rattle.beet_errand.specs.declared.answer.OwnRefusal.{OwnRefusal}
+use Rattle.beet_errand.specs.declared.answer.Refusal.TheVariants.{Usage, ReadFault, Own}
+use Rattle.beet_errand.specs.declared.answer.Status.TheVariants.{Refused}
+use Rattle.beet_errand.proofs.Statuses.{done_end, not_done}
+use Rattle.beet_errand.proofs.Steps.{at_end}
 use Rattle.beet_run.specs.OutcomeTexts.{outcome_text}
 use Rattle.beet_run.specs.Outcomes.{status_of}
 use Rattle.beet_app.specs.Doing.{RunsJob}
 use Rattle.beet_app.specs.Jobs.{Job}
-use Rattle.beet_app.specs.Texts.{usage_text}
 use Rattle.beet_app_laws.specs.Dues.{ReadsTo, answer_over}
-use Rattle.beet_app_laws.proofs.Led.{at-end, lead-end}
+use Rattle.beet_app_laws.proofs.Led.{lead-end}
 use Rattle.beet_program_laws.specs.Outcomes.{ServersOpen, TellsTheEnd}
-use Rattle.beet_program_laws.proofs.Steps.{Yields, not-unread}
+use Rattle.beet_program_laws.proofs.Steps.{Yields}
 
 not-one : (status : ℕ) → IsDoneCode status → status ≡ 1 → ⊥
 not-one status (inl e) f = omega (arith, e, f)
@@ -37,26 +41,6 @@ not-four : (status : ℕ) → IsDoneCode status → status ≡ 4 → ⊥
 not-four status (inl e) f = omega (arith, e, f)
 not-four status (inr e) f = omega (arith, e, f)
 
-whole-done : (s : Status) → IsDoneCode (code_of s) → IsDone s
-whole-done JobDone w = inl refl
-whole-done OutOfMemory (inl e) = absurd (omega (arith, e))
-whole-done OutOfMemory (inr e) = absurd (omega (arith, e))
-whole-done Usage (inl e) = absurd (omega (arith, e))
-whole-done Usage (inr e) = absurd (omega (arith, e))
-whole-done ReadFault (inl e) = absurd (omega (arith, e))
-whole-done ReadFault (inr e) = absurd (omega (arith, e))
-whole-done WriteFault (inl e) = absurd (omega (arith, e))
-whole-done WriteFault (inr e) = absurd (omega (arith, e))
-whole-done BadFile (inl e) = absurd (omega (arith, e))
-whole-done BadFile (inr e) = absurd (omega (arith, e))
-whole-done Spent w = inr refl
-whole-done WorldsRefused (inl e) = absurd (omega (arith, e))
-whole-done WorldsRefused (inr e) = absurd (omega (arith, e))
-whole-done AuditRefused (inl e) = absurd (omega (arith, e))
-whole-done AuditRefused (inr e) = absurd (omega (arith, e))
-whole-done TooFewWords (inl e) = absurd (omega (arith, e))
-whole-done TooFewWords (inr e) = absurd (omega (arith, e))
-
 -- an answer that is done went out whole, with this status
 pub record WentOut (answer : Answer) (given now : Option Given) (status : ℕ) : Type 0 where
   pub done : IsDone answer.status
@@ -65,7 +49,7 @@ pub record WentOut (answer : Answer) (given now : Option Given) (status : ℕ) :
 
 went-out : (answer : Answer) (given now : Option Given) (status : ℕ) (d : Done) → IsDoneCode status → status ≡ code_of (status_after answer.status d) →
     GivesAll given now answer.files answer.text d → WentOut answer given now status
-went-out answer given now status (Ok tt) w e calls = record { done = whole-done answer.status (subst IsDoneCode e w); code = e; calls = calls }
+went-out answer given now status (Ok tt) w e calls = record { done = done_end answer.status (subst IsDoneCode e w); code = e; calls = calls }
 went-out answer given now status (Err Failed) w e calls = absurd (not-four status w e)
 went-out answer given now status (Err NoMemoryToPut) w e calls = absurd (not-one status w e)
 
@@ -75,8 +59,8 @@ pub record EndsWith (files : List File) (errand : Errand) (given now : Option Gi
   pub is : answer_over files errand ≡ answer
   pub out : WentOut answer given now status
 
-read-all : (answer over : Answer) → IsDone answer.status → (answer.status ≡ ReadFault) ⊎ (over ≡ answer) → over ≡ answer
-read-all answer over done (inl unread) = absurd (not-unread (subst IsDone unread done))
+read-all : (answer over : Answer) → IsDone answer.status → (answer.status ≡ Refused ReadFault) ⊎ (over ≡ answer) → over ≡ answer
+read-all answer over done (inl unread) = absurd (not_done ReadFault (subst IsDone unread done))
 read-all answer over done (inr is) = is
 
 module _ (told : Told) (told_now : Option Told) (given now : Option Given) (status : ℕ) (w : IsDoneCode status) where
@@ -94,19 +78,16 @@ module _ (told : Told) (told_now : Option Told) (given now : Option Given) (stat
   abbrev pub Ran : Option Job → Type 0
   Ran job = RunsJob job (Some told) told_now given now status
 
-  usage-ends : EndsWith told.files (answers Usage usage_text) given now status → ⊥
-  usage-ends e = go (subst (λ (a : Answer). IsDone a.status) (sym e.is) e.out.done) where
-    go : IsDone Usage → ⊥
-    go (inl h) = cc
-    go (inr h) = cc
+  usage-ends : EndsWith told.files (refuses Usage usage_text) given now status → ⊥
+  usage-ends e = not_done Usage (subst (λ (a : Answer). IsDone a.status) (sym e.is) e.out.done)
 
   -- words that pass a test name the job
   pub named : (b : Bool) (job : Option Job) → Ran (if b then job else None) → Ran job
   named true job r = r
-  named false job r = absurd (usage-ends (run-ends (answers Usage usage_text) r))
+  named false job r = absurd (usage-ends (run-ends (refuses Usage usage_text) r))
 
   pub no-job : {A : Type 0} → Ran None → A
-  no-job r = absurd (usage-ends (run-ends (answers Usage usage_text) r))
+  no-job r = absurd (usage-ends (run-ends (refuses Usage usage_text) r))
 
   -- a step gave a value, and the answer that is made of it went out
   pub record Found {A : Type 0} (step : Step A) (answer : A → Answer) (P : A → Type 0) : Type 0 where
@@ -135,7 +116,18 @@ at-rest answer given now status w (inr runs) = absurd (not-one status w runs.cod
 pub answer-ends : (told told_now : Option Told) (answer : Answer) (given now : Option Given) (status : ℕ) → IsDoneCode status →
     Runs (Ends answer) told told_now given now status → WentOut answer given now status
 answer-ends told told_now answer given now status w r =
-    at-rest answer given now status w (subst (λ (e : Errand). EndsBy e given now status) (sym (at-end told told_now answer r.rest r.went)) r.ends)
+    at-rest answer given now status w (subst (λ (e : Errand). EndsBy e given now status) (sym (at_end told told_now answer r.rest r.went)) r.ends)
+
+module _ (told : Told) (told_now : Option Told) (given now : Option Given) (status : ℕ) (w : IsDoneCode status) where
+  -- a job that shows and is done ended with an answer that shows: no errand is done that reads and goes on to a refusal
+  pub shown-ends : {A C : Type 0} (own : OwnRefusal) (step : Step A) (shows : Shows) →
+      (IsDone (answer_over told.files (step (λ value. refuses (Own own) []))).status → ⊥) →
+      ((answer : Answer) → shows (Some told) told_now answer → WentOut answer given now status → C) →
+      RunsTask (ToShow own step shows) (Some told) told_now given now status → C
+  shown-ends own step shows not each (inl (answer, shown, r)) = each answer shown (answer-ends told_now told_now answer given now status w r)
+  shown-ends own step shows not each (inr f) =
+      let e = run-ends told told_now given now status w (step (λ value. refuses (Own own) [])) (f (λ value. refuses (Own own) [])) in
+      absurd (not (subst (λ (a : Answer). IsDone a.status) (sym e.is) e.out.done))
 
 -- ---- what is told
 

@@ -46,6 +46,8 @@ use Rattle.beet_headline.specs.Halves.{AllHaveEnded, standing}
 use Rattle.beet_headline.proofs.Standings.{all-ended, ends}
 use Rattle.beet_errand.specs.Errands.{Answer, Step, ◌>>=◌, file_for, gives, reads}
 use Rattle.beet_errand.specs.Statuses.{IsDoneCode, code_of}
+use Rattle.beet_load.specs.Counts.{counts_of}
+use Rattle.beet_load.specs.Wanted.{wanted_of}
 use Rattle.beet_load.specs.Loading.{Loaded, loaded_errand}
 use Rattle.beet_load.specs.Servers.{AllWords, all_words_errand, coefficients_of, masks_of}
 use Rattle.beet_load.specs.Wholes.{CanDeal, all_words, limited_errand}
@@ -61,7 +63,7 @@ use Rattle.beet_envelopes.specs.SealedBooks.{HaveWords, HoldEachSealed, envelope
 use Rattle.beet_envelopes.proofs.SealedBooks.{outcome-sealed}
 use Rattle.beet_envelopes.proofs.SealedFiles.{sealed-files}
 use Rattle.beet_two_worlds.proofs.SecondWords.{words-uncut}
-use Rattle.beet_answer.specs.Runs.{GivesAll}
+use Rattle.beet_errand.specs.Runs.{GivesAll}
 use Rattle.beet_app.specs.Jobs.{Job, Answering, are_names, job_of}
 use Rattle.beet_app_laws.specs.Dues.{ReadsTo}
 use Rattle.beet_app_laws.proofs.Led.{NoneFailed, lead-over}
@@ -260,7 +262,7 @@ module _ (files : List File) where
     entries : List ListEntry
     entries_read : ReadsTo files (reads list LIST_LIMIT list_of) entries
     words : AllWords
-    words_read : ReadsTo files (all_words_errand grid None sources) words
+    words_read : ReadsTo files (all_words_errand (wanted_of None grid) None sources) words
     can_serve : CanServeAll grid words.servers
     bidders : List (Trio (List ℕ))
     bidders_read : ReadsTo files (bidders_errand grid [] entries) bidders
@@ -275,7 +277,7 @@ module _ (files : List File) where
       (any-yield files servers SERVERS_LIMIT servers_of) (λ sources r2 h2.
       then-told files (reads list LIST_LIMIT list_of) _ (λ entries. Unit {0}) (IsOpened auction servers list)
       (any-yield files list LIST_LIMIT list_of) (λ entries r3 h3.
-      then-told files (all_words_errand grid None sources)
+      then-told files (all_words_errand (wanted_of None grid) None sources)
       (λ words. bidders_errand grid [] entries >>= λ bidders. gives (opened_answer grid words.servers bidders))
       (λ words. CanServeAll grid words.servers × AreLists words.bidders) (IsOpened auction servers list)
       (all-words-yield files grid None sources) (λ words r4 h4.
@@ -299,7 +301,7 @@ module _ (files : List File) where
 
 -- farmers of a book with words to deal are as bidders that are read with their words
 farmers-read : (grid : Grid) (farmers : List Farmer) → IsBook (book_with grid farmers) →
-    All (λ farmer. CanDeal grid farmer.words × All IsWord farmer.words) farmers → All (IsRead grid) farmers
+    All (λ farmer. CanDeal (counts_of grid) farmer.words × All IsWord farmer.words) farmers → All (IsRead grid) farmers
 farmers-read grid farmers b each = λ k d lt.
     let bidders = map (λ (f : Farmer). f.bidder) farmers in
     let farmer = get_or farmers k d in

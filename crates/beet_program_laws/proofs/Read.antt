@@ -1,5 +1,5 @@
 -- What the files of an auction are read as: a book of accepted bids, and words with which its auction can be run.
-use Rattle.std.proofs.Common.{◌≡◌, inl, inr, ◌≤◌, ◌+◌, ◌*◌, ◌==◌, ℕ, zero, suc, Bool, true, false, List, [], ◌∷◌, ◌++◌, length, map, take, get_or, slice_get, nat_lt, Option, Some, None, Ok, Err, if◌then◌else◌, refl, sym, ap, subst, ◌∙◌, arith, length-append}
+use Rattle.std.proofs.Common.{◌≡◌, ◌≤◌, ◌+◌, ◌*◌, ◌==◌, ℕ, zero, suc, Bool, true, false, List, [], ◌∷◌, ◌++◌, length, map, take, get_or, slice_get, nat_lt, Option, Some, None, Ok, Err, if◌then◌else◌, refl, sym, ap, subst, ◌∙◌, arith, length-append}
 use Rattle.std.specs.Prelude.{All, IfSome, codes}
 use Rattle.std.proofs.lemmas.Bool.{ltb-false}
 use Rattle.std.proofs.lemmas.List.{length-map, take_all}
@@ -25,7 +25,7 @@ use Rattle.beet_bids.specs.declared.auction_file.TheConstants.{AUCTION_LIMIT}
 use Rattle.beet_bids.specs.declared.bid_file.TheConstants.{BID_LIMIT}
 use Rattle.beet_bids.specs.declared.book.Bidder.{Bidder}
 use Rattle.beet_plan.specs.Kept.{coefficients_kept, words_kept}
-use Rattle.beet_plan.specs.declared.TheConstants.{SPARE_WORDS}
+use Rattle.beet_masking.specs.declared.TheConstants.{SPARE_WORDS}
 use Rattle.beet_book.specs.BookFiles.{book_of}
 use Rattle.beet_book.specs.Farmers.{Farmer, book_with, farmers_of}
 use Rattle.beet_book.specs.ServerFiles.{servers_of}
@@ -40,13 +40,14 @@ use Rattle.beet_book.specs.declared.sources.Servers.{Servers}
 use Rattle.beet_book.specs.declared.sources.Servers.TheVariants.{Three, Bundle}
 use Rattle.beet_worlds.specs.Enough.{HasAccepted}
 use Rattle.beet_headline.specs.Halves.{CanRun}
-use Rattle.beet_errand.specs.Errands.{Step, gives, reads, text_answer}
-use Rattle.beet_errand.specs.Fetches.{IsDone}
-use Rattle.beet_errand.specs.declared.answer.Status.TheVariants.{BadFile, TooFewWords}
-use Rattle.beet_load.specs.Farmers.{farmer_errand, farmers_errand, list_at, words_errand, words_wanted}
+use Rattle.beet_errand.specs.Errands.{Step, gives, reads}
+use Rattle.beet_errand.specs.declared.answer.Refusal.TheVariants.{BadFile, TooFewWords}
+use Rattle.beet_load.specs.Counts.{coefficients_wanted, counts_of, masks_wanted, words_wanted}
+use Rattle.beet_load.specs.Wanted.{wanted_of}
+use Rattle.beet_load.specs.Farmers.{farmer_errand, farmers_errand, list_at, words_errand}
 use Rattle.beet_load.specs.Limits.{over_product}
 use Rattle.beet_load.specs.Loading.{Loaded, loaded_errand, rest_errand}
-use Rattle.beet_load.specs.Servers.{AllWords, HasEnough, IsCut, ServerWords, all_words_errand, coefficients_wanted, counted, cut_server, cut_servers, enough_held, enough_of, enough_of_all, masks_wanted, seeded, server_errand, source_errand, three_errand, wrong_count}
+use Rattle.beet_load.specs.Servers.{AllWords, HasEnough, IsCut, ServerWords, all_words_errand, counted, cut_server, cut_servers, enough_held, enough_of, enough_of_all, seeded, server_errand, source_errand, three_errand, wrong_count}
 use Rattle.beet_load.specs.Settings.{setting_errand}
 use Rattle.beet_load.specs.Wholes.{CanDeal, CanStart, IsFarmer, all_words, bids_errand, curves_errand, limited_errand}
 use Rattle.beet_load.specs.WordTexts.{server_short_text, too_few_text}
@@ -55,34 +56,30 @@ use Rattle.beet_app_laws.specs.Held.{IsHeld}
 use Rattle.beet_load.specs.WholeViews.{loaded_with}
 use Rattle.beet_program_laws.proofs.Files.{AreFew, bid-is, book-few, bundle-are, seed-are, tape-are}
 use Rattle.beet_program_laws.proofs.Held.{held-yield}
-use Rattle.beet_program_laws.proofs.Steps.{Yields, any-yield, gives-yield, not-bad, passes-yield, reads-yield, then-yields, weaker-yield}
-
-pub not-short : IsDone TooFewWords → ⊥
-not-short (inl e) = cc
-not-short (inr e) = cc
+use Rattle.beet_program_laws.proofs.Steps.{Yields, any-yield, gives-yield, passes-yield, reads-yield, then-yields, weaker-yield}
 
 -- a bidder that is read with its words
 pub record IsRead (grid : Grid) (farmer : Farmer) : Type 0 where
-  pub is : IsFarmer grid farmer
+  pub is : IsFarmer (counts_of grid) grid farmer
   pub words : All IsWord farmer.words
 
 -- the words of a server that are read
 pub record AreKept (grid : Grid) (words : ServerWords) : Type 0 where
-  pub cut : IsCut grid words
+  pub cut : IsCut (counts_of grid) words
   pub masks : All IsWord words.masks
   pub coefficients : All IsWord words.coefficients
 
 -- those of a seed
-pub seeded-kept : (grid : Grid) (seed : List ℕ) → AreKept grid (seeded grid seed)
+pub seeded-kept : (grid : Grid) (seed : List ℕ) → AreKept grid (seeded (wanted_of None grid) seed)
 seeded-kept grid seed = record {
-  cut = seeded_cut grid seed (seeded grid seed) refl;
+  cut = seeded_cut (wanted_of None grid) seed (seeded (wanted_of None grid) seed) refl;
   masks = seed-are seed 1 (masks_wanted grid);
   coefficients = seed-are seed 0 (coefficients_kept grid);
 }
 
 -- and are enough
 pub record CanServe (grid : Grid) (words : ServerWords) : Type 0 where
-  pub enough : HasEnough grid words
+  pub enough : HasEnough (counts_of grid) words
   pub kept : AreKept grid words
 
 pub record CanServeAll (grid : Grid) (servers : Trio ServerWords) : Type 0 where
@@ -106,8 +103,12 @@ pub record IsLimited (files : List File) (auction : List ℕ) (loaded : Loaded) 
   pub product : length loaded.farmers * loaded.grid.prices ≤ MOST_PRODUCT
   pub right : IsLoaded loaded
 
-within-limit : (n m prices : ℕ) → n ≡ 0 + m → nat_lt MOST_PRODUCT (m * prices) ≡ false → n * prices ≤ MOST_PRODUCT
-within-limit n m prices e f = let same : n ≡ m = omega (arith, e) in subst (λ (k : ℕ). k * prices ≤ MOST_PRODUCT) (sym same) (ltb-false MOST_PRODUCT (m * prices) f)
+within-limit : (n m prices : ℕ) → n ≡ 0 + m → nat_lt MOST_PRODUCT (0 + m * prices) ≡ false → n * prices ≤ MOST_PRODUCT
+within-limit n m prices e f =
+    let same : n ≡ m = omega (arith, e) in
+    let le : 0 + m * prices ≤ MOST_PRODUCT = ltb-false MOST_PRODUCT (0 + m * prices) f in
+    let whole : m * prices ≤ MOST_PRODUCT = omega (arith, le) in
+    subst (λ (k : ℕ). k * prices ≤ MOST_PRODUCT) (sym same) whole
 
 -- an item of a list has what all have
 item-has : {A : Type 0} (P : A → Type 0) (xs : List A) (i : ℕ) → All P xs → IfSome (slice_get xs i) P
@@ -133,7 +134,7 @@ module _ (files : List File) where
   words-yield None all (Tape name) kept = reads-yield files name TAPE_LIMIT (λ bytes. tape_of bytes kept) (AreFew kept) (λ bytes words e. tape-are bytes kept words e)
 
   farmer-yield : (grid : Grid) (given : Option (List ℕ)) → IfSome given (λ list. All IsWord list) → (number : ℕ) (entry : Entry) →
-      Yields files (farmer_errand grid given number entry) (IsRead grid)
+      Yields files (farmer_errand (wanted_of None grid) grid given number entry) (IsRead grid)
   farmer-yield grid given all number entry =
       then-yields files (reads entry.bid BID_LIMIT (bid_of grid)) _ (λ curve. IsCurve curve × IsOfGrid grid curve) (IsRead grid)
       (reads-yield files entry.bid BID_LIMIT (bid_of grid) (λ curve. IsCurve curve × IsOfGrid grid curve) (λ bytes curve e. bid-is grid bytes curve e)) (λ curve is.
@@ -141,24 +142,25 @@ module _ (files : List File) where
       (words-yield given all entry.source (words_kept grid.prices)) (λ words few.
       let farmer : Farmer = record { bidder = record { known = entry.known; curve = curve }; words = words } in
       passes-yield files (nat_lt (length (accepted words)) (words_wanted grid))
-      (text_answer TooFewWords (too_few_text number (length (accepted words)) (words_wanted grid))) (gives farmer) (IsRead grid) not-short (λ enough.
+      TooFewWords (too_few_text None number (length (accepted words)) (words_wanted grid)) (gives farmer) (IsRead grid) (λ enough.
       gives-yield files (IsRead grid) farmer (record {
         is = record { curve = is.0; of_grid = is.1; words = record { enough = ltb-false _ _ enough; kept = few.1 } };
         words = few.0;
       }))))
 
   farmers-yield : (grid : Grid) (lists : Option (List (List ℕ))) → AreLists lists → (read : List Farmer) → All (IsRead grid) read → (entries : List Entry) →
-      Yields files (farmers_errand grid lists read entries) (λ farmers. All (IsRead grid) farmers × (length farmers ≡ length read + length entries))
+      Yields files (farmers_errand (wanted_of None grid) grid lists read entries)
+      (λ farmers. All (IsRead grid) farmers × (length farmers ≡ length read + length entries))
   farmers-yield grid lists all read are [] =
       gives-yield files (λ farmers. All (IsRead grid) farmers × (length farmers ≡ length read + 0)) read (are, omega arith)
   farmers-yield grid lists all read are (entry ∷ entries) =
-      then-yields files (farmer_errand grid (list_at lists (length read)) (length read + 1) entry)
-      (λ farmer. farmers_errand grid lists (read ++ farmer ∷ []) entries) (IsRead grid)
+      then-yields files (farmer_errand (wanted_of None grid) grid (list_at lists (length read)) (length read + 1) entry)
+      (λ farmer. farmers_errand (wanted_of None grid) grid lists (read ++ farmer ∷ []) entries) (IsRead grid)
       (λ farmers. All (IsRead grid) farmers × (length farmers ≡ length read + length (entry ∷ entries)))
       (farmer-yield grid (list_at lists (length read)) (list-has lists (length read) all) (length read + 1) entry) (λ farmer is.
       let more = All-append (IsRead grid) read (farmer ∷ []) are (All-cons (IsRead grid) farmer [] is (All-nil (IsRead grid))) in
       let long : length (read ++ farmer ∷ []) ≡ length read + 1 = length-append read (farmer ∷ []) in
-      weaker-yield files (farmers_errand grid lists (read ++ farmer ∷ []) entries)
+      weaker-yield files (farmers_errand (wanted_of None grid) grid lists (read ++ farmer ∷ []) entries)
       (λ farmers. All (IsRead grid) farmers × (length farmers ≡ length (read ++ farmer ∷ []) + length entries))
       (λ farmers. All (IsRead grid) farmers × (length farmers ≡ length read + length (entry ∷ entries)))
       (λ farmers h. (h.0, one-more (length farmers) (length (read ++ farmer ∷ [])) (length read) (length entries) h.1 long))
@@ -166,8 +168,8 @@ module _ (files : List File) where
 
   -- ---- servers
 
-  source-yield : (grid : Grid) (source : ServerSource) → Yields files (source_errand grid source) (AreKept grid)
-  source-yield grid (ServerSeed seed) = gives-yield files (AreKept grid) (seeded grid seed) (seeded-kept grid seed)
+  source-yield : (grid : Grid) (source : ServerSource) → Yields files (source_errand (wanted_of None grid) source) (AreKept grid)
+  source-yield grid (ServerSeed seed) = gives-yield files (AreKept grid) (seeded (wanted_of None grid) seed) (seeded-kept grid seed)
   source-yield grid (Tapes coefficients masks) =
       then-yields files (reads coefficients TAPE_LIMIT (λ bytes. tape_of bytes (coefficients_kept grid))) _ (AreFew (coefficients_kept grid)) (AreKept grid)
       (reads-yield files coefficients TAPE_LIMIT (λ bytes. tape_of bytes (coefficients_kept grid)) (AreFew (coefficients_kept grid)) (λ bytes words e. tape-are bytes (coefficients_kept grid) words e)) (λ numbers few.
@@ -177,36 +179,45 @@ module _ (files : List File) where
       (record { cut = record { masks = few'.1; coefficients = few.1 }; masks = few'.0; coefficients = few.0 })))
 
   enough-yield : {A : Type 0} (grid : Grid) (server : ℕ) (words : ServerWords) (step : Step A) (P : A → Type 0) →
-      (HasEnough grid words → Yields files step P) → Yields {A = A} files (λ next. enough_of grid server words (step next)) P
+      (HasEnough (counts_of grid) words → Yields files step P) → Yields {A = A} files
+      (λ next. enough_of (wanted_of None grid) server words (step next)) P
   enough-yield grid server words step P y =
       passes-yield files (nat_lt (length (accepted words.coefficients)) (coefficients_wanted grid))
-      (text_answer TooFewWords (server_short_text server (codes "coefficients") (length (accepted words.coefficients)) (coefficients_wanted grid)))
-      (λ next. enough_held server (codes "masks") (length words.masks) (masks_wanted grid) (step next)) P not-short (λ numbers.
+      TooFewWords (server_short_text None server (codes "coefficients") (length (accepted words.coefficients)) (coefficients_wanted grid))
+      (λ next. enough_held None server (codes "masks") (length words.masks) (masks_wanted grid) (step next)) P (λ numbers.
       passes-yield files (nat_lt (length words.masks) (masks_wanted grid))
-      (text_answer TooFewWords (server_short_text server (codes "masks") (length words.masks) (masks_wanted grid))) step P not-short (λ masks.
+      TooFewWords (server_short_text None server (codes "masks") (length words.masks) (masks_wanted grid)) step P (λ masks.
       y (record { coefficients = ltb-false _ _ numbers; masks = ltb-false _ _ masks })))
 
   pub servers-yield : {A : Type 0} (grid : Grid) (servers : Trio ServerWords) (step : Step A) (P : A → Type 0) →
-      (HasEnough grid servers.one → HasEnough grid servers.two → HasEnough grid servers.three → Yields files step P) →
-      Yields {A = A} files (λ next. enough_of_all grid servers (step next)) P
+      (HasEnough (counts_of grid) servers.one → HasEnough (counts_of grid) servers.two → HasEnough (counts_of grid) servers.three →
+      Yields files step P) →
+      Yields {A = A} files (λ next. enough_of_all (wanted_of None grid) servers (step next)) P
   servers-yield grid servers step P y =
-      enough-yield grid 1 servers.one (λ next. enough_of grid 2 servers.two (enough_of grid 3 servers.three (step next))) P (λ one.
-      enough-yield grid 2 servers.two (λ next. enough_of grid 3 servers.three (step next)) P (λ two.
+      enough-yield grid 1 servers.one
+      (λ next. enough_of (wanted_of None grid) 2 servers.two (enough_of (wanted_of None grid) 3 servers.three (step next))) P (λ one.
+      enough-yield grid 2 servers.two (λ next. enough_of (wanted_of None grid) 3 servers.three (step next)) P (λ two.
       enough-yield grid 3 servers.three step P (λ three. y one two three)))
 
-  server-yield : (grid : Grid) (server : ℕ) (source : ServerSource) → Yields files (server_errand grid server source) (CanServe grid)
+  server-yield : (grid : Grid) (server : ℕ) (source : ServerSource) → Yields files (server_errand (wanted_of None grid) server source)
+      (CanServe grid)
   server-yield grid server source =
-      then-yields files (source_errand grid source) _ (AreKept grid) (CanServe grid) (source-yield grid source) (λ words kept.
+      then-yields files (source_errand (wanted_of None grid) source) _ (AreKept grid) (CanServe grid) (source-yield grid source)
+      (λ words kept.
       enough-yield grid server words (gives words) (CanServe grid) (λ enough. gives-yield files (CanServe grid) words (record { enough = enough; kept = kept })))
 
-  three-yield : (grid : Grid) (sources : Trio ServerSource) → Yields files (three_errand grid sources) (CanServeAll grid)
+  three-yield : (grid : Grid) (sources : Trio ServerSource) → Yields files (three_errand (wanted_of None grid) sources) (CanServeAll grid)
   three-yield grid sources =
-      then-yields files (server_errand grid 1 sources.one) _ (CanServe grid) (CanServeAll grid) (server-yield grid 1 sources.one) (λ one h1.
-      then-yields files (server_errand grid 2 sources.two) _ (CanServe grid) (CanServeAll grid) (server-yield grid 2 sources.two) (λ two h2.
-      then-yields files (server_errand grid 3 sources.three) _ (CanServe grid) (CanServeAll grid) (server-yield grid 3 sources.three) (λ three h3.
+      then-yields files (server_errand (wanted_of None grid) 1 sources.one) _ (CanServe grid) (CanServeAll grid)
+      (server-yield grid 1 sources.one) (λ one h1.
+      then-yields files (server_errand (wanted_of None grid) 2 sources.two) _ (CanServe grid) (CanServeAll grid)
+      (server-yield grid 2 sources.two) (λ two h2.
+      then-yields files (server_errand (wanted_of None grid) 3 sources.three) _ (CanServe grid) (CanServeAll grid)
+      (server-yield grid 3 sources.three) (λ three h3.
       gives-yield files (CanServeAll grid) (record { one = one; two = two; three = three }) (record { one = h1; two = h2; three = h3 }))))
 
-  cut-kept : (grid : Grid) (masks coefficients : List ℕ) → All IsWord masks → All IsWord coefficients → AreKept grid (cut_server grid masks coefficients)
+  cut-kept : (grid : Grid) (masks coefficients : List ℕ) → All IsWord masks → All IsWord coefficients → AreKept grid
+      (cut_server (counts_of grid) masks coefficients)
   cut-kept grid masks coefficients m c = record {
     cut = record { masks = take-few (masks_wanted grid) masks; coefficients = take-few (coefficients_kept grid) coefficients };
     masks = All-take IsWord (masks_wanted grid) masks m;
@@ -223,17 +234,23 @@ module _ (files : List File) where
   counted-are (Some count) bytes (Err fault) is words e = absurd cc
 
   pub all-words-yield : (grid : Grid) (count : Option ℕ) (sources : Servers) →
-      Yields files (all_words_errand grid count sources) (λ words. CanServeAll grid words.servers × AreLists words.bidders)
+      Yields files (all_words_errand (wanted_of None grid) count sources) (λ words. CanServeAll grid words.servers × AreLists words.bidders)
   all-words-yield grid count (Three sources) =
-      then-yields files (three_errand grid sources) (λ servers. gives (record { servers = servers; bidders = None })) (CanServeAll grid) (λ words. CanServeAll grid words.servers × AreLists words.bidders)
+      then-yields files (three_errand (wanted_of None grid) sources) (λ servers. gives (record { servers = servers; bidders = None }))
+      (CanServeAll grid) (λ words. CanServeAll grid words.servers × AreLists words.bidders)
       (three-yield grid sources) (λ servers h.
       gives-yield files (λ words. CanServeAll grid words.servers × AreLists words.bidders) (record { servers = servers; bidders = None }) (h, tt))
   all-words-yield grid count (Bundle name) =
       then-yields files (reads name LONGEST_FILE (λ bytes. counted count (bundle_of bytes)))
-      (λ words next. enough_of_all grid (cut_servers grid words) (next (record { servers = cut_servers grid words; bidders = Some words.bidders }))) AreWords (λ words. CanServeAll grid words.servers × AreLists words.bidders)
+      (λ words next. enough_of_all (wanted_of None grid) (cut_servers (counts_of grid) words) (next (record {
+        servers = cut_servers
+            (counts_of grid) words;
+        bidders = Some words.bidders;
+      }))) AreWords (λ words. CanServeAll grid words.servers × AreLists words.bidders)
       (reads-yield files name LONGEST_FILE (λ bytes. counted count (bundle_of bytes)) AreWords (λ bytes words e. counted-are count bytes (bundle_of bytes) refl words e)) (λ words are.
-      let all : AllWords = record { servers = cut_servers grid words; bidders = Some words.bidders } in
-      servers-yield grid (cut_servers grid words) (gives all) (λ words. CanServeAll grid words.servers × AreLists words.bidders) (λ one two three.
+      let all : AllWords = record { servers = cut_servers (counts_of grid) words; bidders = Some words.bidders } in
+      servers-yield grid (cut_servers (counts_of grid) words) (gives all)
+      (λ words. CanServeAll grid words.servers × AreLists words.bidders) (λ one two three.
       gives-yield files (λ words. CanServeAll grid words.servers × AreLists words.bidders) all (
         record {
           one = record { enough = one; kept = cut-kept grid words.masks.one words.coefficients.one are.masks.0 are.coefficients.0 };
@@ -246,13 +263,15 @@ module _ (files : List File) where
   -- ---- the whole
 
   words-farmers-yield : (grid : Grid) (sources : Servers) (entries : List Entry) → length entries ≤ MOST_BIDDERS →
-      Yields {A = Loaded} files (λ next. all_words_errand grid (Some (length entries)) sources (λ words. farmers_errand grid words.bidders [] entries (λ farmers.
+      Yields {A = Loaded} files (λ next. all_words_errand (wanted_of None grid) (Some (length entries)) sources (λ words. farmers_errand
+      (wanted_of None grid) grid words.bidders [] entries (λ farmers.
       next (record { grid = grid; servers = words.servers; farmers = farmers })))) IsLoaded
   words-farmers-yield grid sources entries few =
-      then-yields files (all_words_errand grid (Some (length entries)) sources)
-      (λ words next. farmers_errand grid words.bidders [] entries (λ farmers. next (record { grid = grid; servers = words.servers; farmers = farmers }))) (λ words. CanServeAll grid words.servers × AreLists words.bidders) IsLoaded
+      then-yields files (all_words_errand (wanted_of None grid) (Some (length entries)) sources)
+      (λ words next. farmers_errand (wanted_of None grid) grid words.bidders [] entries (λ farmers. next (record
+      { grid = grid; servers = words.servers; farmers = farmers }))) (λ words. CanServeAll grid words.servers × AreLists words.bidders) IsLoaded
       (all-words-yield grid (Some (length entries)) sources) (λ words good.
-      then-yields files (farmers_errand grid words.bidders [] entries)
+      then-yields files (farmers_errand (wanted_of None grid) grid words.bidders [] entries)
       (λ farmers. gives (record { grid = grid; servers = words.servers; farmers = farmers })) (λ farmers. All (IsRead grid) farmers × (length farmers ≡ 0 + length entries)) IsLoaded
       (farmers-yield grid words.bidders good.1 [] (All-nil (IsRead grid)) entries) (λ farmers h.
       gives-yield files IsLoaded (record { grid = grid; servers = words.servers; farmers = farmers })
@@ -276,13 +295,14 @@ module _ (files : List File) where
       then-yields files (reads servers SERVERS_LIMIT servers_of) _ (λ sources. Unit {0}) (IsLimited files auction) (any-yield files servers SERVERS_LIMIT servers_of) (λ sources any.
       then-yields files (reads book BOOK_LIMIT book_of) _ (λ entries. length entries ≤ MOST_BIDDERS) (IsLimited files auction)
       (reads-yield files book BOOK_LIMIT book_of (λ entries. length entries ≤ MOST_BIDDERS) (λ bytes entries e. book-few bytes entries e)) (λ entries few.
-      passes-yield {A = Loaded} files (nat_lt MOST_PRODUCT (length entries * grid.prices)) (text_answer BadFile (fault_line_of book over_product.place over_product.reason)) _
-      (IsLimited files auction) not-bad (λ within.
-      then-yields files (all_words_errand grid (Some (length entries)) sources)
-      (λ words next. farmers_errand grid words.bidders [] entries (λ farmers. next (record { grid = grid; servers = words.servers; farmers = farmers })))
+      passes-yield {A = Loaded} files (nat_lt MOST_PRODUCT (0 + length entries * grid.prices)) BadFile (fault_line_of book over_product.place over_product.reason) _
+      (IsLimited files auction) (λ within.
+      then-yields files (all_words_errand (wanted_of None grid) (Some (length entries)) sources)
+      (λ words next. farmers_errand (wanted_of None grid) grid words.bidders [] entries
+      (λ farmers. next (record { grid = grid; servers = words.servers; farmers = farmers })))
       (λ words. CanServeAll grid words.servers × AreLists words.bidders) (IsLimited files auction)
       (all-words-yield grid (Some (length entries)) sources) (λ words good.
-      then-yields files (farmers_errand grid words.bidders [] entries)
+      then-yields files (farmers_errand (wanted_of None grid) grid words.bidders [] entries)
       (λ farmers. gives (record { grid = grid; servers = words.servers; farmers = farmers })) (λ farmers. All (IsRead grid) farmers × (length farmers ≡ 0 + length entries))
       (IsLimited files auction)
       (farmers-yield grid words.bidders good.1 [] (All-nil (IsRead grid)) entries) (λ farmers h.
@@ -317,12 +337,12 @@ module _ (files : List File) where
       (λ bidders h. (h.0, one-more (length bidders) (length (read ++ bidder ∷ [])) (length read) (length entries) h.1 long))
       (bids-yield grid (read ++ bidder ∷ []) more entries))
 
-  pub curves-yield : (book : List ℕ) (grid : Grid) → Yields files (curves_errand book grid) (λ bidders. IsBook (record { grid = grid; bidders = bidders }))
+  pub curves-yield : (book : List ℕ) (grid : Grid) → Yields files (curves_errand 0 book grid) (λ bidders. IsBook (record { grid = grid; bidders = bidders }))
   curves-yield book grid =
       then-yields files (reads book BOOK_LIMIT book_of) _ (λ entries. length entries ≤ MOST_BIDDERS) (λ bidders. IsBook (record { grid = grid; bidders = bidders }))
       (reads-yield files book BOOK_LIMIT book_of (λ entries. length entries ≤ MOST_BIDDERS) (λ bytes entries e. book-few bytes entries e)) (λ entries few.
-      passes-yield {A = List Bidder} files (nat_lt MOST_PRODUCT (length entries * grid.prices)) (text_answer BadFile (fault_line_of book over_product.place over_product.reason))
-      (bids_errand grid [] entries) (λ bidders. IsBook (record { grid = grid; bidders = bidders })) not-bad (λ within.
+      passes-yield {A = List Bidder} files (nat_lt MOST_PRODUCT (0 + length entries * grid.prices)) BadFile (fault_line_of book over_product.place over_product.reason)
+      (bids_errand grid [] entries) (λ bidders. IsBook (record { grid = grid; bidders = bidders })) (λ within.
       weaker-yield files (bids_errand grid [] entries) (λ bidders. All (IsBidder grid) bidders × (length bidders ≡ 0 + length entries))
       (λ bidders. IsBook (record { grid = grid; bidders = bidders }))
       (λ bidders h. record { few = omega (arith, few, h.1); curves = λ k d lt. (h.0 k d lt).0; of_grid = λ k d lt. (h.0 k d lt).1 })
@@ -359,8 +379,8 @@ module _ (grid : Grid) (servers : Trio ServerWords) (farmers : List Farmer) wher
     many : length the_words.bidders ≡ length the_book.bidders
     many = length-map farmers (λ (f : Farmer). f.words) ∙ sym (length-map farmers (λ (f : Farmer). f.bidder))
 
-    deal : All (CanDeal grid) the_words.bidders
-    deal = All-map (CanDeal grid) (λ (f : Farmer). f.words) farmers (λ k d lt. (each k d lt).is.words)
+    deal : All (CanDeal (counts_of grid)) the_words.bidders
+    deal = All-map (CanDeal (counts_of grid)) (λ (f : Farmer). f.words) farmers (λ k d lt. (each k d lt).is.words)
 
     pub can-run-cut : CanStart the_book the_words
     can-run-cut = record {

@@ -1,20 +1,15 @@
 -- What files are read as, step by step, where the job that reads them is done.
-use Rattle.std.proofs.Common.{◌≡◌, inl, inr, ℕ, List, Bool, true, false, Option, Some, None, Ok, Err, length, nat_lt, if◌then◌else◌, refl, subst, ◌∙◌}
+use Rattle.std.proofs.Common.{◌≡◌, ℕ, List, Bool, true, false, Option, Some, None, Ok, Err, length, nat_lt, if◌then◌else◌, refl, subst, ◌∙◌}
 use Rattle.beet_store.specs.Files.{File, bytes_of}
 use Rattle.beet_forms.specs.FaultLines.{fault_line_of}
 use Rattle.beet_forms.specs.Faults.{Reading}
-use Rattle.beet_errand.specs.Errands.{Answer, Errand, Ends, Step, ◌>>=◌, gives, judged, reads, text_answer, too_long}
+use Rattle.beet_errand.specs.Errands.{Answer, Errand, Step, ◌>>=◌, gives, judged, reads, refuses, text_answer, too_long}
 use Rattle.beet_errand.specs.Fetches.{IsDone}
-use Rattle.beet_errand.specs.declared.answer.Status.TheVariants.{ReadFault, BadFile}
+use Rattle.beet_errand.specs.declared.answer.Refusal.{Refusal}
+use Rattle.beet_errand.specs.declared.answer.Refusal.TheVariants.{ReadFault, BadFile}
+use Rattle.beet_errand.specs.declared.answer.Status.TheVariants.{Refused}
+use Rattle.beet_errand.proofs.Statuses.{not_done}
 use Rattle.beet_app_laws.specs.Dues.{ReadsTo, answer_over, answer_with}
-
-pub not-unread : IsDone ReadFault → ⊥
-not-unread (inl e) = cc
-not-unread (inr e) = cc
-
-pub not-bad : IsDone BadFile → ⊥
-not-bad (inl e) = cc
-not-bad (inr e) = cc
 
 -- where a job that goes on from a step is done, the files give the step a value of which P holds
 abbrev pub Yields : {A : Type 0} → List File → Step A → (A → Type 0) → Type 0
@@ -42,10 +37,10 @@ pub weaker-yield : {A : Type 0} (files : List File) (step : Step A) (P Q : A →
 weaker-yield files step P Q f y next done = (let (a, r, h) = y next done in (a, r, f a h))
 
 -- a test that is passed, and then a step
-pub passes-yield : {A : Type 0} (files : List File) (b : Bool) (refusal : Answer) (step : Step A) (P : A → Type 0) → (IsDone refusal.status → ⊥) →
-    ((b ≡ false) → Yields files step P) → Yields {A = A} files (λ next. if b then Ends refusal else step next) P
-passes-yield files true refusal step P not y next done = absurd (not done)
-passes-yield files false refusal step P not y next done = y refl next done
+pub passes-yield : {A : Type 0} (files : List File) (b : Bool) (refusal : Refusal) (line : List ℕ) (step : Step A) (P : A → Type 0) →
+    ((b ≡ false) → Yields files step P) → Yields {A = A} files (λ next. if b then refuses refusal line else step next) P
+passes-yield files true refusal line step P y next done = absurd (not_done refusal done)
+passes-yield files false refusal line step P y next done = y refl next done
 
 -- the value of a file
 module _ (files : List File) {A : Type 0} (name : List ℕ) (limit : ℕ) (grammar : List ℕ → Reading A) (P : A → Type 0)
@@ -54,21 +49,21 @@ module _ (files : List File) {A : Type 0} (name : List ℕ) (limit : ℕ) (gramm
       IsDone (answer_over files (judged name reading next)).status →
       (a : A) × ((next : A → Errand) → answer_over files (judged name reading next) ≡ answer_over files (next a)) × P a
   judged-yields bytes (Ok a) e next done = (a, λ next. refl, fact bytes a e)
-  judged-yields bytes (Err fault) e next done = absurd (not-bad done)
+  judged-yields bytes (Err fault) e next done = absurd (not_done BadFile done)
 
   abbrev refusal : Answer
-  refusal = text_answer BadFile (fault_line_of name too_long.place too_long.reason)
+  refusal = text_answer (Refused BadFile) (fault_line_of name too_long.place too_long.reason)
 
   within-yields : (b : Bool) (bytes : List ℕ) (next : A → Errand) →
       IsDone (if b then refusal else answer_over files (judged name (grammar bytes) next)).status →
       (a : A) × ((next : A → Errand) → (if b then refusal else answer_over files (judged name (grammar bytes) next)) ≡ answer_over files (next a)) × P a
-  within-yields true bytes next done = absurd (not-bad done)
+  within-yields true bytes next done = absurd (not_done BadFile done)
   within-yields false bytes next done = judged-yields bytes (grammar bytes) refl next done
 
   held-yields : (held : Option (List ℕ)) (next : A → Errand) →
       IsDone (answer_with name limit (λ bytes. answer_over files (judged name (grammar bytes) next)) held).status →
       (a : A) × ((next : A → Errand) → answer_with name limit (λ bytes. answer_over files (judged name (grammar bytes) next)) held ≡ answer_over files (next a)) × P a
-  held-yields None next done = absurd (not-unread done)
+  held-yields None next done = absurd (not_done ReadFault done)
   held-yields (Some bytes) next done = within-yields (nat_lt limit (length bytes)) bytes next done
 
   pub reads-yield : Yields files (reads name limit grammar) P

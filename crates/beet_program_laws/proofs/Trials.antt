@@ -20,10 +20,11 @@ use Rattle.beet_bids.specs.declared.grid.TheConstants.{MOST_PRICES}
 use Rattle.beet_book.specs.Farmers.{Farmer}
 use Rattle.beet_plan.specs.Kept.{words_kept}
 use Rattle.beet_auction.specs.Endings.{book_finish, book_rounds}
-use Rattle.beet_errand.specs.Errands.{Answer, Step, gives, text_answer}
-use Rattle.beet_errand.specs.declared.answer.Status.TheVariants.{TooFewWords}
+use Rattle.beet_errand.specs.Errands.{Answer, Step, gives}
+use Rattle.beet_errand.specs.declared.answer.Refusal.TheVariants.{TooFewWords}
 use Rattle.beet_errand.specs.Statuses.{IsDoneCode}
-use Rattle.beet_load.specs.Farmers.{words_wanted}
+use Rattle.beet_load.specs.Counts.{counts_of, words_wanted}
+use Rattle.beet_load.specs.Wanted.{wanted_of}
 use Rattle.beet_load.specs.Servers.{HasEnough, masks_of, seeded}
 use Rattle.beet_load.specs.WordTexts.{too_few_text}
 use Rattle.beet_run.specs.OutcomeTexts.{outcome_text}
@@ -36,7 +37,7 @@ use Rattle.beet_app.specs.Jobs.{Answering, job_of}
 use Rattle.beet_program_laws.specs.Commands.{RunsTrial}
 use Rattle.beet_program_laws.proofs.Ends.{Ran, WentOut, found, no-job, servers-open, tells}
 use Rattle.beet_program_laws.proofs.Files.{seed-are}
-use Rattle.beet_program_laws.proofs.Read.{CanServe, CanServeAll, IsRead, can-run, is-book, not-short, seeded-kept, servers-yield, the_book, the_words}
+use Rattle.beet_program_laws.proofs.Read.{CanServe, CanServeAll, IsRead, can-run, is-book, seeded-kept, servers-yield, the_book, the_words}
 use Rattle.beet_program_laws.proofs.Steps.{Yields, gives-yield, passes-yield}
 
 -- ---- the sizes
@@ -112,17 +113,17 @@ module _ (told : Told) (told_now : Option Told) (given now : Option Given) (stat
   each-yield grid number [] step P y = y (All-nil (HasWords grid))
   each-yield grid number (farmer ∷ farmers) step P y =
       passes-yield told.files (nat_lt (length (accepted farmer.words)) (words_wanted grid))
-      (text_answer TooFewWords (too_few_text number (length (accepted farmer.words)) (words_wanted grid)))
-      (λ next. enough_of_each grid (number + 1) farmers (step next)) P not-short (λ enough.
+      TooFewWords (too_few_text None number (length (accepted farmer.words)) (words_wanted grid))
+      (λ next. enough_of_each grid (number + 1) farmers (step next)) P (λ enough.
       each-yield grid (number + 1) farmers step P (λ all.
       y (All-cons (HasWords grid) farmer farmers (ltb-false _ _ enough) all)))
 
   -- what a trial has tested
   record IsTried (grid : Grid) (bidders : ℕ) (answer : Answer) : Type 0 where
     is : answer ≡ trial_answer grid bidders
-    one : HasEnough grid (trial_servers grid).one
-    two : HasEnough grid (trial_servers grid).two
-    three : HasEnough grid (trial_servers grid).three
+    one : HasEnough (counts_of grid) (trial_servers grid).one
+    two : HasEnough (counts_of grid) (trial_servers grid).two
+    three : HasEnough (counts_of grid) (trial_servers grid).three
     bidders_enough : All (HasWords grid) (trial_farmers grid bidders)
 
   trial-yield : (grid : Grid) (bidders : ℕ) → Yields told.files (trial_over grid bidders) (IsTried grid bidders)
@@ -141,7 +142,8 @@ module _ (told : Told) (told_now : Option Told) (given now : Option Given) (stat
       let out : WentOut (trial_answer grid sizes.0) given now status = subst (λ (x : Answer). WentOut x given now status) f.holds.is f.out in
       let farmers = trial_farmers grid sizes.0 in
       let servers = trial_servers grid in
-      let serve : (server : ℕ) → HasEnough grid (seeded grid (server_seed server)) → CanServe grid (seeded grid (server_seed server)) =
+      let serve : (server : ℕ) → HasEnough (counts_of grid) (seeded (wanted_of None grid) (server_seed server)) → CanServe grid
+      (seeded (wanted_of None grid) (server_seed server)) =
       λ server enough. record { enough = enough; kept = seeded-kept grid (server_seed server) } in
       let all : CanServeAll grid servers = record { one = serve 1 f.holds.one; two = serve 2 f.holds.two; three = serve 3 f.holds.three } in
       let few : length farmers ≤ MOST_BIDDERS = omega (arith, limits.0, length-map-range_with_len (trial_farmer grid) 0 sizes.0) in

@@ -1,5 +1,5 @@
 -- What the job `worlds` has read, put and said.
-use Rattle.std.proofs.Common.{◌≡◌, inl, inr, ℕ, List, [], ◌∷◌, ◌++◌, Option, Some, None, Ok, refl, sym, ap, subst, ◌∙◌}
+use Rattle.std.proofs.Common.{◌≡◌, inl, ℕ, List, [], ◌∷◌, ◌++◌, Option, Some, None, Ok, refl, sym, ap, subst, ◌∙◌}
 use Rattle.std.specs.Prelude.{codes, option_map}
 use Rattle.beet_field.specs.Point.{server_of}
 use Rattle.beet_field.specs.declared.point.Point.{Point}
@@ -13,25 +13,28 @@ use Rattle.beet_worlds.specs.ViewsWith.{transcript_with}
 use Rattle.beet_worlds.specs.declared.agreeing.MapFault.{MapFault}
 use Rattle.beet_headline.specs.Halves.{AreOnePair, AreTwoBooks}
 use Rattle.beet_headline.proofs.Pairing.{mapped-pair}
-use Rattle.beet_errand.specs.Errands.{Answer, Errand, Ends, answers, gives}
-use Rattle.beet_errand.specs.Fetches.{IsDone}
+use Rattle.beet_errand.specs.Errands.{Answer, Errand, answers, gives, refuses}
+use Rattle.beet_errand.specs.Fetches.{IsDone, IsRead}
+use Rattle.beet_errand.specs.Runs.{GivesAll}
 use Rattle.beet_errand.specs.Statuses.{IsDoneCode, code_of}
-use Rattle.beet_errand.specs.declared.answer.Status.TheVariants.{Done, WorldsRefused}
+use Rattle.beet_errand.specs.declared.answer.OwnRefusal.TheVariants.{OfWorlds}
+use Rattle.beet_errand.specs.declared.answer.Refusal.TheVariants.{Own}
+use Rattle.beet_errand.specs.declared.answer.Status.TheVariants.{Done}
+use Rattle.beet_errand.proofs.Statuses.{not_done}
 use Rattle.beet_load.specs.Loading.{Loaded}
 use Rattle.beet_load.specs.Wholes.{curves_errand, limited_errand}
 use Rattle.beet_run.specs.OutcomeTexts.{outcome_text}
-use Rattle.beet_two_worlds.specs.Answering.{worlds_text}
+use Rattle.beet_two_worlds.specs.Answering.{ShowsTheSame, worlds_text}
 use Rattle.beet_two_worlds.specs.Differences.{difference_between}
 use Rattle.beet_two_worlds.specs.Ending.{ShowsWorlds, compared_errand, unless_differing}
 use Rattle.beet_two_worlds.specs.Reading.{Both, both_errand, first_book, second_book, words_read}
 use Rattle.beet_two_worlds.proofs.SecondWords.{words-uncut}
-use Rattle.beet_answer.specs.Runs.{GivesAll, Runs}
 use Rattle.beet_app.specs.Jobs.{Comparing, are_names, job_of}
 use Rattle.beet_app_laws.specs.Dues.{ReadsTo, answer_over}
 use Rattle.beet_app_laws.proofs.Led.{read-to}
 use Rattle.beet_app_laws.proofs.Telling.{one-value, told-both}
 use Rattle.beet_program_laws.specs.Commands.{PutsBothWorlds}
-use Rattle.beet_program_laws.proofs.Ends.{Ran, WentOut, answer-ends, named, no-job, run-ends, tells}
+use Rattle.beet_program_laws.proofs.Ends.{Ran, WentOut, named, no-job, shown-ends, tells}
 use Rattle.beet_program_laws.proofs.Jobs.{runs-in}
 use Rattle.beet_program_laws.proofs.Read.{IsLoaded, back, can-run-cut, curves-yield, limited-yield}
 use Rattle.beet_program_laws.proofs.Steps.{Yields, gives-yield, then-yields}
@@ -46,7 +49,7 @@ both-yield : (files : List File) (auction servers list1 list2 : List ℕ) → Yi
 unfolding both_errand
 both-yield files auction servers list1 list2 =
     then-yields files (limited_errand auction servers list1) _ IsLoaded IsBoth (limited-yield files auction servers list1) (λ first h.
-    then-yields files (curves_errand list2 first.grid) _ (λ bidders. IsBook (record { grid = first.grid; bidders = bidders })) IsBoth
+    then-yields files (curves_errand 0 list2 first.grid) _ (λ bidders. IsBook (record { grid = first.grid; bidders = bidders })) IsBoth
     (curves-yield files list2 first.grid) (λ second k.
     gives-yield files IsBoth (record { first = first; second = second }) (record { first = h; second = k })))
 
@@ -58,35 +61,37 @@ is-both files auction servers list1 list2 both r =
     let (other, q, h) = both-yield files auction servers list1 list2 next (subst (λ (x : Answer). IsDone x.status) (sym (r next)) (inl refl)) in
     subst IsBoth (one-value files step other both q r told-both) h
 
-not-refused : IsDone WorldsRefused → ⊥
-not-refused (inl e) = cc
-not-refused (inr e) = cc
+refused : (files : List File) (difference : Option MapFault) →
+    IsDone (answer_over files (unless_differing difference (refuses (Own OfWorlds) []))).status → ⊥
+refused files None done = not_done (Own OfWorlds) done
+refused files (Some difference) done = not_done (Own OfWorlds) done
 
-refused : (files : List File) (difference : Option MapFault) → IsDone (answer_over files (unless_differing difference (answers WorldsRefused []))).status → ⊥
-refused files None done = not-refused done
-refused files (Some difference) done = not-refused done
+-- an errand that goes on from both books to a refusal is not done
+undone : (files : List File) (auction servers list1 list2 : List ℕ) (s : Point) →
+    IsDone (answer_over files (compared_errand auction servers list1 list2 s (λ both. refuses (Own OfWorlds) []))).status → ⊥
+undone files auction servers list1 list2 s done =
+    let next : Both → Errand = λ both. unless_differing (difference_between s (first_book both) (second_book both)) (refuses (Own OfWorlds) []) in
+    let (both, reads, h) = both-yield files auction servers list1 list2 next done in
+    refused files (difference_between s (first_book both) (second_book both)) (subst (λ (a : Answer). IsDone a.status) (reads next) done)
 
 module _ (told : Told) (told_now : Option Told) (given now : Option Given) (status : ℕ) (w : IsDoneCode status)
     (auction servers list1 list2 : List ℕ) (s : Point) (out : List ℕ) where
   abbrev Compared : Type 0
   Compared = PutsBothWorlds told.files auction servers list1 list2 s out status given now
 
-  shown : (answer : Answer) → ShowsWorlds (Some told) told_now auction servers list1 list2 s out answer →
-      Runs (Ends answer) told_now told_now given now status → Compared
-  shown answer shows r =
+  shown : (both : Both) (answer : Answer) → IsRead (Some told) told_now (both_errand auction servers list1 list2) both →
+      ShowsTheSame s out (first_book both) (words_read both) (second_book both) answer → WentOut answer given now status → Compared
+  shown both answer is-read same put =
       let step = both_errand auction servers list1 list2 in
-      let both = shows.both in
-      let read = read-to told told_now step both shows.read in
+      let read = read-to told told_now step both is-read in
       let h = is-both told.files auction servers list1 list2 both read in
       let run = runs-in both.first h.first in
       let loaded = both.first in
       let first = first_book both in
       let words = words_read both in
       let second = second_book both in
-      let same = shows.same in
       let two : AreTwoBooks s first second = record { first_book = run.is_book; second_book = h.second; agree = same.agree } in
       let pair : AreOnePair s first words second same.second_words = mapped-pair s first second words same.second_words two run.can_run same.mapped in
-      let put : WentOut answer given now status = answer-ends told_now told_now answer given now status w r in
       let cut = words-uncut first words (can-run-cut loaded.grid loaded.servers loaded.farmers h.first.few h.first.farmers h.first.servers) in
       let own : same.seen ≡ transcript_with first words s = sym same.first_seen ∙ ap (λ (x : Words). transcript_for first x s) (sym cut) in
       let other : same.seen ≡ transcript_with second same.second_words s = own ∙ sym pair.transcripts in
@@ -106,18 +111,11 @@ module _ (told : Told) (told_now : Option Told) (given now : Option Given) (stat
             (λ i. (out ++ codes ".first", own i) ∷ (out ++ codes ".second", other i) ∷ (out ++ codes ".words", bundle_bytes same.second_words) ∷ []) calls;
       }
 
-  -- an errand that goes on from both books to a refusal is not done
-  stopped : Runs (compared_errand auction servers list1 list2 s (λ both. answers WorldsRefused [])) (Some told) told_now given now status → Compared
-  stopped r =
-      let next : Both → Errand = λ both. unless_differing (difference_between s (first_book both) (second_book both)) (answers WorldsRefused []) in
-      let e = run-ends told told_now given now status w (compared_errand auction servers list1 list2 s (λ both. answers WorldsRefused [])) r in
-      let done = subst (λ (a : Answer). IsDone a.status) (sym e.is) e.out.done in
-      let (both, reads, h) = both-yield told.files auction servers list1 list2 next done in
-      absurd (refused told.files (difference_between s (first_book both) (second_book both)) (subst (λ (a : Answer). IsDone a.status) (reads next) done))
-
   compares : Ran told told_now given now status w (Some (Comparing auction servers list1 list2 s out)) → Compared
-  compares (inl (answer, shows, r)) = shown answer shows r
-  compares (inr f) = stopped (f (λ both. answers WorldsRefused []))
+  compares r =
+      shown-ends told told_now given now status w {C = Compared} OfWorlds (compared_errand auction servers list1 list2 s)
+      (ShowsWorlds auction servers list1 list2 s out)
+      (undone told.files auction servers list1 list2 s) (λ answer shows put. shown shows.value answer shows.read shows.shown put) r
 
 module _ (told : Told) (told_now : Option Told) (given now : Option Given) (status : ℕ) (w : IsDoneCode status) (auction servers list1 list2 server out : List ℕ) where
   by-server : (at : Option Point) → server_of server ≡ at →

@@ -4,7 +4,7 @@ use Rattle.beet_field.specs.declared.point.Point.TheVariants.{One, Two, Three}
 use Rattle.beet_store.specs.Files.{File, Told, bytes_of}
 use Rattle.beet_store.specs.Desks.{Given}
 use Rattle.beet_errand.specs.Errands.{file_for}
-use Rattle.beet_answer.specs.Runs.{Said}
+use Rattle.beet_errand.specs.Runs.{Said}
 use Rattle.beet_app.specs.Doing.{RunsJob}
 use Rattle.beet_app.specs.Jobs.{job_of}
 

@@ -32,7 +32,9 @@ use Rattle.beet_headline.specs.Halves.{AllHaveEnded, AreOnePair, AreTwoBooks, st
 use Rattle.beet_errand.specs.Errands.{reads}
 use Rattle.beet_errand.specs.Statuses.{code_of}
 use Rattle.beet_errand.specs.Texts.{line_of}
-use Rattle.beet_answer.specs.Runs.{GivesAll, Said}
+use Rattle.beet_errand.specs.Runs.{GivesAll, Said}
+use Rattle.beet_load.specs.Counts.{counts_of}
+use Rattle.beet_load.specs.Wanted.{wanted_of}
 use Rattle.beet_load.specs.Loading.{loaded_errand}
 use Rattle.beet_load.specs.Servers.{AllWords, all_words_errand, masks_of}
 use Rattle.beet_load.specs.Wholes.{CanDeal, all_words, limited_errand}
@@ -101,7 +103,7 @@ pub record OpensEnvelopes (files : List File) (auction servers list : List ℕ) 
   pub entries : List ListEntry
   pub entries_read : ReadsTo files (reads list LIST_LIMIT list_of) entries
   pub words : AllWords
-  pub words_read : ReadsTo files (all_words_errand grid None sources) words
+  pub words_read : ReadsTo files (all_words_errand (wanted_of None grid) None sources) words
   pub bidders : List (Trio (List ℕ))
   pub bidders_read : ReadsTo files (bidders_errand grid [] entries) bidders
   pub text : List ℕ
@@ -114,7 +116,7 @@ pub record OpensEnvelopes (files : List File) (auction servers list : List ℕ) 
   pub sealed : (farmers : List Farmer) → HoldEachSealed files grid entries farmers → IsBook (book_with grid farmers) → HaveWords grid farmers →
       TellsTheEnd (book_with grid farmers) (all_words words.servers (map (λ farmer. farmer.words) farmers)) status text
   pub servers_open : (farmers : List Farmer) → IsBook (book_with grid farmers) →
-      All (λ farmer. CanDeal grid farmer.words × All IsWord farmer.words) farmers →
+      All (λ farmer. CanDeal (counts_of grid) farmer.words × All IsWord farmer.words) farmers →
       ServersOpen (book_with grid farmers) (all_words words.servers (map (λ farmer. farmer.words) farmers))
   pub said : Said given now text
 

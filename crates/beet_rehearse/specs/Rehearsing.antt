@@ -5,7 +5,7 @@ use Rattle.beet_auction.specs.Endings.{AuctionEnds}
 use Rattle.beet_plan.specs.Auction.{auction_over}
 use Rattle.beet_bids.specs.Grids.{Grid}
 use Rattle.beet_load.specs.Servers.{ServerWords, masks_of}
-use Rattle.beet_plan.specs.Runs.{AreMasks}
+use Rattle.beet_masking.specs.Masks.{AreMasks}
 use Rattle.beet_plan.specs.declared.Finish.{Finish}
 use Rattle.beet_run.specs.Runs.{setup_with}
 use Rattle.beet_delivery.specs.Events.{Triple, after}

@@ -5,6 +5,7 @@ ghost use Rattle.beet_errand.specs.Errands.{reads};
 ghost use Rattle.beet_errand.specs.Fetches.{IsDone, Reads};
 ghost use Rattle.beet_field.specs.Trio.{member};
 ghost use Rattle.beet_field.specs.declared.point.Point.{Point as Server};
+ghost use Rattle.beet_load.specs.Counts.{counts_of};
 ghost use Rattle.beet_load.specs.Loading.{IsKeptOf, Loaded as Read};
 ghost use Rattle.beet_load.specs.Servers.{HaveEnough};
 ghost use Rattle.beet_world.specs.Schedules.{schedule_of};
@@ -47,7 +48,7 @@ fn play(
     words: Trio<ServerWords>,
     schedule: &[Delivery],
 ) -> Result<Rehearsal, Stop>
-    requires enough { HaveEnough grid.now words }
+    requires enough { HaveEnough (counts_of grid.now) words }
     requires inputs { (i : Server) → length (member inputs i) ≡ 2 * grid.now.prices }
     ensures memory { IfErr result (λ stop. stop ≡ Stop.OutOfMemory) }
     ensures rehearses { IfOk result (Rehearses grid.now inputs words (named_in schedule.now)) }

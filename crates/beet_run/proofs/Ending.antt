@@ -9,7 +9,7 @@ use Rattle.beet_gates.specs.declared.Act.TheVariants.{Deal, Mul, Reveal, End}
 use Rattle.beet_gates.specs.declared.Batch.{Batch}
 use Rattle.beet_bids.specs.Grids.{Grid}
 use Rattle.beet_plan.specs.Auction.{Auction, auction_batch, auction_plan, most_rounds, auction_over}
-use Rattle.beet_plan.specs.Ends.{ComesTo, TellsEnd}
+use Rattle.beet_gates.specs.Ends.{ComesTo, TellsEnd}
 use Rattle.beet_plan.specs.declared.Finish.{Finish}
 use Rattle.beet_server.specs.Cores.{Core, setup_of}
 use Rattle.beet_delivery.specs.Events.{Delivered, all_delivered}

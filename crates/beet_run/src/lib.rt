@@ -1,8 +1,9 @@
-//! The run of an auction among three servers, from the points of its inputs and the words of the servers to its end.
+//! The run of a script among three servers, from the points of its inputs and the words of the servers to its end; that
+//! of an auction, and the text of how it ended.
 #![tactic(auto)]
 
 mod outcome;
 mod running;
 
 pub use outcome::{finish_words, opened_words, outcome_reply};
-pub use running::{finish_at, run_on_one_thread, start_servers};
+pub use running::{finish_at, run_on_one_thread, run_script, start_script, start_servers};

@@ -1,18 +1,20 @@
-//! Three servers begin an auction, and run it to its end on one thread.
+//! Three servers begin a script, and run it to its end on one thread; those of an auction.
 
 ghost use Rattle.std.specs.Prelude.{◌≡◌, ◌≤◌, ◌*◌, IfErr, IfOk, All, Some, length};
 ghost use Rattle.beet_field.specs.Trio.{member};
 ghost use Rattle.beet_field.specs.declared.point.Point.{Point as Server};
 ghost use Rattle.beet_words.specs.Words.{IsWord, accepted};
 ghost use Rattle.beet_gates.specs.Plans.{plan_finish};
-ghost use Rattle.beet_plan.specs.Auction.{auction_batch, auction_plan, most_coefficients, most_masks};
+ghost use Rattle.beet_plan.specs.Auction.{auction_plan};
 ghost use Rattle.beet_server.specs.Cores.{IsFresh, fresh};
+ghost use Rattle.beet_load.specs.Counts.{counts_of};
 ghost use Rattle.beet_load.specs.Servers.{HaveEnough};
-ghost use Rattle.beet_run.specs.Runs.{HasEndedRun, HaveRunToEnd, Starts};
+ghost use Rattle.beet_run.specs.Runs.{HasEndedRun, HaveRunScript, HaveRunToEnd, StartScript, Starts};
 
 use beet_bids::Grid;
 use beet_errand::Stop;
 use beet_field::{Point, Trio};
+use beet_gates::Script;
 use beet_load::ServerWords;
 use beet_plan::Finish;
 use beet_search::AuctionScript;
@@ -21,22 +23,22 @@ use beet_words::FeList;
 use beet_world::lockstep;
 use std::alloc::Global;
 
-/// A server that begins with these points and words.
-fn start(
+/// A server that begins a script with these points and words.
+fn start<S: Script>(
     alloc: Global,
     me: Point,
-    script: AuctionScript,
+    script: S,
     inputs: FeList,
     words: ServerWords,
-) -> Result<ServerCore<AuctionScript>, Stop>
-    requires inputs { length inputs ≡ 2 * script.prices }
-    requires coefficients { most_coefficients script ≤ length (accepted words.coefficients) }
-    requires masks { most_masks script ≤ length words.masks }
+) -> Result<ServerCore<S>, Stop>
+    requires inputs { length inputs ≡ S.inputs_of script }
+    requires coefficients { S.coefficients_of script ≤ length (accepted words.coefficients) }
+    requires masks { S.masks_of script ≤ length words.masks }
     ensures memory { IfErr result (λ stop. stop ≡ Stop.OutOfMemory) }
-    ensures core { IfOk result (λ core. core ≡ fresh auction_batch me script inputs
+    ensures core { IfOk result (λ core. core ≡ fresh S.batch_of me script inputs
         (record { words = words.masks; passed = 0 })
         (record { words = words.coefficients; passed = 0 })) }
-    ensures fresh { IfOk result (IsFresh auction_batch (λ s. 2 * s.prices)) }
+    ensures fresh { IfOk result (IsFresh S.batch_of S.inputs_of) }
     ensures words { IfOk result (λ core. All IsWord words.masks) }
 {
     // Its words are below 2^61.
@@ -49,6 +51,45 @@ fn start(
     }
 }
 
+/// The three servers of a script, at its start, with these points of the inputs and these words. Want of memory is the
+/// only error.
+pub fn start_script<S: Script>(
+    alloc: Global,
+    script: S,
+    inputs: Trio<FeList>,
+    words: Trio<ServerWords>,
+) -> Result<Trio<ServerCore<S>>, Stop>
+    requires inputs { (i : Server) → length (member inputs i) ≡ S.inputs_of script }
+    requires coefficients { (i : Server) → S.coefficients_of script ≤ length (accepted (member words i).coefficients) }
+    requires masks { (i : Server) → S.masks_of script ≤ length (member words i).masks }
+    ensures memory { IfErr result (λ stop. stop ≡ Stop.OutOfMemory) }
+    ensures starts { IfOk result (StartScript S.batch_of S.inputs_of script inputs words) }
+{
+    let one = start(alloc, Point::One, script, inputs.one, words.one);
+    let two = start(alloc, Point::Two, script, inputs.two, words.two);
+    let three = start(alloc, Point::Three, script, inputs.three, words.three);
+    let cores = Trio { one, two, three }.transpose()?;
+    Ok(cores)
+}
+
+/// Starts the three servers of a script with these points of the inputs and these words, and runs them to the end on the
+/// caller's thread, round by round. Want of memory is the only error, and comes before the first round.
+pub fn run_script<S: Script>(
+    alloc: Global,
+    script: S,
+    inputs: Trio<FeList>,
+    words: Trio<ServerWords>,
+) -> Result<Trio<ServerCore<S>>, Stop>
+    requires inputs { (i : Server) → length (member inputs i) ≡ S.inputs_of script }
+    requires coefficients { (i : Server) → S.coefficients_of script ≤ length (accepted (member words i).coefficients) }
+    requires masks { (i : Server) → S.masks_of script ≤ length (member words i).masks }
+    ensures memory { IfErr result (λ stop. stop ≡ Stop.OutOfMemory) }
+    ensures ended { IfOk result (HaveRunScript S.batch_of S.inputs_of S.rounds_of script inputs words) }
+{
+    let cores = start_script(alloc, script, inputs, words)?;
+    Ok(lockstep(cores))
+}
+
 /// The three servers of an auction over the grid, at its start, with these points of the inputs (supply at each price, and
 /// then demand) and these words. Want of memory is the only error.
 pub fn start_servers(
@@ -57,17 +98,13 @@ pub fn start_servers(
     inputs: Trio<FeList>,
     words: Trio<ServerWords>,
 ) -> Result<Trio<ServerCore<AuctionScript>>, Stop>
-    requires enough { HaveEnough grid.now words }
+    requires enough { HaveEnough (counts_of grid.now) words }
     requires inputs { (i : Server) → length (member inputs i) ≡ 2 * grid.now.prices }
     ensures memory { IfErr result (λ stop. stop ≡ Stop.OutOfMemory) }
     ensures starts { IfOk result (Starts grid.now inputs words) }
 {
     let script = AuctionScript::over(grid);
-    let one = start(alloc, Point::One, script, inputs.one, words.one);
-    let two = start(alloc, Point::Two, script, inputs.two, words.two);
-    let three = start(alloc, Point::Three, script, inputs.three, words.three);
-    let cores = Trio { one, two, three }.transpose()?;
-    Ok(cores)
+    start_script(alloc, script, inputs, words)
 }
 
 /// The finish that the script names at a server that has ended.
@@ -89,11 +126,10 @@ pub fn run_on_one_thread(
     inputs: Trio<FeList>,
     words: Trio<ServerWords>,
 ) -> Result<Trio<ServerCore<AuctionScript>>, Stop>
-    requires enough { HaveEnough grid.now words }
+    requires enough { HaveEnough (counts_of grid.now) words }
     requires inputs { (i : Server) → length (member inputs i) ≡ 2 * grid.now.prices }
     ensures memory { IfErr result (λ stop. stop ≡ Stop.OutOfMemory) }
     ensures ended { IfOk result (HaveRunToEnd grid.now inputs words) }
 {
-    let cores = start_servers(alloc, grid, inputs, words)?;
-    Ok(lockstep(cores))
+    run_script(alloc, AuctionScript::over(grid), inputs, words)
 }

@@ -1,5 +1,5 @@
 -- The plan that is left at a place of the script.
-use Rattle.std.proofs.Common.{◌≡◌, ◌↔◌, ℕ, zero, suc, ◌+◌, ◌-◌, ◌/◌, ◌<◌, ◌≤◌, ◌⊎◌, inl, inr, Bool, true, false, List, [], ◌∷◌, Option, Some, None, refl, ap, sym, ◌∙◌, arith}
+use Rattle.std.proofs.Common.{◌≡◌, ◌≢◌, ◌↔◌, ℕ, zero, suc, ◌+◌, ◌-◌, ◌/◌, ◌<◌, ◌≤◌, ◌⊎◌, inl, inr, Bool, true, false, List, [], ◌∷◌, Option, Some, None, refl, ap, sym, ◌∙◌, arith, eq-eqb, ne_eqb}
 use Rattle.std.specs.Prelude.{nat_lt, IsTrue, unwrap_or}
 use Rattle.std.proofs.lemmas.Bool.{cases_lt, iff_false}
 use Rattle.std.proofs.lemmas.Bool.Decides.{nat_tests}
@@ -7,40 +7,49 @@ use Rattle.beet_gates.specs.declared.Batch.{Batch}
 use Rattle.beet_gates.specs.Batches.{reveal_batch, end_batch}
 use Rattle.beet_gates.specs.Plans.{Plan, Ended, Block, Last, plan_batch, plan_length, plan_after, plan_finish, batch_at}
 use Rattle.beet_gates.proofs.EachFacts.{get-past}
-use Rattle.beet_plan.specs.Blocks.{Blocks, blocks_of, after_mask}
-use Rattle.beet_plan.proofs.BlockLaws.{are-blocks}
+use Rattle.beet_masking.specs.Blocks.{Blocks, blocks_of, after_mask}
+use Rattle.beet_masking.proofs.BlockLaws.{are-blocks}
 use Rattle.beet_bids.specs.declared.outcomes.Policy.{Policy}
 use Rattle.beet_bids.specs.Outcomes.{shown_by}
-use Rattle.beet_plan.specs.Auction.{search_plan, end_plan, opening_plan, price_with, after_product}
+use Rattle.beet_plan.specs.Auction.{search_plan, end_plan, opening_plan, price_with, with_mask}
 use Rattle.beet_plan.specs.declared.Finish.{Finish}
-use Rattle.beet_plan.specs.declared.Finish.TheVariants.{NoPrice}
+use Rattle.beet_plan.specs.declared.Finish.TheVariants.{NoPrice, MasksSpent}
 use Rattle.beet_search.specs.Walk.{plan_at, stage_plan}
 use Rattle.beet_search.specs.declared.walk.Stage.{Stage}
 use Rattle.beet_search.specs.declared.walk.Stage.TheVariants.{Search, Masked, Borrow, Supply, Ended as StageEnded}
 use Rattle.beet_search.specs.declared.walk.Walk.{Walk}
-use Rattle.beet_plan.proofs.AuctionEnd.{search_plan-open, search_plan-done}
+use Rattle.beet_masking.specs.Accepting.{after_product, until_accepted}
+use Rattle.beet_masking.proofs.Standing.{until-open}
 
 -- the search goes on exactly where a mask may be dealt and the places differ
 pub record IsOpen (b : Bool) (n lo hi : ℕ) : Type 0 where
   pub says : IsTrue b ↔ ((0 < n) × (lo < hi))
 
-module _ (g : Blocks) (policy : Policy) (prices n lo hi first rej : ℕ) where
-  pub open-plan : 0 < n → lo < hi → search_plan g policy prices n lo hi first rej ≡ Block (g.mask first) (after_product g prices (search_plan g policy prices (n - 1)) lo hi first rej)
+module _ (g : Blocks) (policy : Policy) (prices n lo hi spare first : ℕ) where
+  pub open-plan : 0 < n → lo < hi → search_plan g policy prices n lo hi spare first
+      ≡ until_accepted g MasksSpent spare first (with_mask g prices (search_plan g policy prices (n - 1)) lo hi)
+  unfolding search_plan
   open-plan hn h =
       let e : n ≡ suc (n - 1) = omega arith in
       let t : nat_lt lo hi ≡ true = grind (arith, nat_tests) in
-      ap (λ (k : ℕ). search_plan g policy prices k lo hi first rej) e ∙ search_plan-open g policy prices (n - 1) lo hi first rej t
+      ap (λ (k : ℕ). search_plan g policy prices k lo hi spare first) e ∙ rw t refl
 
-  pub closed-plan : (n ≡ 0) ⊎ (hi ≤ lo) → search_plan g policy prices n lo hi first rej ≡ end_plan policy prices lo
+  pub closed-plan : (n ≡ 0) ⊎ (hi ≤ lo) → search_plan g policy prices n lo hi spare first ≡ end_plan policy prices lo
   unfolding search_plan
   closed-plan (inl e) = rw e refl
   closed-plan (inr h) = elim (cases_lt 0 n) [
     | inl some ↦
         let e : n ≡ suc (n - 1) = omega arith in
         let t : nat_lt lo hi ≡ false = grind (arith, nat_tests) in
-        ap (λ (k : ℕ). search_plan g policy prices k lo hi first rej) e ∙ search_plan-done g policy prices (n - 1) lo hi first rej t
+        ap (λ (k : ℕ). search_plan g policy prices k lo hi spare first) e ∙ rw t refl
     | inr none ↦ let e : n ≡ 0 = omega arith in rw e refl
   ]
+
+-- with one mask rejected more
+module _ (g : Blocks) (policy : Policy) (prices n lo hi spare first : ℕ) where
+  pub again-plan : 0 < n → lo < hi → (product : ℕ) → product ≡ 1 → spare ≢ 0 → search_plan g policy prices n lo hi (spare - 1) (after_mask g first)
+      ≡ after_product g MasksSpent spare first (with_mask g prices (search_plan g policy prices (n - 1)) lo hi) product
+  again-plan hn h product one some = rw (eq-eqb product 1 one, ne_eqb spare 0 some) (open-plan g policy prices n lo hi (spare - 1) (after_mask g first) hn h)
 
 pub block-batch : {F : Type 0} (bs : List Batch) (next : ℕ → Plan F) (step : ℕ) → plan_batch (Block bs next) step [] ≡ batch_at bs step
 unfolding plan_batch
@@ -88,17 +97,18 @@ closed-from b n lo hi e h = elim (cases_lt 0 n) [
 ]
 
 module _ (w : Walk) where
-  stage-is : (s : Stage) → w.stage ≡ s → plan_at w ≡ stage_plan s w
+  pub stage-is : (s : Stage) → w.stage ≡ s → plan_at w ≡ stage_plan s w
   stage-is s e = ap (λ (t : Stage). stage_plan t w) e
 
   open-at : w.stage ≡ Search → (b : Bool) → (IsTrue b ↔ ((0 < w.left) × (w.lo < w.hi))) → b ≡ true →
-      plan_at w ≡ Block ((blocks_of w.gates).mask w.first) (after_product (blocks_of w.gates) w.prices (search_plan (blocks_of w.gates) w.policy w.prices (w.left - 1)) w.lo w.hi w.first w.rejected)
+      plan_at w ≡ Block ((blocks_of w.gates).mask w.first) (after_product (blocks_of w.gates) MasksSpent w.spare w.first (with_mask (blocks_of w.gates) w.prices (search_plan (blocks_of w.gates) w.policy w.prices (w.left - 1)) w.lo w.hi))
   open-at e b says t =
       let o = open-from b w.left w.lo w.hi says t in
-      stage-is Search e ∙ open-plan (blocks_of w.gates) w.policy w.prices w.left w.lo w.hi w.first w.rejected o.0 o.1
+      stage-is Search e ∙ open-plan (blocks_of w.gates) w.policy w.prices w.left w.lo w.hi w.spare w.first o.0 o.1
+      ∙ until-open (blocks_of w.gates) MasksSpent w.spare w.first (with_mask (blocks_of w.gates) w.prices (search_plan (blocks_of w.gates) w.policy w.prices (w.left - 1)) w.lo w.hi)
 
   pub closed-at : w.stage ≡ Search → (b : Bool) → (IsTrue b ↔ ((0 < w.left) × (w.lo < w.hi))) → b ≡ false → plan_at w ≡ end_plan w.policy w.prices w.lo
-  closed-at e b says t = stage-is Search e ∙ closed-plan (blocks_of w.gates) w.policy w.prices w.left w.lo w.hi w.first w.rejected (closed-from b w.left w.lo w.hi says t)
+  closed-at e b says t = stage-is Search e ∙ closed-plan (blocks_of w.gates) w.policy w.prices w.left w.lo w.hi w.spare w.first (closed-from b w.left w.lo w.hi says t)
 
   -- the supply is still to be read
   pub supply-at : (volume : ℕ) → w.stage ≡ Supply volume → plan_at w ≡ Last end_batch 1 (λ opened. price_with w.lo (volume ∷ opened))
@@ -140,7 +150,7 @@ module _ (w : Walk) where
 
   -- the plan after a number
   pub after-open : w.stage ≡ Search → (b : Bool) → (IsTrue b ↔ ((0 < w.left) × (w.lo < w.hi))) → b ≡ true → (x : ℕ) →
-      plan_after (plan_at w) x ≡ after_product (blocks_of w.gates) w.prices (search_plan (blocks_of w.gates) w.policy w.prices (w.left - 1)) w.lo w.hi w.first w.rejected x
+      plan_after (plan_at w) x ≡ after_product (blocks_of w.gates) MasksSpent w.spare w.first (with_mask (blocks_of w.gates) w.prices (search_plan (blocks_of w.gates) w.policy w.prices (w.left - 1)) w.lo w.hi) x
   after-open e b says t x = ap (λ (p : Plan Finish). plan_after p x) (open-at e b says t)
 
 pub block-finish : {F : Type 0} (bs : List Batch) (next : ℕ → Plan F) → plan_finish (Block bs next) [] ≡ None

@@ -6,5 +6,5 @@ mod script;
 mod walk;
 
 pub use beet_plan::Finish;
-pub use laws::{auction_law, book_law};
+pub use laws::{auction_law, book_law, five_law};
 pub use script::{AuctionScript, Place};

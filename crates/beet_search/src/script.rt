@@ -11,7 +11,8 @@ use beet_compare::{compare_rounds, compare_wires};
 use beet_field::Fe;
 use beet_gates::{Batch, Gates, Script};
 use beet_mask::{mask_rounds, mask_wires};
-use beet_plan::{Finish, SPARE_MASKS, most_coefficients, most_masks};
+use beet_masking::{MASK_WORDS, SPARE_MASKS};
+use beet_plan::{Finish, most_coefficients, most_masks};
 use std::marker::Model;
 
 /// The script of an auction with so many prices, this kind of gates, and what it opens beside the price. With P prices, input k is the supply at
@@ -47,7 +48,7 @@ pub struct Place {
 
 impl AuctionScript {
     ghost use Rattle.beet_plan.specs.Auction.{auction_batch};
-    ghost use Rattle.beet_plan.specs.Ends.{TellsEnd};
+    ghost use Rattle.beet_gates.specs.Ends.{TellsEnd};
 
     /// The script that opens the price and the volume, or none where the number of prices is outside 1 to 4,096.
     pub fn new(prices: u32, gates: Gates) -> Option<AuctionScript>
@@ -96,8 +97,8 @@ impl AuctionScript {
             lo: 0,
             hi: self.prices,
             first: 2 * self.prices,
-            rejected: 0,
-            left: most_masks(self.prices) + 1,
+            left: comparisons(self.prices),
+            spare: SPARE_MASKS,
         }
     }
 
@@ -145,7 +146,7 @@ impl Script for AuctionScript {
     }
 
     fn rounds(&self) -> u32 {
-        let mask = mask_rounds(self.gates);
+        let mask = mask_rounds(self.gates, MASK_WORDS);
         comparisons(self.prices) * (mask + compare_rounds(self.gates)) + SPARE_MASKS * mask + 1
     }
 
@@ -159,7 +160,7 @@ impl Script for AuctionScript {
 
     fn wires(&self) -> u32 {
         self.inputs()
-            + mask_wires(self.gates) * most_masks(self.prices)
+            + mask_wires(MASK_WORDS) * most_masks(self.prices)
             + compare_wires(Gates::Tree) * comparisons(self.prices)
     }
 

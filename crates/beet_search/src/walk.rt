@@ -2,9 +2,11 @@
 
 ghost use Rattle.std.specs.Prelude.{◌≡◌, ◌↔◌, ◌<◌, ◌≤◌, ◌+◌, ◌-◌, ◌*◌, ◌/◌, ◌^◌, IsTrue, MatchOption, [], ◌∷◌};
 ghost use Rattle.beet_gates.specs.Plans.{plan_length, plan_after, plan_batch, plan_finish, batch_at};
-ghost use Rattle.beet_plan.specs.Auction.{search_plan, end_plan, after_answer, after_product};
+ghost use Rattle.beet_plan.specs.Auction.{search_plan, end_plan, after_answer, with_mask};
+ghost use Rattle.beet_plan.specs.declared.Finish.TheVariants.{MasksSpent};
 ghost use Rattle.beet_gates.specs.declared.Act.TheVariants.{Reveal};
-ghost use Rattle.beet_plan.specs.Blocks.{blocks_of};
+ghost use Rattle.beet_masking.specs.Accepting.{after_product};
+ghost use Rattle.beet_masking.specs.Blocks.{blocks_of};
 ghost use Rattle.beet_mask.specs.Mask.{mask_wires_of};
 ghost use Rattle.beet_compare.specs.Compare.{compare_batches};
 ghost use Rattle.beet_search.specs.Walk.{plan_at, busy, widest, Fits};
@@ -15,7 +17,8 @@ use beet_compare::{compare_rounds, compare_wires, refill_compare};
 use beet_field::Fe;
 use beet_gates::{Act, Batch, Gates};
 use beet_mask::{mask_rounds, mask_wires, refill_mask};
-use beet_plan::{Finish, SPARE_MASKS};
+use beet_masking::MASK_WORDS;
+use beet_plan::Finish;
 
 /// What comes next.
 #[derive(Clone, Copy)]
@@ -43,9 +46,10 @@ pub struct Walk {
     pub hi: u32,
     /// The first free wire, or that of the mask that is in use.
     pub first: u32,
-    pub rejected: u32,
-    /// How many masks may still be dealt.
+    /// How many comparisons may still be made.
     pub left: u32,
+    /// How many masks may still be rejected.
+    pub spare: u32,
 }
 
 /// The act that opens two wires.
@@ -157,7 +161,7 @@ impl Walk {
         match self.stage {
             Stage::Search => {
                 if self.is_open() {
-                    mask_rounds(self.gates)
+                    mask_rounds(self.gates, MASK_WORDS)
                 } else {
                     self.end_length()
                 }
@@ -173,7 +177,7 @@ impl Walk {
         requires fits { Fits self.now }
         requires busy { busy self.now.stage ≡ 1 }
         ensures { batch.new ≡ batch_at (compare_batches self.now.gates
-            (self.now.first + mask_wires_of self.now.gates) self.now.first
+            (self.now.first + mask_wires_of 3) self.now.first
             ((self.now.lo + self.now.hi) / 2)
             (self.now.prices + (self.now.lo + self.now.hi) / 2) c) step }
     {
@@ -182,7 +186,7 @@ impl Walk {
         refill_compare(
             self.gates,
             step,
-            self.first + mask_wires(self.gates),
+            self.first + mask_wires(MASK_WORDS),
             self.first,
             supply,
             demand,
@@ -199,7 +203,7 @@ impl Walk {
         match self.stage {
             Stage::Search => {
                 if self.is_open() {
-                    refill_mask(self.gates, step, self.first, batch);
+                    refill_mask(self.gates, MASK_WORDS, step, self.first, batch);
                 } else {
                     self.refill_end(step, batch);
                 }
@@ -228,19 +232,19 @@ impl Walk {
         requires open { (0 < self.left) × (self.lo < self.hi) }
         requires search { self.stage ≡ Stage.Search }
         ensures fits { Fits result }
-        ensures plan { plan_at result ≡ after_product (blocks_of self.gates) self.prices
-            (search_plan (blocks_of self.gates) self.policy self.prices (self.left - 1))
-            self.lo self.hi self.first self.rejected product }
+        ensures plan { plan_at result ≡ after_product (blocks_of self.gates) MasksSpent self.spare self.first
+            (with_mask (blocks_of self.gates) self.prices
+            (search_plan (blocks_of self.gates) self.policy self.prices (self.left - 1)) self.lo self.hi) product }
     {
         let mut walk = self;
-        walk.left = self.left - 1;
         if product.value() != 1 {
             walk.stage = Stage::Masked;
-        } else if self.rejected == SPARE_MASKS {
+            walk.left = self.left - 1;
+        } else if self.spare == 0 {
             walk.stage = Stage::Ended(Finish::MasksSpent);
         } else {
-            walk.first = self.first + mask_wires(self.gates);
-            walk.rejected = self.rejected + 1;
+            walk.first = self.first + mask_wires(MASK_WORDS);
+            walk.spare = self.spare - 1;
         }
         walk
     }
@@ -249,16 +253,16 @@ impl Walk {
     fn after_answer(self, answer: Fe) -> Walk
         requires fits { Fits self }
         requires busy { (self.lo < self.hi)
-            × (self.first + widest self.gates * (self.left + 1) < 2 ^ 32) }
+            × (self.first + widest * (self.left + 1 + self.spare) < 2 ^ 32) }
         ensures fits { Fits result }
         ensures plan { plan_at result ≡ after_answer (blocks_of self.gates)
             (search_plan (blocks_of self.gates) self.policy self.prices self.left)
-            self.lo self.hi self.first self.rejected answer }
+            self.lo self.hi self.spare self.first answer }
     {
         let mid = (self.lo + self.hi) / 2;
         let mut walk = self;
         walk.stage = Stage::Search;
-        walk.first = self.first + mask_wires(self.gates) + compare_wires(self.gates);
+        walk.first = self.first + mask_wires(MASK_WORDS) + compare_wires(self.gates);
         if answer.value() == 1 {
             walk.hi = mid;
         } else {

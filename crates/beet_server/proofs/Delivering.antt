@@ -1,16 +1,15 @@
 -- A core that fits a run goes on fitting it.
-use Rattle.std.proofs.Common.{◌≡◌, ◌≢◌, ◌≤◌, ◌<◌, ◌+◌, ◌==◌, ◌&&◌, ◌||◌, if◌then◌else◌, ℕ, suc, Bool, true, false, true≢false, Some, None, is_some, List, [], ◌++◌, drop, sym, refl, ap, subst, ◌∙◌, ◌⊎◌, inl, inr, ⊎_elim, arith, add-one}
+use Rattle.std.proofs.Common.{◌≡◌, ◌≢◌, ◌≤◌, ◌<◌, ◌+◌, ◌==◌, ◌&&◌, ◌||◌, if◌then◌else◌, ℕ, suc, Bool, true, false, true≢false, Some, None, is_some, List, ◌++◌, drop, sym, refl, ap, subst, ◌∙◌, ◌⊎◌, inl, inr, ⊎_elim, arith, add-one}
 use Rattle.std.proofs.lemmas.Bool.{eq-eqb, le-ltb, lt-ltb, and_from, and_parts, and_right, cases_lt, eqb-true, false_from_ne_true, ne_eqb, or_cases, or_left, or_right}
 use Rattle.std.proofs.lemmas.Bool.Decides.{nat_tests}
 use Rattle.arrayvec.specs.ArrayVec.{array_vec_len}
 use Rattle.beet_field.specs.Trio.{member}
 use Rattle.beet_field.specs.declared.point.Point.{Point}
 use Rattle.beet_field.specs.declared.point.Point.TheVariants.{One, Two, Three}
-use Rattle.beet_words.specs.Tapes.{left_of, words_passed}
+use Rattle.beet_words.specs.Tapes.{left_of}
 use Rattle.beet_words.proofs.DrawnFrom.{left-passed, passed-again}
 use Rattle.beet_words.specs.Words.{accepted}
 use Rattle.beet_gates.specs.Clear.{with_lets, is_end}
-use Rattle.beet_gates.specs.Each.{each}
 use Rattle.beet_gates.specs.Scripts.{size_of}
 use Rattle.beet_gates.specs.declared.Act.{Act}
 use Rattle.beet_gates.specs.declared.Batch.{Batch}
@@ -29,69 +28,13 @@ use Rattle.beet_sharing.specs.Runs.{Setup, Shared, coming, message, sent_for, sh
 use Rattle.beet_delivery.specs.Events.{Delivered, same, both_in, with_triple}
 use Rattle.beet_server.specs.Answers.{HandsOut, IsLateVerdict, Keeps, Moves, other_side, verdict_on}
 use Rattle.beet_server.specs.Cores.{Core, coming_at, has_ended}
-use Rattle.beet_server.specs.Fits.{Fits, IsRound, message_of, messages_to, messages_from, some_if, taken}
+use Rattle.beet_server.specs.Fits.{Fits, Stands, IsRound, message_of, messages_to, messages_from, some_if, taken}
 use Rattle.beet_server.specs.Steps.{work_of, came_from, handed_out, messages_out, moved_on, sends, wires_given}
 use Rattle.beet_sharing.specs.Steps.{numbers_opened, points_given}
 use Rattle.beet_sharing.proofs.RunSteps.{length-sent_for, sends-run, gains-run, opens-run}
 use Rattle.beet_server.proofs.Senders.{by-sender}
 use Rattle.beet_sharing.proofs.Lined.{member-each, member-trio}
-use Rattle.beet_delivery.proofs.EventFacts.{same_is, same_self}
-
--- all that fits but for the wait
-pub record Almost {S : Type 0} (next : S → ℕ → List ℕ → Batch) (o : Setup) (x : Delivered) (c : Core S) : Type 0 where
-  pub script : o.next ≡ next c.script
-  pub words : c.masks.words ≡ member o.masks c.me
-  pub numbers : accepted c.coefficients.words ≡ member o.numbers c.me
-  pub rounds : (t : ℕ) → t < c.round → is_end (coming o t).act ≡ false
-  pub wires : c.wires ≡ member (standing_at o c.round).wires c.me
-  pub opened : c.opened ≡ (shared_at o c.round).opened
-  pub received : c.received ≡ each (messages_to o c.me) c.round
-  pub dealt : c.masks.passed ≡ (shared_at o (taken c.round c.handed)).dealt
-  pub drawn : c.coefficients.passed ≡ words_passed c.coefficients.words (shared_at o (taken c.round c.handed)).drawn
-  pub own : c.own ≡ (if c.handed then message o c.me c.me c.round else [])
-  pub now : (s : Side) → place_at c.mail.now s ≡ some_if (x (peer c.me s) c.me c.round) (message_of o (peer c.me s) c.me c.round)
-  pub early : (s : Side) →
-      place_at c.mail.next s ≡ some_if (x (peer c.me s) c.me (c.round + 1)) (message_of o (peer c.me s) c.me (c.round + 1))
-  pub before : (s : Side) (t : ℕ) → t < c.round → x (peer c.me s) c.me t ≡ true
-  pub soon : (s : Side) (t : ℕ) → x (peer c.me s) c.me t ≡ true → (t ≤ taken c.round c.handed) × IsRound o t
-
-pub almost : {S : Type 0} (next : S → ℕ → List ℕ → Batch) (o : Setup) (x : Delivered) (c : Core S) → Fits next o x c → Almost next o x c
-almost next o x c f = record {
-  script = f.script;
-  words = f.words;
-  numbers = f.numbers;
-  rounds = f.rounds;
-  wires = f.wires;
-  opened = f.opened;
-  received = f.received;
-  dealt = f.dealt;
-  drawn = f.drawn;
-  own = f.own;
-  now = f.now;
-  early = f.early;
-  before = f.before;
-  soon = f.soon;
-}
-
-pub wholly : {S : Type 0} (next : S → ℕ → List ℕ → Batch) (o : Setup) (x : Delivered) (c : Core S) → Almost next o x c →
-    (c.handed ≡ true → both_in x c.me c.round ≡ false) → Fits next o x c
-wholly next o x c f waits = record {
-  script = f.script;
-  words = f.words;
-  numbers = f.numbers;
-  rounds = f.rounds;
-  wires = f.wires;
-  opened = f.opened;
-  received = f.received;
-  dealt = f.dealt;
-  drawn = f.drawn;
-  own = f.own;
-  now = f.now;
-  early = f.early;
-  before = f.before;
-  soon = f.soon;
-  waits = waits;
-}
+use Rattle.beet_delivery.proofs.ThreeServers.{same_is, same_self}
 
 some-place : (b : Bool) (m : RoundMessage) → is_some (some_if b m) ≡ b
 some-place true m = refl
@@ -104,7 +47,7 @@ below-or : {P : Type 0} → (t n : ℕ) → t < n + 1 → (t < n → P) → (t �
 below-or t n h f g = ⊎_elim f g (below-cases t n h)
 
 -- both messages of the round are in the box where they were delivered
-module _ {S : Type 0} (next : S → ℕ → List ℕ → Batch) (o : Setup) (x : Delivered) (c : Core S) (fits : Almost next o x c) where
+module _ {S : Type 0} (next : S → ℕ → List ℕ → Batch) (o : Setup) (x : Delivered) (c : Core S) (fits : Stands next o x c) where
   place-delivered : (s : Side) → is_some (place_at c.mail.now s) ≡ x (peer c.me s) c.me c.round
   place-delivered s = ap is_some (fits.now s) ∙ some-place _ _
 
@@ -134,21 +77,23 @@ module _ {S : Type 0} (next : S → ℕ → List ℕ → Batch) (o : Setup) (x :
       rw (coming-is, fits.wires, fits.words, dealt, drawn) (sends-run o there (coming o c.round).act c.me to)
 
   -- the messages of the round are handed out
-  pub hands-out : c.handed ≡ false → Almost next o x (handed_out next c)
+  pub hands-out : c.handed ≡ false → Stands next o x (handed_out next c)
   hands-out h =
       let dealt = rw h at fits.dealt in
       let drawn = rw h at fits.drawn in
       record {
-        script = fits.script;
-        words = fits.words;
-        numbers = fits.numbers;
-        rounds = fits.rounds;
-        wires = fits.wires;
-        opened = fits.opened;
+        work = record {
+          script = fits.script;
+          words = fits.words;
+          numbers = fits.numbers;
+          rounds = fits.rounds;
+          wires = fits.wires;
+          opened = fits.opened;
+          dealt = rw (coming-is, dealt) refl;
+          drawn = rw (coming-is, drawn) (sym (passed-again c.coefficients.words (shared_at o c.round).drawn (draws_in (coming o c.round).act)));
+          own = sends-is h c.me;
+        };
         received = fits.received;
-        dealt = rw (coming-is, dealt) refl;
-        drawn = rw (coming-is, drawn) (sym (passed-again c.coefficients.words (shared_at o c.round).drawn (draws_in (coming o c.round).act)));
-        own = sends-is h c.me;
         now = fits.now;
         early = fits.early;
         before = fits.before;
@@ -236,21 +181,25 @@ module _ {S : Type 0} (next : S → ℕ → List ℕ → Batch) (o : Setup) (x :
 
     pub moves-on : Fits next o x (moved_on next c)
     moves-on = record {
-      script = fits.script;
-      words = fits.words;
-      numbers = fits.numbers;
-      rounds = λ t h. below-or t c.round h (fits.rounds t) (λ e. rw e (ap (λ (b : Batch). is_end b.act) (sym coming-is) ∙ goes));
-      wires = wires_are ∙ ap (λ n. member (standing_at o n).wires c.me) next_round;
-      opened = opened_is ∙ ap (λ n. (shared_at o n).opened) next_round;
-      received = rw (fits.received, in_place Low, in_place High) (sym (each-more (messages_to o c.me) c.round));
-      dealt = rw add-one (rw handed at fits.dealt);
-      drawn = rw add-one (rw handed at fits.drawn);
-      own = refl;
-      now = λ s. turned_now c.mail want s ∙ ap (kept want) (fits.early s)
-          ∙ kept_place want (x (peer c.me s) c.me (c.round + 1)) (message_of o (peer c.me s) c.me (c.round + 1)) (size_is s);
-      early = λ s. turned_next c.mail want s ∙ ap (λ b. some_if b (message_of o (peer c.me s) c.me (c.round + 1 + 1))) (sym (none_later s));
-      before = λ s t h. below-or t c.round h (fits.before s t) (λ e. rw e (delivered s));
-      soon = λ s t e. let h = fits.soon s t e in let low = rw handed at h.0 in (omega (arith, low), h.1);
+      stands = record {
+        work = record {
+          script = fits.script;
+          words = fits.words;
+          numbers = fits.numbers;
+          rounds = λ t h. below-or t c.round h (fits.rounds t) (λ e. rw e (ap (λ (b : Batch). is_end b.act) (sym coming-is) ∙ goes));
+          wires = wires_are ∙ ap (λ n. member (standing_at o n).wires c.me) next_round;
+          opened = opened_is ∙ ap (λ n. (shared_at o n).opened) next_round;
+          dealt = rw add-one (rw handed at fits.dealt);
+          drawn = rw add-one (rw handed at fits.drawn);
+          own = refl;
+        };
+        received = rw (fits.received, in_place Low, in_place High) (sym (each-more (messages_to o c.me) c.round));
+        now = λ s. turned_now c.mail want s ∙ ap (kept want) (fits.early s)
+            ∙ kept_place want (x (peer c.me s) c.me (c.round + 1)) (message_of o (peer c.me s) c.me (c.round + 1)) (size_is s);
+        early = λ s. turned_next c.mail want s ∙ ap (λ b. some_if b (message_of o (peer c.me s) c.me (c.round + 1 + 1))) (sym (none_later s));
+        before = λ s t h. below-or t c.round h (fits.before s t) (λ e. rw e (delivered s));
+        soon = λ s t e. let h = fits.soon s t e in let low = rw handed at h.0 in (omega (arith, low), h.1);
+      };
       waits = λ e. absurd (true≢false (sym e));
     }
 
@@ -353,14 +302,14 @@ module _ {S : Type 0} (next : S → ℕ → List ℕ → Batch) (o : Setup) (x :
     where
       below : (b : Bool) → is_end (coming o c.round).act ≡ b → t < c.round
       below true e = elim (cases_lt t c.round) [ inl h ↦ h | inr h ↦ absurd (true≢false (sym e ∙ is_round c.round h)) ]
-      below false e = absurd (true≢false (sym ended ∙ ap (λ (b : Batch). is_end b.act) (coming-is next o x c (almost next o x c fits)) ∙ e))
+      below false e = absurd (true≢false (sym ended ∙ ap (λ (b : Batch). is_end b.act) (coming-is next o x c fits.stands) ∙ e))
 
   pub late : has_ended next c ≡ true → Fits next o the_set c
   late ended = unchanged (fits.before side t (passed-before ended))
 
   -- a message is in the set where its place is filled
   in-now : (s : Side) (b : Bool) → is_some (place_at c.mail.now s) ≡ b → t ≡ c.round → x (peer c.me s) c.me t ≡ b
-  in-now s b filled e = rw e (sym (place-delivered next o x c (almost next o x c fits) s) ∙ filled)
+  in-now s b filled e = rw e (sym (place-delivered next o x c fits.stands s) ∙ filled)
 
   in-next : (b : Bool) → is_some (place_at c.mail.next side) ≡ b → t ≡ c.round + 1 → x (peer c.me side) c.me t ≡ b
   in-next b filled e =
@@ -370,7 +319,7 @@ module _ {S : Type 0} (next : S → ℕ → List ℕ → Batch) (o : Setup) (x :
   not-long : c.mail.round ≡ c.round → c.mail.want ≡ size_of (coming_at next c).act → t ≡ c.mail.round → array_vec_len the_message.numbers ≡ c.mail.want
   not-long at want due =
       let e : t ≡ c.round = due ∙ at in
-      rw (e, want, coming-is next o x c (almost next o x c fits)) (length-sent_for o (standing_at o c.round) (coming o c.round).act (peer c.me side) c.me)
+      rw (e, want, coming-is next o x c fits.stands) (length-sent_for o (standing_at o c.round) (coming o c.round).act (peer c.me side) c.me)
 
   -- the core has handed out the messages of the round
   module _ (handed : c.handed ≡ true) where
@@ -384,18 +333,10 @@ module _ {S : Type 0} (next : S → ℕ → List ℕ → Batch) (o : Setup) (x :
     boxed : (box : Mailbox) →
         ((s : Side) → place_at box.now s ≡ some_if (the_set (peer c.me s) c.me c.round) (message_of o (peer c.me s) c.me c.round)) →
         ((s : Side) → place_at box.next s ≡ some_if (the_set (peer c.me s) c.me (c.round + 1)) (message_of o (peer c.me s) c.me (c.round + 1))) →
-        Almost next o the_set (record c { mail = box })
+        Stands next o the_set (record c { mail = box })
     boxed box now early = record {
-      script = fits.script;
-      words = fits.words;
-      numbers = fits.numbers;
-      rounds = fits.rounds;
-      wires = fits.wires;
-      opened = fits.opened;
+      work = fits.work;
       received = fits.received;
-      dealt = fits.dealt;
-      drawn = fits.drawn;
-      own = fits.own;
       now = now;
       early = early;
       before = before_stays;
@@ -404,7 +345,7 @@ module _ {S : Type 0} (next : S → ℕ → List ℕ → Batch) (o : Setup) (x :
 
     -- the message is put in its place of this round
     pub put-now : (box : Mailbox) → t ≡ c.round → box ≡ record c.mail { now = with_place c.mail.now side the_message } →
-        Almost next o the_set (record c { mail = box })
+        Stands next o the_set (record c { mail = box })
     put-now box e is =
         boxed box
         (λ s. ap (λ (b : Mailbox). place_at b.now s) is ∙ split
@@ -419,13 +360,16 @@ module _ {S : Type 0} (next : S → ℕ → List ℕ → Batch) (o : Setup) (x :
     put-next box e is =
         let apart : (s : Side) → the_set (peer c.me s) c.me c.round ≡ x (peer c.me s) c.me c.round =
         λ s. new-apart x c.me side t s c.round (λ f. absurd (omega (arith, e, f))) in
-        wholly next o the_set (record c { mail = box }) (boxed box
-        (λ s. ap (λ (b : Mailbox). place_at b.now s) is ∙ fits.now s ∙ rw (apart s) refl)
-        (λ s. ap (λ (b : Mailbox). place_at b.next s) is ∙ split
-        (λ s. place_at (with_place c.mail.next side the_message) s ≡ some_if (the_set (peer c.me s) c.me (c.round + 1)) (message_of o (peer c.me s) c.me (c.round + 1))) side
-        (placed-here c.mail.next side the_message ∙ rw (← e, new-here x c.me side t) refl)
-        (λ s other. placed-other c.mail.next side s the_message other ∙ fits.early s ∙ rw (new-other x c.me side t s (c.round + 1) other) refl) s))
-        (λ h. rw (apart Low, apart High) (fits.waits h))
+        record {
+          stands =
+              boxed box
+              (λ s. ap (λ (b : Mailbox). place_at b.now s) is ∙ fits.now s ∙ rw (apart s) refl)
+              (λ s. ap (λ (b : Mailbox). place_at b.next s) is ∙ split
+              (λ s. place_at (with_place c.mail.next side the_message) s ≡ some_if (the_set (peer c.me s) c.me (c.round + 1)) (message_of o (peer c.me s) c.me (c.round + 1))) side
+              (placed-here c.mail.next side the_message ∙ rw (← e, new-here x c.me side t) refl)
+              (λ s other. placed-other c.mail.next side s the_message other ∙ fits.early s ∙ rw (new-other x c.me side t s (c.round + 1) other) refl) s);
+          waits = λ h. rw (apart Low, apart High) (fits.waits h);
+        }
 
     -- every verdict but Ready
     pub stays : (box : Mailbox) (v : Verdict) → c.mail.round ≡ c.round → c.mail.want ≡ size_of (coming_at next c).act →
@@ -439,8 +383,9 @@ module _ {S : Type 0} (next : S → ℕ → List ℕ → Batch) (o : Setup) (x :
     stays box Ready at want judged other = absurd (other refl)
     stays box Stored at want judged other =
         ⊎_elim
-        (λ a. wholly next o the_set (record c { mail = box }) (put-now box (a.0.0 ∙ at) a.3)
-        (λ h. still-waits next o the_set (record c { mail = box }) (put-now box (a.0.0 ∙ at) a.3) a.2))
+        (λ a.
+        let put = put-now box (a.0.0 ∙ at) a.3 in
+        record { stands = put; waits = λ h. still-waits next o the_set (record c { mail = box }) put a.2 })
         (λ b. put-next box (b.0.0 ∙ ap (λ n. n + 1) at) b.1)
         judged
 
@@ -537,10 +482,10 @@ module _ {S : Type 0} (next : S → ℕ → List ℕ → Batch) (c : Core S) whe
   -- the messages are handed out, and the round is passed where both messages to the server are in
   pub after-out : (d : Core S) (o : Setup) (x : Delivered) → c.handed ≡ false → has_ended next c ≡ false → HandsOut next c d → Fits next o x c → Fits next o x d
   after-out d o x handed goes leaves fits =
-      let a = hands-out next o x c (almost next o x c fits) handed in
+      let a = hands-out next o x c fits.stands handed in
       ⊎_elim
       (λ b. rw b.1 (moves-on next o x (handed_out next c) a refl goes b.0))
-      (λ b. rw b.1 (wholly next o x (handed_out next c) a (λ _. still-waits next o x (handed_out next c) a b.0)))
+      (λ b. rw b.1 (record { stands = a; waits = λ _. still-waits next o x (handed_out next c) a b.0 }))
       leaves
 
   -- so far is the core then
@@ -560,5 +505,5 @@ module _ {S : Type 0} (next : S → ℕ → List ℕ → Batch) (c : Core S) whe
   pub handed-messages : (o : Setup) (x : Delivered) → Fits next o x c → c.handed ≡ false → messages_out next c ≡ messages_from o c.me c.round
   handed-messages o x fits handed =
       let is : (s : Side) → sends next (work_of c) (peer c.me s) ≡ message o c.me (peer c.me s) c.round =
-      λ s. sends-is next o x c (almost next o x c fits) handed (peer c.me s) in
+      λ s. sends-is next o x c fits.stands handed (peer c.me s) in
       rw (is Low, is High) refl

@@ -13,7 +13,8 @@ use Rattle.beet_delivery.specs.Events.{Triple, Delivered, same, with_triple, bot
 use Rattle.beet_server.specs.Cores.{Core, has_ended, is_quiet}
 use Rattle.beet_server.specs.Fits.{Fits, IsRound, message_of, some_if}
 use Rattle.beet_server.specs.Answers.{Keeps, Moves}
-use Rattle.beet_delivery.proofs.EventFacts.{same_not, both_from_sides, passed_in, passed_most, passed_largest}
+use Rattle.beet_delivery.proofs.NetworkFacts.{passed_most}
+use Rattle.beet_delivery.proofs.ThreeServers.{both_from_sides, passed_in, passed_largest, same_not, three-is}
 
 -- a round of the run is one of its rounds
 pub is_round : (o : Setup) (rounds t : ℕ) → HasRounds o rounds → IsRound o t ↔ (t < rounds)
@@ -102,7 +103,7 @@ at_passed next o x c rounds h f quiet =
       ]
       | inr ended ↦
           let all : c.round ≡ rounds = (ended_at next o x c rounds h f).0 ended in
-          let most : passed rounds x c.me ≤ rounds = passed_most rounds x c.me in
+          let most : passed rounds x c.me ≤ rounds = passed_most three-is rounds x c.me in
           omega (arith, low, all, most)
     ]
 
@@ -113,21 +114,15 @@ elsewhere next o x y c agree f =
     let both : (t : ℕ) → both_in y c.me t ≡ both_in x c.me t =
     λ t. ap (λ b. b && y (peer c.me High) c.me t) (agree Low t) ∙ ap (λ b. x (peer c.me Low) c.me t && b) (agree High t) in
     record {
-      script = f.script;
-      words = f.words;
-      numbers = f.numbers;
-      rounds = f.rounds;
-      wires = f.wires;
-      opened = f.opened;
-      received = f.received;
-      dealt = f.dealt;
-      drawn = f.drawn;
-      own = f.own;
-      now = λ s. subst (λ b. place_at c.mail.now s ≡ some_if b (message_of o (peer c.me s) c.me c.round)) (sym (agree s c.round)) (f.now s);
-      early = λ s.
-          subst (λ b. place_at c.mail.next s ≡ some_if b (message_of o (peer c.me s) c.me (c.round + 1))) (sym (agree s (c.round + 1))) (f.early s);
-      before = λ s t lt. agree s t ∙ f.before s t lt;
-      soon = λ s t there. f.soon s t (sym (agree s t) ∙ there);
+      stands = record {
+        work = f.work;
+        received = f.received;
+        now = λ s. subst (λ b. place_at c.mail.now s ≡ some_if b (message_of o (peer c.me s) c.me c.round)) (sym (agree s c.round)) (f.now s);
+        early = λ s.
+            subst (λ b. place_at c.mail.next s ≡ some_if b (message_of o (peer c.me s) c.me (c.round + 1))) (sym (agree s (c.round + 1))) (f.early s);
+        before = λ s t lt. agree s t ∙ f.before s t lt;
+        soon = λ s t there. f.soon s t (sym (agree s t) ∙ there);
+      };
       waits = λ handed. both c.round ∙ f.waits handed;
     }
 

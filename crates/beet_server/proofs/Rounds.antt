@@ -15,7 +15,7 @@ use Rattle.beet_delivery.specs.Events.{Delivered, Triple, all_delivered, both_in
 use Rattle.beet_server.specs.Cores.{Core, is_quiet, has_ended}
 use Rattle.beet_server.specs.Fits.{Fits, IsRound, message_of}
 use Rattle.beet_server.specs.Answers.{Answers, Moves}
-use Rattle.beet_delivery.proofs.EventFacts.{peer_other, same_self}
+use Rattle.beet_delivery.proofs.ThreeServers.{peer_other, same_self}
 use Rattle.beet_server.proofs.Passing.{coming_is, elsewhere}
 use Rattle.beet_server.specs.Lockstep.{AreSent, HasHanded, IsAtRound}
 

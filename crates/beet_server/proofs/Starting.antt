@@ -70,20 +70,24 @@ module _ {S : Type 0} (next : S → ℕ → List ℕ → Batch) (me : Point) (sc
     pub begins : (o : Setup) → OpensAt next o me script inputs masks.words coefficients.words →
         Fits next o nothing (fresh next me script inputs masks coefficients)
     begins o opens = record {
-      script = opens.has_script;
-      words = sym opens.has_words;
-      numbers = sym opens.has_numbers;
-      rounds = λ t h. absurd (omega (arith, h));
-      wires = rw (← opens.has_inputs, ← opens.has_script)
-          (sym (member-each (λ (points : List ℕ). with_lets points (o.next 0 []).lets.items) o.inputs me));
-      opened = refl;
-      received = sym (each-zero (messages_to o me));
-      dealt = no_mask;
-      drawn = no_number ∙ sym (none-passed coefficients.words);
-      own = refl;
-      now = elim [ Low ↦ refl | High ↦ refl ];
-      early = elim [ Low ↦ refl | High ↦ refl ];
-      before = λ s t h. absurd (omega (arith, h));
-      soon = λ s t e. absurd (true≢false (sym e));
+      stands = record {
+        work = record {
+          script = opens.has_script;
+          words = sym opens.has_words;
+          numbers = sym opens.has_numbers;
+          rounds = λ t h. absurd (omega (arith, h));
+          wires = rw (← opens.has_inputs, ← opens.has_script)
+              (sym (member-each (λ (points : List ℕ). with_lets points (o.next 0 []).lets.items) o.inputs me));
+          opened = refl;
+          dealt = no_mask;
+          drawn = no_number ∙ sym (none-passed coefficients.words);
+          own = refl;
+        };
+        received = sym (each-zero (messages_to o me));
+        now = elim [ Low ↦ refl | High ↦ refl ];
+        early = elim [ Low ↦ refl | High ↦ refl ];
+        before = λ s t h. absurd (omega (arith, h));
+        soon = λ s t e. absurd (true≢false (sym e));
+      };
       waits = λ e. absurd (true≢false (sym e));
     }

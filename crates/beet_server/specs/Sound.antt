@@ -15,11 +15,13 @@ abbrev pub if_handed : Bool → ℕ → ℕ
 if_handed true n = n
 if_handed false n = 0
 
--- the script stands where its batches before this round led, the wires and tapes are as many as it counts, and there is room for all that
--- may come
-pub record IsSound (next : ℕ → List ℕ → Batch) (bounds : Standing) (rounds : ℕ) (batch : Batch) (round : ℕ) (wires opened own : List ℕ) (masks coefficients : Tape) (handed : Bool) (wire_room opened_room : ℕ) : Type 0 where
+-- the script stands where its batches before this round led, the wires and tapes are as many as it counts among so many servers that draw
+-- so many numbers for each secret, and there is room for all that may come
+pub record IsSound (servers numbers : ℕ) (next : ℕ → List ℕ → Batch) (bounds : Standing) (rounds : ℕ) (batch : Batch) (round : ℕ)
+    (wires opened : List ℕ) (masks coefficients : Tape) (handed : Bool) (wire_room opened_room : ℕ) : Type 0 where
   pub coming : batch ≡ next round opened
   pub standing : Standing
+  pub dealers : standing.dealers ≡ servers
   pub left : ℕ
   pub done : standing.done ≡ round
   pub few : round + left ≤ rounds
@@ -28,8 +30,8 @@ pub record IsSound (next : ℕ → List ℕ → Batch) (bounds : Standing) (roun
   pub answers : length opened ≤ MOST_NUMBERS * round
   pub dealt : masks.passed ≡ standing.masks + if_handed handed (deals_in batch.act)
   pub words : bounds.masks ≤ length masks.words
-  pub drawn : bounds.coefficients ≤ length (left_of coefficients) + (standing.coefficients + if_handed handed (draws_in batch.act))
-  pub sent : length own ≡ if_handed handed (size_of batch.act)
+  pub drawn : numbers * bounds.coefficients
+      ≤ length (left_of coefficients) + numbers * (standing.coefficients + if_handed handed (draws_in batch.act))
   pub wires_fit : bounds.wires ≤ wire_room
   pub opened_fit : MOST_NUMBERS * rounds ≤ opened_room
   pub small : rounds < 2 ^ 32

@@ -33,10 +33,10 @@ pub struct Engine<S: Script> {
 }
 
 impl<S: Script> Model for Engine<S> {
-    ghost use Rattle.std.specs.Prelude.{vec_capacity};
-    ghost use Rattle.beet_gates.specs.Scripts.{bounds_of};
+    ghost use Rattle.std.specs.Prelude.{◌≡◌, length, vec_capacity};
+    ghost use Rattle.beet_gates.specs.Scripts.{bounds_of, size_of};
     ghost use Rattle.beet_server.specs.Steps.{Work};
-    ghost use Rattle.beet_server.specs.Sound.{IsSound};
+    ghost use Rattle.beet_server.specs.Sound.{IsSound, if_handed};
 
     ghost Value = { Work S };
 
@@ -52,11 +52,12 @@ impl<S: Script> Model for Engine<S> {
       handed = e.handed;
     } };
 
-    ghost invariant = { λ e. IsSound (S.batch_of e.script)
+    ghost invariant = { λ e. IsSound 3 1 (S.batch_of e.script)
         (bounds_of (S.wires_of e.script) (S.masks_of e.script) (S.coefficients_of e.script))
         (S.rounds_of e.script)
-        e.batch e.round e.wires.items e.opened.items e.own.items e.masks e.coefficients e.handed
+        e.batch e.round e.wires.items e.opened.items e.masks e.coefficients e.handed
         (vec_capacity e.wires) (vec_capacity e.opened)
+        × (length e.own.items ≡ if_handed e.handed (size_of e.batch.act))
         × S.is_at e.script e.round e.opened.items e.place };
 }
 

@@ -15,4 +15,5 @@ pub use laws_of_cores::{
     a_core_that_has_sent_is_at_its_passed_rounds, all_end_alike,
     deliveries_elsewhere_change_nothing, messages_go_out_at_most_twice,
 };
+pub use parts::{Numbers, append_all, append_lets, bits, pick, products};
 pub use server::{ServerCore, StartFault};

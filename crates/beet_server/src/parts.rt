@@ -127,7 +127,7 @@ pub fn absorb(
 }
 
 /// The products of the pairs.
-fn products(wires: &[Fe], pairs: &[(u32, u32)]) -> Numbers
+pub fn products(wires: &[Fe], pairs: &[(u32, u32)]) -> Numbers
     requires below { PairsBelow (length wires.now) pairs.now }
     requires few { length pairs.now ≤ MOST_NUMBERS }
     ensures { result.items ≡ map (product_of wires.now) pairs.now }
@@ -141,7 +141,7 @@ fn products(wires: &[Fe], pairs: &[(u32, u32)]) -> Numbers
 
 /// The bits of a word, the lowest first.
 #[tactic(auto, using(beet_gates::proofs::EachFacts::each_steps))]
-fn bits(word: Word) -> Numbers
+pub fn bits(word: Word) -> Numbers
     ensures bits { result.items ≡ each (bit_at word) 61 }
     ensures count { length result.items ≡ 61 }
 {
@@ -153,7 +153,7 @@ fn bits(word: Word) -> Numbers
 }
 
 /// Puts the points of the wires in the place of other numbers.
-fn pick(wires: &[Fe], shown: &[u32], numbers: &mut Numbers)
+pub fn pick(wires: &[Fe], shown: &[u32], numbers: &mut Numbers)
     requires below { WiresBelow (length wires.now) shown.now }
     requires few { length shown.now ≤ MOST_NUMBERS }
     ensures { numbers.new.items ≡ map (slice_index wires.now) shown.now }

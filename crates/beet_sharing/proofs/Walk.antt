@@ -1,5 +1,5 @@
 -- A lawful script's run among three servers, batch by batch: what stands, what is drawn and dealt, and how long messages are.
-use Rattle.std.proofs.Common.{◌≡◌, ℕ, zero, suc, ◌+◌, ◌-◌, ◌<◌, ◌≤◌, inl, inr, true, false, [], ◌++◌, length, slice_index, refl, sym, ◌∙◌, ap, arith, length-append}
+use Rattle.std.proofs.Common.{◌≡◌, ℕ, zero, suc, ◌+◌, ◌*◌, ◌-◌, ◌<◌, ◌≤◌, inl, inr, true, false, [], ◌++◌, length, slice_index, refl, sym, ◌∙◌, ap, arith, length-append}
 use Rattle.std.proofs.lemmas.Bool.{cases_eq}
 use Rattle.std.proofs.lemmas.List.{length-map}
 use Rattle.beet_field.specs.Trio.{member}
@@ -31,6 +31,7 @@ Goes o t = (k : ℕ) → k < t → is_end (coming o k).act ≡ false
 -- a lawful run of at most so many batches after t of them
 pub record Walks (o : Setup) (bounds : Standing) (most t : ℕ) : Type 0 where
   pub standing : Standing
+  pub dealers : standing.dealers ≡ 3
   pub at : standing.done ≡ t
   pub few : t ≤ most
   pub law : LawFrom o.next bounds (most - t) standing (shared_at o t).opened
@@ -49,19 +50,21 @@ goes-on o t go more k lt = elim (cases_eq k t) [
 ]
 
 -- what an act gives and opens
-length-gained : (o : Setup) (s : Shared) (a : Act) (i : Point) → (n : Standing) → (acted n a).wires ≡ n.wires + length (gained o s a i)
-length-gained o s Deal i n =
+length-gained : (o : Setup) (s : Shared) (a : Act) (i : Point) → (n : Standing) → n.dealers ≡ 3 → (acted n a).wires ≡ n.wires + length (gained o s a i)
+length-gained o s Deal i n three =
+    let bits : 61 * n.dealers ≡ 61 * 3 = ap (λ k. 61 * k) three in
     omega (
       arith,
+      bits,
       length-append (each (hidden_at o s Deal One i) 61) (each (hidden_at o s Deal Two i) 61 ++ each (hidden_at o s Deal Three i) 61),
       length-append (each (hidden_at o s Deal Two i) 61) (each (hidden_at o s Deal Three i) 61),
       length-each (hidden_at o s Deal One i) 61,
       length-each (hidden_at o s Deal Two i) 61,
       length-each (hidden_at o s Deal Three i) 61,
     )
-length-gained o s (Mul pairs) i n = omega (arith, length-each (product_at o s (Mul pairs) i) (length pairs.items))
-length-gained o s (Reveal shown) i n = omega arith
-length-gained o s End i n = omega arith
+length-gained o s (Mul pairs) i n three = omega (arith, length-each (product_at o s (Mul pairs) i) (length pairs.items))
+length-gained o s (Reveal shown) i n three = omega arith
+length-gained o s End i n three = omega arith
 
 pub length-opened_by : (s : Shared) (a : Act) → length (opened_by s a) ≡ revealed a
 length-opened_by s Deal = refl
@@ -71,6 +74,7 @@ length-opened_by s End = refl
 
 -- a standing counts what a run has
 record Counts (n : Standing) (s : Shared) : Type 0 where
+  dealers : n.dealers ≡ 3
   wires : (i : Point) → length (member s.wires i) ≡ n.wires
   masks : s.dealt ≡ n.masks
   coefficients : s.drawn ≡ n.coefficients
@@ -100,10 +104,17 @@ acted-done n (Mul pairs) h = refl
 acted-done n (Reveal shown) h = refl
 acted-done n End h = cc h
 
+acted-dealers : (n : Standing) (a : Act) → (acted n a).dealers ≡ n.dealers
+acted-dealers n Deal = refl
+acted-dealers n (Mul pairs) = refl
+acted-dealers n (Reveal shown) = refl
+acted-dealers n End = refl
+
 counts-act : (o : Setup) (n : Standing) (s : Shared) (a : Act) → Counts n s → Counts (acted n a) (act_among o a s)
 counts-act o n s a c = record {
+  dealers = acted-dealers n a ∙ c.dealers;
   wires = λ i. ap length (member-trio (λ j. member s.wires j ++ gained o s a j) i)
-      ∙ omega (arith, length-append (member s.wires i) (gained o s a i), c.wires i, length-gained o s a i n);
+      ∙ omega (arith, length-append (member s.wires i) (gained o s a i), c.wires i, length-gained o s a i n c.dealers);
   masks = omega (arith, c.masks, acted-masks n a);
   coefficients = omega (arith, c.coefficients, acted-coefficients n a);
   opened = omega (arith, length-append s.opened (opened_by s a), length-opened_by s a, c.opened, acted-opened n a);
@@ -115,6 +126,7 @@ length-lets b s i =
 
 counts-batch : (o : Setup) (n : Standing) (s : Shared) (b : Batch) → Counts n s → Counts (after n b) (batch_among o b s)
 counts-batch o n s b c = counts-act o (record n { wires = n.wires + length b.lets.items }) (with_batch_lets b s) b.act (record {
+  dealers = c.dealers;
   wires = λ i. omega (arith, length-lets b s i, c.wires i);
   masks = c.masks;
   coefficients = c.coefficients;
@@ -122,7 +134,7 @@ counts-batch o n s b c = counts-act o (record n { wires = n.wires + length b.let
 })
 
 counts-at : (o : Setup) (inputs : ℕ) → HasInputs o inputs → (t : ℕ) → Counts (stands_at o inputs t) (shared_at o t)
-counts-at o inputs h zero = record { wires = h; masks = refl; coefficients = refl; opened = refl }
+counts-at o inputs h zero = record { dealers = refl; wires = h; masks = refl; coefficients = refl; opened = refl }
 counts-at o inputs h (suc t) = counts-batch o (stands_at o inputs t) (shared_at o t) (coming o t) (counts-at o inputs h t)
 
 -- the numbers opened after one batch more
@@ -185,6 +197,7 @@ walks o bounds most inputs law h t go =
     let c = counts-at o inputs h t in
     record {
       standing = stands_at o inputs t;
+      dealers = c.dealers;
       at = a.lawful.at;
       few = a.few;
       law = a.lawful.law;
@@ -220,7 +233,7 @@ module _ (o : Setup) (bounds : Standing) (most t : ℕ) (w : Walks o bounds most
   -- the points after the batch are within the bounds
   pub wires-fit : (i : Point) → length (member (shared_at o (suc t)).wires i) ≤ bounds.wires
   wires-fit i =
-      let c : Counts w.standing (shared_at o t) = record { wires = w.wires; masks = w.masks; coefficients = w.coefficients; opened = w.opened } in
+      let c : Counts w.standing (shared_at o t) = record { dealers = w.dealers; wires = w.wires; masks = w.masks; coefficients = w.coefficients; opened = w.opened } in
       omega (arith, coming-stands.1.0, (counts-batch o w.standing (shared_at o t) (coming o t) c).wires i)
 
   -- each message has a number, where the end has not come

@@ -1,5 +1,5 @@
 -- What one server sends in a batch, and what the numbers of the three give it.
-use Rattle.std.specs.Prelude.{ℕ, List, [], ◌++◌, map, length, slice_index}
+use Rattle.std.specs.Prelude.{ℕ, ◌*◌, List, [], ◌++◌, map, length, slice_index}
 use Rattle.std.specs.Int.{bit_at}
 use Rattle.beet_field.specs.declared.point.Point.{Point}
 use Rattle.beet_field.specs.declared.trio.Trio.{Trio}
@@ -38,9 +38,13 @@ numbers_opened (Mul pairs) one two three = []
 numbers_opened (Reveal shown) one two three = each (λ k. recombined (three_at one two three k)) (length one)
 numbers_opened End one two three = []
 
--- how many points of wires an act gives
+-- how many points of wires an act gives, where so many servers deal
+abbrev pub gained_among : ℕ → Act → ℕ
+gained_among servers Deal = 61 * servers
+gained_among servers (Mul pairs) = length pairs.items
+gained_among servers (Reveal shown) = 0
+gained_among servers End = 0
+
+-- the same among three
 abbrev pub gained_in : Act → ℕ
-gained_in Deal = 183
-gained_in (Mul pairs) = length pairs.items
-gained_in (Reveal shown) = 0
-gained_in End = 0
+gained_in = gained_among 3

@@ -62,6 +62,7 @@ pub fn lines_end_alike()
 
 /// The product of 3 and 4, on the lines 3 + 5i and 4 + 2i, where the servers draw 1, 2 and 4: the
 /// messages, the new points, the opened number and the rounds.
+#[tactic(auto, unfolding(beet_gates::specs::Clear::weighed, beet_gates::specs::Each::each))]
 pub fn product_example()
     ensures lines { OnLines (3 ∷ 4 ∷ []) (5 ∷ 2 ∷ []) product_setup.inputs }
     ensures from_one { sends product_setup One 0 ≡ trio (49 ∷ []) (50 ∷ []) (51 ∷ []) }
@@ -77,6 +78,7 @@ pub fn product_example()
 
 /// The words 5, 2 and 2^60 + 1 are dealt: points of the bits, a let over them, the opened number
 /// and the rounds.
+#[tactic(auto, unfolding(beet_gates::specs::Clear::weighed, beet_gates::specs::Each::each))]
 pub fn deal_example()
     ensures first { wire_at deal_setup 1 0 ≡ trio 11 21 31 }
     ensures second { wire_at deal_setup 1 1 ≡ trio 11 22 33 }

@@ -6,24 +6,23 @@ use Rattle.beet_field.specs.declared.trio.Trio.{Trio}
 use Rattle.beet_gates.specs.declared.Batch.{Batch}
 use Rattle.beet_round.specs.Sides.{peer}
 use Rattle.beet_round.specs.declared.sides.Side.TheVariants.{Low, High}
-use Rattle.beet_sharing.specs.Runs.{Setup, rounds_among}
 use Rattle.beet_server.specs.Answers.{Keeps}
 use Rattle.beet_server.specs.Cores.{AreFresh, Core, has_ended, setup_of}
-use Rattle.beet_server.specs.Lockstep.{AreAtRound, HaveEnded, IsAtRound}
+use Rattle.beet_server.specs.Lockstep.{HaveEnded, IsAtRound}
 use Rattle.beet_server.proofs.Beginning.{fresh-stand}
 use Rattle.beet_server.proofs.Rounds.{by_point}
-use Rattle.beet_link.specs.Ends.{LinkEnd, end_at}
-use Rattle.beet_link.specs.Streams.{rounds_from, stream_of}
+use Rattle.beet_link.specs.Ends.{LinkEnd}
+use Rattle.beet_link.specs.Streams.{link_at, rounds_from}
 use Rattle.beet_station.specs.declared.station.Station.{Station}
-use Rattle.beet_station.specs.Stations.{AreEnded, BeginAlike, IsTied}
+use Rattle.beet_station.specs.Stations.{AreEnded, IsTied}
 
 module _ {S : Type 0} (next : S → ℕ → List ℕ → Batch) (inputs most : S → ℕ) where
   -- a fresh server with ends that have moved nothing
   pub begins : {Place : Type 0} (start : Trio (Core S)) → AreFresh next inputs start → (s : Point) (x : Station S Place)
       {core : Core S} {to_low to_high from_low from_high : LinkEnd} →
       x ≡ record { core = core; to_low = to_low; to_high = to_high; from_low = from_low; from_high = from_high } → core ≡ member start s →
-      to_low ≡ end_at (stream_of next inputs most start s (peer s Low)) 0 → to_high ≡ end_at (stream_of next inputs most start s (peer s High)) 0 →
-      from_low ≡ end_at (stream_of next inputs most start (peer s Low) s) 0 → from_high ≡ end_at (stream_of next inputs most start (peer s High) s) 0 →
+      to_low ≡ link_at next inputs most start s (peer s Low) 0 → to_high ≡ link_at next inputs most start s (peer s High) 0 →
+      from_low ≡ link_at next inputs most start (peer s Low) s 0 → from_high ≡ link_at next inputs most start (peer s High) s 0 →
       IsTied next inputs most start s x
   begins start fresh s x made fresh_one to_low to_high from_low from_high =
       let stand = fresh-stand next inputs most start fresh s in
@@ -32,10 +31,10 @@ module _ {S : Type 0} (next : S → ℕ → List ℕ → Batch) (inputs most : S
       record {
         stands = subst (λ r. IsAtRound next (setup_of next inputs start) r s x.core) none (subst (λ (c : Core S). IsAtRound next (setup_of next inputs start) 0 s c) (sym is) stand);
         keeps = record { me = ap (λ c. c.me) is; script = ap (λ c. c.script) is; masks = ap (λ c. c.masks.words) is; coefficients = ap (λ c. c.coefficients.words) is };
-        to_low = ap (λ y. y.to_low) made ∙ to_low ∙ ap (end_at (stream_of next inputs most start s (peer s Low))) none;
-        to_high = ap (λ y. y.to_high) made ∙ to_high ∙ ap (end_at (stream_of next inputs most start s (peer s High))) none;
-        from_low = ap (λ y. y.from_low) made ∙ from_low ∙ ap (end_at (stream_of next inputs most start (peer s Low) s)) none;
-        from_high = ap (λ y. y.from_high) made ∙ from_high ∙ ap (end_at (stream_of next inputs most start (peer s High) s)) none;
+        to_low = ap (λ y. y.to_low) made ∙ to_low ∙ ap (link_at next inputs most start s (peer s Low)) none;
+        to_high = ap (λ y. y.to_high) made ∙ to_high ∙ ap (link_at next inputs most start s (peer s High)) none;
+        from_low = ap (λ y. y.from_low) made ∙ from_low ∙ ap (link_at next inputs most start (peer s Low) s) none;
+        from_high = ap (λ y. y.from_high) made ∙ from_high ∙ ap (link_at next inputs most start (peer s High) s) none;
       }
 
   -- three servers that have ended in threads are as after lockstep
@@ -50,15 +49,3 @@ module _ {S : Type 0} (next : S → ℕ → List ℕ → Batch) (inputs most : S
         masks = λ s. (keeps s).masks;
         coefficients = λ s. (keeps s).coefficients;
       }
-
-  -- spare servers that begin with the same end as the others do
-  pub spares-ended : (start spares end : Trio (Core S)) → BeginAlike next inputs start spares → HaveEnded next inputs most spares end →
-      HaveEnded next inputs most start end
-  spares-ended start spares end alike h = record {
-    ended = subst (λ (p : Setup × S). AreAtRound next p.0 (rounds_among p.0 (most p.1)) end) (λ i. (alike.setup i, alike.script i)) h.ended;
-    at_end = h.at_end;
-    script = λ s. h.script s ∙ alike.script;
-    masks = λ s. h.masks s ∙ by_point (λ s. (member spares s).masks.words ≡ (member start s).masks.words)
-        (ap (λ (o : Setup). o.masks.one) alike.setup) (ap (λ (o : Setup). o.masks.two) alike.setup) (ap (λ (o : Setup). o.masks.three) alike.setup) s;
-    coefficients = λ s. h.coefficients s ∙ alike.coefficients s;
-  }

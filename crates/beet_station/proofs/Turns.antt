@@ -33,8 +33,8 @@ keeps-on a b c k l = record {
 }
 
 -- one end moved one message
-moved-one : (l : List RoundMessage) (t u : ℕ) (old new : LinkEnd) → old ≡ end_at l t → new ≡ one_on old → u ≡ t + 1 → new ≡ end_at l u
-moved-one l t u old new is next count = next ∙ ap one_on is ∙ ap (end_at l) (sym count)
+moved-one : (room : ℕ) (l : List RoundMessage) (t u : ℕ) (old new : LinkEnd) → old ≡ end_at room l t → new ≡ one_on old → u ≡ t + 1 → new ≡ end_at room l u
+moved-one room l t u old new is next count = next ∙ ap one_on is ∙ ap (end_at room l) (sym count)
 
 module _ {S : Type 0} (next : S → ℕ → List ℕ → Batch) (inputs most : S → ℕ) (bounds : Standing) (start : Trio (Core S))
     (law : LawFrom (next start.one.script) bounds (most start.one.script) (start_of (inputs start.one.script)) []) where
@@ -97,21 +97,25 @@ module _ {S : Type 0} (next : S → ℕ → List ℕ → Batch) (inputs most : S
         pub quiet-still : is_quiet next d ≡ true
         quiet-still = quiet-then next run t (with_low s t) s d after-low
 
-        -- with both messages the server stands at the next round
+        -- with both messages the server has passed the round
+        pub passes : (e : Core S) (w : Verdict) → HasHeard next d e x.from_high w → Keeps d e → IsAtRound next run (t + 1) s e
+        passes e w heard_high keeps_high =
+            high-taken next run t s d e heard_high.message w after-low on heard_high.answers heard_high.fits keeps_high.me
+            (next-only run rounds (peer s High) s t x.from_high heard_high.message tied.from_high heard_high.is_next)
+
+        -- and stands at the next
         pub steps : (y : Station S Place) (w : Verdict) → HasHeard next d y.core x.from_high w → Keeps d y.core →
             y.to_low ≡ one_on x.to_low → y.to_high ≡ one_on x.to_high → y.from_low ≡ one_on x.from_low → y.from_high ≡ one_on x.from_high →
             IsTied next inputs most start s y
         steps y w heard_high keeps_high to_low to_high from_low from_high =
-            let stands : IsAtRound next run (t + 1) s y.core =
-            high-taken next run t s d y.core heard_high.message w after-low on heard_high.answers heard_high.fits keeps_high.me
-            (next-only run rounds (peer s High) s t x.from_high heard_high.message tied.from_high heard_high.is_next) in
+            let stands : IsAtRound next run (t + 1) s y.core = passes y.core w heard_high keeps_high in
             record {
               stands = subst (λ r. IsAtRound next run r s y.core) (sym stands.round) stands;
               keeps = keeps-on _ _ _ (keeps-on _ _ _ (keeps-on _ _ _ tied.keeps keeps) keeps_low) keeps_high;
-              to_low = moved-one _ t _ x.to_low y.to_low tied.to_low to_low stands.round;
-              to_high = moved-one _ t _ x.to_high y.to_high tied.to_high to_high stands.round;
-              from_low = moved-one _ t _ x.from_low y.from_low tied.from_low from_low stands.round;
-              from_high = moved-one _ t _ x.from_high y.from_high tied.from_high from_high stands.round;
+              to_low = moved-one _ _ t _ x.to_low y.to_low tied.to_low to_low stands.round;
+              to_high = moved-one _ _ t _ x.to_high y.to_high tied.to_high to_high stands.round;
+              from_low = moved-one _ _ t _ x.from_low y.from_low tied.from_low from_low stands.round;
+              from_high = moved-one _ _ t _ x.from_high y.from_high tied.from_high from_high stands.round;
             }
 
   -- a server that has ended has passed all rounds

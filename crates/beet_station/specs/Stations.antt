@@ -16,8 +16,8 @@ use Rattle.beet_server.specs.Answers.{Answers, Keeps}
 use Rattle.beet_server.specs.Cores.{Core, has_ended, setup_of}
 use Rattle.beet_server.specs.Fits.{Fits, IsRound, message_of}
 use Rattle.beet_server.specs.Lockstep.{IsAtRound}
-use Rattle.beet_link.specs.Ends.{IsNext, LinkEnd, end_at}
-use Rattle.beet_link.specs.Streams.{rounds_from, stream_of}
+use Rattle.beet_link.specs.Ends.{IsNext, LinkEnd}
+use Rattle.beet_link.specs.Streams.{link_at, rounds_from}
 use Rattle.beet_station.specs.declared.station.Station.{Station}
 
 module _ {S : Type 0} (next : S → ℕ → List ℕ → Batch) where
@@ -30,15 +30,15 @@ module _ {S : Type 0} (next : S → ℕ → List ℕ → Batch) where
         t ≤ old.round + 1 → Fits next o (with_triple x (record { from = peer old.me s; to = old.me; round = t })) new
 
 module _ {S : Type 0} (next : S → ℕ → List ℕ → Batch) (inputs most : S → ℕ) where
-  -- a server of the run of three fresh cores, at a round that it has to hand out: the messages of all rounds before are delivered to it
-  -- and no others, and on each of its links it has put or taken as many
+  -- a server of the run of three fresh cores, at a round that it has to hand out: the messages of all rounds before
+  -- are delivered to it and no others, and on each of its links it has put or taken as many
   pub record IsTied {Place : Type 0} (start : Trio (Core S)) (s : Point) (x : Station S Place) : Type 0 where
     pub stands : IsAtRound next (setup_of next inputs start) x.core.round s x.core
     pub keeps : Keeps (member start s) x.core
-    pub to_low : x.to_low ≡ end_at (stream_of next inputs most start s (peer s Low)) x.core.round
-    pub to_high : x.to_high ≡ end_at (stream_of next inputs most start s (peer s High)) x.core.round
-    pub from_low : x.from_low ≡ end_at (stream_of next inputs most start (peer s Low) s) x.core.round
-    pub from_high : x.from_high ≡ end_at (stream_of next inputs most start (peer s High) s) x.core.round
+    pub to_low : x.to_low ≡ link_at next inputs most start s (peer s Low) x.core.round
+    pub to_high : x.to_high ≡ link_at next inputs most start s (peer s High) x.core.round
+    pub from_low : x.from_low ≡ link_at next inputs most start (peer s Low) s x.core.round
+    pub from_high : x.from_high ≡ link_at next inputs most start (peer s High) s x.core.round
 
   -- so stand all three
   pub record AreTied {Place : Type 0} (start : Trio (Core S)) (stations : Trio (Station S Place)) : Type 0 where
@@ -46,8 +46,8 @@ module _ {S : Type 0} (next : S → ℕ → List ℕ → Batch) (inputs most : S
     pub two : IsTied start Two stations.two
     pub three : IsTied start Three stations.three
 
-  -- the core of a server has passed all rounds of the run of three fresh cores, with all its messages delivered, and still has the words
-  -- that it began with
+  -- the core of a server has passed all rounds of the run of three fresh cores, with all its messages delivered, and
+  -- still has the words that it began with
   pub record IsEnded (start : Trio (Core S)) (s : Point) (c : Core S) : Type 0 where
     pub stands : IsAtRound next (setup_of next inputs start) (rounds_from next inputs most start) s c
     pub over : has_ended next c ≡ true
@@ -58,10 +58,3 @@ module _ {S : Type 0} (next : S → ℕ → List ℕ → Batch) (inputs most : S
     pub one : IsEnded start One cores.one
     pub two : IsEnded start Two cores.two
     pub three : IsEnded start Three cores.three
-
-module _ {S : Type 0} (next : S → ℕ → List ℕ → Batch) (inputs : S → ℕ) where
-  -- three fresh cores begin with the same as three others: the script, the points of the inputs, and the words of each server
-  pub record BeginAlike (cores others : Trio (Core S)) : Type 0 where
-    pub script : others.one.script ≡ cores.one.script
-    pub setup : setup_of next inputs others ≡ setup_of next inputs cores
-    pub coefficients : (s : Point) → (member others s).coefficients.words ≡ (member cores s).coefficients.words

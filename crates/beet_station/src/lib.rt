@@ -1,11 +1,13 @@
-//! One server with its four ends, and the loop that runs it. The loop sees its own core, its ends, its seat at the gate and
-//! the flag that stops it; of another server it sees the messages alone.
+//! One server with its four ends, and the loop that runs it. The loop sees its own core, its ends and its seat at the
+//! gate; of another server it sees the messages alone.
 #![tactic(auto)]
 
 mod laws;
 mod making;
+mod notes;
 mod station;
 
 pub use laws::ended_servers_are_as_after_lockstep;
-pub use making::stations;
-pub use station::{Station, serve};
+pub use making::{Links, all_links, mails, stations};
+pub use notes::{DeskNote, Nobody, Sink};
+pub use station::{Mail, Station, serve};

@@ -5,10 +5,11 @@ ghost use Rattle.beet_server.specs.Cores.{AreFresh};
 ghost use Rattle.beet_station.specs.Links.{AreBetween, AreLinked};
 ghost use Rattle.beet_station.specs.Stations.{AreTied};
 
-use crate::station::Station;
+use crate::station::{Mail, Station};
 use beet_field::{Point, Trio};
 use beet_gates::Script;
 use beet_link::{LinkRx, LinkTx, link};
+use beet_round::RoundMessage;
 use beet_server::ServerCore;
 use std::alloc::{AllocError, Global};
 
@@ -52,8 +53,8 @@ pub struct Links {
     pub two_three: (Ends, Ends),
 }
 
-/// All six links of three fresh servers.
-fn all_links<S: Script>(alloc: Global, cores: &Trio<ServerCore<S>>) -> Result<Links, AllocError>
+/// All six links of three fresh servers. No other call takes memory.
+pub fn all_links<S: Script>(alloc: Global, cores: &Trio<ServerCore<S>>) -> Result<Links, AllocError>
     requires { AreFresh S.batch_of S.inputs_of cores.now }
     ensures { IfOk result (AreLinked S.batch_of S.inputs_of S.rounds_of cores.now) }
 {
@@ -90,28 +91,31 @@ fn station<S: Script>(core: ServerCore<S>, low: Ends, high: Ends) -> Station<S>
     }
 }
 
-/// Three fresh servers with their ends: all six links are made. No other call takes memory.
-pub fn stations<S: Script>(
-    alloc: Global,
-    cores: Trio<ServerCore<S>>,
-) -> Result<Trio<Station<S>>, AllocError>
-    requires { AreFresh S.batch_of S.inputs_of cores }
-    ensures { IfOk result (AreTied S.batch_of S.inputs_of S.rounds_of cores) }
+/// Three fresh servers with their ends, which are those of all six links between them.
+pub fn stations<S: Script>(cores: Trio<ServerCore<S>>, links: Links) -> Trio<Station<S>>
+    requires fresh { AreFresh S.batch_of S.inputs_of cores }
+    requires links { AreLinked S.batch_of S.inputs_of S.rounds_of cores links }
+    ensures tied { AreTied S.batch_of S.inputs_of S.rounds_of cores result }
+    ensures cores { (result.one.core ≡ cores.one) × (result.two.core ≡ cores.two) × (result.three.core ≡ cores.three) }
 {
-    let links = match all_links(alloc, &cores) {
-        Ok(links) => links,
-        Err(error) => {
-            // One call lets them go: else the proof of this way out goes through each of their parts.
-            drop(cores);
-            return Err(error);
-        }
-    };
     let (one_with_two, two_with_one) = links.one_two;
     let (one_with_three, three_with_one) = links.one_three;
     let (two_with_three, three_with_two) = links.two_three;
-    Ok(Trio {
+    Trio {
         one: station(cores.one, one_with_two, one_with_three),
         two: station(cores.two, two_with_one, two_with_three),
         three: station(cores.three, three_with_one, three_with_two),
-    })
+    }
+}
+
+/// Room for the messages of a server.
+fn mail(alloc: Global, me: Point) -> Result<Mail, AllocError> {
+    let low = Box::new(alloc, RoundMessage::blank(me, me))?;
+    let high = Box::new(alloc, RoundMessage::blank(me, me))?;
+    Ok(Mail { low, high })
+}
+
+/// Room for the messages of three servers.
+pub fn mails(alloc: Global) -> Result<Trio<Mail>, AllocError> {
+    Trio::try_of(|me| mail(alloc, me))
 }

@@ -1,6 +1,6 @@
 //! One server with its ends, and the loop that runs it.
 
-ghost use Rattle.std.specs.Prelude.{◌≡◌, ◌≤◌, ◌+◌, ℕ, IfNone, IfSome, MatchOption, true, false};
+ghost use Rattle.std.specs.Prelude.{◌≡◌, ◌≤◌, ◌+◌, ℕ, true, false, [], drop, length};
 ghost use Rattle.beet_round.specs.Sides.{peer};
 ghost use Rattle.beet_round.specs.declared.sides.Side.{Side};
 ghost use Rattle.beet_sharing.specs.Runs.{HasRounds, Setup};
@@ -8,23 +8,19 @@ ghost use Rattle.beet_delivery.specs.Events.{Delivered, with_triple};
 ghost use Rattle.beet_server.specs.Answers.{Keeps};
 ghost use Rattle.beet_server.specs.Cores.{has_ended, is_quiet};
 ghost use Rattle.beet_server.specs.Fits.{Fits};
-ghost use Rattle.beet_link.specs.Ends.{IsNext, one_on};
+ghost use Rattle.beet_link.specs.Ends.{one_on};
 ghost use Rattle.beet_link.specs.Streams.{stream};
+ghost use Rattle.beet_station.specs.Notes.{Awaits, notes_left};
 ghost use Rattle.beet_station.specs.Stations.{HasHeard, IsEnded, IsTied};
 
-use beet_field::{Point, Trio};
+use crate::notes::Sink;
+use beet_field::{Fe, Point, Trio};
 use beet_gates::Script;
 use beet_link::{Gate, LinkRx, LinkTx, Note};
-use beet_round::{RoundMessage, ToPeers, Verdict};
+use beet_round::{RoundMessage, Verdict};
 use beet_server::ServerCore;
-use std::hint::spin_loop;
 use std::snapshot::Snapshot;
 use std::sync::Wait;
-use std::sync::atomic::{AtomicBool, Ordering};
-use std::thread;
-
-/// How often a server that finds no message tries again before it gives up its turn.
-const SPINS: u32 = 2;
 
 /// A server with its ends: to and from its lower and its higher peer.
 #[derive(Drop)]
@@ -36,50 +32,26 @@ pub struct Station<S: Script> {
     pub from_high: LinkRx,
 }
 
-/// Takes the next message of a link, once it is there. `None`: the flag was raised, and nothing was taken.
-/// A server that has tried [`SPINS`] times gives up its turn after each further try.
-fn wait_for<R: Wait>(
-    rt: &R,
-    stop: &AtomicBool,
-    from: &mut LinkRx,
-    message: &mut RoundMessage,
-) -> Option<()>
-    ensures { MatchOption result (from.new ≡ from.old)
-        (λ _. IsNext from.old message.new × (from.new ≡ one_on from.old)) }
-{
-    let mut spins = 0;
-    for _ in rt.forever() {
-        if from.take(rt, message) {
-            return Some(());
-        }
-        if stop.load(Ordering::SeqCst) {
-            return None;
-        }
-        if spins < SPINS {
-            spins += 1;
-            spin_loop();
-        } else {
-            thread::yield_now();
-        }
-    }
-    unreachable!()
+/// The messages that a server is to write next, each in memory of its own: to its lower and to its higher peer.
+/// Messages go round: who has read one writes its next one there.
+#[derive(Drop)]
+pub struct Mail {
+    pub low: Box<RoundMessage>,
+    pub high: Box<RoundMessage>,
 }
 
-/// Takes the next message of a link, once it is there, and gives it to the server. `None`: the flag
-/// was raised, and neither changed.
+/// Takes the next message of a link, once it is there, and gives it to the server: what the server says of it, and
+/// the message.
 fn hear<S: Script, R: Wait>(
     rt: &R,
-    stop: &AtomicBool,
     core: &mut ServerCore<S>,
     from: &mut LinkRx,
-    message: &mut RoundMessage,
-) -> Option<Verdict>
+) -> (Verdict, Box<RoundMessage>)
     requires { is_quiet S.batch_of core.old ≡ true }
-    ensures stopped { IfNone result ((core.new ≡ core.old) × (from.new ≡ from.old)) }
-    ensures taken { IfSome result (λ v. from.new ≡ one_on from.old) }
-    ensures keeps { IfSome result (λ v. Keeps core.old core.new) }
-    ensures heard { IfSome result (HasHeard S.batch_of core.old core.new from.old) }
-    ensures fits { IfSome result (λ v. (o : Setup) (rounds : ℕ) (x : Delivered) (side : Side)
+    ensures taken { from.new ≡ one_on from.old }
+    ensures keeps { Keeps core.old core.new }
+    ensures heard { HasHeard S.batch_of core.old core.new from.old result.0 }
+    ensures fits { (o : Setup) (rounds : ℕ) (x : Delivered) (side : Side)
         → HasRounds o rounds → Fits S.batch_of o x core.old
         → from.old.stream ≡ stream o rounds (peer core.old.me side) core.old.me
         → from.old.moved ≤ core.old.round + 1 → Fits S.batch_of o
@@ -87,91 +59,82 @@ fn hear<S: Script, R: Wait>(
           from = peer core.old.me side;
           to = core.old.me;
           round = from.old.moved;
-        })) core.new) }
+        })) core.new }
 {
-    wait_for(rt, stop, from, message)?;
-    Some(core.deliver(message))
+    let message = from.wait(rt);
+    let verdict = core.deliver(&message);
+    (verdict, message)
 }
 
-/// The messages that a server moves in a round, in the memory of those of the round before.
-#[derive(Drop)]
-struct Mail {
-    sent: ToPeers,
-    heard: RoundMessage,
+/// The numbers from a place on.
+fn behind(numbers: &[Fe], place: usize) -> &[Fe]
+    requires { place ≤ length numbers.now }
+    ensures { result.now ≡ drop place numbers.now }
+{
+    &numbers[place..]
 }
 
-/// One round: the server meets the gate, hands out its messages, puts them, and takes those of its peers. `None`: the flag was raised.
-fn round<S: Script, R: Wait, G: Gate>(
+/// One round: the server meets the gate, hands out its messages, puts them, takes those of its peers, and tells what
+/// the round opened.
+fn round<S: Script, R: Wait, G: Gate, K: Sink>(
     rt: &R,
     gate: &G,
     seat: &mut G::Seat,
-    stop: &AtomicBool,
     me: Point,
     station: &mut Station<S>,
-    mail: &mut Mail,
+    mail: Mail,
+    sink: &mut K,
     run: &Snapshot<Trio<ServerCore<S>>>,
-) -> Option<()>
+) -> Mail
     requires tied { IsTied S.batch_of S.inputs_of S.rounds_of run.now.value me station.old }
     requires going { has_ended S.batch_of station.old.core ≡ false }
-    ensures { IfSome result
-        (λ _. IsTied S.batch_of S.inputs_of S.rounds_of run.now.value me station.new) }
+    requires told { Awaits (K.due sink.old)
+        (notes_left S.batch_of S.inputs_of S.rounds_of run.now.value me station.old.core.round) }
+    ensures tied { IsTied S.batch_of S.inputs_of S.rounds_of run.now.value me station.new }
+    ensures told { Awaits (K.due sink.new)
+        (notes_left S.batch_of S.inputs_of S.rounds_of run.now.value me station.new.core.round) }
+    ensures same { K.origin sink.new ≡ K.origin sink.old }
 {
     let note = Note {
         server: me,
         round: station.core.round(),
     };
     gate.meet(seat, note);
-    let Mail { sent, heard } = mail;
-    station.core.hand_out(&mut sent.low, &mut sent.high);
-    station.to_low.put(rt, &sent.low);
-    station.to_high.put(rt, &sent.high);
-    hear(rt, stop, &mut station.core, &mut station.from_low, heard)?;
-    hear(rt, stop, &mut station.core, &mut station.from_high, heard)?;
-    Some(())
+    let before = station.core.opened().len();
+    let Mail { mut low, mut high } = mail;
+    station.core.hand_out(&mut low, &mut high);
+    station.to_low.put(rt, low);
+    station.to_high.put(rt, high);
+    let (_, low) = hear(rt, &mut station.core, &mut station.from_low);
+    let (_, high) = hear(rt, &mut station.core, &mut station.from_high);
+    sink.tell(rt, me, note.round, behind(station.core.opened(), before));
+    Mail { low, high }
 }
 
-/// Runs the rounds that are left, to the server's end. `None`: the flag was raised before.
-fn all_rounds<S: Script, R: Wait, G: Gate>(
+/// Runs the server to its end, in the memory of the messages of its mail, and tells of each round that it has passed.
+pub fn serve<S: Script, R: Wait, G: Gate, K: Sink>(
     rt: &R,
     gate: &G,
-    seat: &mut G::Seat,
-    stop: &AtomicBool,
     me: Point,
     station: &mut Station<S>,
-    mail: &mut Mail,
+    mail: Mail,
+    sink: &mut K,
     run: &Snapshot<Trio<ServerCore<S>>>,
-) -> Option<()>
-    requires { IsTied S.batch_of S.inputs_of S.rounds_of run.now.value me station.old }
-    ensures { IfSome result
-        (λ _. IsEnded S.batch_of S.inputs_of S.rounds_of run.now.value me station.new.core) }
+) -> Mail
+    requires tied { IsTied S.batch_of S.inputs_of S.rounds_of run.now.value me station.old }
+    requires told { Awaits (K.due sink.old)
+        (notes_left S.batch_of S.inputs_of S.rounds_of run.now.value me station.old.core.round) }
+    ensures ended { IsEnded S.batch_of S.inputs_of S.rounds_of run.now.value me station.new.core }
+    ensures told { Awaits (K.due sink.new) [] }
+    ensures same { K.origin sink.new ≡ K.origin sink.old }
 {
+    let mut mail = mail;
+    let mut seat = gate.seat(me);
     for _ in rt.forever() {
         if station.core.ended() {
-            return Some(());
+            return mail;
         }
-        round(rt, gate, seat, stop, me, station, mail, run)?;
+        mail = round(rt, gate, &mut seat, me, station, mail, sink, run);
     }
     unreachable!()
-}
-
-/// Runs the server to its end. `None`: the flag was raised before.
-pub fn serve<S: Script, R: Wait, G: Gate>(
-    rt: &R,
-    gate: &G,
-    stop: &AtomicBool,
-    me: Point,
-    station: Station<S>,
-    run: &Snapshot<Trio<ServerCore<S>>>,
-) -> Option<ServerCore<S>>
-    requires { IsTied S.batch_of S.inputs_of S.rounds_of run.now.value me station }
-    ensures { IfSome result (IsEnded S.batch_of S.inputs_of S.rounds_of run.now.value me) }
-{
-    let mut station = station;
-    let mut mail = Mail {
-        sent: ToPeers::blank(me),
-        heard: RoundMessage::blank(me, me),
-    };
-    let mut seat = gate.seat(me);
-    let ended = all_rounds(rt, gate, &mut seat, stop, me, &mut station, &mut mail, run);
-    ended.and(Some(station.core))
 }

@@ -13,10 +13,10 @@ use Rattle.beet_book.specs.declared.entries.Entry.{Entry}
 use Rattle.beet_book.specs.Farmers.{Farmer}
 use Rattle.beet_errand.specs.Errands.{text_answer}
 use Rattle.beet_errand.specs.Fetches.{Tests, Refuses}
-use Rattle.beet_errand.specs.declared.answer.Status.TheVariants.{Done, BadFile}
+use Rattle.beet_errand.specs.declared.answer.Refusal.TheVariants.{BadFile}
+use Rattle.beet_errand.specs.declared.answer.Status.TheVariants.{Done}
 use Rattle.beet_errand.specs.declared.answer.Stop.{Stop}
-use Rattle.beet_errand.specs.declared.answer.Stop.TheVariants.{Refused, OutOfMemory}
-use Rattle.beet_errand.proofs.Frame.{bad_cause}
+use Rattle.beet_errand.proofs.Frame.{test_refused}
 use Rattle.beet_load.specs.Collecting.{curves_of, AreCollected}
 use Rattle.beet_book.specs.Dealing.{points_at, HasLengths}
 use Rattle.beet_book.proofs.Sums.{length-first, length-points}
@@ -39,11 +39,7 @@ one-passes auction grid h = record { passes = λ next. rw (is-one grid.prices h)
 -- the auction has another number of prices
 pub others-stop : (auction : List ℕ) (grid : Grid) (stop : Stop) → grid.prices ≢ 1 → Refuses BadFile (fault_line_of auction (Row PRICES_ROW) NOT_ONE_PRICE) stop →
     Tests (one_price auction grid) (Err stop)
-others-stop auction grid (Refused status line) h r = record {
-  passes = λ next. rw (is-not grid.prices h, r.0, r.1) refl;
-  cause = λ before now. bad_cause before now (fault_line_of auction (Row PRICES_ROW) NOT_ONE_PRICE) (Refused status line) r;
-}
-others-stop auction grid OutOfMemory h r = record { passes = tt; cause = λ before now. tt }
+others-stop auction grid stop h r = test_refused BadFile _ stop (λ next. rw (is-not grid.prices h) refl) r (λ before now. tt)
 
 -- the sums that are opened are those of supply and demand
 pub tells-sums : (grid : Grid) (entries : List Entry) (totals : Totals) (farmers : List Farmer) (wires : Trio (List ℕ)) →

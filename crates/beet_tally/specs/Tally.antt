@@ -11,6 +11,7 @@ use Rattle.beet_book.specs.Farmers.{Farmer}
 use Rattle.beet_errand.specs.Errands.{Answer, Errand, Ends, Step, ◌>>=◌, ◌>>◌, bad_file, gives, reads, text_answer}
 use Rattle.beet_errand.specs.Texts.{line_of}
 use Rattle.beet_errand.specs.declared.answer.Status.TheVariants.{Done}
+use Rattle.beet_load.specs.Wanted.{wanted_of}
 use Rattle.beet_load.specs.Farmers.{farmers_errand, bidders_of}
 
 -- the lines of the sums of supply and demand
@@ -35,7 +36,7 @@ tally_job auction book = do
   grid ← reads auction AUCTION_LIMIT auction_of
   one_price auction grid
   entries ← reads book BOOK_LIMIT book_of
-  farmers ← farmers_errand grid None [] entries
+  farmers ← farmers_errand (wanted_of None grid) grid None [] entries
   gives (tallied farmers)
 
 -- what it does outside

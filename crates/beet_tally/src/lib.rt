@@ -65,7 +65,7 @@ pub fn tally<S: Shelf>(
     let grid = read_grid(alloc, shelf, auction)?;
     check_one_price(alloc, auction, &grid)?;
     let entries = read_entries(alloc, shelf, book)?;
-    let inputs = add_farmers(alloc, shelf, &grid, None, entries.as_slice())?.inputs();
+    let inputs = add_farmers(alloc, shelf, None, &grid, None, entries.as_slice())?.inputs();
     let supply = open(&inputs, 0).value();
     let demand = open(&inputs, 1).value();
     let text = sums_lines(alloc, supply, demand)?;

@@ -1,5 +1,6 @@
--- A server that has ended.
-use Rattle.std.proofs.Common.{◌≡◌, ℕ, List, Option, None, Some, IfSome, IsSomeAnd, subst}
+-- A server that has served, and three of them.
+use Rattle.std.proofs.Common.{◌≡◌, ℕ, List, subst}
+use Rattle.std.specs.Prelude.{Result, Ok, Err, IfOk, IfErr}
 use Rattle.beet_field.specs.declared.point.Point.{Point}
 use Rattle.beet_field.specs.declared.trio.Trio.{Trio}
 use Rattle.beet_gates.specs.declared.Batch.{Batch}
@@ -12,15 +13,17 @@ module _ {S : Type 0} (next : S → ℕ → List ℕ → Batch) (inputs most : S
       IsEnded next inputs most start s end
   ended-as run start me s end same name = subst (λ (p : Trio (Core S) × Point). IsEnded next inputs most p.0 p.1 end) (λ i. (same i, name i))
 
--- what a worker has made is what it was asked for
-pub by-worker : {W V C : Type 0} (worker : Option W) (found : Option C) (asked : W → V) (v : V) (E : V → C → Type 0) →
-    IfSome worker (λ w. asked w ≡ v) → IfSome found (λ c. IsSomeAnd worker (λ w. E (asked w) c)) → IfSome found (E v)
-by-worker worker None asked v E is made = tt
-by-worker None (Some c) asked v E is made = absurd made
-by-worker (Some w) (Some c) asked v E is made = subst (λ v. E v c) is made
+-- what a worker has made, or was made where there is none, is what was asked for
+pub by-worker : {W D V L : Type 0} (started : Result W D) (end : D) (asked : W → V) (under : W → L) (v : V) (l : L) (Q : V → L → D → Type 0) →
+    IfOk started (λ w. (asked w ≡ v) × (under w ≡ l)) → IfErr started (Q v l) → IfOk started (λ w. Q (asked w) (under w) end) →
+    IfErr started (λ d. d ≡ end) → Q v l end
+by-worker {W} {D} {V} {L} (Ok w) end asked under v l Q is back made same = subst (λ (p : V × L). Q p.0 p.1 end) (λ i. (is.0 i, is.1 i)) made
+by-worker (Err d) end asked under v l Q is back made same = subst (Q v l) same back
 
--- and one of all that were found is as it was found
-pub among : {A C : Type 0} (all : Option A) (found : Option C) (one : A → C) (Q : C → Type 0) →
-    IfSome all (λ a. found ≡ Some (one a)) → IfSome found Q → IfSome all (λ a. Q (one a))
-among None found one Q is h = tt
-among (Some a) found one Q is h = subst (λ r. IfSome r Q) is h
+pub ok-then : {A E : Type 0} (r : Result A E) (P Q : A → Type 0) → IfOk r P → ((a : A) → P a → Q a) → IfOk r Q
+ok-then (Ok a) P Q h f = f a h
+ok-then (Err e) P Q h f = tt
+
+pub err-then : {A E : Type 0} (r : Result A E) (P Q : E → Type 0) → IfErr r P → ((e : E) → P e → Q e) → IfErr r Q
+err-then (Ok a) P Q h f = tt
+err-then (Err e) P Q h f = f e h

@@ -4,4 +4,5 @@
 mod running;
 mod serving;
 
-pub use running::run_three;
+pub use running::{Telling, apart, in_threads, rooms, run_three, runs, servings};
+pub use serving::Serving;

@@ -1,115 +1,162 @@
 //! One server that is to run to its end, and the worker that runs it.
 
-ghost use Rattle.std.specs.Prelude.{◌≡◌, IfSome, IsSomeAnd};
-ghost use Rattle.beet_station.specs.Stations.{IsEnded, IsTied};
+ghost use Rattle.std.specs.Prelude.{◌≡◌, IfErr, IfOk, true, false};
+ghost use Rattle.beet_field.specs.Trio.{member};
+ghost use Rattle.beet_station.specs.Notes.{Awaits, notes_left};
+ghost use Rattle.beet_station.specs.Stations.{IsTied};
+ghost use Rattle.beet_threads.specs.Words.{HasServed};
 
 use beet_field::{Point, Trio};
 use beet_gates::Script;
 use beet_link::Gate;
 use beet_server::ServerCore;
-use beet_station::{Station, serve};
+use beet_station::{Mail, Sink, Station, serve};
 use std::snapshot::Snapshot;
-use std::sync::atomic::{AtomicBool, Ordering};
-use std::sync::{Barrier, Wait};
+use std::sync::{OnceLock, OnceToken, Wait};
 use std::thread::{Promise, PromisedHandle, Scope, Threads};
 
-/// A server that is to run, with its ends, and the three servers as the run began.
+/// A server that is to run, with its ends, whom it tells of its rounds, and the three servers as the run began.
 #[derive(Drop)]
-pub struct Serving<S: Script> {
+pub struct Serving<S: Script, K: Sink> {
     pub me: Point,
     pub station: Station<S>,
+    pub mail: Mail,
+    pub sink: K,
     pub run: Snapshot<Trio<ServerCore<S>>>,
     ghost tied: { IsTied S.batch_of S.inputs_of S.rounds_of run.value me station },
+    ghost begins: { station.core ≡ member run.value me },
+    ghost told: { Awaits (K.due sink) (notes_left S.batch_of S.inputs_of S.rounds_of run.value me station.core.round) },
 }
 
-/// What the worker of a server answers: where it answers a server, that has ended.
+/// Whether the servers are to run, once that is said. The first word stands.
+pub type Word = OnceLock<bool>;
+
+/// A server that has heard whether it is to run, and then has run to its end or stands as it began.
 #[derive(Drop)]
-pub struct Ends<S: Script> {
-    serving: Snapshot<Serving<S>>,
+pub struct Served<'s, S: Script, K> {
+    pub told: OnceToken<'s, bool>,
+    pub station: Station<S>,
+    pub mail: Mail,
+    pub sink: K,
 }
 
-impl<S: Script> Promise<Option<ServerCore<S>>> for Ends<S> {
-    ghost use Rattle.std.specs.Prelude.{IfSome};
-    ghost use Rattle.beet_station.specs.Stations.{IsEnded};
-
-    ghost kept_by = { λ p r. IfSome r
-        (IsEnded S.batch_of S.inputs_of S.rounds_of p.serving.value.run.value p.serving.value.me) };
+/// What the worker of a server answers.
+#[derive(Drop)]
+pub struct Ends<S: Script, K: Sink> {
+    serving: Snapshot<Serving<S, K>>,
+    word: Snapshot<Word>,
 }
 
-/// Runs the server to its end. `None`: the flag was raised before, and where it was up at once the server meets no gate.
-pub fn run<S: Script, R: Wait, G: Gate>(
-    rt: &R,
-    gate: &G,
-    stop: &AtomicBool,
-    serving: Serving<S>,
-) -> Option<ServerCore<S>>
-    ensures { IfSome result (IsEnded S.batch_of S.inputs_of S.rounds_of serving.run.value serving.me) }
+impl<'s, S: Script, K: Sink> Promise<Served<'s, S, K>> for Ends<S, K> {
+    ghost use Rattle.beet_threads.specs.Words.{HasServed};
+
+    ghost kept_by = { λ p r. HasServed S.batch_of S.inputs_of S.rounds_of K.due K.origin
+        p.serving.value.run.value p.serving.value.me p.serving.value.sink p.word.value.id r.told.of r.told.value (r.station.core, r.sink) };
+}
+
+/// Says whether the servers are to run, unless that was said before.
+pub fn say<R: Wait>(rt: &R, word: &Word, go: bool) {
+    let _said = word.set(rt, go);
+}
+
+/// Waits for the word.
+fn hear_word<'s, R: Wait>(rt: &R, word: &'s Word) -> OnceToken<'s, bool>
+    ensures { result.of ≡ word.now.id }
 {
-    if stop.load(Ordering::SeqCst) {
-        // One call lets it go: else the proof of this way out goes through each of its parts.
-        drop(serving);
-        return None;
+    for _ in rt.forever() {
+        word.wait(rt);
+        if let Some(told) = word.witness() {
+            return told;
+        }
     }
-    let Serving { me, station, run } = serving;
-    serve(rt, gate, stop, me, station, &run)
+    unreachable!()
 }
 
-/// Runs the server to its end, once the caller of its worker is at the barrier. `None`: the flag was raised before.
-fn run_once_met<S: Script, R: Wait, G: Gate>(
+/// Waits for the word, and runs the server to its end if it is to run.
+pub fn serve_if_told<'s, S: Script, R: Wait, G: Gate, K: Sink>(
     rt: &R,
     gate: &G,
-    stop: &AtomicBool,
-    barrier: &Barrier,
-    serving: Serving<S>,
-) -> Option<ServerCore<S>>
-    ensures { IfSome result (IsEnded S.batch_of S.inputs_of S.rounds_of serving.run.value serving.me) }
+    word: &'s Word,
+    serving: Serving<S, K>,
+) -> Served<'s, S, K>
+    ensures { HasServed S.batch_of S.inputs_of S.rounds_of K.due K.origin serving.run.value serving.me serving.sink word.now.id
+        result.told.of result.told.value (result.station.core, result.sink) }
 {
-    barrier.wait(rt);
-    run(rt, gate, stop, serving)
+    let told = hear_word(rt, word);
+    let Serving {
+        me,
+        mut station,
+        mail,
+        mut sink,
+        run,
+    } = serving;
+    if *word.value(&told) {
+        let mail = serve(rt, gate, me, &mut station, mail, &mut sink, &run);
+        return Served {
+            told,
+            station,
+            mail,
+            sink,
+        };
+    }
+    Served {
+        told,
+        station,
+        mail,
+        sink,
+    }
 }
 
 /// A worker that runs a server.
-pub type Worker<S> = PromisedHandle<Option<ServerCore<S>>, Ends<S>>;
+pub type Worker<'s, S, K> = PromisedHandle<Served<'s, S, K>, Ends<S, K>>;
 
-/// Starts a worker that meets the caller at the barrier, and then runs the server. `None`: no thread can be made, and the server is
-/// dropped.
-pub fn start<'s, E, S: Script + Send + 's, R: Wait + Sync, G: Gate>(
+/// Starts a worker that runs the server if it is told to. Where no thread can be made it says that no server is to
+/// run, and answers the server.
+pub fn start<'s, E, S: Script + Send + 's, R: Wait + Sync, G: Gate, K: Sink + Send + Drop + 's>(
     scope: &Scope<'s, E>,
     rt: &'s R,
     gate: &'s G,
-    stop: &'s AtomicBool,
-    barrier: &'s Barrier,
-    serving: Serving<S>,
-) -> Option<Worker<S>>
+    word: &'s Word,
+    serving: Serving<S, K>,
+) -> Result<Worker<'s, S, K>, Served<'s, S, K>>
 where
     S::Place: Send,
-    ensures { IfSome result (λ worker. worker.promise.serving.value ≡ serving) }
+    ensures ok { IfOk result (λ worker. (worker.promise.serving.value ≡ serving) × (worker.promise.word.value ≡ word.now)) }
+    ensures err { IfErr result (λ served. HasServed S.batch_of S.inputs_of S.rounds_of K.due K.origin serving.run.value serving.me serving.sink
+        word.now.id served.told.of served.told.value (served.station.core, served.sink)) }
 {
     let ends = Ends {
         serving: Snapshot::of(&serving),
+        word: Snapshot::of(word),
     };
-    scope
-        .spawn_with(
-            ends,
-            move || -> Option<ServerCore<S>>
-                ensures { IfSome result (IsEnded S.batch_of S.inputs_of S.rounds_of serving.run.value serving.me) }
-            { run_once_met(rt, gate, stop, barrier, serving) },
-        )
-        .ok()
-}
-
-/// Meets a worker at its barrier, if it was started. A new thread is often put where the one that made it runs, and stays there while
-/// neither sleeps: to wait here lets the system give each a processor of its own before the first round.
-pub fn meet<S: Script, R: Wait>(rt: &R, worker: &Option<Worker<S>>, barrier: &Barrier) {
-    if worker.is_some() {
-        barrier.wait(rt);
+    match scope.spawn_with(
+        ends,
+        move || -> Served<'_, S, K>
+            ensures { HasServed S.batch_of S.inputs_of S.rounds_of K.due K.origin serving.run.value serving.me serving.sink word.entry.now.id
+                result.told.of result.told.value (result.station.core, result.sink) }
+        { serve_if_told(rt, gate, word, serving) },
+    ) {
+        Ok(worker) => Ok(worker),
+        Err(refused) => {
+            say(rt, word, false);
+            let back = refused.value;
+            Err(back())
+        }
     }
 }
 
-/// The server of a worker, once that has ended. `None`: it was not started, or the flag was raised.
-pub fn end<S: Script, R: Threads>(rt: &R, worker: Option<Worker<S>>) -> Option<ServerCore<S>>
-    ensures { IfSome result (λ core. IsSomeAnd worker (λ started.
-        IsEnded S.batch_of S.inputs_of S.rounds_of started.promise.serving.value.run.value started.promise.serving.value.me core)) }
+/// The server of a worker, once that has ended, or the one for which there is none.
+pub fn end<'s, S: Script, R: Threads, K: Sink>(
+    rt: &R,
+    started: Result<Worker<'s, S, K>, Served<'s, S, K>>,
+) -> Served<'s, S, K>
+    ensures worker { IfOk started.entry (λ worker. HasServed S.batch_of S.inputs_of S.rounds_of K.due K.origin
+        worker.promise.serving.value.run.value worker.promise.serving.value.me worker.promise.serving.value.sink worker.promise.word.value.id
+        result.told.of result.told.value (result.station.core, result.sink)) }
+    ensures back { IfErr started.entry (λ served. served ≡ result) }
 {
-    worker?.join(rt)
+    match started {
+        Ok(worker) => worker.join(rt),
+        Err(served) => served,
+    }
 }

@@ -12,7 +12,7 @@ use beet_bids::{Curve, Grid};
 use beet_book::Totals;
 use beet_field::Trio;
 use beet_gates::Gates;
-use beet_load::{ServerWords, check_three, seed_words};
+use beet_load::{ServerWords, auction_wants, check_three, seed_words};
 use beet_plan::words_kept;
 use beet_run::start_servers;
 use beet_search::AuctionScript;
@@ -108,10 +108,11 @@ fn words(rt: &impl Abort, alloc: Global, grid: &Grid, seeds: &Trio<[u8; 32]>) ->
     requires { IsGrid grid.now }
     ensures { result ≡ words_from grid.now seeds.now }
 {
+    let wanted = auction_wants(None, grid);
     Trio {
-        one: seed_words(alloc, grid, &seeds.one).expect(rt, "memory"),
-        two: seed_words(alloc, grid, &seeds.two).expect(rt, "memory"),
-        three: seed_words(alloc, grid, &seeds.three).expect(rt, "memory"),
+        one: seed_words(alloc, &wanted, &seeds.one).expect(rt, "memory"),
+        two: seed_words(alloc, &wanted, &seeds.two).expect(rt, "memory"),
+        three: seed_words(alloc, &wanted, &seeds.three).expect(rt, "memory"),
     }
 }
 
@@ -139,7 +140,7 @@ pub fn servers(
 {
     assert!(rt; are_whole(grid, points));
     let words = words(rt, alloc, grid, seeds);
-    check_three(alloc, grid, &words).expect(rt, "enough words");
+    check_three(alloc, &auction_wants(None, grid), &words).expect(rt, "enough words");
     let inputs = copied(rt, alloc, points);
     start_servers(alloc, grid, inputs, words).expect(rt, "three servers")
 }

@@ -60,8 +60,7 @@ fn in_three<R: Abort + Threads + Wait + Sync>(
     requires { IsGrid grid.now }
 {
     let cores = servers(rt, alloc, grid, points, &SEEDS);
-    let spares = servers(rt, alloc, grid, points, &SEEDS);
-    run_three(rt, alloc, cores, spares, &FreeGate)
+    run_three(rt, alloc, cores, &FreeGate)
 }
 
 /// Compares the servers after the auction.

@@ -1,4 +1,5 @@
-//! The tests of three servers in threads and of the links between them, which are proved over the contracts of their crates alone.
+//! The tests of three servers in threads and of the links between them, which are proved over the contracts of their
+//! crates alone.
 #![tactic(auto)]
 
 #[cfg(test)]
@@ -7,3 +8,5 @@ mod auction;
 mod ends;
 #[cfg(test)]
 mod links;
+#[cfg(test)]
+mod meeting;

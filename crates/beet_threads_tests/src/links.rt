@@ -1,16 +1,37 @@
+ghost use Rattle.std.specs.Prelude.{◌≡◌, false};
+ghost use Rattle.beet_server.specs.Cores.{has_ended};
+ghost use Rattle.beet_station.specs.Stations.{IsTied};
+
 use crate::auction::{SEEDS, grid, points, servers};
 use beet_field::{Point, Trio};
-use beet_link::{FreeGate, LinkRx};
-use beet_round::RoundMessage;
+use beet_gates::Script;
+use beet_link::LinkRx;
 use beet_search::AuctionScript;
-use beet_station::{Station, serve, stations};
+use beet_server::ServerCore;
+use beet_station::{Mail, Station, all_links, mails, stations};
 use std::alloc::Global;
 use std::process::Abort;
 use std::snapshot::Snapshot;
 use std::sync::Wait;
-use std::sync::atomic::AtomicBool;
 
-/// Servers 2 and 3 with their ends, after server 1 has put the two messages of round 0 and was stopped.
+/// A server puts its two messages of a round.
+pub fn put_both<S: Script, R: Wait>(
+    rt: &R,
+    _me: Point,
+    station: &mut Station<S>,
+    mail: Mail,
+    _run: &Snapshot<Trio<ServerCore<S>>>,
+)
+    requires tied { IsTied S.batch_of S.inputs_of S.rounds_of _run.now.value _me station.old }
+    requires going { has_ended S.batch_of station.old.core ≡ false }
+{
+    let Mail { mut low, mut high } = mail;
+    station.core.hand_out(&mut low, &mut high);
+    station.to_low.put(rt, low);
+    station.to_high.put(rt, high);
+}
+
+/// Servers 2 and 3 with their ends, after server 1 has put the two messages of round 0.
 fn after_one(
     rt: &(impl Wait + Abort),
     alloc: Global,
@@ -19,16 +40,21 @@ fn after_one(
     let points = points(rt, alloc, &grid);
     let cores = servers(rt, alloc, &grid, &points, &SEEDS);
     let run = Snapshot::of(&cores);
-    let Trio { one, two, three } = stations(alloc, cores).expect(rt, "memory");
-    let stop = AtomicBool::new(true);
-    assert!(rt; serve(rt, &FreeGate, &stop, Point::One, one, &run).is_none());
+    let links = all_links(alloc, &cores).expect(rt, "memory");
+    let mails = mails(alloc).expect(rt, "memory");
+    let Trio {
+        mut one,
+        two,
+        three,
+    } = stations(cores, links);
+    assert!(rt; !one.core.ended());
+    put_both(rt, Point::One, &mut one, mails.one, &run);
     (two, three)
 }
 
 /// Takes the one message of a link.
-fn expect_one(rt: &(impl Wait + Abort), link: &mut LinkRx, receiver: Point) {
-    let mut message = RoundMessage::blank(Point::Three, Point::Three);
-    assert!(rt; link.take(rt, &mut message));
+pub fn expect_one(rt: &(impl Wait + Abort), link: &mut LinkRx, receiver: Point) {
+    let message = link.take(rt).expect(rt, "a message");
     assert_eq!(rt; message.from, Point::One);
     assert_eq!(rt; message.to, receiver);
     assert_eq!(rt; message.round, 0);
@@ -37,8 +63,7 @@ fn expect_one(rt: &(impl Wait + Abort), link: &mut LinkRx, receiver: Point) {
 
 /// Expects that a link is empty.
 fn expect_none(rt: &(impl Wait + Abort), link: &mut LinkRx) {
-    let mut message = RoundMessage::blank(Point::Three, Point::Three);
-    assert!(rt; !link.take(rt, &mut message));
+    assert!(rt; link.take(rt).is_none());
 }
 
 #[test]

@@ -1,5 +1,5 @@
 -- The bidders one after another.
-use Rattle.std.proofs.Common.{◌≡◌, ◌≤◌, ◌<◌, ◌-◌, ℕ, zero, suc, ◌+◌, ◌*◌, [], ◌∷◌, ◌++◌, length, Result, Ok, Err, arith, refl, ap, sym, ◌∙◌, length-append, append-nil, append_assoc, subst, List}
+use Rattle.std.proofs.Common.{◌≡◌, ◌≤◌, ◌<◌, ◌-◌, ℕ, zero, suc, ◌+◌, ◌*◌, [], ◌∷◌, ◌++◌, length, Result, Ok, Err, arith, refl, ap, sym, ◌∙◌, length-append, append-nil, append_assoc, subst, List, None}
 use Rattle.std.specs.Prelude.{IfOk, IsErrAnd}
 use Rattle.std.specs.Result.{result_and}
 use Rattle.std.proofs.lemmas.Result.{err_from_is_err_and}
@@ -20,8 +20,9 @@ use Rattle.beet_errand.specs.Fetches.{Tests}
 use Rattle.beet_errand.specs.declared.answer.Stop.{Stop}
 use Rattle.beet_errand.specs.declared.answer.Stop.TheVariants.{OutOfMemory}
 use Rattle.beet_errand.proofs.Frame.{both, first_fails}
+use Rattle.beet_load.specs.Counts.{words_wanted}
 use Rattle.beet_load.specs.Collecting.{curves_of}
-use Rattle.beet_load.specs.Farmers.{enough_words, words_wanted}
+use Rattle.beet_load.specs.Farmers.{enough_words}
 use Rattle.beet_trial.specs.Adding.{AddsFarmers, AddsPart, CarrySums, enough_of_each}
 use Rattle.beet_trial.specs.Rules.{trial_farmer, trial_part}
 
@@ -91,7 +92,7 @@ enough-joined grid n [] rest next =
     let same : n ≡ n + 0 = omega arith in ap (λ k. enough_of_each grid k rest next) same
 enough-joined grid n (farmer ∷ few) rest next =
     let same : n + 1 + length few ≡ n + length (farmer ∷ few) = omega arith in
-    ap (enough_words n (words_wanted grid) farmer.words)
+    ap (enough_words None n (words_wanted grid) farmer.words)
     (enough-joined grid (n + 1) few rest next ∙ ap (λ k. enough_of_each grid (n + 1) few (enough_of_each grid k rest next)) same)
 
 enough-parts : (grid : Grid) (from few rest i count : ℕ) → from + few ≡ i → few + rest ≡ count → (next : Errand) →

@@ -1,5 +1,5 @@
 -- The bidders one after another: whether their words are enough, and the points of their sums.
-use Rattle.std.specs.Prelude.{◌≡◌, ℕ, ◌+◌, List, [], ◌∷◌, ◌++◌, Result, IfOk}
+use Rattle.std.specs.Prelude.{◌≡◌, ℕ, ◌+◌, List, [], ◌∷◌, ◌++◌, Result, IfOk, None}
 use Rattle.beet_bids.specs.Grids.{Grid}
 use Rattle.beet_book.specs.Dealing.{AreShares}
 use Rattle.beet_book.specs.Totals.{Totals, summed_quantities}
@@ -7,15 +7,16 @@ use Rattle.beet_book.specs.Farmers.{Farmer, summed_points}
 use Rattle.beet_errand.specs.Errands.{Errand}
 use Rattle.beet_errand.specs.Fetches.{Tests}
 use Rattle.beet_errand.specs.declared.answer.Stop.{Stop}
+use Rattle.beet_load.specs.Counts.{words_wanted}
 use Rattle.beet_load.specs.Collecting.{curves_of}
-use Rattle.beet_load.specs.Farmers.{enough_words, words_wanted}
+use Rattle.beet_load.specs.Farmers.{enough_words}
 use Rattle.beet_trial.specs.Rules.{trial_part}
 
 -- of these bidders, who are numbered from a number on, each has enough words
 abbrev pub enough_of_each : Grid → ℕ → List Farmer → Errand → Errand
 enough_of_each grid number [] next = next
 enough_of_each grid number (farmer ∷ farmers) next =
-    enough_words number (words_wanted grid) farmer.words (enough_of_each grid (number + 1) farmers next)
+    enough_words None number (words_wanted grid) farmer.words (enough_of_each grid (number + 1) farmers next)
 
 -- the totals are the points that these bidders deal with their words, added up: points of lines with the sums of their quantities
 pub record CarrySums (grid : Grid) (farmers : List Farmer) (totals : Totals) : Type 0 where

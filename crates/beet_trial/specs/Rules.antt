@@ -11,6 +11,7 @@ use Rattle.beet_bids.specs.Grids.{Grid}
 use Rattle.beet_bids.specs.declared.outcomes.Policy.TheVariants.{Volume}
 use Rattle.beet_book.specs.Farmers.{Farmer, book_with}
 use Rattle.beet_plan.specs.Kept.{words_kept}
+use Rattle.beet_load.specs.Wanted.{wanted_of}
 use Rattle.beet_load.specs.Servers.{ServerWords, seeded}
 use Rattle.beet_trial.specs.declared.rules.TheConstants.{BASE, TICK, FIRST_SEED}
 
@@ -25,9 +26,9 @@ server_seed server = replicate 32 server
 -- the words of the three servers
 abbrev pub trial_servers : Grid → Trio ServerWords
 trial_servers grid = record {
-  one = seeded grid (server_seed 1);
-  two = seeded grid (server_seed 2);
-  three = seeded grid (server_seed 3);
+  one = seeded (wanted_of None grid) (server_seed 1);
+  two = seeded (wanted_of None grid) (server_seed 2);
+  three = seeded (wanted_of None grid) (server_seed 3);
 }
 
 -- the seed of bidder i, from 0: 24 zero bytes, and then its number, from the first on, in 8 bytes

@@ -1,9 +1,10 @@
 -- The job `trial`: the outcome of a book that a rule makes.
-use Rattle.std.specs.Prelude.{ℕ, List, ◌++◌, codes, decimal}
+use Rattle.std.specs.Prelude.{ℕ, List, ◌++◌, codes, decimal, None}
 use Rattle.beet_auction.specs.Endings.{book_finish, book_rounds}
 use Rattle.beet_bids.specs.Grids.{Grid}
 use Rattle.beet_errand.specs.Errands.{Answer, Errand, Ends, Step, ◌>>◌, gives, text_answer}
 use Rattle.beet_errand.specs.Texts.{line_of}
+use Rattle.beet_load.specs.Wanted.{wanted_of}
 use Rattle.beet_load.specs.Servers.{enough_of_all, masks_of}
 use Rattle.beet_plan.specs.declared.Finish.{Finish}
 use Rattle.beet_run.specs.Outcomes.{status_of}
@@ -30,7 +31,7 @@ trial_answer grid bidders =
 -- a trial over a grid: each server has enough words, and then each bidder, numbered from 1
 abbrev pub trial_over : Grid → ℕ → Step Answer
 trial_over grid bidders = do
-  enough_of_all grid (trial_servers grid)
+  enough_of_all (wanted_of None grid) (trial_servers grid)
   enough_of_each grid 1 (trial_farmers grid bidders)
   gives (trial_answer grid bidders)
 

@@ -11,7 +11,7 @@ use crate::rules::{curve_of, tape_of};
 use beet_bids::Grid;
 use beet_book::{FEWEST_FOR_TWO, Totals, workers};
 use beet_errand::Stop;
-use beet_load::check_words;
+use beet_load::{auction_wants, check_words};
 use std::alloc::Global;
 use std::marker::Sync;
 use std::thread::{Threads, join_mut};
@@ -24,7 +24,7 @@ fn add_bidder(alloc: Global, grid: &Grid, i: u32, totals: &mut Totals) -> Result
 {
     let curve = curve_of(alloc, grid, i)?;
     let mut tape = tape_of(alloc, grid, i)?;
-    check_words(alloc, grid, i + 1, &tape)?;
+    check_words(alloc, &auction_wants(None, grid), i + 1, &tape)?;
     totals.deal(&curve, &mut tape);
     Ok(())
 }

@@ -3,6 +3,7 @@
 ghost use Rattle.std.specs.Prelude.{◌≡◌, ◌≤◌, ◌++◌, IfOk};
 ghost use Rattle.beet_store.specs.Files.{Seen};
 ghost use Rattle.beet_errand.specs.Fetches.{IsDone, Reads};
+ghost use Rattle.beet_load.specs.Counts.{counts_of};
 ghost use Rattle.beet_load.specs.Servers.{HaveEnough};
 ghost use Rattle.beet_trial.specs.Adding.{CarrySums};
 ghost use Rattle.beet_trial.specs.Rules.{trial_farmers, trial_servers};
@@ -18,7 +19,7 @@ use beet_book::Totals;
 use beet_errand::{Reply, Stop};
 use beet_field::Trio;
 use beet_link::Gate;
-use beet_load::{ServerWords, check_three};
+use beet_load::{ServerWords, auction_wants, check_three};
 use beet_plan::Finish;
 use beet_run::outcome_reply;
 use std::alloc::{AllocError, Global};
@@ -65,10 +66,10 @@ fn totals_of<R: Threads + Sync>(
     requires few { bidders ≤ MOST_BIDDERS }
     requires servers { servers.now ≡ trial_servers grid.now }
     ensures reads { (seen : Seen) → Reads (λ totals. trial_answer grid.now bidders) seen seen (trial_over grid.now bidders) result }
-    ensures enough { IfOk result (λ totals. HaveEnough grid.now servers.now) }
+    ensures enough { IfOk result (λ totals. HaveEnough (counts_of grid.now) servers.now) }
     ensures carry { IfOk result (λ totals. CarrySums grid.now (trial_farmers grid.now bidders) totals) }
 {
-    check_three(alloc, grid, servers)?;
+    check_three(alloc, &auction_wants(None, grid), servers)?;
     let mut totals = Totals::new(alloc, grid)?;
     add_bidders(rt, alloc, grid, bidders, &mut totals)?;
     Ok(totals)

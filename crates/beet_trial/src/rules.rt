@@ -1,9 +1,10 @@
 //! The book of a trial, by rule.
 
-ghost use Rattle.std.specs.Prelude.{◌≡◌, ◌≤◌, IfOk};
+ghost use Rattle.std.specs.Prelude.{◌≡◌, ◌≤◌, IfOk, None};
 ghost use Rattle.beet_field.specs.Point.{number_of};
 ghost use Rattle.beet_words.specs.Seeds.{seed_words as words_of_seed};
 ghost use Rattle.beet_plan.specs.Kept.{words_kept as kept_of};
+ghost use Rattle.beet_load.specs.Wanted.{wanted_of};
 ghost use Rattle.beet_load.specs.Servers.{seeded};
 ghost use Rattle.beet_trial.specs.Rules.{bidder_seed, bought, buying, selling, server_seed, sold, trial_curve, trial_grid, trial_servers, weight};
 ghost use Rattle.beet_bids.specs.declared.grid.TheConstants.{MOST_PRICES};
@@ -11,7 +12,7 @@ ghost use Rattle.beet_bids.specs.declared.grid.TheConstants.{MOST_PRICES};
 use beet_bids::{Curve, Grid};
 use beet_field::{Point, Trio};
 use beet_gates::Gates;
-use beet_load::{ServerWords, seed_words};
+use beet_load::{ServerWords, auction_wants, seed_words};
 use beet_plan::words_kept;
 use beet_words::Tape;
 use std::alloc::{AllocError, Global};
@@ -39,9 +40,10 @@ pub(crate) fn grid_of(prices: u32) -> Grid
 
 /// The words of a server.
 fn server_words(alloc: Global, grid: &Grid, server: Point) -> Result<ServerWords, AllocError>
-    ensures { IfOk result (λ words. words ≡ seeded grid.now (server_seed (number_of server))) }
+    ensures { IfOk result (λ words. words ≡ seeded (wanted_of None grid.now) (server_seed (number_of server))) }
 {
-    seed_words(alloc, grid, &[server.number() as u8; 32])
+    let wanted = auction_wants(None, grid);
+    seed_words(alloc, &wanted, &[server.number() as u8; 32])
 }
 
 /// The words of the three servers.

@@ -46,7 +46,7 @@ module _ (s : Point) (out : List ℕ) (first : Book) (words : Words) (second : B
     is = e;
   }
   agreed-answers mapped a m t only back (Err OutOfMemory) h e = tt
-  agreed-answers mapped a m t only back (Err (Refused status text)) h e = absurd (cc h)
+  agreed-answers mapped a m t only back (Err (Refused refusal line)) h e = absurd (cc h)
 
   -- and it is that of a job that is done
   pub answered-done : (result : Result Answer Stop) → AnswersBooks s out first words second result → IfOk result (λ answer. IsDone answer.status)
@@ -75,5 +75,5 @@ module _ (s : Point) (first second : Book) where
 
   pub refused-answers : (fault : MapFault) → RefusesMap s first second fault → (stop : Stop) → TellsRefusal fault stop →
       TellsApart s first second stop
-  refused-answers fault r (Refused status text) t = (t.0, told-apart fault r text.items t.1)
+  refused-answers fault r (Refused refusal line) t = (t.0, told-apart fault r line.items t.1)
   refused-answers fault r OutOfMemory t = tt

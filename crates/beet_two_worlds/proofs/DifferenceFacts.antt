@@ -13,7 +13,7 @@ use Rattle.beet_bids.specs.declared.outcomes.Outcome.{Outcome}
 use Rattle.beet_bids.specs.declared.outcomes.Outcome.TheVariants.{Price, No}
 use Rattle.beet_bids.proofs.GridFacts.{find-range_none, find-range_some}
 use Rattle.beet_delivery.specs.Events.{same}
-use Rattle.beet_delivery.proofs.EventFacts.{same_is, same_self}
+use Rattle.beet_delivery.proofs.ThreeServers.{same_is, same_self}
 use Rattle.beet_view.specs.BookViews.{names}
 use Rattle.beet_map.specs.Refused.{DifferFirst}
 use Rattle.beet_worlds.specs.Agreement.{Agree, SameKnown, marks_of}

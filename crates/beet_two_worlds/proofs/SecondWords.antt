@@ -1,7 +1,7 @@
 -- The words of the second world are as many as those of the first.
-use Rattle.std.proofs.Common.{◌≡◌, inl, inr, ◌<◌, ◌≤◌, ◌+◌, ◌*◌, ℕ, zero, suc, List, [], ◌∷◌, map, take, length, slice_get, get_or, Some, refl, sym, ap, subst, ◌∙◌, arith}
+use Rattle.std.proofs.Common.{◌≡◌, ◌<◌, ◌≤◌, ◌+◌, ◌*◌, ℕ, List, [], ◌∷◌, map, take, length, get_or, refl, sym, ap, subst, ◌∙◌, arith}
 use Rattle.std.specs.Prelude.{All}
-use Rattle.std.proofs.lemmas.List.{take_all}
+use Rattle.std.proofs.lemmas.List.{get_or-map, length-map, take_all}
 use Rattle.std.proofs.lemmas.List.Elements.{All-from_get_or, All-get_or, All-head, All-tail}
 use Rattle.beet_field.specs.declared.point.Point.{Point}
 use Rattle.beet_field.specs.declared.point.Point.TheVariants.{One, Two, Three}
@@ -12,18 +12,16 @@ use Rattle.beet_bids.specs.Books.{Book}
 use Rattle.beet_bids.specs.Grids.{Grid, IsGrid}
 use Rattle.beet_bids.proofs.GridFacts.{few_comparisons}
 use Rattle.beet_bids.specs.declared.book.Bidder.{Bidder}
-use Rattle.beet_book.specs.Farmers.{Farmer, farmers_of}
 use Rattle.beet_plan.specs.Kept.{coefficients_kept, words_kept}
-use Rattle.beet_load.specs.Farmers.{words_wanted}
-use Rattle.beet_load.specs.Servers.{coefficients_wanted, masks_wanted}
+use Rattle.beet_load.specs.Counts.{coefficients_wanted, counts_of, masks_wanted, words_wanted}
 use Rattle.beet_load.specs.Wholes.{CanDeal, CanStart}
 use Rattle.beet_map.proofs.WordLists.{ones-long}
 use Rattle.beet_worlds.specs.Enough.{AreEnough, HasAccepted}
-use Rattle.beet_worlds.specs.MappedBidders.{BiddersMapped, FarmerMapped}
+use Rattle.beet_worlds.specs.MappedBidders.{BiddersMapped, party_of}
 use Rattle.beet_worlds.specs.MappedWords.{Mapped}
 use Rattle.beet_worlds.specs.ViewsWith.{cut_words, transcript_with}
 use Rattle.beet_view.specs.BookViews.{transcript_for}
-use Rattle.beet_worlds.proofs.BidderFacts.{known-or}
+use Rattle.beet_mapped.proofs.DealerFacts.{lists-alike, lists-long}
 
 -- lists that are short enough are not cut
 lists-uncut : (n : ℕ) (lists : List (List ℕ)) → All (λ (list : List ℕ). length list ≤ n) lists → map (take n) lists ≡ lists
@@ -33,7 +31,8 @@ lists-uncut n (l ∷ ls) all =
     let rest = lists-uncut n ls (All-tail (λ (list : List ℕ). length list ≤ n) l ls all) in
     λ i. here i ∷ rest i
 
-bidders-kept : (grid : Grid) (lists : List (List ℕ)) → All (CanDeal grid) lists → All (λ (list : List ℕ). length list ≤ words_kept grid.prices) lists
+bidders-kept : (grid : Grid) (lists : List (List ℕ)) → All (CanDeal (counts_of grid)) lists → All
+    (λ (list : List ℕ). length list ≤ words_kept grid.prices) lists
 bidders-kept grid lists all = λ k d lt. (all k d lt).kept
 
 -- the words with which an auction can run are no more than those that are read for it
@@ -62,29 +61,15 @@ same-transcripts s first second words mapped r r' e =
 kept-has : (wanted : ℕ) (words : List ℕ) → length words ≤ wanted + 8 → HasAccepted wanted words → wanted ≤ length (accepted words)
 kept-has wanted words short h = subst (λ (w : List ℕ). wanted ≤ length (accepted w)) (take_all (wanted + 8) words short) h
 
--- the words of a bidder are as many in both worlds
-farmer-long : (s : Point) (wanted : ℕ) (one other : Farmer) → FarmerMapped s wanted one other → length other.words ≡ length one.words
-farmer-long s wanted one other m = elim (known-or one.bidder.known s) [
-  | inl known ↦ ap length (m.own known)
-  | inr unknown ↦ ones-long one.words other.words (m.moved unknown).places
-]
-
-farmer-there : (bidders : List Bidder) (words : List (List ℕ)) (k : ℕ) → k < length bidders → k < length words →
-    (b : Bidder) × (slice_get (farmers_of bidders words) k ≡ Some (record { bidder = b; words = get_or words k [] }))
-farmer-there [] words k lt lt' = absurd (omega arith)
-farmer-there (b ∷ bs) [] k lt lt' = absurd (omega arith)
-farmer-there (b ∷ bs) (w ∷ ws) zero lt lt' = (b, refl)
-farmer-there (b ∷ bs) (w ∷ ws) (suc k) lt lt' = farmer-there bs ws k (omega arith) (omega arith)
-
--- those of each bidder
-lists-long : (s : Point) (prices : ℕ) (bidders others : List Bidder) (words words' : List (List ℕ)) → length words ≡ length bidders →
-    length words' ≡ length others → length words' ≡ length words → BiddersMapped s prices (farmers_of bidders words) (farmers_of others words') →
+-- the words of each bidder are as many in both worlds
+bidders-long : (s : Point) (bidders others : List Bidder) (words words' : List (List ℕ)) → length words ≡ length bidders →
+    length words' ≡ length others → length words' ≡ length words → BiddersMapped s bidders words others words' →
     (k : ℕ) → k < length words' → length (get_or words' k []) ≡ length (get_or words k [])
-lists-long s prices bidders others words words' a b c m k lt =
-    let one = farmer-there bidders words k (omega arith) (omega arith) in
-    let other = farmer-there others words' k (omega arith) (omega arith) in
-    farmer-long s (2 * prices) (record { bidder = one.0; words = get_or words k [] }) (record { bidder = other.0; words = get_or words' k [] })
-    (m.each_one k (record { bidder = one.0; words = get_or words k [] }) (record { bidder = other.0; words = get_or words' k [] }) one.1 other.1)
+bidders-long s bidders others words words' a b c m k lt =
+    let all = lists-long words words' (lists-alike s (map party_of bidders) (map party_of others) words words' (a ∙ sym (length-map bidders party_of))
+    (b ∙ sym (length-map others party_of)) m) in
+    let long = λ (list : List ℕ). length list in
+    sym (get_or-map long words' k [] 0 lt) ∙ ap (λ l. get_or l k 0) all ∙ get_or-map long words k [] 0 (omega (arith, lt, c))
 
 -- three servers can run the second auction with the mapped words
 pub can-run : (s : Point) (first second : Book) (words mapped : Words) → CanStart first words → second.grid ≡ first.grid →
@@ -106,9 +91,10 @@ can-run s first second words mapped r grids m e = by second.grid grids e where
             let short1 : length mapped.coefficients.one ≤ wanted + 8 = omega (arith, long1, r.cut.one.coefficients) in
             let short2 : length mapped.coefficients.two ≤ wanted + 8 = omega (arith, long2, r.cut.two.coefficients) in
             let short3 : length mapped.coefficients.three ≤ wanted + 8 = omega (arith, long3, r.cut.three.coefficients) in
-            let lists = lists-long s first.grid.prices first.bidders second.bidders words.bidders mapped.bidders r.lists e.count m.lists m.bidders in
+            let lists = bidders-long s first.bidders second.bidders words.bidders mapped.bidders r.lists e.count m.lists m.dealers in
             let short : (k : ℕ) → k < length mapped.bidders → length (get_or mapped.bidders k []) ≤ words_kept first.grid.prices =
-            λ k lt. (let a = lists k lt in let b = All-get_or (CanDeal first.grid) words.bidders k [] (omega (arith, m.lists)) r.bidders in omega (arith, a, b.kept)) in
+            λ k lt. (let a = lists k lt in let b = All-get_or (CanDeal (counts_of first.grid)) words.bidders k []
+            (omega (arith, m.lists)) r.bidders in omega (arith, a, b.kept)) in
             record {
               servers = record {
                 one = record { coefficients = kept-has wanted mapped.coefficients.one short1 e.one; masks = e.masks.0 };
@@ -121,7 +107,7 @@ can-run s first second words mapped r grids m e = by second.grid grids e where
                 three = record { masks = omega (arith, masks3, r.cut.three.masks); coefficients = short3 };
               };
               lists = e.count;
-              bidders = All-from_get_or (CanDeal first.grid) mapped.bidders []
+              bidders = All-from_get_or (CanDeal (counts_of first.grid)) mapped.bidders []
                   (λ k lt. record {
                     enough = kept-has (words_wanted first.grid) (get_or mapped.bidders k []) (short k lt)
                         (All-get_or (HasAccepted (2 * first.grid.prices)) mapped.bidders k [] lt e.bidders);

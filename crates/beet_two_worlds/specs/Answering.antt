@@ -1,4 +1,5 @@
--- What the job `worlds` answers for two books that agree: what one server sees in both worlds, and the words of the second.
+-- What the job `worlds` answers for two books that agree: what one server sees in both worlds, and the words of the
+-- second.
 use Rattle.std.specs.Prelude.{◌≡◌, ℕ, List, [], ◌∷◌, ◌++◌, codes}
 use Rattle.beet_field.specs.declared.point.Point.{Point}
 use Rattle.beet_words.specs.Bundles.{Words, bundle_bytes}
@@ -30,10 +31,11 @@ agreed_answer out first words seen second_words = record {
   text = worlds_text first words;
 }
 
--- an answer shows that two books look the same to a server: they agree, words of the second world are mapped from those of the first, and
--- with them the server sees the same. The answer tells what it has seen, and these words; no others are mapped from those of the first
--- world, and they are mapped from no others
-pub record ShowsTheSame (s : Point) (out : List ℕ) (first : Book) (words : Words) (second : Book) (answer : Answer) : Type 0 where
+-- an answer shows that two books look the same to a server: they agree, words of the second world are mapped from those
+-- of the first, and with them the server sees the same. The answer tells what it has seen, and these words; no others
+-- are mapped from those of the first world, and they are mapped from no others
+pub record ShowsTheSame (s : Point) (out : List ℕ) (first : Book) (words : Words) (second : Book)
+    (answer : Answer) : Type 0 where
   pub agree : Agree s first second
   pub second_words : Words
   pub mapped : Mapped s first words second second_words

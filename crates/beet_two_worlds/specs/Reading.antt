@@ -1,12 +1,10 @@
 -- What is read for two worlds: an auction with its words, and a second book without words.
-use Rattle.std.specs.Prelude.{ℕ, List, Option, map}
-use Rattle.beet_store.specs.Files.{Told}
+use Rattle.std.specs.Prelude.{ℕ, List, map}
 use Rattle.beet_words.specs.Bundles.{Words}
 use Rattle.beet_bids.specs.Books.{Book}
 use Rattle.beet_bids.specs.declared.book.Bidder.{Bidder}
 use Rattle.beet_book.specs.Farmers.{book_with}
-use Rattle.beet_errand.specs.Errands.{Errand, Step, ◌>>=◌, gives}
-use Rattle.beet_errand.specs.Fetches.{Went}
+use Rattle.beet_errand.specs.Errands.{Step, ◌>>=◌, gives}
 use Rattle.beet_load.specs.Loading.{Loaded}
 use Rattle.beet_load.specs.Servers.{masks_of, coefficients_of}
 use Rattle.beet_load.specs.Wholes.{limited_errand, curves_errand}
@@ -36,10 +34,5 @@ words_read both = record {
 unfoldable pub both_errand : List ℕ → List ℕ → List ℕ → List ℕ → Step Both
 both_errand auction servers book1 book2 = do
   first ← limited_errand auction servers book1
-  second ← curves_errand book2 first.grid
+  second ← curves_errand 0 book2 first.grid
   gives (record { first = first; second = second })
-
--- both books are read: the fetches lead through them, whatever comes next
-abbrev pub AreRead : Option Told → Option Told → List ℕ → List ℕ → List ℕ → List ℕ → Both → Type 0
-AreRead old now auction servers book1 book2 both =
-    (next : Both → Errand) → Went old now (both_errand auction servers book1 book2 next) (next both)

@@ -8,8 +8,8 @@ ghost use Rattle.beet_worlds.specs.Disagreement.{Refuses};
 ghost use Rattle.beet_worlds.specs.declared.agreeing.MapFault.{MapFault};
 ghost use Rattle.beet_two_worlds.specs.Differences.{difference_between};
 
-/// There is no difference to tell between books that agree for a server. Of others the one that is told is the first thing that tells
-/// them apart.
+/// There is no difference to tell between books that agree for a server. Of others the one that is told is the first
+/// thing that tells them apart.
 pub fn differences_are_told()
     ensures none { (s : Point) (first second : Book) → Agree s first second →
         difference_between s first second ≡ None }

@@ -7,7 +7,7 @@ ghost use Rattle.beet_two_worlds.specs.Differences.{outcome_word as word_of, ref
 ghost use Rattle.beet_two_worlds.specs.Ending.{IsLineOf, TellsRefusal};
 
 use beet_bids::Outcome;
-use beet_errand::{Status, Stop};
+use beet_errand::{OwnRefusal, Refusal, Stop};
 use beet_run::opened_words;
 use beet_worlds::MapFault;
 use std::alloc::{AllocError, Global};
@@ -78,8 +78,8 @@ fn refused_line(alloc: Global, fault: MapFault) -> Result<Vec<u8>, AllocError>
 pub(crate) fn refusal(alloc: Global, fault: MapFault) -> Stop
     ensures { TellsRefusal fault result }
 {
-    match refused_line(alloc, fault) {
-        Ok(line) => Stop::Refused(Status::WorldsRefused, line),
-        Err(_) => Stop::OutOfMemory,
-    }
+    Stop::of_line(
+        Refusal::Own(OwnRefusal::OfWorlds),
+        refused_line(alloc, fault),
+    )
 }

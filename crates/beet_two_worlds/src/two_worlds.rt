@@ -1,8 +1,7 @@
 //! The job `worlds`.
 
-ghost use Rattle.std.specs.Prelude.{IfOk};
-ghost use Rattle.beet_errand.specs.Fetches.{IsDone};
-ghost use Rattle.beet_two_worlds.specs.Ending.{Compares};
+ghost use Rattle.beet_errand.specs.Tasks.{DoesTask};
+ghost use Rattle.beet_two_worlds.specs.Ending.{worlds_task};
 
 use crate::answering::answer_both;
 use beet_errand::{Reply, Stop};
@@ -14,8 +13,9 @@ use std::alloc::Global;
 use std::marker::Sync;
 use std::thread::Threads;
 
-/// Runs the auction of the first book with the words that are read, and that of the second with words with which it looks
-/// the same to the server. It answers the transcripts of the server, which are equal, and the words of the second auction.
+/// Runs the auction of the first book with the words that are read, and that of the second with words with which it
+/// looks the same to the server. It answers the transcripts of the server, which are equal, and the words of the second
+/// auction.
 pub fn worlds<S: Shelf, R: Threads + Sync>(
     rt: &R,
     alloc: Global,
@@ -27,11 +27,11 @@ pub fn worlds<S: Shelf, R: Threads + Sync>(
     server: Point,
     out: &str,
 ) -> Result<Reply, Stop>
-    ensures done { IfOk result (λ reply. IsDone reply.status) }
-    ensures compares { Compares (S.seen shelf.old) (S.seen shelf.new) auction.now servers.now book1.now book2.now server out.now result }
+    ensures { DoesTask (worlds_task auction.now servers.now book1.now book2.now server out.now)
+        (S.seen shelf.old) (S.seen shelf.new) result }
 {
     let whole = load_whole(alloc, shelf, auction, servers, book1)?;
-    let second = load_curves(alloc, shelf, whole.book.grid(), book2);
+    let second = load_curves(alloc, shelf, 0, whole.book.grid(), book2);
     let (whole, second) = beside(whole, second)?;
     let reply = answer_both(rt, alloc, server, out, &whole, &second);
     drop(second);

@@ -1,10 +1,9 @@
 use beet_bids::{Bidder, Book, Curve, Grid, Outcome, Policy};
 use beet_field::{Fe, P, Point, Trio};
 use beet_gates::Gates;
+use beet_turned::turn;
 use beet_words::{Word, WordList, Words, count_accepted};
-use beet_worlds::{
-    MapFault, agreement, enough, input_lines, map_bidders, map_masks, turn, world_map,
-};
+use beet_worlds::{MapFault, agreement, enough, input_lines, map_bidders, map_masks, world_map};
 use std::alloc::Global;
 use std::process::Abort;
 

@@ -15,10 +15,11 @@ use Rattle.beet_round.specs.declared.sides.Side.{Side}
 use Rattle.beet_round.specs.declared.sides.Side.TheVariants.{Low, High}
 use Rattle.beet_server.specs.Answers.{Keeps, verdict_on}
 use Rattle.beet_server.specs.Cores.{Core, is_quiet}
-use Rattle.beet_delivery.specs.Events.{Delivered, deliver, is_sent, same}
+use Rattle.beet_delivery.specs.Events.{Delivered, deliver, is_sent, same, three}
 use Rattle.beet_server.specs.Fits.{message_of, taken}
 use Rattle.beet_sharing.specs.Runs.{HasRounds, Setup}
-use Rattle.beet_delivery.proofs.EventFacts.{side_of as side_from}
+use Rattle.beet_delivery.proofs.NetworkFacts.{WasSent, was_sent}
+use Rattle.beet_delivery.proofs.ThreeServers.{one_apart, side_of as side_from, three-is}
 use Rattle.beet_server.proofs.Passing.{round_most}
 use Rattle.beet_sharing.proofs.Rounds.{lawful-rounds}
 use Rattle.beet_world.specs.Happens.{IsGiven, MayGive, MayTakeMessages, event_of, of_side}
@@ -26,7 +27,6 @@ use Rattle.beet_world.specs.declared.world.Event.TheVariants.{Delivered as Deliv
 use Rattle.std.specs.Prelude.{Option, if◌then◌else◌, nat_lt, slice_index_or}
 use Rattle.beet_round.proofs.SideFacts.{side_of-peer}
 use Rattle.beet_delivery.specs.Events.{passed, undelivered}
-use Rattle.beet_delivery.proofs.EventFacts.{WasSent, one_apart, was_sent}
 use Rattle.beet_world.specs.Missing.{is_missing, one_if, six, to_side}
 use Rattle.beet_world.proofs.TwoRounds.{missing-two}
 use Rattle.beet_world.specs.Marks.{mark_at, marked_to, with_mark}
@@ -104,8 +104,8 @@ module _ {S : Type 0} (next : S → ℕ → List ℕ → Batch) (inputs most : S
   is-unmarked from side t lt m = rw (is-there from side t lt, side_of-peer from side, m) refl
 
   -- each message that was delivered was sent
-  was : WasSent (rounds_in next inputs most w) (delivered_in w)
-  was = subst (λ (x : Delivered). WasSent (rounds_in next inputs most w) x) (sym i.reached) (was_sent (rounds_in next inputs most w) i.events)
+  was : WasSent three (rounds_in next inputs most w) (delivered_in w)
+  was = subst (λ (x : Delivered). WasSent three (rounds_in next inputs most w) x) (sym i.reached) (was_sent three-is (rounds_in next inputs most w) i.events)
 
   -- the core of each server
   pub core-in : (s : Point) → IsCoreOf next inputs most w s (member cores s)

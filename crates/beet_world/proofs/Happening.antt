@@ -1,6 +1,6 @@
 -- What an event makes of a `World`.
 use Rattle.std.proofs.Common.{◌≡◌, ◌≢◌, ℕ, ◌+◌, ◌<◌, ◌≤◌, List, [], ◌∷◌, ◌++◌, Bool, true, false, true≢false, inl, inr, arith, refl, sym, ◌∙◌, ap, subst, ◌||◌, ◌⊎◌, length, length-set, slice_get, Some}
-use Rattle.std.proofs.lemmas.Bool.{cases_Bool}
+use Rattle.std.proofs.lemmas.Bool.{cases_Bool, not_from_false}
 use Rattle.beet_field.specs.Trio.{member}
 use Rattle.beet_field.specs.declared.point.Point.{Point}
 use Rattle.beet_field.specs.declared.trio.Trio.{Trio}
@@ -11,13 +11,14 @@ use Rattle.beet_round.specs.declared.message.RoundMessage.{RoundMessage}
 use Rattle.beet_round.specs.declared.sides.Side.{Side}
 use Rattle.beet_round.proofs.SideFacts.{peer-apart}
 use Rattle.beet_sharing.specs.Runs.{HasRounds}
-use Rattle.beet_delivery.specs.Events.{Delivered, deliver, is_sent, nothing, passed, same, with_triple}
+use Rattle.beet_delivery.specs.Events.{Delivered, deliver, is_sent, nothing, passed, same, with_triple, three}
 use Rattle.beet_server.specs.Cores.{Core, is_quiet, has_ended}
 use Rattle.beet_server.specs.Answers.{Keeps}
 use Rattle.beet_server.specs.Fits.{Fits, IsRound, message_of, messages_from, taken}
 use Rattle.beet_round.specs.declared.mailbox.Verdict.{Verdict}
 use Rattle.beet_world.specs.Happens.{IsGiven, MayGive}
-use Rattle.beet_delivery.proofs.EventFacts.{after_append, deliver_sent, WasSent, near, not_same, same_is, same_not, sent_from, sent_parts, was_sent}
+use Rattle.beet_delivery.proofs.NetworkFacts.{WasSent, after_append, deliver_sent, near, sent_from, sent_parts, was_sent}
+use Rattle.beet_delivery.proofs.ThreeServers.{not_same, same_is, same_not, three-is}
 use Rattle.beet_server.proofs.Passing.{at_passed, away, ended_at, is_round}
 use Rattle.beet_world.specs.Missing.{to_side}
 use Rattle.beet_world.specs.Marks.{mark_at, with_mark}
@@ -66,13 +67,14 @@ module _ {S : Type 0} (next : S → ℕ → List ℕ → Batch) (inputs most : S
       is_sent (rounds_in next inputs most w) (delivered_in w) (to_side s side t) ≡ true
   there-sent s side t lt =
       let p = (sent_count s (member cores s).handed refl t).0 (omega (arith, counted s, lt)) in
-      sent_from (rounds_in next inputs most w) (delivered_in w) (to_side s side t) (same_not s (peer s side) (λ e. peer-apart s side (sym e)))
+      sent_from three-is (rounds_in next inputs most w) (delivered_in w) (to_side s side t)
+      (not_from_false (same s (peer s side)) (same_not s (peer s side) (λ e. peer-apart s side (sym e))))
       p.0 (omega (arith, p.1, at_round s))
 
   pub sent-there : (s : Point) (side : Side) (t : ℕ) → is_sent (rounds_in next inputs most w) (delivered_in w) (to_side s side t) ≡ true →
       t < length (member sent s)
   sent-there s side t is =
-      let p = sent_parts (rounds_in next inputs most w) (delivered_in w) (to_side s side t) is in
+      let p = sent_parts three-is (rounds_in next inputs most w) (delivered_in w) (to_side s side t) is in
       let q = (sent_count s (member cores s).handed refl t).1 p.1.0 (omega (arith, p.1.1, at_round s)) in
       omega (arith, counted s, q)
 
@@ -81,9 +83,9 @@ module _ {S : Type 0} (next : S → ℕ → List ℕ → Batch) (inputs most : S
       (IsRound (setup_in next inputs most w) t) × (t ≤ (member cores (peer s side)).round + 1)
   close s side t lt =
       let is = there-sent s side t lt in
-      let p = sent_parts (rounds_in next inputs most w) (delivered_in w) (to_side s side t) is in
-      let was = subst (λ (x : Delivered). WasSent (rounds_in next inputs most w) x) (sym i.reached) (was_sent (rounds_in next inputs most w) i.events) in
-      let q = near (rounds_in next inputs most w) (delivered_in w) was (to_side s side t) is in
+      let p = sent_parts three-is (rounds_in next inputs most w) (delivered_in w) (to_side s side t) is in
+      let was = subst (λ (x : Delivered). WasSent three (rounds_in next inputs most w) x) (sym i.reached) (was_sent three-is (rounds_in next inputs most w) i.events) in
+      let q = near three-is (rounds_in next inputs most w) (delivered_in w) was (to_side s side t) is in
       ((is_round (setup_in next inputs most w) (rounds_in next inputs most w) t h).1 p.1.0, omega (arith, q, at_round (peer s side)))
 
   -- the messages that were sent in a round
@@ -101,14 +103,14 @@ module _ {S : Type 0} (next : S → ℕ → List ℕ → Batch) (inputs most : S
 
     pub within : mark_at from side t < length w.marks
     within =
-        let p = sent_parts (rounds_in next inputs most w) (delivered_in w) (to_side from side t) (there-sent from side t lt) in
+        let p = sent_parts three-is (rounds_in next inputs most w) (delivered_in w) (to_side from side t) (there-sent from side t lt) in
         omega (arith, i.room, place-within from side t (most w.start.one.script) (omega (arith, p.1.0, few)))
 
     pub set-after : delivered_in (record w { marks = with_mark w.marks from side t }) ≡ with_triple (delivered_in w) (to_side from side t)
     set-after = set-with_mark w.marks from side t within
 
     pub is-delivered : delivered_in (record w { marks = with_mark w.marks from side t }) ≡ deliver (rounds_in next inputs most w) (delivered_in w) (to_side from side t)
-    is-delivered = set-after ∙ sym (deliver_sent (rounds_in next inputs most w) (delivered_in w) (to_side from side t) (there-sent from side t lt))
+    is-delivered = set-after ∙ sym (deliver_sent three-is (rounds_in next inputs most w) (delivered_in w) (to_side from side t) (there-sent from side t lt))
 
     -- the message may be given to its receiver, for which it comes from the other side
     pub may-give : (m : RoundMessage) (back : Side) → m ≡ message_of (setup_in next inputs most w) from (peer from side) t → peer (peer from side) back ≡ from →
@@ -177,6 +179,6 @@ module _ {S : Type 0} (next : S → ℕ → List ℕ → Batch) (inputs most : S
       ];
       events = i.events ++ to_side from side t ∷ [];
       reached = is-delivered ∙ ap (λ x. deliver (rounds_in next inputs most w) x (to_side from side t)) i.reached
-          ∙ sym (after_append (rounds_in next inputs most w) i.events (to_side from side t ∷ []) nothing);
+          ∙ sym (after_append three-is (rounds_in next inputs most w) i.events (to_side from side t ∷ []) nothing);
       room = length-set w.marks (mark_at from side t) true ∙ i.room;
     }

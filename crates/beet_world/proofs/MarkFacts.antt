@@ -12,7 +12,7 @@ use Rattle.beet_round.specs.Sides.{peer, place_of, side_of}
 use Rattle.beet_round.specs.declared.sides.Side.{Side}
 use Rattle.beet_round.specs.declared.sides.Side.TheVariants.{Low, High}
 use Rattle.beet_delivery.specs.Events.{Triple, nothing, same, with_triple}
-use Rattle.beet_delivery.proofs.EventFacts.{same_is, same_self}
+use Rattle.beet_delivery.proofs.ThreeServers.{same_is, same_self}
 use Rattle.beet_round.proofs.SideFacts.{side_of-peer}
 use Rattle.beet_world.specs.Marks.{mark_at, marked_to, set_of, unmarked, with_mark}
 

@@ -1,22 +1,21 @@
 -- Undelivered messages are of two rounds at most: that of the server that is behind, and the next.
-use Rattle.std.proofs.Common.{◌≡◌, ◌≢◌, ℕ, zero, suc, ◌+◌, ◌≤◌, [], ◌∷◌, ◌++◌, Bool, true, false, true≢false, inl, inr, arith, refl, sym, ◌∙◌, ap, ◌&&◌, ◌==◌, not, nat_lt, nat_le, length, cond}
-use Rattle.std.specs.Prelude.{filter, min}
+use Rattle.std.proofs.Common.{◌≡◌, ◌≢◌, ℕ, zero, suc, ◌+◌, ◌≤◌, Bool, true, false, inl, inr, arith, refl, sym, ◌∙◌, ap, ◌&&◌, ◌==◌, not, nat_lt, nat_le, length, cond}
+use Rattle.std.specs.Prelude.{count_by, filter, min}
 use Rattle.beet_field.specs.Trio.{member}
 use Rattle.std.specs.List.{range_with_len, flat_map}
-use Rattle.std.proofs.lemmas.Bool.{cases_eq, cases_lt, false_from_ne_true}
+use Rattle.std.proofs.lemmas.Bool.{and_left, and_right, cases_eq, cases_lt, false_from_ne_true, not_from_false, not_from_true}
 use Rattle.std.proofs.lemmas.Bool.Decides.{nat_tests}
-use Rattle.std.proofs.lemmas.List.{length-append}
-use Rattle.std.proofs.lemmas.List.Elements.{filter-append}
+use Rattle.std.proofs.lemmas.List.Sums.{length-filter, sum_by-append}
 use Rattle.beet_field.specs.declared.point.Point.{Point}
 use Rattle.beet_field.specs.declared.point.Point.TheVariants.{One, Two, Three}
-use Rattle.beet_delivery.specs.Events.{Delivered, Triple, all_triples, has, is_sent, passed, same, triples_of, undelivered}
-use Rattle.beet_world.specs.Missing.{is_missing, one_if, six}
-use Rattle.beet_delivery.proofs.Counting.{count_more, one}
-use Rattle.beet_delivery.proofs.EventFacts.{WasSent, one_apart, passed_in, sent_parts, side_of}
+use Rattle.beet_delivery.specs.Events.{Delivered, Triple, all_triples, is_sent, passed, same, triples_of, undelivered, three}
+use Rattle.beet_world.specs.Missing.{is_missing, six}
+use Rattle.beet_delivery.proofs.NetworkFacts.{WasSent, passed_in, sent_parts}
+use Rattle.beet_delivery.proofs.ThreeServers.{one_apart, three-is}
 
 -- how many messages of a round pass a test
 abbrev pub of_round : (Triple → Bool) → ℕ → ℕ
-of_round p t = length (filter p (triples_of t))
+of_round p t = count_by p (triples_of t)
 
 -- a number that counts at one round alone, and among some rounds
 abbrev hit : (ℕ → ℕ) → ℕ → ℕ → ℕ
@@ -60,71 +59,31 @@ module _ (p : Triple → Bool) (m : ℕ) (none : (t : ℕ) → t ≢ m → t ≢
     ]
   ]
 
-  among : (n a : ℕ) → length (filter p (flat_map triples_of (range_with_len a n))) ≡ seen (of_round p) a n m + seen (of_round p) a n (m + 1)
+  among : (n a : ℕ) → count_by p (flat_map triples_of (range_with_len a n)) ≡ seen (of_round p) a n m + seen (of_round p) a n (m + 1)
   among zero a = let e = seen_none (of_round p) a m in let f = seen_none (of_round p) a (m + 1) in omega (arith, e, f)
   among (suc n) a =
-      let first : length (filter p (triples_of a ++ flat_map triples_of (range_with_len (a + 1) n))) ≡ of_round p a + length (filter p (flat_map triples_of (range_with_len (a + 1) n))) =
-      ap length (filter-append p (triples_of a) (flat_map triples_of (range_with_len (a + 1) n)))
-      ∙ length-append (filter p (triples_of a)) (filter p (flat_map triples_of (range_with_len (a + 1) n))) in
-      first ∙ omega (arith, at_two a, among n (a + 1), seen_more (of_round p) a n m, seen_more (of_round p) a n (m + 1))
+      sum_by-append (λ e. cond (p e) 1 0) (triples_of a) (flat_map triples_of (range_with_len (a + 1) n))
+      ∙ omega (arith, at_two a, among n (a + 1), seen_more (of_round p) a n m, seen_more (of_round p) a n (m + 1))
 
   -- all that pass are of these two rounds
   pub of-two : (rounds : ℕ) → ((t : ℕ) → rounds ≤ t → of_round p t ≡ 0) → length (filter p (all_triples rounds)) ≡ of_round p m + of_round p (m + 1)
-  of-two rounds past = among rounds 0 ∙ (λ i. within m i + within (m + 1) i) where
+  of-two rounds past = length-filter p (all_triples rounds) ∙ among rounds 0 ∙ (λ i. within m i + within (m + 1) i) where
     within : (t : ℕ) → seen (of_round p) 0 rounds t ≡ of_round p t
     within t = elim (cases_lt t rounds) [
       | inl lt ↦ let e : (nat_le 0 t && nat_lt t (0 + rounds)) ≡ true = grind (arith, nat_tests, lt) in rw e refl
       | inr le ↦ let e : (nat_le 0 t && nat_lt t (0 + rounds)) ≡ false = grind (arith, nat_tests, le) in rw e (sym (past t le))
     ]
 
-one_is : (b : Bool) → one b ≡ one_if b
-one_is true = refl
-one_is false = refl
-
-pub round-six : (p : Triple → Bool) (t : ℕ) → of_round p t ≡ six p t
-round-six p t =
-    let a : Triple = record { from = One; to = Two; round = t } in
-    let b : Triple = record { from = One; to = Three; round = t } in
-    let c : Triple = record { from = Two; to = One; round = t } in
-    let d : Triple = record { from = Two; to = Three; round = t } in
-    let e : Triple = record { from = Three; to = One; round = t } in
-    let f : Triple = record { from = Three; to = Two; round = t } in
-    omega (
-      arith,
-      count_more p a (b ∷ c ∷ d ∷ e ∷ f ∷ []),
-      count_more p b (c ∷ d ∷ e ∷ f ∷ []),
-      count_more p c (d ∷ e ∷ f ∷ []),
-      count_more p d (e ∷ f ∷ []),
-      count_more p e (f ∷ []),
-      count_more p f [],
-      one_is (p a),
-      one_is (p b),
-      one_is (p c),
-      one_is (p d),
-      one_is (p e),
-      one_is (p f),
-    )
+round-six : (p : Triple → Bool) (t : ℕ) → of_round p t ≡ six p t
+round-six p t = omega arith
 
 none_of_six : (p : Triple → Bool) (t : ℕ) → ((from to : Point) → same from to ≡ false → p (record { from = from; to = to; round = t }) ≡ false) → of_round p t ≡ 0
 none_of_six p t none =
     round-six p t
     ∙ rw (none One Two refl, none One Three refl, none Two One refl, none Two Three refl, none Three One refl, none Three Two refl) refl
 
-not_sent : (rounds : ℕ) (x : Delivered) (e : Triple) → is_sent rounds x e ≡ false → is_missing rounds x e ≡ false
-not_sent rounds x e h = by (is_sent rounds x e) (not (has x e)) h where
-  by : (a b : Bool) → a ≡ false → (a && b) ≡ false
-  by true b h = absurd (true≢false h)
-  by false b h = refl
-
-in_set : (rounds : ℕ) (x : Delivered) (e : Triple) → has x e ≡ true → is_missing rounds x e ≡ false
-in_set rounds x e h = by (is_sent rounds x e) (has x e) h where
-  by : (a b : Bool) → b ≡ true → (a && not b) ≡ false
-  by true true h = refl
-  by false b h = refl
-  by true false h = absurd (true≢false (sym h))
-
 -- where one server is behind or level with the others, what is undelivered is of its round or of the next
-pub missing-two : (rounds : ℕ) (x : Delivered) (behind : Point) → WasSent rounds x → ((s : Point) → passed rounds x behind ≤ passed rounds x s) →
+pub missing-two : (rounds : ℕ) (x : Delivered) (behind : Point) → WasSent three rounds x → ((s : Point) → passed rounds x behind ≤ passed rounds x s) →
     undelivered rounds x ≡ six (is_missing rounds x) (passed rounds x behind) + six (is_missing rounds x) (passed rounds x behind + 1)
 missing-two rounds x behind was least =
     let m = passed rounds x behind in
@@ -132,18 +91,17 @@ missing-two rounds x behind was least =
     (λ t other more. none_of_six (is_missing rounds x) t (λ from to apart.
     elim (cases_lt t m) [
       | inl lt ↦
-          let (side, e) = side_of to from apart in
-          in_set rounds x (record { from = from; to = to; round = t })
-          ((λ i. x (sym e i) to t) ∙ passed_in rounds x to t (omega (arith, lt, least to)) side)
-      | inr le ↦ not_sent rounds x (record { from = from; to = to; round = t })
+          and_right (is_sent rounds x (record { from = from; to = to; round = t })) (not (x from to t)) (not_from_true (x from to t)
+          (passed_in three-is rounds x to t (omega (arith, lt, least to)) from (not_from_false (same from to) apart)))
+      | inr le ↦ and_left (is_sent rounds x (record { from = from; to = to; round = t })) (not (x from to t))
           (false_from_ne_true (is_sent rounds x (record { from = from; to = to; round = t })) (λ is.
-          let p = sent_parts rounds x (record { from = from; to = to; round = t }) is in
+          let p = sent_parts three-is rounds x (record { from = from; to = to; round = t }) is in
           omega (arith, p.1.1, one_apart rounds x was from behind, le, other, more)))
     ]))
     rounds
-    (λ t past. none_of_six (is_missing rounds x) t (λ from to apart. not_sent rounds x (record { from = from; to = to; round = t })
+    (λ t past. none_of_six (is_missing rounds x) t (λ from to apart. and_left (is_sent rounds x (record { from = from; to = to; round = t })) (not (x from to t))
     (false_from_ne_true (is_sent rounds x (record { from = from; to = to; round = t })) (λ is.
-    let p = sent_parts rounds x (record { from = from; to = to; round = t }) is in omega (arith, p.1.0, past)))))
+    let p = sent_parts three-is rounds x (record { from = from; to = to; round = t }) is in omega (arith, p.1.0, past)))))
     ∙ (λ i. round-six (is_missing rounds x) m i + round-six (is_missing rounds x) (m + 1) i)
 
 -- the least of three

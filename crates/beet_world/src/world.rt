@@ -297,6 +297,7 @@ impl<S: Script> World<S> {
         ensures count { result
             ≡ undelivered_in (rounds_in S.batch_of S.inputs_of S.rounds_of self.now)
             (delivered_in self.now) }
+        ensures few { result ≤ 12 }
         ensures ended { result ≡ 0 → (s : Server)
             → passed (rounds_in S.batch_of S.inputs_of S.rounds_of self.now)
             (delivered_in self.now) s

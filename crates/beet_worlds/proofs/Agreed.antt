@@ -5,7 +5,7 @@ use Rattle.beet_field.specs.declared.point.Point.{Point}
 use Rattle.beet_bids.specs.Books.{Book}
 use Rattle.beet_bids.specs.Grids.{Grid}
 use Rattle.beet_bids.specs.Sums.{supply_at, demand_at}
-use Rattle.beet_bids.specs.Outcomes.{outcome_at, clearing_place, reached_place, shown_by}
+use Rattle.beet_bids.specs.Outcomes.{outcome_at, outcome_of, clearing_place, reached_place, shown_by}
 use Rattle.beet_bids.specs.declared.outcomes.Policy.{Policy}
 use Rattle.beet_bids.specs.declared.outcomes.Policy.TheVariants.{Price as PriceAlone, Volume, Full}
 use Rattle.beet_bids.specs.declared.outcomes.Outcome.{Outcome}
@@ -41,17 +41,29 @@ module _ (book : Book) where
   told-at None h = absurd (omega arith)
   told-at (Some z) h = all-shown book.grid.policy (demand_at book.bidders z) (supply_at book.bidders z)
 
+-- two books over one grid with the same outcome
+module _ (first second : Book) (grids : second.grid ≡ first.grid) (outcomes : outcome_of second ≡ outcome_of first) where
+  pub prices-alike : second.grid.prices ≡ first.grid.prices
+  prices-alike = ap (λ (g : Grid). g.prices) grids
+
+  pub clearing-alike : clearing_place second ≡ clearing_place first
+  clearing-alike =
+      sym (place-at second (reached_place second)) ∙ (λ i. place_in (outcomes i) (prices-alike i)) ∙ place-at first (reached_place first)
+
+  pub shown-alike : clearing_place first < first.grid.prices →
+      shown_at first.grid.policy second (clearing_place first) ≡ shown_at first.grid.policy first (clearing_place first)
+  shown-alike h =
+      let h' : clearing_place second < second.grid.prices = omega (arith, clearing-alike, prices-alike) in
+      sym (λ i. shown_at (grids i).policy second (clearing-alike i)) ∙ sym (told-at second (reached_place second) h')
+      ∙ ap told_in outcomes ∙ told-at first (reached_place first) h
+
 module _ (s : Point) (first second : Book) (a : Agree s first second) where
   pub prices-same : second.grid.prices ≡ first.grid.prices
-  prices-same = ap (λ (g : Grid). g.prices) a.grids
+  prices-same = prices-alike first second a.grids a.outcomes
 
   pub clearing-same : clearing_place second ≡ clearing_place first
-  clearing-same =
-      sym (place-at second (reached_place second)) ∙ (λ i. place_in (a.outcomes i) (prices-same i)) ∙ place-at first (reached_place first)
+  clearing-same = clearing-alike first second a.grids a.outcomes
 
   pub shown-same : clearing_place first < first.grid.prices →
       shown_at first.grid.policy second (clearing_place first) ≡ shown_at first.grid.policy first (clearing_place first)
-  shown-same h =
-      let h' : clearing_place second < second.grid.prices = omega (arith, clearing-same, prices-same) in
-      sym (λ i. shown_at (a.grids i).policy second (clearing-same i)) ∙ sym (told-at second (reached_place second) h')
-      ∙ ap told_in a.outcomes ∙ told-at first (reached_place first) h
+  shown-same = shown-alike first second a.grids a.outcomes

@@ -26,7 +26,7 @@ use Rattle.beet_round.specs.declared.sides.Side.TheVariants.{Low, High}
 use Rattle.beet_sharing.specs.Runs.{HasRounds, Setup, coming, draws_in, message, numbers_of, rounds_among, shared_at}
 use Rattle.beet_sharing.proofs.Walk.{Walks, deals-fit, draws-fit, walks}
 use Rattle.beet_plan.specs.Kept.{words_kept}
-use Rattle.beet_plan.specs.declared.TheConstants.{SPARE_WORDS}
+use Rattle.beet_masking.specs.declared.TheConstants.{SPARE_WORDS}
 use Rattle.beet_book.specs.Farmers.{Farmer, book_inputs, point_for, summed_point, farmers_of}
 use Rattle.beet_view.specs.RunViews.{round_seen, rounds_seen}
 use Rattle.beet_sharing.proofs.Rounds.{among-rounds}

@@ -2,7 +2,7 @@
 use Rattle.std.proofs.Common.{◌≡◌, ◌≢◌, ◌≤◌, ◌<◌, ◌+◌, ℕ, suc, inl, inr, List, [], ◌∷◌, map, length, slice_index, slice_get, Option, Some, refl, sym, ap, ◌∙◌, arith}
 use Rattle.std.proofs.lemmas.Bool.{cases_lt}
 use Rattle.std.proofs.lemmas.List.{ext_get_or, length-map}
-use Rattle.std.proofs.lemmas.Option.{slice_get_past, slice_get_within, slice_get-get_or}
+use Rattle.std.proofs.lemmas.Option.{same_Some, slice_get_past, slice_get_within, slice_get-get_or}
 use Rattle.beet_field.specs.declared.point.Point.{Point}
 use Rattle.beet_bids.specs.Books.{Book}
 use Rattle.beet_bids.specs.Curves.{Curve}
@@ -11,7 +11,7 @@ use Rattle.beet_map.specs.Refused.{DifferFirst}
 use Rattle.beet_worlds.specs.Disagreement.{Refuses, RefusesMap, SameKnownBefore}
 use Rattle.beet_worlds.specs.declared.agreeing.MapFault.{MapFault}
 use Rattle.beet_worlds.specs.declared.agreeing.MapFault.TheVariants.{ShapeDiffers, OwnBidsDiffer, OutcomesDiffer, OutOfMemory}
-use Rattle.beet_worlds.proofs.MasksBack.{get-map, some-same}
+use Rattle.beet_worlds.proofs.MasksBack.{get-map}
 
 -- two lists have the same items before this place
 abbrev pub SameBefore : {A : Type 0} → List A → List A → ℕ → Type 0
@@ -26,7 +26,7 @@ module _ {A : Type 0} where
   all-same [] (y ∷ ys) e h = absurd (omega arith)
   all-same (x ∷ xs) [] e h = absurd (omega arith)
   all-same (x ∷ xs) (y ∷ ys) e h =
-      let one : y ≡ x = sym (some-same x y (h 0 (omega arith))) in
+      let one : y ≡ x = sym (same_Some x y (h 0 (omega arith))) in
       let l : length ys ≡ length xs = omega arith in
       let rest = all-same xs ys l (λ k lt. h (suc k) (omega arith)) in
       λ j. one j ∷ rest j
@@ -65,7 +65,7 @@ module _ (bidders others : List Bidder) where
   marks-differ i one other a b ne same = record {
     before = same;
     here = λ e.
-        ne (some-same one.known other.known
+        ne (same_Some one.known other.known
         (sym (get-map (λ (b : Bidder). b.known) bidders i one a) ∙ e ∙ get-map (λ (b : Bidder). b.known) others i other b));
   }
 
@@ -90,8 +90,8 @@ module _ (bidders others : List Bidder) where
     | inl low ↦ same k x y low e f known
     | inr high ↦
         let here : k ≡ i = omega arith in
-        let is_x : x ≡ one = some-same x one (sym e ∙ ap (slice_get bidders) here ∙ a) in
-        let is_y : y ≡ other = some-same y other (sym f ∙ ap (slice_get others) here ∙ b) in
+        let is_x : x ≡ one = same_Some x one (sym e ∙ ap (slice_get bidders) here ∙ a) in
+        let is_y : y ≡ other = same_Some y other (sym f ∙ ap (slice_get others) here ∙ b) in
         ap (λ (z : Bidder). z.curve) is_y ∙ keep (ap (λ (z : Bidder). z.known) (sym is_x) ∙ known) ∙ ap (λ (z : Bidder). z.curve) (sym is_x)
   ]
 

@@ -4,7 +4,7 @@ use Rattle.std.specs.Prelude.{All, ◌==◌, not}
 use Rattle.std.proofs.lemmas.List.Elements.{All-cons, All-head, All-tail, filter-append}
 use Rattle.beet_words.specs.Words.{IsWord, accepted, ones}
 use Rattle.beet_bids.specs.declared.book.Bidder.{Bidder}
-use Rattle.beet_plan.specs.declared.TheConstants.{SPARE_WORDS}
+use Rattle.beet_masking.specs.declared.TheConstants.{SPARE_WORDS}
 use Rattle.beet_book.specs.Farmers.{Farmer, farmers_of}
 use Rattle.beet_worlds.specs.Enough.{HasAccepted}
 use Rattle.beet_book.proofs.FarmerLists.{farmers-words as told-words}

@@ -1,59 +1,57 @@
 -- The words of the second world: what is said of them.
-use Rattle.std.proofs.Common.{◌≡◌, ◌≤◌, ◌*◌, ℕ, List, All, map, take, length, sym, ap, subst, ◌∙◌, arith}
+use Rattle.std.proofs.Common.{◌≡◌, ◌≤◌, ◌*◌, ℕ, List, map, take, length, refl, sym, ap, subst, ◌∙◌, arith}
 use Rattle.std.proofs.lemmas.List.{length-map}
-use Rattle.beet_field.proofs.Trios.{at-each}
 use Rattle.beet_field.specs.Trio.{member, of_each}
 use Rattle.beet_field.specs.declared.point.Point.{Point}
 use Rattle.beet_field.specs.declared.point.Point.TheVariants.{One, Two, Three}
 use Rattle.beet_field.specs.declared.trio.Trio.{Trio}
 use Rattle.beet_shamir.specs.declared.Line.{Line}
 use Rattle.beet_words.specs.Bundles.{Words, AreWords}
-use Rattle.beet_words.specs.Words.{IsWord}
 use Rattle.beet_gates.specs.Clear.{clear_values}
 use Rattle.beet_gates.specs.Scripts.{HasWords}
 use Rattle.beet_bids.specs.Books.{Book, IsBook}
+use Rattle.beet_bids.specs.Curves.{IsCurve, IsOfGrid}
 use Rattle.beet_bids.specs.Grids.{Grid}
 use Rattle.beet_bids.specs.declared.book.Bidder.{Bidder}
-use Rattle.beet_plan.specs.Auction.{auction_batch, most_coefficients, most_masks, most_rounds, auction_over}
-use Rattle.beet_plan.specs.Runs.{AreMasks}
 use Rattle.beet_bids.proofs.BookSums.{length-sums}
+use Rattle.beet_plan.specs.Auction.{auction_batch, most_coefficients, most_masks, most_rounds, auction_over}
+use Rattle.beet_plan.specs.Kept.{words_kept, masks_kept, coefficients_kept}
+use Rattle.beet_book.specs.Farmers.{farmers_of}
 use Rattle.beet_round.specs.Sides.{peer}
 use Rattle.beet_round.specs.declared.sides.Side.TheVariants.{Low, High}
-use Rattle.beet_delivery.specs.Events.{Triple, after, passed}
 use Rattle.beet_sharing.specs.Runs.{HasRounds, Setup, numbers_of, rounds_among}
-use Rattle.beet_delivery.proofs.EventFacts.{passed_most, sent_parts, was_sent_parts}
 use Rattle.beet_sharing.proofs.Lined.{member-each}
-use Rattle.beet_auction.specs.Setups.{book_setup, setup_for, rounds_for}
-use Rattle.beet_plan.specs.Kept.{words_kept, masks_kept, coefficients_kept}
-use Rattle.beet_book.specs.Farmers.{Farmer, book_with, farmers_of}
+use Rattle.beet_sharing.proofs.Rounds.{among-rounds}
+use Rattle.beet_delivery.specs.Events.{Triple, after, passed}
+use Rattle.beet_delivery.proofs.NetworkFacts.{passed_most, sent_parts, was_sent_parts}
+use Rattle.beet_delivery.proofs.ThreeServers.{three-is}
+use Rattle.beet_auction.specs.Setups.{setup_for, rounds_for}
 use Rattle.beet_view.specs.BookViews.{seen_at}
 use Rattle.beet_view.specs.RunViews.{round_seen, rounds_seen}
-use Rattle.beet_map.specs.Mapped.{GateMapped, LooksAlike, run_with}
-use Rattle.beet_map.specs.Mapped.{AreWords as AreAllWords}
+use Rattle.beet_map.specs.Mapped.{LooksAlike}
 use Rattle.beet_map.specs.Refused.{HasSecrets}
 use Rattle.beet_map.specs.Secrets.{Secrets}
-use Rattle.beet_sharing.proofs.Rounds.{among-rounds}
-use Rattle.beet_worlds.specs.Agreement.{Agree, SameKnown}
+use Rattle.beet_turned.specs.MappedMasks.{MasksMapped}
+use Rattle.beet_turned.proofs.MaskFacts.{own-same}
+use Rattle.beet_mapped.proofs.WorldFacts.{Stands as Trades, are-masks, back, look as trades-look, only, trades-mapped}
+use Rattle.beet_worlds.specs.Agreement.{Agree}
 use Rattle.beet_worlds.specs.Enough.{AreEnough, HasAccepted}
 use Rattle.beet_worlds.specs.InputLines.{AreInputLines}
-use Rattle.beet_worlds.specs.MappedBidders.{BiddersMapped}
-use Rattle.beet_worlds.specs.MappedMasks.{MasksMapped}
-use Rattle.beet_worlds.specs.MappedWords.{Mapped}
+use Rattle.beet_worlds.specs.Losses.{losses_of}
+use Rattle.beet_worlds.specs.MappedBidders.{BiddersMapped, party_of}
+use Rattle.beet_worlds.specs.MappedWords.{Mapped, trade_of}
 use Rattle.beet_worlds.specs.Moments.{SameAfter}
 use Rattle.beet_worlds.specs.ViewsWith.{cut_words, view_with}
-use Rattle.beet_worlds.specs.Worlds.{CoefficientsMapped, LookSameIn, WorldsMapped}
-use Rattle.beet_worlds.proofs.BidderFacts.{bidders-only, curves-of, inputs-same, mapped-back}
+use Rattle.beet_worlds.specs.Worlds.{GoTogetherIn, LookSameIn, WorldsMapped}
+use Rattle.beet_worlds.proofs.BidderFacts.{bidders-have, farmers-mapped, inputs-same, parties-elements, same-own}
 use Rattle.beet_worlds.proofs.BookWorlds.{opens-alike}
 use Rattle.beet_worlds.proofs.CutRuns.{farmers-cut, farmers-have, rounds-few, seen-cut}
-use Rattle.beet_worlds.proofs.Drawn.{drawn-of, farmers-words, words-told}
-use Rattle.beet_worlds.proofs.EachMapped.{as-many}
+use Rattle.beet_worlds.proofs.Drawn.{drawn-of}
 use Rattle.beet_worlds.proofs.EnoughFacts.{mapped-enough}
-use Rattle.beet_worlds.proofs.MaskFacts.{own-same}
-use Rattle.beet_worlds.proofs.MasksBack.{get-map, masks-back, masks-only}
+use Rattle.beet_worlds.proofs.Marks.{as-many}
+use Rattle.beet_worlds.proofs.MasksBack.{losses-small}
 use Rattle.beet_worlds.proofs.SameRuns.{each-alike, sends-same}
 use Rattle.beet_worlds.proofs.SeenBidders.{seen-all}
-use Rattle.beet_book.proofs.FarmerLists.{book-whole, farmers-bidders}
-use Rattle.beet_plan.proofs.AuctionRuns.{word-small}
 
 -- what holds once both books agree, and the masks and the bidders' words are mapped
 pub record Stands (me : Point) (first second : Book) (words : Words) (masks : Trio (List ℕ)) (bidders : List (List ℕ)) (lines lines' : List Line) : Type 0 where
@@ -63,16 +61,10 @@ pub record Stands (me : Point) (first second : Book) (words : Words) (masks : Tr
   pub is_book' : IsBook second
   pub are_words : AreWords words
   pub lists : length bidders ≡ length words.bidders
-  pub masks_mapped : MasksMapped me first second words.masks masks
-  pub bidders_mapped : BiddersMapped me first.grid.prices (farmers_of first.bidders words.bidders) (farmers_of second.bidders bidders)
+  pub masks_mapped : MasksMapped me (losses_of first second) words.masks masks
+  pub bidders_mapped : BiddersMapped me first.bidders words.bidders second.bidders bidders
   pub here : AreInputLines first words.bidders lines
   pub there : AreInputLines second bidders lines'
-
-pub are-masks : (words : Words) → AreWords words → AreMasks words.masks
-are-masks words w = record { one = w.masks.0; two = w.masks.1; three = w.masks.2 }
-
-pub all-words : (words : Words) → AreWords words → AreAllWords words.coefficients
-all-words words w s = word-small (member words.coefficients s) (at-each (All IsWord) words.coefficients w.coefficients s)
 
 has-secrets : (book : Book) (words : List (List ℕ)) (masks : Trio (List ℕ)) (lines : List Line) → AreInputLines book words lines →
     HasWords (most_masks (auction_over book.grid)) masks → HasSecrets (2 * book.grid.prices) (most_masks (auction_over book.grid)) (record { inputs = lines; masks = masks })
@@ -81,7 +73,7 @@ has-secrets book words masks lines a h = record {
   masks = h;
 }
 
-enough-masks : (me : Point) (first second : Book) (masks masks' : Trio (List ℕ)) (n : ℕ) → MasksMapped me first second masks masks' → HasWords n masks → HasWords n masks'
+enough-masks : (me : Point) (first second : Book) (masks masks' : Trio (List ℕ)) (n : ℕ) → MasksMapped me (losses_of first second) masks masks' → HasWords n masks → HasWords n masks'
 enough-masks me first second masks masks' n m h =
     let one = m.lengths One in
     let two = m.lengths Two in
@@ -92,25 +84,6 @@ pub enough-numbers : (book : Book) (words : Words) → AreEnough book words → 
 enough-numbers book words e =
     let n : ℕ = most_coefficients (auction_over book.grid) in
     (drawn-of n words.coefficients.one e.one, drawn-of n words.coefficients.two e.two, drawn-of n words.coefficients.three e.three)
-
--- the setup of a world of lines is that of the book
-begun : (book : Book) (words : List (List ℕ)) (masks coefficients : Trio (List ℕ)) (lines : List Line) → AreInputLines book words lines →
-    run_with (auction_batch (auction_over book.grid)) (record { inputs = lines; masks = masks }) coefficients
-    ≡ book_setup book.grid (farmers_of book.bidders words) masks coefficients
-begun book words masks coefficients lines a = λ x. record {
-  next = auction_batch (auction_over book.grid);
-  inputs = record { one = a.points One x; two = a.points Two x; three = a.points Three x };
-  masks = masks;
-  numbers = numbers_of coefficients;
-}
-
-gate-along : (me : Point) (most : ℕ) (o p o' p' : Setup) → o ≡ p → o' ≡ p' → GateMapped me (rounds_among o most) o o' → GateMapped me (rounds_among p most) p p'
-gate-along me most o p o' p' e e' g =
-    subst (λ x. GateMapped me (rounds_among p most) p x) e' (subst (λ x. GateMapped me (rounds_among x most) x o') e g)
-
-look-along : (me : Point) (most : ℕ) (o p o' p' : Setup) → o ≡ p → o' ≡ p' → LooksAlike me (rounds_among o most) o o' → LooksAlike me (rounds_among p most) p p'
-look-along me most o p o' p' e e' g =
-    subst (λ x. LooksAlike me (rounds_among p most) p x) e' (subst (λ x. LooksAlike me (rounds_among x most) x o') e g)
 
 -- two books over one grid
 module _ (me : Point) (grid : Grid) (bidders others : List Bidder) (words : Words) (masks : Trio (List ℕ)) (lists : List (List ℕ)) (lines lines' : List Line)
@@ -127,29 +100,25 @@ module _ (me : Point) (grid : Grid) (bidders others : List Bidder) (words : Word
   abbrev world' : Secrets
   world' = record { inputs = lines'; masks = masks }
 
-  abbrev farmers : List Farmer
-  farmers = farmers_of bidders words.bidders
-
-  abbrev farmers' : List Farmer
-  farmers' = farmers_of others lists
-
   count : length lists ≡ length others
   count = s.lists ∙ s.enough.count ∙ sym (as-many bidders others s.agree.marks)
 
-  whole : book_with grid farmers ≡ first
-  whole = book-whole first words.bidders s.enough.count
-
-  whole' : book_with grid farmers' ≡ second
-  whole' = book-whole second lists count
-
-  farmers-book : IsBook (book_with grid farmers)
-  farmers-book = subst IsBook (sym whole) s.is_book
-
-  farmers-book' : IsBook (book_with grid farmers')
-  farmers-book' = subst IsBook (sym whole') s.is_book'
-
-  own-known : SameKnown me (book_with grid farmers) (book_with grid farmers')
-  own-known = subst (λ b. SameKnown me b (book_with grid farmers')) (sym whole) (subst (λ b. SameKnown me first b) (sym whole') s.agree.own)
+  -- the trades
+  trades : Trades me (losses_of first second) (trade_of first) (trade_of second) words masks lists lines lines'
+  trades = record {
+    script = refl;
+    lost = losses-small first second;
+    elements = parties-elements bidders s.is_book.curves;
+    elements' = parties-elements others s.is_book'.curves;
+    count = s.enough.count ∙ sym (length-map bidders party_of);
+    count' = length-map others party_of ∙ as-many bidders others s.agree.marks ∙ sym (length-map bidders party_of);
+    are_words = s.are_words;
+    lists_same = s.lists;
+    masks_mapped = s.masks_mapped;
+    dealers_mapped = s.bidders_mapped;
+    here = s.here.points;
+    there = s.there.points;
+  }
 
   pub secrets-here : HasSecrets (2 * grid.prices) (most_masks (auction_over grid)) world
   secrets-here = has-secrets first words.bidders words.masks lines s.here s.enough.masks
@@ -165,12 +134,12 @@ module _ (me : Point) (grid : Grid) (bidders others : List Bidder) (words : Word
       let opens = opens-alike me first second words.masks masks s.is_book s.is_book' s.agree (are-masks words s.are_words) s.enough.masks s.masks_mapped in
       let run : List ℕ → Trio (List ℕ) → List ℕ = λ values words. (clear_values (auction_batch (auction_over grid)) (most_rounds (auction_over grid)) values words).opened in
       record {
-        shares = s.here.points me ∙ sym (inputs-same me grid farmers farmers' farmers-book' own-known s.bidders_mapped) ∙ sym (s.there.points me);
-        words = ap (take (most_masks (auction_over grid))) (sym (own-same first second words.masks masks me s.masks_mapped));
+        shares = s.here.points me ∙ sym (inputs-same me first second words.bidders lists s.is_book' s.agree.own s.bidders_mapped) ∙ sym (s.there.points me);
+        words = ap (take (most_masks (auction_over grid))) (sym (own-same (losses_of first second) words.masks masks me s.masks_mapped));
         opened = ap (λ v. run v words.masks) s.here.values ∙ sym opens.in_the_end ∙ sym (ap (λ v. run v masks) s.there.values);
       }
 
-  module _ (coefficients : Trio (List ℕ)) (c : CoefficientsMapped grid me world world' words.coefficients coefficients)
+  module _ (coefficients : Trio (List ℕ)) (c : GoTogetherIn grid me world world' words.coefficients coefficients)
       (are_words' : AreWords (record { masks = masks; coefficients = coefficients; bidders = lists })) where
     abbrev words' : Words
     words' = record { masks = masks; coefficients = coefficients; bidders = lists }
@@ -184,35 +153,17 @@ module _ (me : Point) (grid : Grid) (bidders others : List Bidder) (words : Word
     abbrev there : Setup
     there = setup_for second words'
 
-    begun-here : run_with (auction_batch (auction_over grid)) world words.coefficients ≡ here
-    begun-here = begun first words.bidders words.masks words.coefficients lines s.here
-
-    begun-there : run_with (auction_batch (auction_over grid)) world' coefficients ≡ there
-    begun-there = begun second lists masks coefficients lines' s.there
-
     look : LooksAlike me (rounds_for first words) here there
-    look =
-        look-along me most (run_with (auction_batch (auction_over grid)) world words.coefficients) here
-        (run_with (auction_batch (auction_over grid)) world' coefficients) there begun-here begun-there c.looks
+    look = trades-look me (losses_of first second) (trade_of first) (trade_of second) words masks coefficients lists lines lines' trades c are_words'
 
     mapped : Mapped me first words second words'
-    mapped = record {
-      lists = s.lists;
-      are_words = s.are_words;
-      are_words' = are_words';
-      masks = s.masks_mapped;
-      bidders = s.bidders_mapped;
-      places = c.mapped.places;
-      own = c.mapped.own;
-      numbers = gate-along me most (run_with (auction_batch (auction_over grid)) world words.coefficients) here
-          (run_with (auction_batch (auction_over grid)) world' coefficients) there begun-here begun-there c.mapped.numbers;
-    }
+    mapped = trades-mapped me (losses_of first second) (trade_of first) (trade_of second) words masks coefficients lists lines lines' trades c are_words'
 
     enough : AreEnough second words'
     enough = mapped-enough me first second words words' s.agree s.masks_mapped c.mapped.places count s.bidders_mapped s.enough
 
     masks-me : member masks me ≡ member words.masks me
-    masks-me = own-same first second words.masks masks me s.masks_mapped
+    masks-me = own-same (losses_of first second) words.masks masks me s.masks_mapped
 
     cut-me : (n : ℕ) (t t' : Trio (List ℕ)) → member t' me ≡ member t me → member (of_each (take n) t') me ≡ member (of_each (take n) t) me
     cut-me n t t' e = member-each (take n) t' me ∙ ap (take n) e ∙ sym (member-each (take n) t me)
@@ -223,9 +174,10 @@ module _ (me : Point) (grid : Grid) (bidders others : List Bidder) (words : Word
     seen-bidders =
         let wanted = 2 * grid.prices in
         ap (map (seen_at grid me)) (farmers-cut wanted others lists)
-        ∙ seen-all me grid farmers farmers' s.bidders_mapped (curves-of farmers' farmers-book'.curves)
-        (λ i one other e f known. own-known i one.bidder other.bidder (get-map (λ (farmer : Farmer). farmer.bidder) farmers i one e)
-        (get-map (λ (farmer : Farmer). farmer.bidder) farmers' i other f) known)
+        ∙ seen-all me grid (farmers_of bidders words.bidders) (farmers_of others lists) (farmers-mapped me bidders others words.bidders lists s.bidders_mapped)
+        (bidders-have (λ (b : Bidder). IsOfGrid grid b.curve) bidders words.bidders s.is_book.of_grid)
+        (bidders-have (λ (b : Bidder). IsCurve b.curve) others lists s.is_book'.curves)
+        (same-own me first second words.bidders lists s.agree.own)
         (farmers-have (HasAccepted wanted) bidders words.bidders s.enough.bidders) (farmers-have (HasAccepted wanted) others lists enough.bidders)
         ∙ sym (ap (map (seen_at grid me)) (farmers-cut wanted bidders words.bidders))
 
@@ -255,61 +207,18 @@ module _ (me : Point) (grid : Grid) (bidders others : List Bidder) (words : Word
     moments es =
         let rounds = rounds_for first words in
         let t = passed rounds (after rounds es) me in
-        let le : t ≤ rounds = passed_most rounds (after rounds es) me in
+        let le : t ≤ rounds = passed_most three-is rounds (after rounds es) me in
         record {
           delivered = ap (λ n. after n es) rounds-same;
           passed_rounds = ap (λ n. passed n (after n es) me) rounds-same;
-          received = λ from r is. look.messages r (was_sent_parts rounds es from me r is).1.0 from;
+          received = λ from r is. look.messages r (was_sent_parts three-is rounds es from me r is).1.0 from;
           points = look.points t le;
           standing = look.standing t le;
           opened = look.opened t le;
           sent = λ to r is.
               sends-same here.next here.inputs here.masks here.numbers there.inputs there.masks there.numbers me rounds look.opened look.standing masks-me
-              mapped.numbers.own r (let lt = (sent_parts rounds (after rounds es) (record { from = me; to = to; round = r }) is).1.0 in omega (arith, lt)) to;
+              mapped.numbers.own r (let lt = (sent_parts three-is rounds (after rounds es) (record { from = me; to = to; round = r }) is).1.0 in omega (arith, lt)) to;
         }
-
-    -- one to one
-    only : (other : Words) → Mapped me first words second other → other ≡ words'
-    only other m =
-        let masks_same : other.masks ≡ masks = masks-only first second words.masks me other.masks masks m.masks s.masks_mapped in
-        let long : length other.bidders ≡ length others = m.lists ∙ sym s.lists ∙ count in
-        let bidders_same : other.bidders ≡ lists =
-        words-told others other.bidders lists long count
-        (bidders-only me grid.prices farmers (farmers_of others other.bidders) farmers' (sym (farmers-bidders others other.bidders long) ∙ farmers-bidders others lists count)
-        m.bidders s.bidders_mapped) in
-        let there_same : setup_for second other ≡ run_with (auction_batch (auction_over grid)) world' other.coefficients =
-        (λ x. book_setup grid (farmers_of others (bidders_same x)) (masks_same x) other.coefficients)
-        ∙ sym (begun second lists masks other.coefficients lines' s.there) in
-        let same : other.coefficients ≡ coefficients = c.only other.coefficients (record {
-          places = m.places;
-          own = m.own;
-          numbers = gate-along me most here (run_with (auction_batch (auction_over grid)) world words.coefficients)
-              (setup_for second other) (run_with (auction_batch (auction_over grid)) world' other.coefficients) (sym begun-here) there_same m.numbers;
-        }) in
-        λ x. record { masks = masks_same x; coefficients = same x; bidders = bidders_same x }
-
-    back : (other : Words) → Mapped me first other second words' → other ≡ words
-    back other m =
-        let masks_same : other.masks ≡ words.masks =
-        masks-only second first masks me other.masks words.masks (masks-back me first second s.agree other.masks masks (are-masks other m.are_words) m.masks)
-        (masks-back me first second s.agree words.masks masks (are-masks words s.are_words) s.masks_mapped) in
-        let long : length other.bidders ≡ length bidders = sym m.lists ∙ s.lists ∙ s.enough.count in
-        let others_book : IsBook (book_with grid (farmers_of bidders other.bidders)) = subst IsBook (sym (book-whole first other.bidders long)) s.is_book in
-        let bidders_same : other.bidders ≡ words.bidders =
-        words-told bidders other.bidders words.bidders long s.enough.count
-        (bidders-only me grid.prices farmers' (farmers_of bidders other.bidders) farmers (sym (farmers-bidders bidders other.bidders long) ∙ farmers-bidders bidders words.bidders s.enough.count)
-        (mapped-back me grid (farmers_of bidders other.bidders) farmers' farmers-book' others_book (farmers-words bidders other.bidders m.are_words.bidders) m.bidders)
-        (mapped-back me grid farmers farmers' farmers-book' farmers-book (farmers-words bidders words.bidders s.are_words.bidders) s.bidders_mapped)) in
-        let here_same : setup_for first other ≡ run_with (auction_batch (auction_over grid)) world other.coefficients =
-        (λ x. book_setup grid (farmers_of bidders (bidders_same x)) (masks_same x) other.coefficients)
-        ∙ sym (begun first words.bidders words.masks other.coefficients lines s.here) in
-        let same : other.coefficients ≡ words.coefficients = c.back other.coefficients (all-words other m.are_words) (record {
-          places = m.places;
-          own = m.own;
-          numbers = gate-along me most (setup_for first other) (run_with (auction_batch (auction_over grid)) world other.coefficients)
-              there (run_with (auction_batch (auction_over grid)) world' coefficients) here_same (sym begun-there) m.numbers;
-        }) in
-        λ x. record { masks = masks_same x; coefficients = same x; bidders = bidders_same x }
 
     all-mapped : WorldsMapped me first words second words'
     all-mapped = record {
@@ -319,8 +228,8 @@ module _ (me : Point) (grid : Grid) (bidders others : List Bidder) (words : Word
       ends' = subst (λ n. HasRounds there n) (sym rounds-same) look.second_ends;
       looks = looks;
       moments = moments;
-      only = only;
-      back = back;
+      only = only me (losses_of first second) (trade_of first) (trade_of second) words masks coefficients lists lines lines' trades c are_words';
+      back = back me (losses_of first second) (trade_of first) (trade_of second) words masks coefficients lists lines lines' trades c are_words';
     }
 
 -- two books with equal grids
@@ -357,20 +266,20 @@ module _ (me : Point) (first second : Book) (words : Words) (lists : List (List 
       (subst (λ v. LookSameIn first.grid me v w') is_world
       (look-same me first.grid first.bidders second.bidders words w'.masks lists w.inputs w'.inputs moved))
 
-  pub worlds-mapped : (coefficients : Trio (List ℕ)) → CoefficientsMapped grid me w w' words.coefficients coefficients →
+  pub worlds-mapped : (coefficients : Trio (List ℕ)) → GoTogetherIn grid me w w' words.coefficients coefficients →
       AreWords (record { masks = w'.masks; coefficients = coefficients; bidders = lists }) →
       WorldsMapped me first words second (record { masks = w'.masks; coefficients = coefficients; bidders = lists })
   worlds-mapped coefficients c are_words' =
-      let here : CoefficientsMapped first.grid me (record { inputs = w.inputs; masks = words.masks }) w' words.coefficients coefficients =
-      subst (λ v. CoefficientsMapped first.grid me v w' words.coefficients coefficients) (sym is_world)
-      (subst (λ g. CoefficientsMapped g me w w' words.coefficients coefficients) is_grid c) in
+      let here : GoTogetherIn first.grid me (record { inputs = w.inputs; masks = words.masks }) w' words.coefficients coefficients =
+      subst (λ v. GoTogetherIn first.grid me v w' words.coefficients coefficients) (sym is_world)
+      (subst (λ g. GoTogetherIn g me w w' words.coefficients coefficients) is_grid c) in
       subst (λ g. WorldsMapped me first words (over g second.bidders) (record { masks = w'.masks; coefficients = coefficients; bidders = lists })) (sym grids)
       (all-mapped me first.grid first.bidders second.bidders words w'.masks lists w.inputs w'.inputs moved coefficients here are_words')
 
 -- what the parts answer
 pub stands-of : (me : Point) (first second : Book) (words : Words) (slice lists : List (List ℕ)) (masks masks' : Trio (List ℕ)) (lines lines' : List Line) →
     Agree me first second → AreEnough first words → IsBook first → IsBook second → AreWords words → slice ≡ words.bidders → length lists ≡ length slice →
-    MasksMapped me first second words.masks masks → masks' ≡ masks → BiddersMapped me first.grid.prices (farmers_of first.bidders slice) (farmers_of second.bidders lists) →
+    MasksMapped me (losses_of first second) words.masks masks → masks' ≡ masks → BiddersMapped me first.bidders slice second.bidders lists →
     AreInputLines first slice lines → AreInputLines second lists lines' → Stands me first second words masks' lists lines lines'
 stands-of me first second words slice lists masks masks' lines lines' agree enough b b' w same long m copy mapped here there = record {
   agree = agree;
@@ -379,8 +288,8 @@ stands-of me first second words slice lists masks masks' lines lines' agree enou
   is_book' = b';
   are_words = w;
   lists = long ∙ ap length same;
-  masks_mapped = subst (λ t. MasksMapped me first second words.masks t) (sym copy) m;
-  bidders_mapped = subst (λ l. BiddersMapped me first.grid.prices (farmers_of first.bidders l) (farmers_of second.bidders lists)) same mapped;
+  masks_mapped = subst (λ t. MasksMapped me (losses_of first second) words.masks t) (sym copy) m;
+  bidders_mapped = subst (λ l. BiddersMapped me first.bidders l second.bidders lists) same mapped;
   here = subst (λ l. AreInputLines first l lines) same here;
   there = there;
 }

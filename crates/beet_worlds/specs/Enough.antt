@@ -4,7 +4,7 @@ use Rattle.beet_words.specs.Bundles.{Words}
 use Rattle.beet_words.specs.Words.{accepted}
 use Rattle.beet_gates.specs.Scripts.{HasWords}
 use Rattle.beet_bids.specs.Books.{Book}
-use Rattle.beet_plan.specs.declared.TheConstants.{SPARE_WORDS}
+use Rattle.beet_masking.specs.declared.TheConstants.{SPARE_WORDS}
 use Rattle.beet_plan.specs.Auction.{most_masks, most_coefficients, auction_over}
 
 -- so many words of a list are not all ones, among as many and the spare ones

@@ -8,7 +8,7 @@ use Rattle.beet_bids.specs.Grids.{Grid}
 use Rattle.beet_plan.specs.Auction.{auction_batch, most_masks, most_rounds, auction_over}
 use Rattle.beet_delivery.specs.Events.{Triple}
 use Rattle.beet_sharing.specs.Runs.{HasRounds}
-use Rattle.beet_map.specs.Mapped.{IsOnlyImage, IsOnlySource, WordsLookAlike, WordsMapped}
+use Rattle.beet_map_laws.specs.Pairs.{GoTogether}
 use Rattle.beet_map.specs.Refused.{LookSame}
 use Rattle.beet_map.specs.Secrets.{Secrets}
 use Rattle.beet_worlds.specs.Enough.{AreEnough}
@@ -22,12 +22,10 @@ abbrev pub LookSameIn : Grid → Point → Secrets → Secrets → Type 0
 LookSameIn grid me w w' =
     LookSame (auction_batch (auction_over grid)) (most_rounds (auction_over grid)) (most_masks (auction_over grid)) me w w'
 
--- the coefficient words of two worlds of an auction: mapped in the one way there is, so that the runs look alike to the server
-pub record CoefficientsMapped (grid : Grid) (me : Point) (w w' : Secrets) (words words' : Trio (List ℕ)) : Type 0 where
-  pub mapped : WordsMapped (auction_batch (auction_over grid)) (most_rounds (auction_over grid)) me w w' words words'
-  pub looks : WordsLookAlike (auction_batch (auction_over grid)) (most_rounds (auction_over grid)) me w w' words words'
-  pub only : IsOnlyImage (auction_batch (auction_over grid)) (most_rounds (auction_over grid)) me w w' words words'
-  pub back : IsOnlySource (auction_batch (auction_over grid)) (most_rounds (auction_over grid)) me w w' words words'
+-- coefficient words of two worlds of an auction that go with each other, and with no others
+abbrev pub GoTogetherIn : Grid → Point → Secrets → Secrets → Trio (List ℕ) → Trio (List ℕ) → Type 0
+GoTogetherIn grid me w w' words words' =
+    GoTogether (auction_batch (auction_over grid)) (most_rounds (auction_over grid)) me w w' words words'
 
 -- at every moment server s has and does the same in both worlds
 abbrev pub AlwaysSame : Point → Book → Words → Book → Words → Type 0

@@ -1,17 +1,17 @@
 //! Bidders' words of the second world.
 
-ghost use Rattle.std.specs.Prelude.{◌≡◌, ◌≢◌, ◌<◌, ◌≤◌, ◌+◌, ◌*◌, ◌^◌, ◌==◌, length, if◌then◌else◌, IfOk, OnOk, All};
-ghost use Rattle.beet_field.specs.Field.{IsElement};
-ghost use Rattle.beet_words.specs.Words.{IsWord, accepted, ones};
-ghost use Rattle.beet_bids.specs.Curves.{IsCurve, IsOfGrid, quantity};
+ghost use Rattle.std.specs.Prelude.{◌≡◌, ◌<◌, ◌≤◌, ◌*◌, length, IfOk, OnOk, All};
+ghost use Rattle.beet_words.specs.Words.{IsWord, accepted};
+ghost use Rattle.beet_bids.specs.Curves.{IsOfGrid, quantity};
+ghost use Rattle.beet_book.specs.Dealing.{quantities};
+ghost use Rattle.beet_mapped.specs.Dealers.{DealerMapped};
 ghost use Rattle.beet_worlds.specs.Agreement.{marks_of};
-ghost use Rattle.beet_worlds.specs.MappedBidders.{BiddersMapped, FarmerMapped, SlopesMoved, slope_mapped};
-ghost use Rattle.beet_book.specs.Farmers.{farmers_of};
+ghost use Rattle.beet_worlds.specs.MappedBidders.{BiddersMapped, party_of};
 
 use beet_bids::{Bidder, Book, Curve, Grid};
 use beet_field::{Fe, Point};
-use beet_map::{moved, word_of};
-use beet_words::{Word, WordList};
+use beet_mapped::move_dealer;
+use beet_words::WordList;
 use std::alloc::{AllocError, Global};
 
 /// The n-th quantity of a curve: what is bought at each place, and then what is sold.
@@ -29,53 +29,17 @@ fn quantity_of(grid: &Grid, curve: &Curve, n: u32) -> Fe
     Fe::reduce(amount as u128)
 }
 
-/// A word in the second world, after so many accepted ones.
-fn word_for(me: Point, grid: &Grid, first: &Curve, second: &Curve, drawn: usize, word: Word) -> Word
-    requires first { IsOfGrid grid.now first.now }
-    requires second { IsOfGrid grid.now second.now }
-    ensures { result ≡ slope_mapped me (2 * grid.now.prices) first.now second.now drawn word }
+/// The quantities of a curve: what is bought at each place, and then what is sold.
+fn quantities_of(alloc: Global, grid: &Grid, curve: &Curve) -> Result<Vec<Fe>, AllocError>
+    requires { IsOfGrid grid.now curve.now }
+    ensures { IfOk result (λ numbers. numbers.items ≡ quantities curve.now) }
 {
-    let Some(number) = word.field() else {
-        return word;
-    };
-    if drawn >= 2 * grid.prices() as usize {
-        return word;
+    let count = 2 * grid.prices();
+    let mut numbers = Vec::with_capacity(alloc, count as usize)?;
+    for n in 0..count {
+        numbers.push(quantity_of(grid, curve, n))?;
     }
-    let was = quantity_of(grid, first, drawn as u32);
-    let is = quantity_of(grid, second, drawn as u32);
-    word_of(moved(me, number, was, is))
-}
-
-/// One more where the word is drawn as a number.
-fn count_drawn(before: usize, word: Word) -> usize
-    requires { before + 1 < 2 ^ 64 }
-    ensures { result ≡ before + (if word == ones then 0 else 1) }
-{
-    if word.is_ones() { before } else { before + 1 }
-}
-
-/// The words that deal the second curve in the second world, so that the points of server `me` are those of the first curve.
-fn move_words(
-    alloc: Global,
-    me: Point,
-    grid: &Grid,
-    first: &Curve,
-    second: &Curve,
-    words: &WordList,
-) -> Result<WordList, AllocError>
-    requires first { IsOfGrid grid.now first.now }
-    requires second { IsOfGrid grid.now second.now }
-    requires enough { 2 * grid.now.prices ≤ length (accepted words.now) }
-    ensures { IfOk result (SlopesMoved me (2 * grid.now.prices) first.now second.now words.now) }
-{
-    let words = words.as_slice();
-    let mut moved = WordList::with_capacity(alloc, words.len())?;
-    let mut drawn = 0;
-    for word in words {
-        moved.push(word_for(me, grid, first, second, drawn, *word))?;
-        drawn = count_drawn(drawn, *word);
-    }
-    Ok(moved)
+    Ok(numbers)
 }
 
 /// The words of a bidder in the second world.
@@ -91,20 +55,22 @@ fn words_in_second(
     requires first { IsOfGrid grid.now first.now.curve }
     requires second { IsOfGrid grid.now second.now.curve }
     requires enough { 2 * grid.now.prices ≤ length (accepted words.now) }
-    ensures mapped { IfOk result (λ mapped. FarmerMapped me (2 * grid.now.prices)
-        (record { bidder = first.now; words = words.now }) (record { bidder = second.now; words = mapped })) }
+    ensures mapped { IfOk result (λ mapped. DealerMapped me
+        (record { party = party_of first.now; words = words.now })
+        (record { party = party_of second.now; words = mapped })) }
     ensures below { OnOk result (All IsWord words.now) }
     ensures words { IfOk result (λ mapped. All IsWord mapped) }
 {
-    let mapped = if first.known == Some(me) {
-        words.copy(alloc)?
-    } else {
-        move_words(alloc, me, grid, &first.curve, &second.curve, words)?
-    };
-    // The words of both lists are below 2^61.
-    let _given = words.as_slice();
-    let _mapped = mapped.as_slice();
-    Ok(mapped)
+    let was = quantities_of(alloc, grid, &first.curve)?;
+    let becomes = quantities_of(alloc, grid, &second.curve)?;
+    move_dealer(
+        alloc,
+        me,
+        first.known,
+        was.as_slice(),
+        becomes.as_slice(),
+        words,
+    )
 }
 
 /// The bidders' words of the second world, with which server `me` holds the same points as with these in the first.
@@ -120,8 +86,8 @@ pub fn map_bidders(
     requires count { length words.now ≡ length first.now.bidders }
     requires enough { All (λ list. 2 * first.now.grid.prices ≤ length (accepted list)) words.now }
     ensures count { IfOk result (λ mapped. length mapped.items ≡ length words.now) }
-    ensures mapped { IfOk result (λ mapped. BiddersMapped me first.now.grid.prices
-        (farmers_of first.now.bidders words.now) (farmers_of second.now.bidders mapped.items)) }
+    ensures mapped { IfOk result (λ mapped.
+        BiddersMapped me first.now.bidders words.now second.now.bidders mapped.items) }
     ensures below { OnOk result (All (λ list. All IsWord list) words.now) }
     ensures words { IfOk result (λ mapped. All (λ list. All IsWord list) mapped.items) }
 {

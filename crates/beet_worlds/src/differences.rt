@@ -2,7 +2,7 @@
 
 ghost use Rattle.std.specs.Prelude.{◌≡◌, ◌<◌};
 ghost use Rattle.beet_bids.specs.Outcomes.{clearing_place};
-ghost use Rattle.beet_worlds.specs.MappedMasks.{doubled_at, lost_at};
+ghost use Rattle.beet_worlds.specs.Losses.{doubled_at, lost_at};
 
 use beet_bids::{Book, Outcome, demand, outcome, supply};
 use beet_field::Fe;

@@ -1,12 +1,11 @@
 //! The words of the second world.
 
-ghost use Rattle.std.specs.Prelude.{◌≡◌, ◌*◌, ℕ, List, length, All, IfErr, IfOk, OnOk};
+ghost use Rattle.std.specs.Prelude.{◌≡◌, ◌*◌, length, All, IfErr, IfOk, OnOk};
 ghost use Rattle.beet_words.specs.Words.{IsWord};
 ghost use Rattle.beet_gates.specs.Scripts.{HasWords};
 ghost use Rattle.beet_bids.specs.Books.{IsBook};
 ghost use Rattle.beet_plan.specs.Auction.{most_coefficients, most_masks, auction_over};
 ghost use Rattle.beet_sharing.specs.Runs.{numbers_of};
-ghost use Rattle.beet_book.specs.Farmers.{farmers_of};
 ghost use Rattle.beet_map.specs.Refused.{HasSecrets};
 ghost use Rattle.beet_worlds.specs.Agreement.{Agree};
 ghost use Rattle.beet_worlds.specs.Disagreement.{RefusesMap};
@@ -15,7 +14,7 @@ ghost use Rattle.beet_worlds.specs.InputLines.{AreInputLines};
 ghost use Rattle.beet_worlds.specs.MappedBidders.{BiddersMapped};
 ghost use Rattle.beet_worlds.specs.MappedWords.{IsOnlyFirst, IsOnlySecond, Mapped};
 ghost use Rattle.beet_worlds.specs.ViewsWith.{transcript_with, view_with};
-ghost use Rattle.beet_worlds.specs.Worlds.{AlwaysSame, CoefficientsMapped, Ends, LookSameIn, WorldsMapped};
+ghost use Rattle.beet_worlds.specs.Worlds.{AlwaysSame, Ends, GoTogetherIn, LookSameIn, WorldsMapped};
 
 use crate::agreeing::{MapFault, agreement};
 use crate::bidders::map_bidders;
@@ -77,7 +76,7 @@ fn map_coefficients(
     requires there { HasSecrets (2 * grid.now.prices) (most_masks (auction_over grid.now)) there.now }
     requires numbers { HasWords (most_coefficients (auction_over grid.now)) (numbers_of words.now) }
     requires same { LookSameIn grid.now me here.now there.now }
-    ensures mapped { IfOk result (CoefficientsMapped grid.now me here.now there.now words.now) }
+    ensures mapped { IfOk result (GoTogetherIn grid.now me here.now there.now words.now) }
     ensures below { IfOk result (λ mapped.
         All IsWord mapped.one × All IsWord mapped.two × All IsWord mapped.three) }
 {
@@ -124,8 +123,7 @@ fn map_beside(
     requires enough { AreEnough first.now words.now }
     requires agree { Agree me first.now second.now }
     requires count { length bidders.now ≡ length words.now.bidders }
-    requires mapped { BiddersMapped me first.now.grid.prices
-        (farmers_of first.now.bidders words.now.bidders) (farmers_of second.now.bidders bidders.now) }
+    requires mapped { BiddersMapped me first.now.bidders words.now.bidders second.now.bidders bidders.now }
     requires below { All (λ list. All IsWord list) words.now.bidders }
     requires words { All (λ list. All IsWord list) bidders.now }
     requires inputs { AreInputLines first.now words.now.bidders here.now.inputs }
@@ -155,8 +153,7 @@ fn map_for_servers(
     requires enough { AreEnough first.now words.now }
     requires agree { Agree me first.now second.now }
     requires count { length bidders.now ≡ length words.now.bidders }
-    requires mapped { BiddersMapped me first.now.grid.prices
-        (farmers_of first.now.bidders words.now.bidders) (farmers_of second.now.bidders bidders.now) }
+    requires mapped { BiddersMapped me first.now.bidders words.now.bidders second.now.bidders bidders.now }
     requires below { All (λ list. All IsWord list) words.now.bidders }
     requires words { All (λ list. All IsWord list) bidders.now }
     ensures { IfOk result (λ mapped. WorldsMapped me first.now words.now second.now

@@ -7,7 +7,8 @@ ghost use Rattle.beet_worlds.specs.Enough.{AreEnough, HasAccepted};
 
 use beet_bids::Book;
 use beet_field::Trio;
-use beet_plan::{SPARE_WORDS, most_coefficients, most_masks};
+use beet_masking::SPARE_WORDS;
+use beet_plan::{most_coefficients, most_masks};
 use beet_words::{WordList, Words, count_accepted};
 
 /// Whether so many of the first words are not all ones; the spare words are looked at too.

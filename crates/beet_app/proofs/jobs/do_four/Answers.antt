@@ -3,7 +3,8 @@ use Rattle.beet_envelopes.specs.Seal.{seal_job}
 use Rattle.beet_envelopes.specs.SourceWords.{named_source}
 use Rattle.beet_record.specs.Records.{record_job}
 use Rattle.beet_rehearse.specs.Rehearse.{rehearse_job}
-use Rattle.beet_app.proofs.Running.{answers_job, audits_files, done_ends}
+use Rattle.beet_app.specs.Jobs.{Auditing}
+use Rattle.beet_app.proofs.Running.{answers_job, done_ends, named_job}
 use Rattle.beet_app.proofs.jobs.do_four.Goals as goal
 
 pub returns-in_ok-source : goal.returns-in_ok-source
@@ -20,4 +21,5 @@ returns-then-eq-3 g c =
     answers_job (record_job c.args.first.now c.args.second.now c.args.third.now c.args.fourth.now) _ (search rules) c.record.ensures.done c.record.ensures.reads
 
 pub returns-then-eq-4 : goal.returns-then-eq-4
-returns-then-eq-4 g c = audits_files c.audit_files.result (search rules) c.audit_files.ensures.done c.audit_files.ensures.audits
+returns-then-eq-4 g c =
+    named_job (Auditing c.args.first.now c.args.second.now c.args.third.now c.args.fourth.now) (search rules) c.audit_files.ensures

@@ -3,4 +3,4 @@ use Rattle.beet_app.proofs.Running.{compares_worlds}
 use Rattle.beet_app.proofs.jobs.do_six.Goals as goal
 
 pub returns : goal.returns
-returns g c = compares_worlds c.worlds-answer.result (search rules) c.worlds-answer.ensures.done c.worlds-answer.ensures.compares
+returns g c = compares_worlds (search rules) c.worlds-answer.ensures

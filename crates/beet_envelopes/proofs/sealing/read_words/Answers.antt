@@ -7,7 +7,9 @@ returns-in_err-tape-clause-reads g c = exits c.from_residual.ensures.1 (stopped 
 
 pub returns-in_err-check_words-clause-reads : goal.returns-in_err-check_words-clause-reads
 returns-in_err-check_words-clause-reads g c =
-    exits c.from_residual-in_err-check_words.ensures.1 (bind (rw c.words_kept.ensures at c.in_ok-tape.ensures.reads) (tested c.in_err-check_words.ensures.tests))
+    exits c.from_residual-in_err-check_words.ensures.1 (bind (rw c.words_kept.ensures at c.in_ok-tape.ensures.reads) (tested
+    (rw c.auction_wants.ensures at c.in_err-check_words.ensures.tests)))
 
 pub returns-clause-reads : goal.returns-clause-reads
-returns-clause-reads g c = bind (rw c.words_kept.ensures at c.in_ok-tape.ensures.reads) (passed c.in_ok-check_words.ensures.tests (given refl))
+returns-clause-reads g c = bind (rw c.words_kept.ensures at c.in_ok-tape.ensures.reads)
+    (passed (rw c.auction_wants.ensures at c.in_ok-check_words.ensures.tests) (given refl))

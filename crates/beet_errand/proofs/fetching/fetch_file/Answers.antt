@@ -1,5 +1,5 @@
 use Rattle.std.proofs.Common.{arith, refl, rules}
-use Rattle.beet_errand.proofs.Frame.{unread_cause, bad_cause}
+use Rattle.beet_errand.proofs.Frame.{refused_cause}
 use Rattle.beet_errand.proofs.Steps.{fetched_gives, failed_stops, long_stops, memory_stops}
 use Rattle.beet_errand.proofs.fetching.fetch_file.Goals as goal
 
@@ -18,7 +18,7 @@ returns-in-Err-Failed-clause-reads g c =
     let cause = rw c.in-Err-Failed.field-0-is at c.in-Err-Failed.ensures.cause in
     record {
       gives = failed_stops _ _ _ _ _ (rw c.in-Err-Failed.field-0-is at c.in-Err-Failed.ensures.content) c.unread.ensures;
-      cause = unread_cause _ _ _ _ c.unread.ensures (cause.failed (search rules));
+      cause = refused_cause _ _ _ _ _ c.unread.ensures (cause.failed (search rules));
       later = cause.later;
     }
 
@@ -27,7 +27,7 @@ returns-in-Err-TooLong-clause-reads g c =
     let cause = rw c.in-Err-TooLong.field-0-is at c.in-Err-TooLong.ensures.cause in
     record {
       gives = long_stops _ _ _ _ _ _ (rw c.in-Err-TooLong.field-0-is at c.in-Err-TooLong.ensures.content) cause.limited c.refuse.ensures;
-      cause = bad_cause _ _ _ _ c.refuse.ensures;
+      cause = refused_cause _ _ _ _ _ c.refuse.ensures tt;
       later = cause.later;
     }
 

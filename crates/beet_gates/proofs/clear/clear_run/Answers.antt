@@ -2,7 +2,7 @@ use Rattle.std.proofs.Common.{◌≡◌, suc, ◌+◌, ◌-◌, arith, sym, subs
 use Rattle.beet_gates.specs.Scripts.{bounds_of}
 use Rattle.beet_gates.specs.Clear.{is_end}
 use Rattle.beet_gates.specs.Deals.{deals_of}
-use Rattle.beet_gates.proofs.ClearFacts.{begins, goes-on, opens-more, words-there}
+use Rattle.beet_gates.proofs.ClearFacts.{begins, by-three, goes-on, opens-more, words-there}
 use Rattle.beet_gates.proofs.clear.clear_run.Goals as goal
 
 pub loop-done-init : goal.loop-done-init
@@ -14,7 +14,7 @@ loop-done-init g c =
     record {
       end = c.rounds-rounds.ensures;
       underway = rw (whole, c.in_ok-run.ensures)
-          (begins (script.batch_of c.args.script.now) c.args.masks.now bounds c.args.inputs.now c.rounds-rounds.result law);
+          (begins (script.batch_of c.args.script.now) (deals_of c.args.masks.now) bounds c.args.inputs.now 3 c.rounds-rounds.result (by-three c.args.masks.now) law);
       placed = rw c.in_ok-run.ensures c.begin-place.ensures;
     }
 
@@ -33,7 +33,7 @@ loop-done-preserved g c =
     record {
       end = c.loop-done.invariant.end;
       underway = rw c.in_ok-step.ensures
-          (goes-on (script.batch_of c.args.script.now) c.args.masks.now bounds c.args.inputs.now
+          (goes-on (script.batch_of c.args.script.now) (deals_of c.args.masks.now) bounds c.args.inputs.now
           c.loop-done.done c.loop-done.run c.refill.new.batch is left (rw e at c.loop-done.invariant.underway) more);
       placed = rw (c.in_ok-step.ensures, o.2)
           (g.met.S.Script.goes_on c.args.script.now c.loop-done.done (c.loop-done.done + 1) c.loop-done.run.opened o.0 c.refill.new.place here (omega arith));
@@ -45,7 +45,7 @@ step-requires-clause-words g c =
     let bounds = bounds_of (script.wires_of c.args.script.now) (script.masks_of c.args.script.now) (script.coefficients_of c.args.script.now) in
     let is : c.refill.new.batch ≡ script.batch_of c.args.script.now c.loop-done.done c.loop-done.run.opened =
     rw c.opened.ensures at c.refill.ensures.batch in
-    let there = words-there (script.batch_of c.args.script.now) c.args.masks.now bounds c.args.inputs.now
+    let there = words-there (script.batch_of c.args.script.now) (deals_of c.args.masks.now) bounds c.args.inputs.now
     c.loop-done.done c.loop-done.run c.refill.new.batch is (c.rounds-rounds.result - c.loop-done.done) c.loop-done.invariant.underway in
     (omega (arith, there, c.requires.masks.0), omega (arith, there, c.requires.masks.1), omega (arith, there, c.requires.masks.2))
 

@@ -1,6 +1,7 @@
 use Rattle.std.proofs.Common.{arith, refl, length}
 use Rattle.std.proofs.lemmas.Option.{slice_get_read}
 use Rattle.beet_bids.specs.Curves.{IsOfGrid}
+use Rattle.beet_load.specs.Counts.{counts_of}
 use Rattle.beet_load.specs.Wholes.{CanDeal}
 use Rattle.beet_kept.proofs.DealtPoints.{at-place, dealt-all, dealt-at, dealt-none}
 use Rattle.beet_kept.proofs.dealing.deal_in_order.Goals as goal
@@ -12,7 +13,7 @@ deal_one-requires-clause-of_grid c =
 
 pub deal_one-requires-clause-words : goal.deal_one-requires-clause-words
 deal_one-requires-clause-words c =
-    at-place (CanDeal c.args.grid.now) c.args.words.now c.args.words.now c.loop-i.i _ refl c.index-words-i.is c.loop-i-test.true c.requires.enough
+    at-place (CanDeal (counts_of c.args.grid.now)) c.args.words.now c.args.words.now c.loop-i.i _ refl c.index-words-i.is c.loop-i-test.true c.requires.enough
 
 pub loop-i-init : goal.loop-i-init
 loop-i-init c = dealt-none _ _ _ _ c.in_ok-totals.ensures c.new-seen.ensures

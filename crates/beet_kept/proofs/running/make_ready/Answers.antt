@@ -18,4 +18,4 @@ returns-clause-inputs g c =
     )
 
 pub returns-clause-tapes : goal.returns-clause-tapes
-returns-clause-tapes g c = rw c.in_ok-dealt-2.ensures.1 at c.cut_three.ensures
+returns-clause-tapes g c = rw c.auction_counts.ensures at (rw c.in_ok-dealt-2.ensures.1 at c.cut_three.ensures)

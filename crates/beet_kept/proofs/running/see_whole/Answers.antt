@@ -1,5 +1,5 @@
 use Rattle.std.proofs.Common.{map, refl, subst, sym, ◌∙◌}
-use Rattle.beet_delivery.proofs.EventFacts.{same_self}
+use Rattle.beet_delivery.proofs.ThreeServers.{same_self}
 use Rattle.beet_field.specs.declared.point.Point.{Point}
 use Rattle.beet_book.specs.Farmers.{farmers_of}
 use Rattle.beet_plan.specs.Auction.{Auction}
@@ -24,7 +24,7 @@ run_on_one_thread-requires-clause-inputs g c =
 pub finish_at-finish-requires : goal.finish_at-finish-requires
 finish_at-finish-requires g c =
     let ran = c.in_ok-cores.ensures.ended in
-    has-ended-run _ _ _ _ ran.starts c.in_ok-cores.cores ran.ended
+    has-ended-run c.in_ok-begun.begun.grid _ _ _ ran.starts c.in_ok-cores.cores ran.ended
 
 pub transcript_of-transcript-requires : goal.transcript_of-transcript-requires
 transcript_of-transcript-requires g c =

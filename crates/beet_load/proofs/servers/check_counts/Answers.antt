@@ -12,9 +12,7 @@ returns-clause-tests c =
     let held : c.accepted_left-held.result ≡ length (accepted numbers.words) =
     c.accepted_left-held.ensures ∙ ap (λ n. length (accepted (drop n numbers.words))) c.words.invariant.1 in
     let many : c.masks_left-held.result ≡ length masks.words = omega (arith, c.masks_left-held.ensures, c.words.invariant.0) in
-    let numbers_wanted = rw c.prices.ensures.value at c.most_coefficients-wanted.ensures.value in
-    let masks_wanted = rw c.prices-2.ensures.value at c.most_masks-wanted.ensures.value in
-    subst (λ words. Tests (enough_of c.args.grid.now c.args.server words) (Ok tt)) c.words.view_is
-    (counts_pass c.args.grid.now c.args.server (record { masks = masks.words; coefficients = numbers.words })
-    (omega (arith, held, c.if-held-wanted.false, numbers_wanted))
-    (omega (arith, many, c.if-held-wanted-2.false, masks_wanted)))
+    subst (λ words. Tests (enough_of c.args.wanted.now c.args.server words) (Ok tt)) c.words.view_is
+    (counts_pass c.args.wanted.now c.args.server (record { masks = masks.words; coefficients = numbers.words })
+    (omega (arith, held, c.if-held-want.false, c.coefficients-want.ensures))
+    (omega (arith, many, c.if-held-want-2.false, c.masks-want.ensures)))

@@ -14,15 +14,15 @@ returns-in_err-words-2-clause-reads g c =
 pub returns-in_err-words-3-clause-reads : goal.returns-in_err-words-3-clause-reads
 returns-in_err-words-3-clause-reads g c =
     exits c.from_residual-in_err-words-3.ensures.1 (bind (rw c.as_str.ensures at c.in_ok-words.ensures)
-    (tested (cut_tested c.args.grid.now (ap (λ all. all.servers) (c.words.view_is ∙ c.in_ok-words-2.ensures)) c.in_err-words-3.ensures
+    (tested (cut_tested c.args.wanted.now (ap (λ all. all.servers) (c.words.view_is ∙ c.in_ok-words-2.ensures)) c.in_err-words-3.ensures
     c.check_three-checked.ensures.tests)))
 
 pub returns-clause-reads : goal.returns-clause-reads
 returns-clause-reads g c =
     bind (rw c.as_str.ensures at c.in_ok-words.ensures)
-    (passed (cut_tested c.args.grid.now (ap (λ all. all.servers) (c.words.view_is ∙ c.in_ok-words-2.ensures)) c.in_ok-words-3.ensures.1
+    (passed (cut_tested c.args.wanted.now (ap (λ all. all.servers) (c.words.view_is ∙ c.in_ok-words-2.ensures)) c.in_ok-words-3.ensures.1
     c.check_three-checked.ensures.tests)
     (given (rw (c.in_ok-words-3.ensures.0, c.in_ok-words-2.ensures) refl)))
 
 pub returns-clause-cut : goal.returns-clause-cut
-returns-clause-cut g c = rw (c.in_ok-words-3.ensures.0, c.in_ok-words-2.ensures) (bundle_cut c.args.grid.now c.in_ok-words.words)
+returns-clause-cut g c = rw (c.in_ok-words-3.ensures.0, c.in_ok-words-2.ensures) (bundle_cut c.args.wanted.now.counts c.in_ok-words.words)

@@ -13,4 +13,4 @@ pub returns-in-Tapes-clause-reads : goal.returns-in-Tapes-clause-reads
 returns-in-Tapes-clause-reads g c = rw c.in-Tapes.is (rw (c.as_str.ensures, c.as_str-in-Tapes.ensures) at c.read_tapes.ensures.reads)
 
 pub returns-in-Ok-clause-cut : goal.returns-in-Ok-clause-cut
-returns-in-Ok-clause-cut g c = seeded_cut _ _ _ c.in-Ok.ensures
+returns-in-Ok-clause-cut g c = seeded_cut c.args.wanted.now _ _ c.in-Ok.ensures

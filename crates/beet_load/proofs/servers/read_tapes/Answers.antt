@@ -9,9 +9,9 @@ returns-in_err-coefficients-clause-reads g c =
 pub returns-in_err-masks-clause-reads : goal.returns-in_err-masks-clause-reads
 returns-in_err-masks-clause-reads g c =
     exits c.from_residual-in_err-masks.ensures.1 (bind (rw c.coefficients_kept.ensures at c.in_ok-coefficients.ensures.reads)
-    (stopped (rw c.masks_kept.ensures at c.in_err-masks.ensures.reads)))
+    (stopped (rw c.masks.ensures at c.in_err-masks.ensures.reads)))
 
 pub returns-clause-reads : goal.returns-clause-reads
 returns-clause-reads g c =
     bind (rw c.coefficients_kept.ensures at c.in_ok-coefficients.ensures.reads)
-    (bind (rw c.masks_kept.ensures at c.in_ok-masks.ensures.reads) (given refl))
+    (bind (rw c.masks.ensures at c.in_ok-masks.ensures.reads) (given refl))

@@ -17,7 +17,7 @@ run_servers-requires-clause-inputs g c = λ lifetimes outlive.
 pub finish_at-finish-requires : goal.finish_at-finish-requires
 finish_at-finish-requires g c =
     let ran = c.in_ok-cores.ensures.ended in
-    has-ended-run _ _ _ _ ran.starts c.in_ok-cores.cores ran.ended
+    has-ended-run c.in_ok-begun.begun.grid _ _ _ ran.starts c.in_ok-cores.cores ran.ended
 
 pub of-requires : goal.of-requires
 of-requires g c =

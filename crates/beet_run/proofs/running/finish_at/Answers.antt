@@ -1,6 +1,6 @@
 use Rattle.std.proofs.Common.{subst, sym, true≢false, IsSome}
 use Rattle.beet_plan.specs.Auction.{auction_batch}
-use Rattle.beet_plan.specs.Ends.{TellsEnd}
+use Rattle.beet_gates.specs.Ends.{TellsEnd}
 use Rattle.beet_run.proofs.Ending.{named}
 use Rattle.beet_run.proofs.running.finish_at.Goals as goal
 

@@ -18,13 +18,14 @@ returns-in_err-tape c = stops c.from_residual-in_err-tape.ensures.1 no-memory
 
 pub returns-in_err-check_words : goal.returns-in_err-check_words
 returns-in_err-check_words c =
-    stops c.from_residual-in_err-check_words.ensures.1 (same-test (λ next. refl) (rw c.in_ok-tape.ensures at c.in_err-check_words.ensures.tests))
+    stops c.from_residual-in_err-check_words.ensures.1
+    (same-test (λ next. refl) (rw (c.in_ok-tape.ensures, c.auction_wants.ensures) at c.in_err-check_words.ensures.tests))
 
 pub returns : goal.returns
 returns c =
-    let enough = rw c.in_ok-tape.ensures at c.in_ok-check_words.ensures.enough in
+    let enough = rw (c.in_ok-tape.ensures, c.auction_wants.ensures) at c.in_ok-check_words.ensures.enough in
     record {
-      tests = same-test (λ next. refl) (rw c.in_ok-tape.ensures at c.in_ok-check_words.ensures.tests);
+      tests = same-test (λ next. refl) (rw (c.in_ok-tape.ensures, c.auction_wants.ensures) at c.in_ok-check_words.ensures.tests);
       adds = adds-farmer c.args.grid.now (trial_farmer c.args.grid.now c.args.i) c.in_ok-curve.curve c.in_ok-tape.tape c.args.totals.now c.deal.new.self
           c.in_ok-curve.ensures c.in_ok-tape.ensures (is-of-grid c.args.grid.now c.args.i) (rw c.in_ok-tape.ensures enough) c.deal.ensures.sums c.deal.ensures.values;
     }

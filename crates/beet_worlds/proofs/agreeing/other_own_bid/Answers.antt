@@ -1,7 +1,7 @@
 use Rattle.std.proofs.Common.{length, refl, arith}
 use Rattle.std.proofs.lemmas.Option.{slice_get_read}
 use Rattle.beet_worlds.proofs.Disagreeing.{known-all, known-more}
-use Rattle.beet_worlds.proofs.EachMapped.{as-many-in, curve-at}
+use Rattle.beet_worlds.proofs.Marks.{as-many-in, curve-at}
 use Rattle.beet_worlds.proofs.agreeing.other_own_bid.Goals as goal
 
 pub bounds-others-i : goal.bounds-others-i

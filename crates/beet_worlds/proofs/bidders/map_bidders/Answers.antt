@@ -1,10 +1,13 @@
 use Rattle.std.proofs.Common.{All, rules, ◌≡◌, ◌≤◌, ◌*◌, map, length, refl, sym, ap, subst, ◌∙◌, arith}
-use Rattle.std.proofs.lemmas.List.{take_all}
+use Rattle.std.proofs.lemmas.List.{length-map, take_all}
 use Rattle.std.proofs.lemmas.List.Elements.{All-get_or, All-more, All-push}
 use Rattle.std.proofs.lemmas.Option.{slice_get_read}
 use Rattle.beet_words.specs.Words.{IsWord, accepted}
 use Rattle.beet_bids.specs.declared.book.Bidder.{Bidder}
-use Rattle.beet_worlds.proofs.EachMapped.{as-many, as-many-in, bidders-mapped, curve-at, each-mapped-more, mark-at}
+use Rattle.beet_mapped.proofs.EachMapped.{each-mapped-more, parties-mapped}
+use Rattle.beet_worlds.specs.MappedBidders.{party_of}
+use Rattle.beet_worlds.proofs.MasksBack.{get-map}
+use Rattle.beet_worlds.proofs.Marks.{as-many, as-many-in, curve-at, mark-at}
 use Rattle.beet_worlds.proofs.bidders.map_bidders.Goals as goal
 
 pub bounds-bidders-i : goal.bounds-bidders-i
@@ -59,10 +62,13 @@ loop-i-preserved c =
     let few = ap length c.bidders-bidders.ensures.value in
     let lt = c.loop-i-test.true in
     let items = c.in_ok-push.ensures.items in
-    let more = each-mapped-more c.args.me c.grid-grid.result.now.prices bidders others words c.loop-i.mapped.items c.loop-i.i c.index-bidders-i.result c.index-others-i.result
+    let more = each-mapped-more c.args.me (map party_of bidders) (map party_of others) words c.loop-i.mapped.items c.loop-i.i (party_of c.index-bidders-i.result)
+    (party_of c.index-others-i.result)
     c.index-words-i.result c.in_ok-words_in_second.field-0 inv.each inv.count
-    (slice_get_read bidders (length bidders) c.loop-i.i c.index-bidders-i.result refl (omega (arith, few, lt, c.requires.count)) c.index-bidders-i.is)
-    (slice_get_read others (length others) c.loop-i.i c.index-others-i.result refl (omega (arith, many, few, lt, c.requires.count)) c.index-others-i.is)
+    (get-map party_of bidders c.loop-i.i c.index-bidders-i.result
+    (slice_get_read bidders (length bidders) c.loop-i.i c.index-bidders-i.result refl (omega (arith, few, lt, c.requires.count)) c.index-bidders-i.is))
+    (get-map party_of others c.loop-i.i c.index-others-i.result
+    (slice_get_read others (length others) c.loop-i.i c.index-others-i.result refl (omega (arith, many, few, lt, c.requires.count)) c.index-others-i.is))
     (slice_get_read words (length words) c.loop-i.i c.index-words-i.result refl lt c.index-words-i.is)
     c.in_ok-words_in_second.ensures.mapped in
     record {
@@ -79,9 +85,10 @@ returns-clause-mapped c =
     let others = c.bidders-others.result.now in
     let many = as-many-in c.args.first.now c.args.second.now bidders others c.bidders-bidders.ensures.value c.bidders-others.ensures.value c.requires.marks in
     let few = ap length c.bidders-bidders.ensures.value in
-    let all = bidders-mapped c.args.me c.grid-grid.result.now.prices bidders others c.args.words.now c.loop-i.mapped.items
-    (omega (arith, few, c.requires.count)) many (omega (arith, inv.count, c.loop-i-test.false)) inv.each in
-    rw (← c.bidders-bidders.ensures.value, ← c.bidders-others.ensures.value, ← c.grid-grid.ensures.value) all
+    let all = parties-mapped c.args.me (map party_of bidders) (map party_of others) c.args.words.now c.loop-i.mapped.items
+    (omega (arith, few, c.requires.count) ∙ sym (length-map bidders party_of)) (length-map others party_of ∙ many ∙ sym (length-map bidders party_of))
+    (omega (arith, inv.count, c.loop-i-test.false)) inv.each in
+    rw (← c.bidders-bidders.ensures.value, ← c.bidders-others.ensures.value) all
 
 pub returns-clause-below : goal.returns-clause-below
 returns-clause-below c = subst (All (λ list. All IsWord list)) (take_all c.loop-i.i c.args.words.now c.loop-i-test.false) c.loop-i.invariant.below

@@ -2,4 +2,4 @@ use Rattle.beet_worlds.proofs.BidderFacts.{inputs-same}
 use Rattle.beet_worlds.proofs.laws.mapped_bidders_give_the_same_points.Goals as goal
 
 pub returns : goal.returns
-returns c = λ s grid farmers farmers' b own m. inputs-same s grid farmers farmers' b own m
+returns c = inputs-same

@@ -6,9 +6,10 @@ use Rattle.beet_words.specs.Words.{IsWord}
 use Rattle.beet_gates.specs.Scripts.{HasWords}
 use Rattle.beet_plan.specs.Auction.{most_coefficients, auction_over}
 use Rattle.beet_sharing.specs.Runs.{numbers_of}
-use Rattle.beet_worlds.specs.MappedMasks.{MasksMapped}
-use Rattle.beet_worlds.specs.Worlds.{CoefficientsMapped, WorldsMapped}
-use Rattle.beet_worlds.proofs.EachMapped.{as-many}
+use Rattle.beet_turned.specs.MappedMasks.{MasksMapped}
+use Rattle.beet_worlds.specs.Losses.{losses_of}
+use Rattle.beet_worlds.specs.Worlds.{GoTogetherIn, WorldsMapped}
+use Rattle.beet_worlds.proofs.Marks.{as-many}
 use Rattle.beet_worlds.proofs.WorldFacts.{Stands, look-same-in, numbers-first, secrets-first, secrets-second, stands-of, worlds-mapped}
 use Rattle.beet_worlds.proofs.mapping.map_beside.Goals.{After-grid}
 use Rattle.beet_worlds.proofs.mapping.map_beside.Goals as goal
@@ -56,7 +57,7 @@ module _ (c : After-grid) where
       let there = c.in_ok-there.there in
       stands-of c.args.me first second c.args.words.now c.args.words.now.bidders c.args.bidders.now c.in_ok-masks.masks there.masks here.inputs there.inputs
       c.requires.agree c.requires.enough c.requires.limits c.in_ok-there.ensures.limits below refl c.requires.count
-      (subst (λ t. MasksMapped c.args.me first second t c.in_ok-masks.masks) masks-same c.in_ok-masks.ensures) c.in_ok-there.ensures.masks
+      (subst (λ t. MasksMapped c.args.me (losses_of first second) t c.in_ok-masks.masks) masks-same c.in_ok-masks.ensures) c.in_ok-there.ensures.masks
       c.requires.mapped c.requires.inputs c.in_ok-there.ensures.inputs
 
 pub map_coefficients-coefficients-requires-clause-here : goal.map_coefficients-coefficients-requires-clause-here
@@ -98,8 +99,8 @@ returns c =
     c.into_masks.result c.map_coefficients-coefficients.result c.beside.result c.beside.ensures
     (both c.map_coefficients-coefficients.result
     (λ coefficients mapped low.
-    let moved : CoefficientsMapped c.grid.result.now c.args.me here there words.coefficients coefficients =
-    subst (λ t. CoefficientsMapped c.grid.result.now c.args.me here there t coefficients) (λ i. (c.words.view_is i).coefficients) mapped in
+    let moved : GoTogetherIn c.grid.result.now c.args.me here there words.coefficients coefficients =
+    subst (λ t. GoTogetherIn c.grid.result.now c.args.me here there t coefficients) (λ i. (c.words.view_is i).coefficients) mapped in
     let mapped_below : AreWords (record { masks = there.masks; coefficients = coefficients; bidders = lists }) =
     record { masks = subst AreBelow (sym c.in_ok-there.ensures.masks) c.look_at-3.ensures; coefficients = low; bidders = c.requires.words } in
     subst (λ masks. WorldsMapped c.args.me first words second (record { masks = masks; coefficients = coefficients; bidders = lists })) is

@@ -1,7 +1,6 @@
 use Rattle.std.proofs.Common.{◌≡◌, ◌≤◌, ◌*◌, length, sym, ap, subst, ◌∙◌}
 use Rattle.std.specs.Prelude.{All}
 use Rattle.beet_words.specs.Words.{IsWord, accepted}
-use Rattle.beet_book.specs.Farmers.{farmers_of}
 use Rattle.beet_worlds.specs.MappedBidders.{BiddersMapped}
 use Rattle.beet_worlds.specs.Worlds.{WorldsMapped}
 use Rattle.beet_worlds.proofs.Drawn.{all-drawn}
@@ -22,8 +21,8 @@ pub map_for_servers-requires-clause-mapped : goal.map_for_servers-requires-claus
 map_for_servers-requires-clause-mapped c =
     let first = c.args.first.now in
     let same : c.as_slice.result.now ≡ c.args.words.now.bidders = c.as_slice.ensures.value ∙ (λ i. (c.words.view_is i).bidders) in
-    subst (λ l. BiddersMapped c.args.me first.grid.prices (farmers_of first.bidders c.args.words.now.bidders) (farmers_of c.args.second.now.bidders l)) (sym c.as_slice-2.ensures.value)
-    (subst (λ l. BiddersMapped c.args.me first.grid.prices (farmers_of first.bidders l) (farmers_of c.args.second.now.bidders c.in_ok-bidders.bidders.items)) same c.in_ok-bidders.ensures.mapped)
+    subst (λ l. BiddersMapped c.args.me first.bidders c.args.words.now.bidders c.args.second.now.bidders l) (sym c.as_slice-2.ensures.value)
+    (subst (λ l. BiddersMapped c.args.me first.bidders l c.args.second.now.bidders c.in_ok-bidders.bidders.items) same c.in_ok-bidders.ensures.mapped)
 
 pub map_for_servers-requires-clause-below : goal.map_for_servers-requires-clause-below
 map_for_servers-requires-clause-below c =

@@ -4,10 +4,10 @@ use Rattle.std.proofs.lemmas.List.{drop_all}
 use Rattle.beet_gates.specs.Scripts.{bounds_of, start_of}
 use Rattle.beet_plan.specs.Auction.{auction_plan, auction_batch, most_rounds, most_masks, most_coefficients, most_wires}
 use Rattle.beet_plan.proofs.AuctionLaw.{auction-stands, follows-itself}
-use Rattle.beet_plan.proofs.Ended.{plan-tells}
+use Rattle.beet_gates.proofs.Ended.{plan-tells}
 use Rattle.beet_search.specs.Walk.{plan_at}
 use Rattle.beet_plan.specs.declared.Finish.{Finish}
-use Rattle.beet_search.proofs.NextFacts.{finish-on}
+use Rattle.beet_gates.proofs.PlanPlaces.{finish-on}
 use Rattle.beet_search.proofs.script.AuctionScript.finish.Goals as goal
 
 pub loop-number-preserved : goal.loop-number-preserved
@@ -19,7 +19,7 @@ loop-number-preserved c =
       fits = c.after-walk.ensures.fits;
       rest =
           ap (λ (p : Plan Finish). plan_finish p (drop (i + 1) opened)) c.after-walk.ensures.plan
-          ∙ sym (finish-on (plan_at c.loop-number.walk) 0 i opened h c.number-item.result c.number-item.is) ∙ c.loop-number.invariant.rest;
+          ∙ sym (finish-on (plan_at c.loop-number.walk) i opened h c.number-item.result c.number-item.is) ∙ c.loop-number.invariant.rest;
     }
 
 pub returns-clause-ended : goal.returns-clause-ended

@@ -1,12 +1,11 @@
-use Rattle.std.proofs.Common.{arith, ap, sym, ◌∙◌, ◌≡◌, ◌+◌, ◌++◌, ◌∷◌, [], length, length-append}
+use Rattle.std.proofs.Common.{arith, ap, ◌∙◌, ◌≡◌, ◌+◌, ◌++◌, ◌∷◌, [], length, length-append}
 use Rattle.beet_server.specs.Rows.{Rows}
-use Rattle.beet_server.proofs.RowFacts.{rows-more, ends-more, length-rows}
+use Rattle.beet_server.proofs.RowFacts.{rows-more, ends-more, length-shown}
 use Rattle.beet_server.proofs.rows.Rows.push.Goals as goal
 
 pub push_reserved-requires : goal.push_reserved-requires
 push_reserved-requires c =
-    let count : length c.args.self.now.rows ≡ length c.self.inside.ends.items =
-    ap (λ (v : Rows). length v.rows) (sym c.self.view_is) ∙ length-rows c.self.inside.items.items 0 c.self.inside.ends.items in
+    let count = length-shown c.args.self.now c.self.inside.items.items c.self.inside.ends.items _ _ _ c.self.view_is in
     let room = ap (λ (v : Rows). v.ends_room) c.self.view_is in
     omega (arith, count, room, c.requires.ends)
 

@@ -2,8 +2,7 @@
 use Rattle.std.proofs.Common.{[], ◌∷◌, refl}
 use seplogic.Ra.Ura.{Ura}
 use mir.Syntax.{Fn}
-use mir.Val.{Val}
-use base.Logic.{SProp, ent}
+use base.Logic.{SProp}
 use prog.Memory.{Memory}
 use prog.Routine.{Routine}
 use prog.Wp.{Calls, Loops, WpFn, Tables}
@@ -22,7 +21,7 @@ use denote.Triple.Clauses.{Clauses, Ended, closing}
 use denote.Triple.Entry.{alive}
 use denote.Triple.Spec.{Meets, triple_of}
 use denote.Triple.Table.{entered}
-use denote.Triple.Walked.{says, Stays, walk_of, ends_at, walk_Meets}
+use denote.Triple.Walked.{says, Stays, Walks, walk_of, ends_at, walk_Meets}
 use Rattle.beet_store.proofs.Walks.{none, none_made}
 use Rattle.beet_store.specs.Histories.{none_recorded}
 use Rattle.beet_store.specs.contracts.history.History as History
@@ -46,26 +45,17 @@ module _ {M : Type 1} {𝓤 : Ura M} (𝓛 : Logic 𝓤) (at_mem : Memory → SP
   abbrev held : Clauses 𝓤 ended
   held = F.clauses 𝓛 at_mem run
 
-  module _ (C : Calls 𝓤 H) (Λ : Loops 𝓤 H) (z : (walk_of 𝓛 ended stayed held).Ghost) where
-    abbrev Post : Val → SProp 𝓤
-    Post = (walk_of 𝓛 ended stayed held).post z
-
-    abbrev toks : SProp 𝓤
-    toks = alive 𝓛 ended.signature z.0.0 z.0.1
-
-    walks : ent 𝓤 ((walk_of 𝓛 ended stayed held).pre z) (WpFn 𝓤 H C Λ function ((walk_of 𝓛 ended stayed held).args z) Post)
-    walks =
-        let a = z.0.3 in
-        let vss = z.0.4 in
-        let made : (History.the_row).Denot = record { so_far = none_recorded } in
-        qed 𝓛 ((raw toks ⊛ ‵ (owns (types_at ended.signature.params z.0.0) a vss)) ∷ raw ((held z.0.0 a).requires z.1) ∷ []) ∵
-        keep ! (0 ∷ []) $ split ! $ move ! (1 ∷ []) $ drop ! $
-        enter ! C Λ function [] Post $ alloc_all ! (λ l. pass_all ! refl tt $
-        sets ! (agg ! (no_more !)) refl (tt, tt) $
-        nothing ! $ none_made ! $ fjoin ! $
-        returns ! (look_at ! 0 refl) $ free_all ! refl $
-        suffices ! _ (ends_at 𝓛 ended stayed held z none made tt tt) $ says ! refl $
-        nothing ! $ move ! (2 ∷ 0 ∷ 1 ∷ []) $ done !)
+  walks : (C : Calls 𝓤 H) (Λ : Loops 𝓤 H) → Walks 𝓛 ended stayed (WpFn 𝓤 H C Λ function) held
+  walks C Λ z =
+      let made : (History.the_row).Denot = record { so_far = none_recorded } in
+      qed 𝓛 ((raw (alive 𝓛 ended.signature z.0.0 z.0.1) ⊛ ‵ (owns (types_at ended.signature.params z.0.0) z.0.3 z.0.4)) ∷ raw ((held z.0.0 z.0.3).requires z.1) ∷ []) ∵
+      keep ! (0 ∷ []) $ split ! $ move ! (1 ∷ []) $ drop ! $
+      enter ! C Λ function [] ((walk_of 𝓛 ended stayed held).post z) $ alloc_all ! (λ l. pass_all ! refl tt $
+      sets ! (agg ! (no_more !)) refl (tt, tt) $
+      nothing ! $ none_made ! $ fjoin ! $
+      returns ! (look_at ! 0 refl) $ free_all ! refl $
+      suffices ! _ (ends_at 𝓛 ended stayed held z none made tt tt) $ says ! refl $
+      nothing ! $ move ! (2 ∷ 0 ∷ 1 ∷ []) $ done !)
 
   meets : (𝓣 : Tables 𝓤 H) → Meets 𝓛 ended.signature (WpFn 𝓤 H 𝓣.C 𝓣.Λ function) (closing 𝓛 ended held)
   meets 𝓣 =

@@ -3,7 +3,8 @@ use Rattle.std.proofs.lemmas.Bool.{cases_lt}
 use Rattle.beet_field.specs.Trio.{member}
 use Rattle.beet_gates.specs.Scripts.{Standing, bounds_of}
 use Rattle.beet_delivery.specs.Events.{Triple, deliver}
-use Rattle.beet_delivery.proofs.EventFacts.{deliver_unsent}
+use Rattle.beet_delivery.proofs.NetworkFacts.{deliver_unsent}
+use Rattle.beet_delivery.proofs.ThreeServers.{three-is}
 use Rattle.beet_world.specs.Happens.{event_of}
 use Rattle.beet_world.specs.Worlds.{World, delivered_in, rounds_in}
 use Rattle.beet_world.specs.declared.world.Event.TheVariants.{Delivered as DeliveredBy, NotSent}
@@ -45,7 +46,7 @@ returns-in_default-clause-delivered g c =
     let script = g.S.Script in
     let asks = (goal.at.returns-in_default-clause-delivered g c).After-sent_message in
     subst (λ (v : World g.row.S.Denot). delivered_in v ≡ deliver (rounds_in script.batch_of script.inputs_of script.rounds_of v) (delivered_in v) (asked g asks)) c.self.view_is
-    (sym (deliver_unsent (rounds_in script.batch_of script.inputs_of script.rounds_of (seen g asks)) (delivered_in (seen g asks)) (asked g asks)
+    (sym (deliver_unsent three-is (rounds_in script.batch_of script.inputs_of script.rounds_of (seen g asks)) (delivered_in (seen g asks)) (asked g asks)
     (not-sent-to script.batch_of script.inputs_of script.rounds_of (limits g asks) (seen g asks) c.self.inside.cores c.self.inside.sent
     (g.met.S.Script.lawful _) c.self.invariant c.args.from c.args.to c.args.side c.args.round c.requires
     (c.in_default.ensures.none.0 refl))))

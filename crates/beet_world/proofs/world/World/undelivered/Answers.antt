@@ -3,6 +3,7 @@ use Rattle.std.specs.Prelude.{min}
 use Rattle.beet_field.specs.Trio.{member}
 use Rattle.beet_gates.specs.Scripts.{bounds_of}
 use Rattle.beet_delivery.specs.Events.{undelivered}
+use Rattle.beet_delivery.proofs.ThreeServers.{three-is}
 use Rattle.beet_delivery.proofs.Undelivered.{passed_all}
 use Rattle.beet_world.specs.Missing.{is_missing, six}
 use Rattle.beet_world.specs.Worlds.{World, delivered_in, rounds_in}
@@ -35,5 +36,5 @@ returns-clause-count g c =
 pub returns-clause-ended : goal.returns-clause-ended
 returns-clause-ended g c = λ none.
     let script = g.S.Script in
-    passed_all (rounds_in script.batch_of script.inputs_of script.rounds_of c.args.self.now) (delivered_in c.args.self.now)
+    passed_all three-is (rounds_in script.batch_of script.inputs_of script.rounds_of c.args.self.now) (delivered_in c.args.self.now)
     (sym (returns-clause-count g c) ∙ none)

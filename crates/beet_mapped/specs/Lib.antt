@@ -1,0 +1,2 @@
+pub mod Dealers
+pub mod Trades

@@ -1,0 +1,4 @@
+pub mod Blocks
+pub mod Masks
+pub mod Compared
+pub mod Accepting
