@@ -8,7 +8,7 @@ use Rattle.beet_errand.specs.declared.answer.Status.TheVariants.{Done as JobDone
 use Rattle.beet_errand.specs.declared.answer.Stop.{Stop}
 use Rattle.beet_errand.specs.Tasks.{DoesTask, IsNoTask}
 use Rattle.beet_errand.proofs.Tasks.{answers_task}
-use Rattle.beet_two_worlds.specs.Ending.{worlds_task}
+use Rattle.beet_job_worlds.specs.Ending.{worlds_task}
 use Rattle.beet_app.specs.Jobs.{Job, Answering, Comparing}
 use Rattle.beet_app.specs.Doing.{task_of}
 
@@ -29,10 +29,12 @@ pub compares_worlds : {named : Option Job} {auction servers first second : List 
 compares_worlds is d = rw is d
 
 -- and its answer is given
-pub answers_job : {named : Option Job} (job : Step Answer) {old now : Seen} (result : Result Answer Stop) → named ≡ Some (Answering (job Ends)) →
+pub answers_job : {named : Option Job} (job : Step Answer) {old now : Seen} (result : Result Answer Stop) →
+    named ≡ Some (Answering (job Ends)) →
     IfOk result (λ answer. IsDone answer.status) → Reads (λ answer. answer) old now job result → DoesTask (task_of named) old now result
 answers_job job result is done r = named_job (Answering (job Ends)) is (answers_task job result done r)
 
-pub done_ends : (result : Result Answer Stop) → IfOk result (λ answer. answer.status ≡ JobDone) → IfOk result (λ answer. IsDone answer.status)
+pub done_ends : (result : Result Answer Stop) → IfOk result (λ answer. answer.status ≡ JobDone) →
+    IfOk result (λ answer. IsDone answer.status)
 done_ends (Ok answer) e = inl e
 done_ends (Err stop) e = tt

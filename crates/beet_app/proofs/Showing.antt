@@ -4,33 +4,34 @@ use Rattle.std.specs.Prelude.{codes, IsSomeAnd, MatchOption}
 use Rattle.std.proofs.lemmas.List.{append_cancel_left}
 use Rattle.beet_field.specs.declared.point.Point.{Point}
 use Rattle.beet_store.specs.Files.{File, Told, bytes_of}
-use Rattle.beet_store.specs.Desks.{Given, GivesCall, Say, Replaced}
+use Rattle.beet_store.specs.Desks.{DeskTold, Given, LeavesGiven, Replaced, Say}
 use Rattle.beet_words.specs.Bundles.{bundle_bytes}
 use Rattle.beet_errand.specs.Errands.{Answer, Step}
 use Rattle.beet_errand.specs.Fetches.{IsDone}
-use Rattle.beet_errand.specs.Runs.{GivesAll}
+use Rattle.beet_errand.specs.Runs.{LeavesAll}
 use Rattle.beet_errand.specs.Tasks.{LeavesShown, ShowsRead, ToShow}
 use Rattle.beet_errand.specs.declared.answer.OwnRefusal.{OwnRefusal}
 use Rattle.beet_errand.specs.declared.answer.OwnRefusal.TheVariants.{OfWorlds, OfAudit}
 use Rattle.beet_errand.specs.declared.answer.Refusal.TheVariants.{Own}
+use Rattle.beet_errand.proofs.Putting.{leaves_all}
 use Rattle.beet_errand.proofs.Statuses.{not_done}
-use Rattle.beet_two_worlds.specs.Answering.{ShowsTheSame, worlds_text}
-use Rattle.beet_two_worlds.specs.Ending.{compared_errand}
-use Rattle.beet_two_worlds.specs.Reading.{Both, both_errand, first_book, second_book, words_read}
+use Rattle.beet_job_worlds.specs.Answering.{ShowsTheSame, worlds_text}
+use Rattle.beet_job_worlds.specs.Ending.{compared_errand}
+use Rattle.beet_job_worlds.specs.Reading.{Both, both_errand, first_book, second_book, words_read}
 use Rattle.beet_audit.specs.OneRuns.{OneRun}
 use Rattle.beet_audit.specs.declared.fault.AuditFault.{AuditFault}
-use Rattle.beet_auditor.specs.Ending.{TellsFinding, audit_answer}
-use Rattle.beet_auditor.specs.Reading.{read_errand}
-use Rattle.beet_auditor.specs.declared.reading.ReadViews.{ReadViews}
+use Rattle.beet_job_audit.specs.Ending.{TellsFinding, audit_answer}
+use Rattle.beet_job_audit.specs.Reading.{read_errand}
+use Rattle.beet_job_audit.specs.declared.reading.ReadViews.{ReadViews}
 use Rattle.beet_app.specs.Jobs.{Job, Answering, Comparing, Auditing}
 use Rattle.beet_app.specs.Doing.{task_of}
-use Rattle.beet_app.specs.Showing.{HoldsBoth, HoldsOneRun, HoldsRead, LeavesRead, Shows}
+use Rattle.beet_app.specs.Showing.{HoldsBoth, HoldsOneRun, LeavesRead, Shows}
 
 -- a file is put and taken, and what follows stands on what it left
 put_then : (given : Given) (now : Option Given) (file : File) (files : List File) (text : List ℕ) (P : Type 0) →
-    GivesAll (Some given) now (file ∷ files) text (Ok tt) →
-    ((next : Given) → Replaced file.0 file.1 given next → GivesAll (Some next) now files text (Ok tt) → P) → P
-put_then given now file files text P (inl (Some next, call, rest)) f = f next call.0 rest
+    LeavesAll (Some given) now (file ∷ files) text (Ok tt) →
+    ((next : Given) → Replaced file.0 file.1 given next → LeavesAll (Some next) now files text (Ok tt) → P) → P
+put_then given now file files text P (inl (Some next, call, rest)) f = f next call rest
 put_then given now file files text P (inl (None, call, rest)) f = absurd call
 put_then given now file files text P (inr (fault, e, call)) f = absurd cc
 
@@ -45,19 +46,20 @@ pub record Hold (first second third : File) (text : List ℕ) (given now : Given
 said_then : (first second third : File) (text : List ℕ) (given g1 g2 g3 : Given) (now : Option Given) →
     first.0 ≢ second.0 → first.0 ≢ third.0 → second.0 ≢ third.0 →
     Replaced first.0 first.1 given g1 → Replaced second.0 second.1 g1 g2 → Replaced third.0 third.1 g2 g3 →
-    GivesCall (Some g3) now (Say text (Ok tt)) → IsSomeAnd now (Hold first second third text given)
+    LeavesGiven (Some g3) now (Say text (Ok tt)) → IsSomeAnd now (Hold first second third text given)
 said_then first second third text given g1 g2 g3 None d e f r1 r2 r3 call = absurd call
 said_then first second third text given g1 g2 g3 (Some now) d e f r1 r2 r3 call =
-    let files = call.0.files in record {
+    let files = call.files in record {
       one = ap (λ l. bytes_of l first.0) files ∙ r3.rest.others first.0 e ∙ r2.rest.others first.0 d ∙ r1.file;
       two = ap (λ l. bytes_of l second.0) files ∙ r3.rest.others second.0 f ∙ r2.file;
       three = ap (λ l. bytes_of l third.0) files ∙ r3.file;
-      said = call.0.said ∙ ap (λ s. s ++ text) (r3.rest.said ∙ r2.rest.said ∙ r1.rest.said);
+      said = call.said ∙ ap (λ s. s ++ text) (r3.rest.said ∙ r2.rest.said ∙ r1.rest.said);
     }
 
 pub three_stand : (first second third : File) (text : List ℕ) (given : Given) (now : Option Given) →
     first.0 ≢ second.0 → first.0 ≢ third.0 → second.0 ≢ third.0 →
-    GivesAll (Some given) now (first ∷ second ∷ third ∷ []) text (Ok tt) → IsSomeAnd now (Hold first second third text given)
+    LeavesAll (Some given) now (first ∷ second ∷ third ∷ []) text (Ok tt) →
+    IsSomeAnd now (Hold first second third text given)
 three_stand first second third text given now d e f h =
     let P = IsSomeAnd now (Hold first second third text given) in
     put_then given now first (second ∷ third ∷ []) text P h (λ g1 r1 h1.
@@ -81,20 +83,23 @@ second-words out = apart out (codes ".second") (codes ".words") (λ (e : 115 ≡
 -- what every answer that shows leaves at a desk is left by a run that shows
 left : {A B : Type 0} (step : Step A) (shows : A → Answer → Type 0) (holds : A → Given → Given → Type 0) →
     ((value : A) (answer : Answer) (given : Given) (given_now : Option Given) → shows value answer → IsDone answer.status →
-    GivesAll (Some given) given_now answer.files answer.text (Ok tt) → IsSomeAnd given_now (holds value given)) →
-    (own : OwnRefusal) (read : Step B) (old now : Option Told) (given given_now : Option Given) →
-    LeavesShown (ToShow own read (ShowsRead step shows)) old now given given_now → LeavesRead step holds old now given given_now
-left step shows holds each own read old now None given_now l = tt
-left step shows holds each own read old now (Some given) given_now (answer, w, done, gives) =
-    go given_now (each w.value answer given given_now w.shown done gives) where
-      go : (n : Option Given) → IsSomeAnd n (holds w.value given) → IsSomeAnd n (λ after. HoldsRead step holds old now given after)
-      go None h = absurd h
-      go (Some n) h = record { value = w.value; read = w.read; held = h }
+    LeavesAll (Some given) given_now answer.files answer.text (Ok tt) → IsSomeAnd given_now (holds value given)) →
+    (own : OwnRefusal) (read : Step B) (old now : Told) (desk desk_now : DeskTold) →
+    LeavesShown (ToShow own read (ShowsRead step shows)) old now desk desk_now →
+    LeavesRead step holds old now desk.given desk_now.given
+left step shows holds each own read old now desk desk_now (answer, w, done, gives) =
+    go desk.given desk_now.given (leaves_all desk desk_now answer.files answer.text (Ok tt) gives) where
+      go : (given given_now : Option Given) → LeavesAll given given_now answer.files answer.text (Ok tt) →
+          LeavesRead step holds old now given given_now
+      go None given_now all = tt
+      go (Some given) None all = each w.value answer given None w.shown done all
+      go (Some given) (Some after) all =
+          record { value = w.value; read = w.read; held = each w.value answer given (Some after) w.shown done all }
 
 -- the files of an answer that shows both worlds stand
 worlds_stand : (s : Point) (out : List ℕ) (both : Both) (answer : Answer) (given : Given) (given_now : Option Given) →
     ShowsTheSame s out (first_book both) (words_read both) (second_book both) answer →
-    GivesAll (Some given) given_now answer.files answer.text (Ok tt) → IsSomeAnd given_now (HoldsBoth s out both given)
+    LeavesAll (Some given) given_now answer.files answer.text (Ok tt) → IsSomeAnd given_now (HoldsBoth s out both given)
 worlds_stand s out both answer given given_now w g =
     go given_now (three_stand _ _ _ _ given given_now (first-second out) (first-words out) (second-words out) (rw w.is at g)) where
       Held : Given → Type 0
@@ -121,28 +126,29 @@ worlds_stand s out both answer given given_now w g =
 one_run_said : (read : ReadViews) (found : Option AuditFault) →
     MatchOption found (OneRun read.grid read.views) (λ fault. OneRun read.grid read.views → ⊥) →
     IsDone (audit_answer read found).status → (given : Given) (given_now : Option Given) →
-    GivesAll (Some given) given_now (audit_answer read found).files (audit_answer read found).text (Ok tt) →
+    LeavesAll (Some given) given_now (audit_answer read found).files (audit_answer read found).text (Ok tt) →
     IsSomeAnd given_now (HoldsOneRun read given)
 one_run_said read None o d given None call = absurd call
-one_run_said read None o d given (Some n) call = record { one_run = o; files = call.0.files; said = call.0.said }
+one_run_said read None o d given (Some n) call = record { one_run = o; files = call.files; said = call.said }
 one_run_said read (Some fault) o done given given_now call = absurd (not_done (Own OfAudit) done)
 
 told_said : (read : ReadViews) (answer : Answer) (given : Given) (given_now : Option Given) → TellsFinding read answer →
-    IsDone answer.status → GivesAll (Some given) given_now answer.files answer.text (Ok tt) → IsSomeAnd given_now (HoldsOneRun read given)
+    IsDone answer.status → LeavesAll (Some given) given_now answer.files answer.text (Ok tt) →
+    IsSomeAnd given_now (HoldsOneRun read given)
 told_said read answer given given_now w d g = one_run_said read w.found w.one_run (rw w.is at d) given given_now (rw w.is at g)
 
 -- a run that has compared two worlds and is done shows them, and one that has audited transcripts shows that they are of one run
-pub run_shows : (job : Option Job) (old now : Option Told) (given given_now : Option Given) → LeavesShown (task_of job) old now given given_now →
-    Shows job old now given given_now
-run_shows None old now given given_now l = tt
-run_shows (Some (Answering errand)) old now given given_now l = tt
-run_shows (Some (Comparing auction servers first second s out)) old now given given_now l =
+pub run_shows : (job : Option Job) (old now : Told) (desk desk_now : DeskTold) →
+    LeavesShown (task_of job) old now desk desk_now → Shows job old now desk.given desk_now.given
+run_shows None old now desk desk_now l = tt
+run_shows (Some (Answering errand)) old now desk desk_now l = tt
+run_shows (Some (Comparing auction servers first second s out)) old now desk desk_now l =
     left (both_errand auction servers first second)
     (λ both answer. ShowsTheSame s out (first_book both) (words_read both) (second_book both) answer)
     (λ both before after. HoldsBoth s out both before after)
     (λ both answer given given_now w done g. worlds_stand s out both answer given given_now w g)
-    OfWorlds (compared_errand auction servers first second s) old now given given_now l
-run_shows (Some (Auditing auction one two three)) old now given given_now l =
+    OfWorlds (compared_errand auction servers first second s) old now desk desk_now l
+run_shows (Some (Auditing auction one two three)) old now desk desk_now l =
     left (read_errand auction one two three) (λ read answer. TellsFinding read answer)
     (λ read before after. HoldsOneRun read before after)
-    told_said OfAudit (read_errand auction one two three) old now given given_now l
+    told_said OfAudit (read_errand auction one two three) old now desk desk_now l

@@ -1,10 +1,10 @@
 -- The task of each job.
 use Rattle.std.specs.Prelude.{ℕ, Option, Some, None}
-use Rattle.beet_store.specs.Desks.{Given}
+use Rattle.beet_store.specs.Desks.{DeskTold}
 use Rattle.beet_store.specs.Files.{Told}
 use Rattle.beet_errand.specs.Tasks.{RunsTask, Task, NoTask, ToAnswer}
-use Rattle.beet_two_worlds.specs.Ending.{worlds_task}
-use Rattle.beet_auditor.specs.Ending.{audit_task}
+use Rattle.beet_job_worlds.specs.Ending.{worlds_task}
+use Rattle.beet_job_audit.specs.Ending.{audit_task}
 use Rattle.beet_app.specs.Jobs.{Job, Answering, Comparing, Auditing}
 
 -- the task of the job that words name
@@ -15,5 +15,5 @@ task_of (Some (Comparing auction servers first second s out)) = worlds_task auct
 task_of (Some (Auditing auction one two three)) = audit_task auction one two three
 
 -- the errand of a job runs to this exit status
-abbrev pub RunsJob : Option Job → Option Told → Option Told → Option Given → Option Given → ℕ → Type 0
-RunsJob job told told_now given given_now status = RunsTask (task_of job) told told_now given given_now status
+abbrev pub RunsJob : Option Job → Told → Told → DeskTold → DeskTold → ℕ → Type 0
+RunsJob job told told_now desk desk_now status = RunsTask (task_of job) told told_now desk desk_now status

@@ -1,19 +1,20 @@
 -- The table of commands: a row for each, with its words and the job that they name.
-use Rattle.std.specs.Prelude.{ℕ, List, [], ◌∷◌, Option, Some, None, option_map, Bool, ◌&&◌, if◌then◌else◌, codes, nat_eq, true}
+use Rattle.std.specs.Prelude.{ℕ, List, [], ◌∷◌, Option, Some, None, option_map, Bool, ◌&&◌, if◌then◌else◌, codes}
+use Rattle.std.specs.Prelude.{nat_eq, true}
 use Rattle.std.specs.Cmp.Lexicographic.{pointwise}
 use Rattle.beet_field.specs.Point.{server_of}
 use Rattle.beet_field.specs.declared.point.Point.{Point}
 use Rattle.beet_forms.specs.Names.{is_name_of}
 use Rattle.beet_errand.specs.Errands.{Errand}
-use Rattle.beet_tally.specs.Tally.{tally_errand}
-use Rattle.beet_clear.specs.Clear.{clear_errand}
-use Rattle.beet_rehearse.specs.Rehearse.{rehearse_errand}
-use Rattle.beet_record.specs.Records.{record_errand}
-use Rattle.beet_envelopes.specs.SourceWords.{source_word}
-use Rattle.beet_envelopes.specs.Seal.{seal_errand}
-use Rattle.beet_envelopes.specs.Open.{open_errand}
-use Rattle.beet_trial.specs.Sizes.{sizes_of}
-use Rattle.beet_trial.specs.Trial.{trial_errand}
+use Rattle.beet_job_tally.specs.Tally.{tally_errand}
+use Rattle.beet_job_clear.specs.Clear.{clear_errand}
+use Rattle.beet_job_rehearse.specs.Rehearse.{rehearse_errand}
+use Rattle.beet_job_record.specs.Records.{record_errand}
+use Rattle.beet_job_envelopes.specs.SourceWords.{source_word}
+use Rattle.beet_job_envelopes.specs.Seal.{seal_errand}
+use Rattle.beet_job_envelopes.specs.Open.{open_errand}
+use Rattle.beet_job_trial.specs.Sizes.{sizes_of}
+use Rattle.beet_job_trial.specs.Trial.{trial_errand}
 
 -- a job: it has an errand, which ends with its answer; or it compares two worlds, with the words of the second as they
 -- are mapped; or it tells what is found in an auction and three transcripts

@@ -5,17 +5,17 @@ use Rattle.beet_store.specs.Files.{Told, bytes_of}
 use Rattle.beet_store.specs.Desks.{Given}
 use Rattle.beet_words.specs.Bundles.{Words, bundle_bytes}
 use Rattle.beet_bids.specs.Books.{Book}
-use Rattle.beet_worlds.specs.Agreement.{Agree}
-use Rattle.beet_worlds.specs.MappedWords.{IsOnlyFirst, IsOnlySecond, Mapped}
-use Rattle.beet_two_worlds.specs.Answering.{worlds_text}
+use Rattle.beet_auction_map.specs.Agreement.{Agree}
+use Rattle.beet_auction_map.specs.MappedWords.{IsOnlyFirst, IsOnlySecond, Mapped}
+use Rattle.beet_job_worlds.specs.Answering.{worlds_text}
 use Rattle.beet_view.specs.BookViews.{transcript_for}
 use Rattle.beet_errand.specs.Errands.{Step}
 use Rattle.beet_errand.specs.Fetches.{IsRead}
-use Rattle.beet_two_worlds.specs.Reading.{Both, both_errand, first_book, second_book, words_read}
+use Rattle.beet_job_worlds.specs.Reading.{Both, both_errand, first_book, second_book, words_read}
 use Rattle.beet_audit.specs.OneRuns.{OneRun}
-use Rattle.beet_auditor.specs.Ending.{run_answer}
-use Rattle.beet_auditor.specs.Reading.{read_errand}
-use Rattle.beet_auditor.specs.declared.reading.ReadViews.{ReadViews}
+use Rattle.beet_job_audit.specs.Ending.{run_answer}
+use Rattle.beet_job_audit.specs.Reading.{read_errand}
+use Rattle.beet_job_audit.specs.declared.reading.ReadViews.{ReadViews}
 use Rattle.beet_app.specs.Jobs.{Job, Answering, Comparing, Auditing}
 
 -- two books agree for a server, and there are words of the second world that are mapped from those of the first; no
@@ -46,21 +46,21 @@ pub record HoldsOneRun (read : ReadViews) (given now : Given) : Type 0 where
   pub said : now.said ≡ given.said ++ (run_answer read).text
 
 -- a value was read by a step, and the desk holds this of it
-pub record HoldsRead {A : Type 0} (step : Step A) (holds : A → Given → Given → Type 0) (old now : Option Told)
+pub record HoldsRead {A : Type 0} (step : Step A) (holds : A → Given → Given → Type 0) (old now : Told)
     (given given_now : Given) : Type 0 where
   pub value : A
   pub read : IsRead old now step value
   pub held : holds value given given_now
 
 -- a run has left that, where the desk tells what it was given
-abbrev pub LeavesRead : {A : Type 0} → Step A → (A → Given → Given → Type 0) → Option Told → Option Told →
+abbrev pub LeavesRead : {A : Type 0} → Step A → (A → Given → Given → Type 0) → Told → Told →
     Option Given → Option Given → Type 0
 LeavesRead step holds old now None given_now = Unit {0}
 LeavesRead step holds old now (Some given) given_now =
     IsSomeAnd given_now (λ after. HoldsRead step holds old now given after)
 
 -- a run of the job has left that: of two books that were read both worlds; of transcripts, that they are of one run
-abbrev pub Shows : Option Job → Option Told → Option Told → Option Given → Option Given → Type 0
+abbrev pub Shows : Option Job → Told → Told → Option Given → Option Given → Type 0
 Shows None old now given given_now = Unit {0}
 Shows (Some (Answering errand)) old now given given_now = Unit {0}
 Shows (Some (Comparing auction servers first second s out)) old now given given_now =

@@ -59,7 +59,7 @@ pub fn run<S: Shelf, K: Desk, R: Threads + Wait + Sync, G: Gate>(
 
     // Two worlds that were compared are shown to look the same to the server, and three transcripts to be of one run.
     ensures shows { (result ≡ 0) ⊎ (result ≡ 6) → Shows (job_of (map string_bytes words.now))
-        (S.seen shelf.old).told (S.seen shelf.new).told (K.seen desk.old).given (K.seen desk.new).given }
+        (S.seen shelf.old).told (S.seen shelf.new).told (K.seen desk.old).told.given (K.seen desk.new).told.given }
 {
     end_run(alloc, desk, jobs::do_named(rt, alloc, shelf, words, gate))
 }

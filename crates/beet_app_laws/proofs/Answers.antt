@@ -1,8 +1,9 @@
 -- The ends of errands: each is an answer that is done, or a refusal with its line.
-use Rattle.std.proofs.Common.{◌≡◌, ◌⊎◌, inl, inr, ℕ, List, [], ◌∷◌, ◌++◌, Option, Some, None, Bool, true, false, length, nat_lt, if◌then◌else◌, refl}
+use Rattle.std.proofs.Common.{◌≡◌, ◌⊎◌, inl, inr, ℕ, List, [], ◌∷◌, ◌++◌, Option, Some, None, Bool, true, false, length}
+use Rattle.std.proofs.Common.{nat_lt, if◌then◌else◌, refl}
 use Rattle.std.specs.Prelude.{codes, Ok, Err, ◌+◌, ◌*◌, map}
 use Rattle.beet_field.specs.declared.trio.Trio.{Trio}
-use Rattle.beet_store.specs.Files.{File, Fetch, Told, bytes_of}
+use Rattle.beet_store.specs.Files.{Bytes, Fetch, FetchAnswer, Longer, Nothing, Told}
 use Rattle.beet_forms.specs.Faults.{Reading}
 use Rattle.beet_words.specs.Words.{accepted}
 use Rattle.beet_words.specs.Bundles.{bundle_of}
@@ -12,7 +13,7 @@ use Rattle.beet_bids.specs.BidFiles.{bid_of}
 use Rattle.beet_bids.specs.declared.book.Bidder.{Bidder}
 use Rattle.beet_book.specs.BookFiles.{book_of}
 use Rattle.beet_book.specs.ServerFiles.{servers_of}
-use Rattle.beet_book.specs.Farmers.{Farmer}
+use Rattle.beet_book.specs.Farmers.{BidderWithWords}
 use Rattle.beet_book.specs.declared.entries.Entry.{Entry}
 use Rattle.beet_book.specs.declared.entries.BidderSource.{BidderSource}
 use Rattle.beet_book.specs.declared.entries.BidderSource.TheVariants.{Seed, Tape}
@@ -29,14 +30,16 @@ use Rattle.beet_words.specs.Seeds.{seed_words}
 use Rattle.beet_words.specs.declared.tape_file.TheConstants.{TAPE_LIMIT}
 use Rattle.beet_forms.specs.declared.faults.TheConstants.{LONGEST_FILE}
 use Rattle.beet_plan.specs.Kept.{coefficients_kept, words_kept}
-use Rattle.beet_errand.specs.Errands.{Answer, Errand, Ends, Wants, Step, FetchAnswer, Bytes, Longer, Nothing, after_answer, after_fetch, bad_file, judged, reads, refuses, too_long, with_bytes}
-use Rattle.beet_errand.specs.Fetches.{IsDone, Leads, LeadsBy, Went}
+use Rattle.beet_errand.specs.Errands.{Answer, Errand, Ends, Wants, Step, after_answer, bad_file, judged, reads, refuses}
+use Rattle.beet_errand.specs.Errands.{too_long}
+use Rattle.beet_errand.specs.Fetches.{IsDone, Leads, Went}
 use Rattle.beet_load.specs.Counts.{coefficients_wanted, counts_of, masks_wanted, words_wanted}
 use Rattle.beet_load.specs.Wanted.{wanted_of}
 use Rattle.beet_load.specs.Farmers.{enough_words, farmer_errand, farmers_errand, list_at, words_errand}
 use Rattle.beet_load.specs.Limits.{within_product}
 use Rattle.beet_load.specs.Loading.{loaded_errand, rest_errand}
-use Rattle.beet_load.specs.Servers.{ServerWords, all_words_errand, counted, cut_servers, enough_held, enough_of, enough_of_all, server_errand, source_errand, three_errand}
+use Rattle.beet_load.specs.Servers.{ServerWords, all_words_errand, counted, cut_servers, enough_held, enough_of}
+use Rattle.beet_load.specs.Servers.{enough_of_all, server_errand, source_errand, three_errand}
 use Rattle.beet_load.specs.Settings.{setting_errand}
 use Rattle.beet_load.specs.Wholes.{bids_errand, curves_errand, limited_errand}
 use Rattle.beet_load.specs.WordTexts.{server_short_text, too_few_text}
@@ -76,53 +79,40 @@ module _ (out : List ℕ) where
   judged-well name (Ok value) next h = h value
   judged-well name (Err fault) next h = refused-well BadFile _ (record { name = name; fault = fault; is = refl })
 
-  pub reads-well : {A : Type 0} (name : List ℕ) (limit : ℕ) (grammar : List ℕ → Reading A) → StepsWell (reads name limit grammar)
+  pub reads-well : {A : Type 0} (name : List ℕ) (limit : ℕ) (grammar : List ℕ → Reading A) →
+      StepsWell (reads name limit grammar)
   reads-well name limit grammar next h = λ bytes. judged-well name (grammar bytes) next h
 
-  held-well : (name : List ℕ) (limit : ℕ) (next : List ℕ → Errand) (held : Option (List ℕ)) → ((bytes : List ℕ) → EndsWell (next bytes)) →
-      EndsWell (with_bytes name limit next held)
-  held-well name limit next None h = refused-well ReadFault _ (name, refl)
-  held-well name limit next (Some bytes) h =
-      either (nat_lt limit (length bytes)) (bad_file name too_long) (next bytes) (refused-well BadFile _ (record { name = name; fault = too_long; is = refl })) (h bytes)
-
-  fetch-well : (files : List File) (name : List ℕ) (limit : ℕ) (next : List ℕ → Errand) (failed : Bool) →
-      ((bytes : List ℕ) → EndsWell (next bytes)) → EndsWell (after_fetch files name limit next failed)
-  fetch-well files name limit next true h = refused-well ReadFault _ (name, refl)
-  fetch-well files name limit next false h = held-well name limit next (bytes_of files name) h
-
-  answer-well : (name : List ℕ) (next : List ℕ → Errand) (answer : FetchAnswer) → ((bytes : List ℕ) → EndsWell (next bytes)) →
+  answer-well : (name : List ℕ) (next : List ℕ → Errand) (answer : FetchAnswer) →
+      ((bytes : List ℕ) → EndsWell (next bytes)) →
       EndsWell (after_answer name next answer)
   answer-well name next (Bytes bytes) h = h bytes
-  answer-well name next Longer h = refused-well BadFile _ (record { name = name; fault = too_long; is = refl })
+  answer-well name next (Longer n) h = refused-well BadFile _ (record { name = name; fault = too_long; is = refl })
   answer-well name next Nothing h = refused-well ReadFault _ (name, refl)
 
-  leads-well : (files : List File) (fetches : List Fetch) (errand : Errand) (answer : Answer) → EndsWell errand →
-      Leads files fetches errand (Ends answer) → IsAnswer answer
-  leads-well files [] (Ends end) answer w e = let same : end ≡ answer = cc in rw same at w
-  leads-well files [] (Wants name limit next) answer w e = absurd cc
-  leads-well files (fetch ∷ fetches) (Ends end) answer w l = absurd l
-  leads-well files (fetch ∷ fetches) (Wants name limit next) answer w l =
-      leads-well files fetches (after_fetch files name limit next fetch.failed) answer (fetch-well files name limit next fetch.failed w) l.2
-
-  leads-by-well : (fetches : List FetchAnswer) (errand : Errand) (answer : Answer) → EndsWell errand →
-      LeadsBy fetches errand (Ends answer) → IsAnswer answer
-  leads-by-well [] (Ends end) answer w e = let same : end ≡ answer = cc in rw same at w
-  leads-by-well [] (Wants name limit next) answer w e = absurd cc
-  leads-by-well (fetch ∷ fetches) (Ends end) answer w l = absurd l
-  leads-by-well (fetch ∷ fetches) (Wants name limit next) answer w l =
-      leads-by-well fetches (after_answer name next fetch) answer (answer-well name next fetch w) l.1
+  leads-well : (fetches : List Fetch) (errand : Errand) (answer : Answer) → EndsWell errand →
+      Leads fetches errand (Ends answer) → IsAnswer answer
+  leads-well [] (Ends end) answer w e = let same : end ≡ answer = cc in rw same at w
+  leads-well [] (Wants name limit next) answer w e = absurd cc
+  leads-well (fetch ∷ fetches) (Ends end) answer w l = absurd l
+  leads-well (fetch ∷ fetches) (Wants name limit next) answer w l =
+      leads-well fetches (after_answer name next fetch.answer) answer (answer-well name next fetch.answer w) l.2
 
   -- where an errand has gone to its end, that is an answer
-  pub went-well : (told now : Option Told) (errand : Errand) (answer : Answer) → EndsWell errand → Went told now errand (Ends answer) → IsAnswer answer
-  went-well None now errand answer w (none, fetches, l) = leads-by-well fetches errand answer w l
-  went-well (Some told) now errand answer w (fetches, is, l) = leads-well told.files fetches errand answer w l
+  pub went-well : (told now : Told) (errand : Errand) (answer : Answer) → EndsWell errand →
+      Went told now errand (Ends answer) → IsAnswer answer
+  went-well told now errand answer w went = leads-well went.fetches errand answer w went.leads
 
-  pub enough-well : (number wanted : ℕ) (words : List ℕ) (next : Errand) → EndsWell next → EndsWell (enough_words None number wanted words next)
+  pub enough-well : (number wanted : ℕ) (words : List ℕ) (next : Errand) → EndsWell next →
+      EndsWell (enough_words None number wanted words next)
   enough-well number wanted words next h =
-      either (nat_lt (length (accepted words)) wanted) (refuses TooFewWords (too_few_text None number (length (accepted words)) wanted)) next
-      (refused-well TooFewWords _ (inl (record { bidder = number; held = length (accepted words); wanted = wanted; is = refl }))) h
+      either (nat_lt (length (accepted words)) wanted)
+      (refuses TooFewWords (too_few_text None number (length (accepted words)) wanted)) next
+      (refused-well TooFewWords _
+      (inl (record { bidder = number; held = length (accepted words); wanted = wanted; is = refl }))) h
 
-  pub words-well : (given : Option (List ℕ)) (source : BidderSource) (kept : ℕ) → StepsWell (words_errand given source kept)
+  pub words-well : (given : Option (List ℕ)) (source : BidderSource) (kept : ℕ) →
+      StepsWell (words_errand given source kept)
   words-well (Some words) source kept next h = h _
   words-well None (Seed seed) kept next h = h (seed_words seed 0 kept)
   words-well None (Tape name) kept next h = reads-well name TAPE_LIMIT (λ bytes. tape_of bytes kept) next h
@@ -134,11 +124,12 @@ module _ (out : List ℕ) where
       words-well given entry.source (words_kept grid.prices) _ (λ words.
       enough-well number (words_wanted grid) words _ (h _)))
 
-  farmers-well : (grid : Grid) (lists : Option (List (List ℕ))) (read : List Farmer) (entries : List Entry) → StepsWell
+  farmers-well : (grid : Grid) (lists : Option (List (List ℕ))) (read : List BidderWithWords) (entries : List Entry) → StepsWell
       (farmers_errand (wanted_of None grid) grid lists read entries)
   farmers-well grid lists read [] next h = h read
   farmers-well grid lists read (entry ∷ entries) next h =
-      farmer-well grid (list_at lists (length read)) (length read + 1) entry _ (λ farmer. farmers-well grid lists (read ++ farmer ∷ []) entries next h)
+      farmer-well grid (list_at lists (length read)) (length read + 1) entry _
+      (λ farmer. farmers-well grid lists (read ++ farmer ∷ []) entries next h)
 
   pub bidders-well : (grid : Grid) (lists : Option (List (List ℕ))) (entries : List Entry) → StepsWell
       (farmers_errand (wanted_of None grid) grid lists [] entries)
@@ -150,10 +141,12 @@ module _ (out : List ℕ) where
       reads-well coefficients TAPE_LIMIT (λ bytes. tape_of bytes (coefficients_kept grid)) _ (λ numbers.
       reads-well masks TAPE_LIMIT (λ bytes. tape_of bytes (masks_wanted grid)) _ (λ words. h _))
 
-  held-enough : (server : ℕ) (kind : List ℕ) (held wanted : ℕ) (next : Errand) → EndsWell next → EndsWell (enough_held None server kind held wanted next)
+  held-enough : (server : ℕ) (kind : List ℕ) (held wanted : ℕ) (next : Errand) → EndsWell next →
+      EndsWell (enough_held None server kind held wanted next)
   held-enough server kind held wanted next h =
       either (nat_lt held wanted) (refuses TooFewWords (server_short_text None server kind held wanted)) next
-      (refused-well TooFewWords _ (inr (record { server = server; kind = kind; held = held; wanted = wanted; is = refl }))) h
+      (refused-well TooFewWords _
+      (inr (record { server = server; kind = kind; held = held; wanted = wanted; is = refl }))) h
 
   one-enough : (grid : Grid) (server : ℕ) (words : ServerWords) (next : Errand) → EndsWell next → EndsWell
       (enough_of (wanted_of None grid) server words next)
@@ -165,26 +158,34 @@ module _ (out : List ℕ) where
   pub servers-enough : (grid : Grid) (servers : Trio ServerWords) (next : Errand) → EndsWell next → EndsWell
       (enough_of_all (wanted_of None grid) servers next)
   servers-enough grid servers next h =
-      one-enough grid 1 servers.one (enough_of (wanted_of None grid) 2 servers.two (enough_of (wanted_of None grid) 3 servers.three next))
-      (one-enough grid 2 servers.two (enough_of (wanted_of None grid) 3 servers.three next) (one-enough grid 3 servers.three next h))
+      one-enough grid 1 servers.one
+      (enough_of (wanted_of None grid) 2 servers.two (enough_of (wanted_of None grid) 3 servers.three next))
+      (one-enough grid 2 servers.two (enough_of (wanted_of None grid) 3 servers.three next)
+      (one-enough grid 3 servers.three next h))
 
-  server-well : (grid : Grid) (server : ℕ) (source : ServerSource) → StepsWell (server_errand (wanted_of None grid) server source)
-  server-well grid server source next h = source-well grid source _ (λ words. one-enough grid server words (next words) (h words))
+  server-well : (grid : Grid) (server : ℕ) (source : ServerSource) →
+      StepsWell (server_errand (wanted_of None grid) server source)
+  server-well grid server source next h =
+      source-well grid source _ (λ words. one-enough grid server words (next words) (h words))
 
   three-well : (grid : Grid) (sources : Trio ServerSource) → StepsWell (three_errand (wanted_of None grid) sources)
   three-well grid sources next h =
-      server-well grid 1 sources.one _ (λ one. server-well grid 2 sources.two _ (λ two. server-well grid 3 sources.three _ (λ three. h _)))
+      server-well grid 1 sources.one _
+      (λ one. server-well grid 2 sources.two _ (λ two. server-well grid 3 sources.three _ (λ three. h _)))
 
   pub all-words-well : (grid : Grid) (count : Option ℕ) (sources : Servers) → StepsWell
       (all_words_errand (wanted_of None grid) count sources)
-  all-words-well grid count (Three sources) next h = three-well grid sources _ (λ servers. h (record { servers = servers; bidders = None }))
+  all-words-well grid count (Three sources) next h =
+      three-well grid sources _ (λ servers. h (record { servers = servers; bidders = None }))
   all-words-well grid count (Bundle name) next h =
       reads-well name LONGEST_FILE (λ bytes. counted count (bundle_of bytes)) _
       (λ words. servers-enough grid (cut_servers (counts_of grid) words) _ (h _))
 
-  pub product-well : (book : List ℕ) (grid : Grid) (count : ℕ) (next : Errand) → EndsWell next → EndsWell (within_product 0 book grid count next)
+  pub product-well : (book : List ℕ) (grid : Grid) (count : ℕ) (next : Errand) → EndsWell next →
+      EndsWell (within_product 0 book grid count next)
   product-well book grid count next h =
-      either (nat_lt MOST_PRODUCT (0 + count * grid.prices)) (bad_file book over_product) next (refused-well BadFile _ (record { name = book; fault = over_product; is = refl })) h
+      either (nat_lt MOST_PRODUCT (0 + count * grid.prices)) (bad_file book over_product) next
+      (refused-well BadFile _ (record { name = book; fault = over_product; is = refl })) h
 
   pub loaded-well : (auction servers book : List ℕ) → StepsWell (loaded_errand auction servers book)
   unfolding loaded_errand setting_errand rest_errand
@@ -193,7 +194,8 @@ module _ (out : List ℕ) where
       reads-well servers SERVERS_LIMIT servers_of _ (λ sources.
       reads-well book BOOK_LIMIT book_of _ (λ entries.
       all-words-well grid (Some (length entries)) sources _ (λ words.
-      bidders-well grid words.bidders entries _ (λ farmers. h (record { grid = grid; servers = words.servers; farmers = farmers }))))))
+      bidders-well grid words.bidders entries _
+      (λ farmers. h (record { grid = grid; servers = words.servers; farmers = farmers }))))))
 
   pub limited-well : (auction servers book : List ℕ) → StepsWell (limited_errand auction servers book)
   unfolding limited_errand setting_errand rest_errand
@@ -203,13 +205,16 @@ module _ (out : List ℕ) where
       reads-well book BOOK_LIMIT book_of _ (λ entries.
       product-well book grid (length entries) _ (
       all-words-well grid (Some (length entries)) sources _ (λ words.
-      bidders-well grid words.bidders entries _ (λ farmers. h (record { grid = grid; servers = words.servers; farmers = farmers })))))))
+      bidders-well grid words.bidders entries _
+      (λ farmers. h (record { grid = grid; servers = words.servers; farmers = farmers })))))))
 
   bids-well : (grid : Grid) (read : List Bidder) (entries : List Entry) → StepsWell (bids_errand grid read entries)
   bids-well grid read [] next h = h read
   bids-well grid read (entry ∷ entries) next h =
-      reads-well entry.bid BID_LIMIT (bid_of grid) _ (λ curve. bids-well grid (read ++ record { known = entry.known; curve = curve } ∷ []) entries next h)
+      reads-well entry.bid BID_LIMIT (bid_of grid) _
+      (λ curve. bids-well grid (read ++ record { known = entry.known; curve = curve } ∷ []) entries next h)
 
   pub curves-well : (book : List ℕ) (grid : Grid) → StepsWell (curves_errand 0 book grid)
   curves-well book grid next h =
-      reads-well book BOOK_LIMIT book_of _ (λ entries. product-well book grid (length entries) _ (bids-well grid [] entries next h))
+      reads-well book BOOK_LIMIT book_of _
+      (λ entries. product-well book grid (length entries) _ (bids-well grid [] entries next h))

@@ -1,5 +1,6 @@
 -- What two books differ in, and what an audit finds, is no want of memory.
-use Rattle.std.proofs.Common.{◌≡◌, inl, inr, ℕ, Bool, true, false, Option, Some, None, IfSome, option_map, if◌then◌else◌, refl}
+use Rattle.std.proofs.Common.{◌≡◌, inl, inr, ℕ, Bool, true, false, Option, Some, None, IfSome, option_map}
+use Rattle.std.proofs.Common.{if◌then◌else◌, refl}
 use Rattle.std.specs.Prelude.{◌+◌, List, length, slice_index}
 use Rattle.beet_field.specs.Trio.{member}
 use Rattle.beet_field.specs.declared.point.Point.{Point}
@@ -13,14 +14,18 @@ use Rattle.beet_round.specs.Sides.{peer}
 use Rattle.beet_round.specs.declared.sides.Side.TheVariants.{Low, High}
 use Rattle.beet_sharing.specs.Runs.{Setup, message}
 use Rattle.beet_view.specs.Views.{Viewed}
-use Rattle.beet_worlds.specs.declared.agreeing.MapFault.{MapFault}
-use Rattle.beet_worlds.specs.declared.agreeing.MapFault.TheVariants.{ShapeDiffers, OwnBidsDiffer, OutcomesDiffer}
-use Rattle.beet_two_worlds.specs.Differences.{difference_between, or_then, outcomes_between, own_between, refused_text, same_outcome, shape_between}
-use Rattle.beet_two_worlds.specs.Ending.{IsLineOf}
-use Rattle.beet_audit.specs.Audits.{Finds, Header, Known, Lines, Message, MessageFrom, Monotone, OneBidder, RoundMessages, Rounds, Tapes, held_from, points_of_bidder, rounds_of, run_of}
+use Rattle.beet_auction_map.specs.declared.agreeing.MapFault.{MapFault}
+use Rattle.beet_auction_map.specs.declared.agreeing.MapFault.TheVariants.{ShapeDiffers, OwnBidsDiffer, OutcomesDiffer}
+use Rattle.beet_job_worlds.specs.Differences.{difference_between, or_then, outcomes_between, own_between, refused_text}
+use Rattle.beet_job_worlds.specs.Differences.{same_outcome, shape_between}
+use Rattle.beet_job_worlds.specs.Ending.{IsLineOf}
+use Rattle.beet_audit.specs.Audits.{Finds, Header, Known, Lines, Message, MessageFrom, Monotone, OneBidder}
+use Rattle.beet_audit.specs.Audits.{RoundMessages, Rounds, Tapes, held_from, points_of_bidder, rounds_of, run_of}
 use Rattle.beet_audit.specs.Verdicts.{EachBelow, EachServer, InTurn}
 use Rattle.beet_audit.specs.declared.fault.AuditFault.{AuditFault}
-use Rattle.beet_audit.specs.declared.fault.AuditFault.TheVariants.{HeaderDiffers, NotALine, NotMonotone, KnownDiffers, TooFewWords, RoundsDiffer, MessageDiffers, LengthDiffers, OutOfMemory}
+use Rattle.beet_audit.specs.declared.fault.AuditFault.TheVariants.{HeaderDiffers, NotALine, NotMonotone, KnownDiffers}
+use Rattle.beet_audit.specs.declared.fault.AuditFault.TheVariants.{TooFewWords, RoundsDiffer, MessageDiffers}
+use Rattle.beet_audit.specs.declared.fault.AuditFault.TheVariants.{LengthDiffers, OutOfMemory}
 use Rattle.beet_audit.specs.declared.fault.Side.{Side}
 use Rattle.beet_audit.specs.declared.fault.Side.TheVariants.{Buy, Sell}
 
@@ -28,7 +33,8 @@ use Rattle.beet_audit.specs.declared.fault.Side.TheVariants.{Buy, Sell}
 abbrev pub HasLine : MapFault → Type 0
 HasLine fault = IsLineOf fault (refused_text fault)
 
-first-line : (one other : Option MapFault) → IfSome one HasLine → IfSome other HasLine → IfSome (or_then one other) HasLine
+first-line : (one other : Option MapFault) → IfSome one HasLine → IfSome other HasLine →
+    IfSome (or_then one other) HasLine
 first-line None other h i = i
 first-line (Some one) other h i = h
 
@@ -40,13 +46,15 @@ own-line : (place : Option ℕ) → IfSome (option_map (λ n. OwnBidsDiffer (n +
 own-line None = tt
 own-line (Some n) = refl
 
-outcomes-line : (same : Bool) (one other : Outcome) → IfSome (if same then None else Some (OutcomesDiffer one other)) HasLine
+outcomes-line : (same : Bool) (one other : Outcome) →
+    IfSome (if same then None else Some (OutcomesDiffer one other)) HasLine
 outcomes-line true one other = tt
 outcomes-line false one other = refl
 
 pub difference-line : (s : Point) (first second : Book) → IfSome (difference_between s first second) HasLine
 difference-line s first second =
-    first-line (shape_between first second) (or_then (own_between s first second) (outcomes_between first second)) (shape-line _)
+    first-line (shape_between first second)
+    (or_then (own_between s first second) (outcomes_between first second)) (shape-line _)
     (first-line (own_between s first second) (outcomes_between first second) (own-line _)
     (outcomes-line (same_outcome (outcome_of first) (outcome_of second)) (outcome_of first) (outcome_of second)))
 
@@ -84,34 +92,41 @@ tapes-never : (grid : Grid) (views : Trio Viewed) (s : Point) → Never (Tapes g
 tapes-never grid views s h = let e : OutOfMemory ≡ TooFewWords s = h.1 in absurd cc
 
 rounds-never : (views : Trio Viewed) (rounds : ℕ) (s : Point) → Never (Rounds views rounds s)
-rounds-never views rounds s h = let e : OutOfMemory ≡ RoundsDiffer s (length (member views s).rounds) rounds = h.1 in absurd cc
+rounds-never views rounds s h = let e : OutOfMemory ≡ RoundsDiffer s (length (member views s).rounds) rounds = h.1 in
+    absurd cc
 
 message-never : (sender receiver : Point) (t : ℕ) (held sent : List ℕ) → Never (Message sender receiver t held sent)
 message-never sender receiver t held sent (inl h) =
     let e : OutOfMemory ≡ LengthDiffers sender receiver t (length held) (length sent) = h.1 in absurd cc
 message-never sender receiver t held sent (inr (long, (k, lt, before, h))) =
-    let e : OutOfMemory ≡ MessageDiffers sender receiver t k (slice_index held k) (slice_index sent k) = h.1 in absurd cc
+    let e : OutOfMemory ≡ MessageDiffers sender receiver t k (slice_index held k) (slice_index sent k) = h.1 in
+    absurd cc
 
-from-never : (o : Setup) (views : Trio Viewed) (t : ℕ) (receiver sender : Point) → Never (MessageFrom o views t receiver sender)
+from-never : (o : Setup) (views : Trio Viewed) (t : ℕ) (receiver sender : Point) →
+    Never (MessageFrom o views t receiver sender)
 from-never o views t receiver sender =
     message-never sender receiver t (held_from (member views receiver) t sender) (message o sender receiver t)
 
 both-never : (o : Setup) (views : Trio Viewed) (t : ℕ) (receiver : Point) →
-    Never (InTurn (MessageFrom o views t receiver (peer receiver Low)) (MessageFrom o views t receiver (peer receiver High)))
+    Never
+    (InTurn (MessageFrom o views t receiver (peer receiver Low)) (MessageFrom o views t receiver (peer receiver High)))
 both-never o views t receiver (inl h) = from-never o views t receiver (peer receiver Low) h
 both-never o views t receiver (inr (low, h)) = from-never o views t receiver (peer receiver High) h
 
 round-never : (o : Setup) (views : Trio Viewed) (t : ℕ) → Never (RoundMessages o views t)
 round-never o views t =
-    servers-never (λ receiver. InTurn (MessageFrom o views t receiver (peer receiver Low)) (MessageFrom o views t receiver (peer receiver High)))
+    servers-never (λ receiver. InTurn (MessageFrom o views t receiver (peer receiver Low))
+    (MessageFrom o views t receiver (peer receiver High)))
     (both-never o views t)
 
 pub finds-never : (grid : Grid) (views : Trio Viewed) → Never (Finds grid views)
 finds-never grid views (inl h) = servers-never (Header grid views) (header-never grid views) h
 finds-never grid views (inr (headers, inl h)) =
     below-never (length views.one.bidders) (OneBidder grid.prices views) (bidder-never grid.prices views) h
-finds-never grid views (inr (headers, inr (bidders, inl h))) = servers-never (Tapes grid views) (tapes-never grid views) h
+finds-never grid views (inr (headers, inr (bidders, inl h))) =
+    servers-never (Tapes grid views) (tapes-never grid views) h
 finds-never grid views (inr (headers, inr (bidders, inr (tapes, inl h)))) =
     servers-never (Rounds views (rounds_of grid views)) (rounds-never views (rounds_of grid views)) h
 finds-never grid views (inr (headers, inr (bidders, inr (tapes, inr (rounds, h))))) =
-    below-never (rounds_of grid views) (RoundMessages (run_of grid views) views) (round-never (run_of grid views) views) h
+    below-never (rounds_of grid views) (RoundMessages (run_of grid views) views)
+    (round-never (run_of grid views) views) h

@@ -1,5 +1,6 @@
 -- The ends of the errand of each job.
-use Rattle.std.proofs.Common.{◌≡◌, inl, inr, ℕ, List, [], ◌∷◌, ◌++◌, Option, Some, None, Bool, true, false, if◌then◌else◌, option_map, IfSome, ap, refl, subst, sym}
+use Rattle.std.proofs.Common.{◌≡◌, inl, inr, ℕ, List, [], ◌∷◌, ◌++◌, Option, Some, None, Bool, true, false}
+use Rattle.std.proofs.Common.{if◌then◌else◌, option_map, IfSome, ap, refl, subst, sym}
 use Rattle.std.specs.Prelude.{◌&&◌, codes, ◌==◌, ◌+◌, map}
 use Rattle.beet_field.specs.Point.{server_of}
 use Rattle.beet_field.specs.declared.point.Point.{Point}
@@ -15,7 +16,7 @@ use Rattle.beet_bids.specs.declared.auction_file.TheConstants.{AUCTION_LIMIT}
 use Rattle.beet_bids.specs.declared.bid_file.TheConstants.{BID_LIMIT}
 use Rattle.beet_book.specs.BookFiles.{book_of}
 use Rattle.beet_book.specs.ServerFiles.{servers_of}
-use Rattle.beet_book.specs.Farmers.{Farmer, book_with}
+use Rattle.beet_book.specs.Farmers.{BidderWithWords, book_with}
 use Rattle.beet_book.specs.PointSums.{inputs_at}
 use Rattle.beet_book.specs.declared.book_file.TheConstants.{BOOK_LIMIT}
 use Rattle.beet_book.specs.declared.entries.BidderSource.{BidderSource}
@@ -32,7 +33,7 @@ use Rattle.beet_plan.specs.Kept.{words_kept}
 use Rattle.beet_view.specs.Transcripts.{view_in}
 use Rattle.beet_world.specs.Schedules.{schedule_of}
 use Rattle.beet_world.specs.declared.schedule.TheConstants.{SCHEDULE_LIMIT}
-use Rattle.beet_worlds.specs.declared.agreeing.MapFault.{MapFault}
+use Rattle.beet_auction_map.specs.declared.agreeing.MapFault.{MapFault}
 use Rattle.beet_errand.specs.Errands.{Answer, Errand, Ends, bad_file, reads}
 use Rattle.beet_errand.specs.Fetches.{IsDone}
 use Rattle.beet_errand.specs.declared.answer.OwnRefusal.TheVariants.{OfWorlds, OfAudit}
@@ -44,32 +45,35 @@ use Rattle.beet_load.specs.Farmers.{farmers_errand}
 use Rattle.beet_load.specs.Servers.{masks_of}
 use Rattle.beet_run.specs.Outcomes.{status_of}
 use Rattle.beet_run.proofs.StatusFacts.{status-done}
-use Rattle.beet_tally.specs.Tally.{not_one_price, tally_errand, tally_job, tallied}
-use Rattle.beet_clear.specs.Clear.{clear_errand}
-use Rattle.beet_rehearse.specs.Rehearse.{rehearse_errand}
-use Rattle.beet_record.specs.Records.{record_errand}
-use Rattle.beet_envelopes.specs.Gather.{bidders_errand, envelopes_errand}
-use Rattle.beet_envelopes.specs.Open.{entries_job, open_errand, open_job}
-use Rattle.beet_envelopes.specs.Seal.{seal_errand, seal_job}
-use Rattle.beet_envelopes.specs.SourceWords.{source_word}
-use Rattle.beet_trial.specs.Adding.{enough_of_each}
-use Rattle.beet_trial.specs.Rules.{trial_book, trial_farmers, trial_grid, trial_servers}
-use Rattle.beet_trial.specs.Sizes.{sizes_of}
-use Rattle.beet_trial.specs.Trial.{trial_errand}
-use Rattle.beet_two_worlds.specs.Answering.{ShowsTheSame}
-use Rattle.beet_two_worlds.specs.Differences.{difference_between}
-use Rattle.beet_two_worlds.specs.Ending.{compared_errand, unless_differing}
-use Rattle.beet_two_worlds.specs.Reading.{Both, both_errand, first_book, second_book, words_read}
+use Rattle.beet_job_tally.specs.Tally.{not_one_price, tally_errand, tally_job, tallied}
+use Rattle.beet_job_clear.specs.Clear.{clear_errand}
+use Rattle.beet_job_rehearse.specs.Rehearse.{rehearse_errand}
+use Rattle.beet_job_record.specs.Records.{record_errand}
+use Rattle.beet_job_envelopes.specs.Gather.{bidders_errand, envelopes_errand}
+use Rattle.beet_job_envelopes.specs.Open.{entries_job, open_errand, open_job}
+use Rattle.beet_job_envelopes.specs.Seal.{seal_errand, seal_job}
+use Rattle.beet_job_envelopes.specs.SourceWords.{source_word}
+use Rattle.beet_job_trial.specs.Adding.{enough_of_each}
+use Rattle.beet_job_trial.specs.Rules.{trial_book, trial_farmers, trial_grid, trial_servers}
+use Rattle.beet_job_trial.specs.Sizes.{sizes_of}
+use Rattle.beet_job_trial.specs.Trial.{trial_errand}
+use Rattle.beet_job_worlds.specs.Answering.{ShowsTheSame}
+use Rattle.beet_job_worlds.specs.Differences.{difference_between}
+use Rattle.beet_job_worlds.specs.Ending.{compared_errand, unless_differing}
+use Rattle.beet_job_worlds.specs.Reading.{Both, both_errand, first_book, second_book, words_read}
 use Rattle.beet_audit.specs.Audits.{Finds, recombined_book}
 use Rattle.beet_audit.specs.declared.fault.AuditFault.{AuditFault}
-use Rattle.beet_auditor.specs.Ending.{TellsFinding, audit_answer}
-use Rattle.beet_auditor.specs.Reading.{read_errand}
-use Rattle.beet_auditor.specs.declared.reading.ReadViews.{ReadViews}
-use Rattle.beet_app.specs.Jobs.{Job, Answering, Comparing, Auditing, are_names, is_word, job_of, job_of_two, job_of_three, job_of_four, job_of_six, seal_of}
+use Rattle.beet_job_audit.specs.Ending.{TellsFinding, audit_answer}
+use Rattle.beet_job_audit.specs.Reading.{read_errand}
+use Rattle.beet_job_audit.specs.declared.reading.ReadViews.{ReadViews}
+use Rattle.beet_app.specs.Jobs.{Job, Answering, Comparing, Auditing, are_names, is_word, job_of, job_of_two}
+use Rattle.beet_app.specs.Jobs.{job_of_three, job_of_four, job_of_six, seal_of}
 use Rattle.beet_forms.specs.Names.{is_name_of}
 use Rattle.beet_app_laws.specs.Leavings.{last_word}
 use Rattle.beet_app_laws.proofs.Faults.{HasLine, difference-line, finds-never}
-use Rattle.beet_app_laws.proofs.Answers.{EndsWell, IsAnswer, StepsWell, all-words-well, bidders-well, curves-well, either, enough-well, limited-well, loaded-well, reads-well, refused-well, servers-enough, words-well}
+use Rattle.beet_app_laws.proofs.Answers.{EndsWell, IsAnswer, StepsWell, all-words-well, bidders-well, curves-well}
+use Rattle.beet_app_laws.proofs.Answers.{either, enough-well, limited-well, loaded-well, reads-well, refused-well}
+use Rattle.beet_app_laws.proofs.Answers.{servers-enough, words-well}
 
 rehearsal-done : (one : Bool) → IsDone (if one then Spent else Done)
 rehearsal-done true = inr refl
@@ -81,17 +85,20 @@ module _ (out : List ℕ) where
   unfolding tally_job
   tally-well auction book =
       reads-well out auction AUCTION_LIMIT auction_of _ (λ grid.
-      either out (grid.prices == 1) (reads book BOOK_LIMIT book_of (λ entries. farmers_errand (wanted_of None grid) grid None [] entries
+      either out (grid.prices == 1)
+      (reads book BOOK_LIMIT book_of (λ entries. farmers_errand (wanted_of None grid) grid None [] entries
       (λ farmers. Ends (tallied farmers))))
       (bad_file auction not_one_price) (
       reads-well out book BOOK_LIMIT book_of _ (λ entries.
-      bidders-well out grid None entries _ (λ farmers. inl (inl refl, inl refl)))) (refused-well out BadFile _ (record { name = auction; fault = not_one_price; is = refl })))
+      bidders-well out grid None entries _ (λ farmers. inl (inl refl, inl refl))))
+      (refused-well out BadFile _ (record { name = auction; fault = not_one_price; is = refl })))
 
   clear-well : (auction servers book : List ℕ) → EndsWell out (clear_errand auction servers book)
   clear-well auction servers book = loaded-well out auction servers book _ (λ loaded.
       inl (status-done (book_finish (book_with loaded.grid loaded.farmers) (masks_of loaded.servers)), inl refl))
 
-  rehearse-well : (auction servers book schedule : List ℕ) → EndsWell out (rehearse_errand auction servers book schedule)
+  rehearse-well : (auction servers book schedule : List ℕ) →
+      EndsWell out (rehearse_errand auction servers book schedule)
   rehearse-well auction servers book schedule = loaded-well out auction servers book _ (λ loaded.
       reads-well out schedule SCHEDULE_LIMIT schedule_of _ (λ deliveries. inl (rehearsal-done _, inl refl)))
 
@@ -113,16 +120,21 @@ module _ (out : List ℕ) where
       reads-well out names.two ENVELOPE_LIMIT (envelope_of grid Two) _ (λ two.
       reads-well out names.three ENVELOPE_LIMIT (envelope_of grid ThreeAt) _ (λ three. h _)))
 
-  sealed-well : (grid : Grid) (read : List (Trio (List ℕ))) (entries : List ListEntry) → StepsWell out (bidders_errand grid read entries)
+  sealed-well : (grid : Grid) (read : List (Trio (List ℕ))) (entries : List ListEntry) →
+      StepsWell out (bidders_errand grid read entries)
   sealed-well grid read [] next h = h read
   sealed-well grid read (entry ∷ entries) next h =
       envelopes-well grid entry.envelopes _ (λ points. sealed-well grid (read ++ points ∷ []) entries next h)
 
-  entries-well : (grid : Grid) (sources : Servers) (entries : List ListEntry) → EndsWell out (entries_job grid sources entries Ends)
+  entries-well : (grid : Grid) (sources : Servers) (entries : List ListEntry) →
+      EndsWell out (entries_job grid sources entries Ends)
   unfolding entries_job
   entries-well grid sources entries =
       all-words-well out grid None sources _ (λ words. sealed-well grid [] entries _ (λ bidders.
-      inl (status-done (points_finish (auction_over grid) (inputs_at grid.prices bidders) (masks_of words.servers)), inl refl)))
+      inl (
+        status-done (points_finish (auction_over grid) (inputs_at grid.prices bidders) (masks_of words.servers)),
+        inl refl,
+      )))
 
   open-well : (auction servers list : List ℕ) → EndsWell out (open_errand auction servers list)
   unfolding open_job
@@ -131,7 +143,8 @@ module _ (out : List ℕ) where
       reads-well out servers SERVERS_LIMIT servers_of _ (λ sources.
       reads-well out list LIST_LIMIT list_of _ (λ entries. entries-well grid sources entries)))
 
-  each-enough : (grid : Grid) (number : ℕ) (farmers : List Farmer) (next : Errand) → EndsWell out next → EndsWell out (enough_of_each grid number farmers next)
+  each-enough : (grid : Grid) (number : ℕ) (farmers : List BidderWithWords) (next : Errand) → EndsWell out next →
+      EndsWell out (enough_of_each grid number farmers next)
   each-enough grid number [] next h = h
   each-enough grid number (farmer ∷ farmers) next h =
       enough-well out number (words_wanted grid) farmer.words _ (each-enough grid (number + 1) farmers next h)
@@ -139,9 +152,11 @@ module _ (out : List ℕ) where
   trial-well : (bidders prices : ℕ) → EndsWell out (trial_errand bidders prices)
   trial-well bidders prices =
       let grid = trial_grid prices in
-      servers-enough out grid (trial_servers grid) _ (each-enough grid 1 (trial_farmers grid bidders) _ (inl (status-done (book_finish (trial_book grid bidders) (masks_of (trial_servers grid))), inl refl)))
+      servers-enough out grid (trial_servers grid) _ (each-enough grid 1 (trial_farmers grid bidders) _
+      (inl (status-done (book_finish (trial_book grid bidders) (masks_of (trial_servers grid))), inl refl)))
 
-  differing-well : (difference : Option MapFault) → IfSome difference HasLine → (next : Errand) → EndsWell out next → EndsWell out (unless_differing difference next)
+  differing-well : (difference : Option MapFault) → IfSome difference HasLine → (next : Errand) → EndsWell out next →
+      EndsWell out (unless_differing difference next)
   differing-well None t next h = h
   differing-well (Some difference) t next h = refused-well out (Own OfWorlds) _ (difference, t)
 
@@ -150,9 +165,11 @@ module _ (out : List ℕ) where
   both-well auction servers first second next h =
       limited-well out auction servers first _ (λ one. curves-well out second one.grid _ (λ bidders. h _))
 
-  pub compared-well : (auction servers first second : List ℕ) (s : Point) → StepsWell out (compared_errand auction servers first second s)
+  pub compared-well : (auction servers first second : List ℕ) (s : Point) →
+      StepsWell out (compared_errand auction servers first second s)
   compared-well auction servers first second s next h =
-      both-well auction servers first second _ (λ both. differing-well (difference_between s (first_book both) (second_book both))
+      both-well auction servers first second _
+      (λ both. differing-well (difference_between s (first_book both) (second_book both))
       (difference-line s (first_book both) (second_book both)) (next both) (h both))
 
   pub read-well : (auction one two three : List ℕ) → StepsWell out (read_errand auction one two three)
@@ -163,14 +180,16 @@ module _ (out : List ℕ) where
       reads-well out two LONGEST_FILE view_in _ (λ second.
       reads-well out three LONGEST_FILE view_in _ (λ third. h _))))
 
-  -- the errand of a job ends so; what compares two worlds or audits transcripts has none of its own, and names its files after this word
+  -- the errand of a job ends so; what compares two worlds or audits transcripts has none of its own, and names its
+  -- files after this word
   abbrev pub JobEndsWell : Option Job → Type 0
   JobEndsWell None = Unit {0}
   JobEndsWell (Some (Answering errand)) = EndsWell out errand
   JobEndsWell (Some (Comparing auction servers first second s name)) = name ≡ out
   JobEndsWell (Some (Auditing auction one two three)) = Unit {0}
 
-  choice : (b : Bool) (one other : Option Job) → JobEndsWell one → JobEndsWell other → JobEndsWell (if b then one else other)
+  choice : (b : Bool) (one other : Option Job) → JobEndsWell one → JobEndsWell other →
+      JobEndsWell (if b then one else other)
   choice true one other h k = h
   choice false one other h k = k
 
@@ -181,14 +200,16 @@ module _ (out : List ℕ) where
   two-well : (command first second : List ℕ) → JobEndsWell (job_of_two command first second)
   two-well command first second =
       let trial = option_map (λ s. Answering (trial_errand s.0 s.1)) (sizes_of first second) in
-      choice (is_word command (codes "tally") && are_names (first ∷ second ∷ [])) (Some (Answering (tally_errand first second)))
+      choice (is_word command (codes "tally") && are_names (first ∷ second ∷ []))
+      (Some (Answering (tally_errand first second)))
       (if is_word command (codes "trial") then trial else None) (tally-well first second)
       (choice (is_word command (codes "trial")) trial None (sized (sizes_of first second)) tt)
 
   open-or : (command first second third : List ℕ) →
       JobEndsWell (if is_word command (codes "open") then Some (Answering (open_errand first second third)) else None)
   open-or command first second third =
-      choice (is_word command (codes "open")) (Some (Answering (open_errand first second third))) None (open-well first second third) tt
+      choice (is_word command (codes "open")) (Some (Answering (open_errand first second third))) None
+      (open-well first second third) tt
 
   clear-or : (command first second third : List ℕ) →
       JobEndsWell (if is_word command (codes "clear") then Some (Answering (clear_errand first second third))
@@ -211,38 +232,46 @@ module _ (out : List ℕ) where
   sourced auction bid (Some source) = seal-well auction bid source
 
   abbrev audit_or : List ℕ → List ℕ → List ℕ → List ℕ → Option Job
-  audit_or command first second third = if is_word command (codes "audit") then Some (Auditing first second third out) else None
+  audit_or command first second third =
+      if is_word command (codes "audit") then Some (Auditing first second third out) else None
 
   abbrev record_or : List ℕ → List ℕ → List ℕ → List ℕ → Option Job
   record_or command first second third =
-      if is_word command (codes "record") then Some (Answering (record_errand first second third out)) else audit_or command first second third
+      if is_word command (codes "record") then Some (Answering (record_errand first second third out))
+      else audit_or command first second third
 
   abbrev rehearse_or : List ℕ → List ℕ → List ℕ → List ℕ → Option Job
   rehearse_or command first second third =
-      if is_word command (codes "rehearse") then Some (Answering (rehearse_errand first second third out)) else record_or command first second third
+      if is_word command (codes "rehearse") then Some (Answering (rehearse_errand first second third out))
+      else record_or command first second third
 
   abbrev file_or : List ℕ → List ℕ → List ℕ → List ℕ → Option Job
   file_or command first second third = if is_name_of third then rehearse_or command first second third else None
 
   audit-well : (command first second third : List ℕ) → JobEndsWell (audit_or command first second third)
-  audit-well command first second third = choice (is_word command (codes "audit")) (Some (Auditing first second third out)) None tt tt
+  audit-well command first second third =
+      choice (is_word command (codes "audit")) (Some (Auditing first second third out)) None tt tt
 
   record-or : (command first second third : List ℕ) → JobEndsWell (record_or command first second third)
   record-or command first second third =
-      choice (is_word command (codes "record")) (Some (Answering (record_errand first second third out))) (audit_or command first second third)
+      choice (is_word command (codes "record")) (Some (Answering (record_errand first second third out)))
+      (audit_or command first second third)
       (record-well first second third) (audit-well command first second third)
 
   rehearse-or : (command first second third : List ℕ) → JobEndsWell (rehearse_or command first second third)
   rehearse-or command first second third =
-      choice (is_word command (codes "rehearse")) (Some (Answering (rehearse_errand first second third out))) (record_or command first second third)
+      choice (is_word command (codes "rehearse")) (Some (Answering (rehearse_errand first second third out)))
+      (record_or command first second third)
       (rehearse-well first second third out) (record-or command first second third)
 
   file-or : (command first second third : List ℕ) → JobEndsWell (file_or command first second third)
   file-or command first second third =
-      choice (is_name_of third) (rehearse_or command first second third) None (rehearse-or command first second third) tt
+      choice (is_name_of third) (rehearse_or command first second third) None
+      (rehearse-or command first second third) tt
 
   seal-or : (command first second third : List ℕ) →
-      JobEndsWell (if is_word command (codes "seal") then seal_of first second third out else file_or command first second third)
+      JobEndsWell
+      (if is_word command (codes "seal") then seal_of first second third out else file_or command first second third)
   seal-or command first second third =
       choice (is_word command (codes "seal")) (seal_of first second third out) (file_or command first second third)
       (sourced first second (source_word third)) (file-or command first second third)
@@ -250,7 +279,8 @@ module _ (out : List ℕ) where
   four-well : (command first second third : List ℕ) → JobEndsWell (job_of_four command first second third out)
   four-well command first second third =
       choice (are_names (first ∷ second ∷ out ∷ []))
-      (if is_word command (codes "seal") then seal_of first second third out else file_or command first second third) None
+      (if is_word command (codes "seal") then seal_of first second third out else file_or command first second third)
+      None
       (seal-or command first second third) tt
 
   server-named : (auction servers first second : List ℕ) (server : Option Point) →
@@ -258,7 +288,8 @@ module _ (out : List ℕ) where
   server-named auction servers first second None = tt
   server-named auction servers first second (Some s) = refl
 
-  six-well : (command auction servers first second server : List ℕ) → JobEndsWell (job_of_six command auction servers first second server out)
+  six-well : (command auction servers first second server : List ℕ) →
+      JobEndsWell (job_of_six command auction servers first second server out)
   six-well command auction servers first second server =
       choice (is_word command (codes "worlds") && are_names (auction ∷ servers ∷ first ∷ second ∷ out ∷ []))
       (option_map (λ s. Comparing auction servers first second s out) (server_of server)) None
@@ -272,11 +303,24 @@ module _ (out : List ℕ) where
       let is : answer.status ≡ status_of end = ap (λ (a : Answer). a.status) w.is in
       inl (subst IsDone (sym is) (status-done end), inr (inr (ap (λ (a : Answer). map (λ file. file.0) a.files) w.is)))
 
-  found-well : (read : ReadViews) (found : Option AuditFault) → Finds read.grid read.views found → IsAnswer out (audit_answer read found)
+  found-well : (read : ReadViews) (found : Option AuditFault) → Finds read.grid read.views found →
+      IsAnswer out (audit_answer read found)
   found-well read None finds =
-      inl (status-done (book_finish (recombined_book read.grid read.views) (of_each (λ view. view.masks) read.views)), inl refl)
+      inl (
+        status-done (book_finish (recombined_book read.grid read.views) (of_each (λ view. view.masks) read.views)),
+        inl refl,
+      )
   found-well read (Some fault) finds =
-      inr (Own OfAudit, refl, (fault, (λ e. finds-never read.grid read.views (subst (λ f. Finds read.grid read.views (Some f)) e finds)), refl), refl)
+      inr (
+        Own OfAudit,
+        refl,
+        (
+          fault,
+          (λ e. finds-never read.grid read.views (subst (λ f. Finds read.grid read.views (Some f)) e finds)),
+          refl,
+        ),
+        refl,
+      )
 
   -- and so is that of an audit, or it is the refusal
   pub audited-well : (read : ReadViews) (answer : Answer) → TellsFinding read answer → IsAnswer out answer

@@ -5,3 +5,5 @@ pub mod Left
 pub mod Led
 pub mod Telling
 pub mod Reading
+pub mod Recorded
+pub mod Needed

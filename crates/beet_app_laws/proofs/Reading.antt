@@ -7,7 +7,7 @@ use Rattle.beet_forms.specs.Faults.{Reading}
 use Rattle.beet_errand.specs.Errands.{Answer, Errand, judged, reads, text_answer, too_long}
 use Rattle.beet_errand.specs.declared.answer.Refusal.TheVariants.{BadFile}
 use Rattle.beet_errand.specs.declared.answer.Status.TheVariants.{Refused}
-use Rattle.beet_app_laws.specs.Dues.{ReadsTo, answer_over, answer_with}
+use Rattle.beet_errand.specs.Overs.{ReadsTo, answer_over, answer_with}
 use Rattle.beet_app_laws.specs.Held.{IsHeld}
 
 module _ {A : Type 0} (files : List File) (name : List ℕ) (limit : ℕ) (grammar : List ℕ → Reading A) where

@@ -11,18 +11,18 @@ use Rattle.beet_bids.specs.Grids.{Grid}
 use Rattle.beet_bids.specs.declared.book.Bidder.{Bidder}
 use Rattle.beet_bids.specs.declared.outcomes.Policy.{Policy}
 use Rattle.beet_bids.specs.declared.outcomes.Policy.TheVariants.{Price, Volume, Full}
-use Rattle.beet_book.specs.Farmers.{Farmer}
+use Rattle.beet_book.specs.Farmers.{BidderWithWords}
 use Rattle.beet_view.specs.Transcripts.{gates_of, number_of_gates, policy_field, policy_of, server_of}
 use Rattle.beet_view.specs.Views.{Viewed}
 use Rattle.beet_view.specs.declared.view.Seen.{Seen}
 use Rattle.beet_view.proofs.ViewAgain.{gates_of-number}
 use Rattle.beet_errand.specs.Errands.{Answer, Step, answers}
 use Rattle.beet_errand.specs.declared.answer.Status.TheVariants.{Done}
-use Rattle.beet_load.specs.Loading.{Loaded}
+use Rattle.beet_load.specs.Loading.{AuctionWithBidders}
 use Rattle.beet_load.specs.Servers.{ServerWords}
-use Rattle.beet_auditor.specs.declared.reading.ReadViews.{ReadViews}
-use Rattle.beet_two_worlds.specs.Reading.{Both}
-use Rattle.beet_app_laws.specs.Dues.{ReadsTo}
+use Rattle.beet_job_audit.specs.declared.reading.ReadViews.{ReadViews}
+use Rattle.beet_job_worlds.specs.Reading.{Both}
+use Rattle.beet_errand.specs.Overs.{ReadsTo}
 
 -- no list of numbers tells these apart
 abbrev pub AreAlike : {A : Type 0} → A → A → Type 0
@@ -167,10 +167,10 @@ told-bidder a b h =
     let curve = part told-curve (λ (x : Bidder). x.curve) a b h in
     λ i. record { known = known i; curve = curve i }
 
-told-farmer : IsTold Farmer
+told-farmer : IsTold BidderWithWords
 told-farmer a b h =
-    let bidder = part told-bidder (λ (f : Farmer). f.bidder) a b h in
-    let words = part told-list (λ (f : Farmer). f.words) a b h in
+    let bidder = part told-bidder (λ (f : BidderWithWords). f.bidder) a b h in
+    let words = part told-list (λ (f : BidderWithWords). f.words) a b h in
     λ i. record { bidder = bidder i; words = words i }
 
 told-words : IsTold ServerWords
@@ -179,11 +179,11 @@ told-words a b h =
     let coefficients = part told-list (λ (w : ServerWords). w.coefficients) a b h in
     λ i. record { masks = masks i; coefficients = coefficients i }
 
-told-loaded : IsTold Loaded
+told-loaded : IsTold AuctionWithBidders
 told-loaded a b h =
-    let grid = part told-grid (λ (l : Loaded). l.grid) a b h in
-    let servers = part (told-trio told-words) (λ (l : Loaded). l.servers) a b h in
-    let farmers = part (told-each told-farmer) (λ (l : Loaded). l.farmers) a b h in
+    let grid = part told-grid (λ (l : AuctionWithBidders). l.grid) a b h in
+    let servers = part (told-trio told-words) (λ (l : AuctionWithBidders). l.servers) a b h in
+    let farmers = part (told-each told-farmer) (λ (l : AuctionWithBidders). l.farmers) a b h in
     λ i. record { grid = grid i; servers = servers i; farmers = farmers i }
 
 -- two books that are read
@@ -193,7 +193,8 @@ told-both a b h =
     let second = part (told-each told-bidder) (λ (x : Both). x.second) a b h in
     λ i. record { first = first i; second = second i }
 
-module _ {A : Type 0} (files : List File) (step : Step A) (a b : A) (ra : ReadsTo files step a) (rb : ReadsTo files step b) where
+module _ {A : Type 0} (files : List File) (step : Step A) (a b : A) (ra : ReadsTo files step a)
+    (rb : ReadsTo files step b) where
   -- what is told of one value that a step reads is told of the other
   pub same-told : AreAlike a b
   same-told f = ap (λ (x : Answer). x.text) (sym (ra (λ v. answers Done (f v))) ∙ rb (λ v. answers Done (f v)))

@@ -2,7 +2,7 @@
 use Rattle.std.specs.Prelude.{◌≡◌, ◌⊎◌, ℕ, List, [], ◌∷◌, ◌++◌, map, codes, Option, Some, None, Ok, Err, IsSomeAnd}
 use Rattle.beet_field.specs.declared.point.Point.TheVariants.{One, Two, Three}
 use Rattle.beet_store.specs.Files.{File}
-use Rattle.beet_store.specs.Desks.{Given}
+use Rattle.beet_store.specs.Desks.{DeskTold, Given}
 use Rattle.beet_store.specs.declared.desk.PutFault.TheVariants.{Failed, OutOfMemory}
 use Rattle.beet_errand.specs.Statuses.{code_of}
 use Rattle.beet_errand.specs.declared.answer.Refusal.{Refusal}
@@ -11,18 +11,18 @@ use Rattle.beet_errand.specs.Errands.{file_for}
 use Rattle.beet_errand.specs.Runs.{GivesAll, Said}
 use Rattle.beet_app_laws.specs.Refusals.{IsLineOf}
 
--- nothing was said
+-- nothing was said, as far as a desk tells what it was given
 abbrev pub SaysNothing : Option Given → Option Given → Type 0
 SaysNothing None now = now ≡ None
 SaysNothing (Some given) now = IsSomeAnd now (λ later. later.said ≡ given.said)
 
 -- the line of a refusal with this exit status was said, and no other call was made, so that no file was put
-pub record SaysLine (status : ℕ) (given now : Option Given) : Type 0 where
+pub record SaysLine (status : ℕ) (old now : DeskTold) : Type 0 where
   pub refusal : Refusal
   pub code : status ≡ code_of (Refused refusal)
   pub line : List ℕ
   pub is_line : IsLineOf refusal line
-  pub said : Said given now line
+  pub said : Said old now line
 
 -- the last word of a command
 abbrev pub last_word : List (List ℕ) → List ℕ
@@ -30,40 +30,42 @@ last_word [] = []
 last_word (word ∷ []) = word
 last_word (word ∷ other ∷ words) = last_word (other ∷ words)
 
--- the names of files that a command puts which ends with this word, if it puts any: one for each server, or those of two worlds
+-- the names of files that a command puts which ends with this word, if it puts any: one for each server, or those of
+-- two worlds
 abbrev pub AreNames : List ℕ → List (List ℕ) → Type 0
 AreNames out names =
     (names ≡ [])
     ⊎ (names ≡ file_for out One ∷ file_for out Two ∷ file_for out Three ∷ [])
     ⊎ (names ≡ (out ++ codes ".first") ∷ (out ++ codes ".second") ∷ (out ++ codes ".words") ∷ [])
 
--- memory ran out and nothing was said: no call was made, or files were put, one after another, up to the call that found no memory
-pub record EndsShort (out : List ℕ) (given now : Option Given) : Type 0 where
-  pub silent : SaysNothing given now
-  pub calls : (now ≡ given) ⊎ ((files : List File) × (text : List ℕ) × AreNames out (map (λ file. file.0) files)
-      × GivesAll given now files text (Err OutOfMemory))
+-- memory ran out and nothing was said: no call was made, or files were put, one after another, up to the call that
+-- found no memory
+pub record EndsShort (out : List ℕ) (old now : DeskTold) : Type 0 where
+  pub silent : SaysNothing old.given now.given
+  pub calls : (now ≡ old) ⊎ ((files : List File) × (text : List ℕ) × AreNames out (map (λ file. file.0) files)
+      × GivesAll old now files text (Err OutOfMemory))
 
 -- files were put, one after another, and then a text was said, up to the first call that failed, which was the last
-pub record EndsAtFault (out : List ℕ) (given now : Option Given) : Type 0 where
+pub record EndsAtFault (out : List ℕ) (old now : DeskTold) : Type 0 where
   pub files : List File
   pub names : AreNames out (map (λ file. file.0) files)
   pub text : List ℕ
-  pub calls : GivesAll given now files text (Err Failed)
+  pub calls : GivesAll old now files text (Err Failed)
 
 -- files were put, one after another, and then a text was said
-pub record GivesWhole (out : List ℕ) (given now : Option Given) : Type 0 where
+pub record GivesWhole (out : List ℕ) (old now : DeskTold) : Type 0 where
   pub files : List File
   pub names : AreNames out (map (λ file. file.0) files)
   pub text : List ℕ
-  pub calls : GivesAll given now files text (Ok tt)
+  pub calls : GivesAll old now files text (Ok tt)
 
 -- the exit statuses of jobs that are refused
 abbrev pub IsRefusal : ℕ → Type 0
 IsRefusal status = (refusal : Refusal) × (status ≡ code_of (Refused refusal))
 
 -- what is left by each exit status of a command that ends with this word
-pub record LeavesBy (out : List ℕ) (status : ℕ) (given now : Option Given) : Type 0 where
-  pub memory : status ≡ 1 → EndsShort out given now
-  pub refused : IsRefusal status → SaysLine status given now
-  pub write : status ≡ 4 → EndsAtFault out given now
-  pub whole : (status ≡ 0) ⊎ (status ≡ 6) → GivesWhole out given now
+pub record LeavesBy (out : List ℕ) (status : ℕ) (old now : DeskTold) : Type 0 where
+  pub memory : status ≡ 1 → EndsShort out old now
+  pub refused : IsRefusal status → SaysLine status old now
+  pub write : status ≡ 4 → EndsAtFault out old now
+  pub whole : (status ≡ 0) ⊎ (status ≡ 6) → GivesWhole out old now

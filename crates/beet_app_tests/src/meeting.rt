@@ -1,6 +1,6 @@
 use crate::tests::{CLEAR, RECORD, desk_of, done, expect_said, files, held, run_over};
 use beet_field::{Point, Trio};
-use beet_link::{Gate, Note};
+use beet_link::{Gate, GateNote};
 use beet_store::{Held, MemoryDesk};
 use crossbeam_channel::{Receiver, Sender};
 use std::alloc::Global;
@@ -23,7 +23,7 @@ const STAY: u64 = 2_000;
 struct Meeting<R: Wait + Drop> {
     rt: R,
     /// Takes the note of each server that comes in round 0.
-    first: Sender<Note>,
+    first: Sender<GateNote>,
     /// How many servers came in round 0.
     here: AtomicU64,
     /// How many of them were let go before all three were there.
@@ -49,7 +49,7 @@ fn hold(here: &AtomicU64, let_go: &AtomicU64) {
 }
 
 /// Whether another server than this one comes to a later round while this one stays.
-fn is_passed(met: &Trio<AtomicU64>, note: Note) -> bool {
+fn is_passed(met: &Trio<AtomicU64>, note: GateNote) -> bool {
     let here = u64::from(note.round) + 1;
     for _ in 0..STAY {
         for peer in note.server.others() {
@@ -77,7 +77,7 @@ impl<R: Wait + Sync + Drop> Gate for Meeting<R> {
         Seat { server, next: 0 }
     }
 
-    fn meet(&self, seat: &mut Seat, note: Note) {
+    fn meet(&self, seat: &mut Seat, note: GateNote) {
         if note.server == seat.server && note.round == seat.next {
             self.met.get(note.server).fetch_add(1, Ordering::SeqCst);
         }
@@ -93,11 +93,11 @@ impl<R: Wait + Sync + Drop> Gate for Meeting<R> {
 }
 
 /// Compares the next three notes with the first note of each server, in some order.
-fn expect_first_notes(rt: &(impl Abort + Wait), notes: &Receiver<Note>) {
+fn expect_first_notes(rt: &(impl Abort + Wait), notes: &Receiver<GateNote>) {
     let mut named = [0; 3];
     for _ in 0..3 {
         match notes.recv(rt) {
-            Ok(Note { server, round: 0 }) => match server {
+            Ok(GateNote { server, round: 0 }) => match server {
                 Point::One => named[0] = 1,
                 Point::Two => named[1] = 1,
                 Point::Three => named[2] = 1,
@@ -133,7 +133,7 @@ fn nothing() -> Trio<AtomicU64> {
 }
 
 /// A gate at which no server has come, with the queue that it sends first notes to.
-fn gate_of<R: Abort + Wait + Sync + Drop>(rt: R, first: Sender<Note>) -> Meeting<R> {
+fn gate_of<R: Abort + Wait + Sync + Drop>(rt: R, first: Sender<GateNote>) -> Meeting<R> {
     Meeting {
         rt,
         first,

@@ -21,7 +21,8 @@ const FILES: [(&str, &str); 6] = [
     ("none.sch", "beet-schedule,1\n"),
     (
         "eight",
-        "0000000000000001\n0000000000000002\n0000000000000003\n0000000000000004\n0000000000000005\n0000000000000006\n0000000000000007\n0000000000000008\n",
+        "0000000000000001\n0000000000000002\n0000000000000003\n0000000000000004\n0000000000000005\n0000000000000006\n\
+        0000000000000007\n0000000000000008\n",
     ),
 ];
 
@@ -145,8 +146,8 @@ fn expect_first(rt: &impl Abort, desk: &MemoryDesk, files: &[Put], count: usize)
     }
 }
 
-/// Does a job, of which this fetch and this call of the desk fail, and compares its status, how many of its files stand,
-/// and its text.
+/// Does a job, of which this fetch and this call of the desk fail, and compares its status, how many of its files
+/// stand, and its text.
 fn expect_end(
     rt: &(impl Abort + Threads + Wait + Sync),
     alloc: Global,

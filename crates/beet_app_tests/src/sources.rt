@@ -1,6 +1,6 @@
 //! The words of a command line that name a farmer's words.
 
-use beet_envelopes::{SourceWord, read_source_word};
+use beet_job_envelopes::{SourceWord, read_source_word};
 use std::process::Abort;
 
 /// The bytes of a seed word.

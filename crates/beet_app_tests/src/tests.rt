@@ -7,8 +7,8 @@ use std::process::Abort;
 use std::sync::Wait;
 use std::thread::Threads;
 
-/// An auction of four prices with three bidders, another book of them that has the same outcome, an auction of one price
-/// with a bidder, and a list of no envelopes.
+/// An auction of four prices with three bidders, another book of them that has the same outcome, an auction of one
+/// price with a bidder, and a list of no envelopes.
 const FILES: [(&str, &str); 14] = [
     (
         "g.auc",
@@ -16,11 +16,15 @@ const FILES: [(&str, &str); 14] = [
     ),
     (
         "s.srv",
-        "beet-servers,1\n1,seed,0101010101010101010101010101010101010101010101010101010101010101\n2,seed,0202020202020202020202020202020202020202020202020202020202020202\n3,seed,0303030303030303030303030303030303030303030303030303030303030303\n",
+        "beet-servers,1\n1,seed,0101010101010101010101010101010101010101010101010101010101010101\n\
+        2,seed,0202020202020202020202020202020202020202020202020202020202020202\n\
+        3,seed,0303030303030303030303030303030303030303030303030303030303030303\n",
     ),
     (
         "b.book",
-        "beet-book,1\nanna,0,anna.bid,seed,0a0a0a0a0a0a0a0a0a0a0a0a0a0a0a0a0a0a0a0a0a0a0a0a0a0a0a0a0a0a0a0a\nbo,0,bo.bid,seed,0b0b0b0b0b0b0b0b0b0b0b0b0b0b0b0b0b0b0b0b0b0b0b0b0b0b0b0b0b0b0b0b\ncarl,2,carl.bid,seed,0c0c0c0c0c0c0c0c0c0c0c0c0c0c0c0c0c0c0c0c0c0c0c0c0c0c0c0c0c0c0c0c\n",
+        "beet-book,1\nanna,0,anna.bid,seed,0a0a0a0a0a0a0a0a0a0a0a0a0a0a0a0a0a0a0a0a0a0a0a0a0a0a0a0a0a0a0a0a\n\
+        bo,0,bo.bid,seed,0b0b0b0b0b0b0b0b0b0b0b0b0b0b0b0b0b0b0b0b0b0b0b0b0b0b0b0b0b0b0b0b\n\
+        carl,2,carl.bid,seed,0c0c0c0c0c0c0c0c0c0c0c0c0c0c0c0c0c0c0c0c0c0c0c0c0c0c0c0c0c0c0c0c\n",
     ),
     (
         "c.book",

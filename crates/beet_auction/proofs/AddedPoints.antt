@@ -26,9 +26,12 @@ below bidders s n =
 
 -- at each server there are two inputs for each price
 pub inputs-many : (prices : ℕ) (bidders : List (Trio (List ℕ))) (s : Point) → length (member (inputs_at prices bidders) s) ≡ 2 * prices
-inputs-many prices bidders One = length-first prices (each (sum_at bidders One) (2 * prices)) (length-each (sum_at bidders One) (2 * prices))
-inputs-many prices bidders Two = length-first prices (each (sum_at bidders Two) (2 * prices)) (length-each (sum_at bidders Two) (2 * prices))
-inputs-many prices bidders Three = length-first prices (each (sum_at bidders Three) (2 * prices)) (length-each (sum_at bidders Three) (2 * prices))
+inputs-many prices bidders One =
+    length-first prices (each (sum_at bidders One) (2 * prices)) (length-each (sum_at bidders One) (2 * prices))
+inputs-many prices bidders Two =
+    length-first prices (each (sum_at bidders Two) (2 * prices)) (length-each (sum_at bidders Two) (2 * prices))
+inputs-many prices bidders Three =
+    length-first prices (each (sum_at bidders Three) (2 * prices)) (length-each (sum_at bidders Three) (2 * prices))
 
 inputs-elements : (prices : ℕ) (bidders : List (Trio (List ℕ))) (s : Point) → All IsElement (member (inputs_at prices bidders) s)
 inputs-elements prices bidders One = first-elements prices (each (sum_at bidders One) (2 * prices)) (below bidders One (2 * prices))

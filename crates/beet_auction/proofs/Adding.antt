@@ -16,7 +16,7 @@ use Rattle.beet_book.specs.Totals.{field_sums, added, none_of}
 use Rattle.beet_book.proofs.Pairs.{length-pairwise, item-pairwise}
 use Rattle.beet_book.proofs.PointsAdded.{one-more}
 use Rattle.beet_book.proofs.Sums.{sums-by_item}
-use Rattle.beet_book.specs.Farmers.{Farmer, point_for, summed_point, summed_points}
+use Rattle.beet_book.specs.Farmers.{BidderWithWords, point_for, summed_point, summed_points}
 
 no-points : (prices : ℕ) (i : Point) → each (summed_point [] i) (2 * prices) ≡ replicate (2 * prices) 0
 no-points prices i =
@@ -30,7 +30,7 @@ no-points prices i =
 pub summed-none : (prices : ℕ) → summed_points prices [] ≡ (none_of prices).points
 summed-none prices = λ j. record { one = no-points prices One j; two = no-points prices Two j; three = no-points prices Three j }
 
-more-points : (prices : ℕ) (farmers : List Farmer) (farmer : Farmer) (i : Point) →
+more-points : (prices : ℕ) (farmers : List BidderWithWords) (farmer : BidderWithWords) (i : Point) →
     length (quantities farmer.bidder.curve) ≡ 2 * prices → 2 * prices ≤ length (accepted farmer.words) →
     each (summed_point (farmers ++ farmer ∷ []) i) (2 * prices)
     ≡ field_sums (each (summed_point farmers i) (2 * prices)) (points_at (quantities farmer.bidder.curve) (accepted farmer.words) i)
@@ -53,9 +53,10 @@ more-points prices farmers farmer i h enough =
     (sym (item-pairwise (λ value slope. point_of value slope i) values slopes k (omega arith) (omega arith))))
 
 -- the sums with one bidder more
-pub summed-more : (prices : ℕ) (farmers : List Farmer) (farmer : Farmer) →
+pub summed-more : (prices : ℕ) (farmers : List BidderWithWords) (farmer : BidderWithWords) →
     length (quantities farmer.bidder.curve) ≡ 2 * prices → 2 * prices ≤ length (accepted farmer.words) →
-    summed_points prices (farmers ++ farmer ∷ []) ≡ added (summed_points prices farmers) (dealt_points farmer.bidder.curve (accepted farmer.words))
+    summed_points prices (farmers ++ farmer ∷ [])
+    ≡ added (summed_points prices farmers) (dealt_points farmer.bidder.curve (accepted farmer.words))
 summed-more prices farmers farmer h enough = λ j. record {
   one = more-points prices farmers farmer One h enough j;
   two = more-points prices farmers farmer Two h enough j;

@@ -1,5 +1,6 @@
 -- Two runs that differ in points of server 3: which wires a batch may name so that they open the same numbers.
-use Rattle.std.proofs.Common.{◌≡◌, ◌≢◌, ℕ, zero, suc, ◌+◌, ◌-◌, ◌*◌, ◌%◌, ◌<◌, ◌≤◌, ◌⊎◌, inl, inr, List, [], ◌∷◌, ◌++◌, length, slice_index, refl, sym, ◌∙◌, ap, subst, arith, length-append}
+use Rattle.std.proofs.Common.{◌≡◌, ◌≢◌, ℕ, zero, suc, ◌+◌, ◌-◌, ◌*◌, ◌%◌, ◌<◌, ◌≤◌, ◌⊎◌, inl, inr, List, [], ◌∷◌, ◌++◌}
+use Rattle.std.proofs.Common.{length, slice_index, refl, sym, ◌∙◌, ap, subst, arith, length-append}
 use Rattle.std.proofs.lemmas.Bool.{cases_lt}
 use Rattle.std.proofs.Math.ListN.{get_or-append}
 use Rattle.std.proofs.Math.Seq.{get_or-append_right}
@@ -16,8 +17,10 @@ use Rattle.beet_gates.specs.declared.Batch.{Batch}
 use Rattle.beet_gates.specs.declared.Gates.TheVariants.{Chain}
 use Rattle.beet_gates.specs.declared.Linear.{Linear}
 use Rattle.beet_gates.proofs.EachFacts.{length-each, each-same}
+use Rattle.beet_gates.specs.Draws.{pair_at}
 use Rattle.beet_mask.specs.Mask.{mask_wires_of}
-use Rattle.beet_sharing.specs.Runs.{Setup, Shared, act_among, batch_among, gained, hidden_at, number_drawn, pair_at, product_at, with_batch_lets}
+use Rattle.beet_sharing.specs.Runs.{Setup, Shared, act_among, batch_among, gained, hidden_at, number_drawn, product_at}
+use Rattle.beet_sharing.specs.Runs.{with_batch_lets}
 use Rattle.beet_field.specs.Trio.{trio_of}
 use Rattle.beet_sharing.specs.Steps.{gained_in}
 
@@ -109,7 +112,8 @@ module _ (start : ℕ) where
     pub as_long : length ys ≡ n
     pub same : Agree xs ys
 
-  lets-agree : (ls : List Linear) (n : ℕ) (xs ys : List ℕ) → LetsOwn n ls → Lets n xs ys → Lets (n + length ls) (with_lets xs ls) (with_lets ys ls)
+  lets-agree : (ls : List Linear) (n : ℕ) (xs ys : List ℕ) → LetsOwn n ls → Lets n xs ys →
+      Lets (n + length ls) (with_lets xs ls) (with_lets ys ls)
   lets-agree [] n xs ys h a = record { long = omega (arith, a.long); as_long = omega (arith, a.as_long); same = a.same }
   lets-agree (l ∷ ls) n xs ys h a =
       let e : n + suc (length ls) ≡ n + 1 + length ls = omega arith in
@@ -134,7 +138,8 @@ module _ (start : ℕ) where
     pub lets : Lets n third s.wires.three
 
   module _ (o : Setup) (points : List ℕ) where
-    products-alike : (n : ℕ) (s : Shared) (third : List ℕ) (pairs : List (ℕ × ℕ)) → Lets n third s.wires.three → PairsOwn pairs → (i : Point) →
+    products-alike : (n : ℕ) (s : Shared) (third : List ℕ) (pairs : List (ℕ × ℕ)) → Lets n third s.wires.three →
+        PairsOwn pairs → (i : Point) →
         gained (with_third points o) (third_in third s) (Mul (record { items = pairs })) i ≡ gained o s (Mul (record { items = pairs })) i
     products-alike n s third pairs a h i =
         let act : Act = Mul (record { items = pairs }) in

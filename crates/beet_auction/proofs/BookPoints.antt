@@ -35,19 +35,24 @@ module _ (book : Book) where
       let test = λ (k : ℕ). is_doubled_even (slice_index (sums_of book) k) (slice_index (sums_of book) (prices + k)) in
       let turns : (k : ℕ) → k < prices → test k ≡ nat_le (clearing_place book) k = λ k h.
       let s = small book b k h in
-      let means = doubled_even-≤ (supply_at book.bidders k) (demand_at book.bidders k) (omega (arith, s.0)) (omega (arith, s.1)) (omega (arith, s.0)) (omega (arith, s.1)) in
+      let means = doubled_even-≤ (supply_at book.bidders k) (demand_at book.bidders k) (omega (arith, s.0))
+      (omega (arith, s.1)) (omega (arith, s.0)) (omega (arith, s.1)) in
       rw (sums-supply book k h, sums-demand book k h)
-      (same_test (is_doubled_even (supply_at book.bidders k) (demand_at book.bidders k)) (supply_at book.bidders k) (demand_at book.bidders k) means)
+      (same_test (is_doubled_even (supply_at book.bidders k) (demand_at book.bidders k)) (supply_at book.bidders k)
+      (demand_at book.bidders k) means)
       ∙ book-turn book b k h in
-      place-turn test (comparisons_of prices) 0 prices (clearing_place book) (omega arith) (clearing-within book) (omega (arith, below_comparisons prices)) turns
+      place-turn test (comparisons_of prices) 0 prices (clearing_place book) (omega arith) (clearing-within book)
+      (omega (arith, below_comparisons prices)) turns
 
   -- the values of the points are the sums
-  book-values : (slopes : List ℕ) (inputs : Trio (List ℕ)) → OnLines (sums_of book) slopes inputs → values_on (2 * book.grid.prices) inputs ≡ sums_of book
+  book-values : (slopes : List ℕ) (inputs : Trio (List ℕ)) → OnLines (sums_of book) slopes inputs →
+      values_on (2 * book.grid.prices) inputs ≡ sums_of book
   book-values slopes inputs lines =
       let n = 2 * book.grid.prices in
       let long = length-each (opened_at inputs) n in
       same_number_lists (values_on n inputs) (sums_of book) (long ∙ sym (length-sums book))
-      (λ k lt. item-each (opened_at inputs) n k (omega arith) ∙ opened-line (sums_of book) slopes (member inputs) (lined (sums_of book) slopes inputs lines) k)
+      (λ k lt. item-each (opened_at inputs) n k (omega arith)
+      ∙ opened-line (sums_of book) slopes (member inputs) (lined (sums_of book) slopes inputs lines) k)
 
   points-place : (slopes : List ℕ) (inputs : Trio (List ℕ)) → IsBook book → OnLines (sums_of book) slopes inputs →
       points_place auction inputs ≡ clearing_place book
@@ -64,7 +69,9 @@ module _ (book : Book) where
       let policy = book.grid.policy in
       let supply = slice_index (sums_of book) in
       let demand = λ (k : ℕ). slice_index (sums_of book) (prices + k) in
-      ap (λ (values : List ℕ). run_finish prices (mask_at masks) (points_place auction inputs) (found policy prices (slice_index values) (λ k. slice_index values (prices + k)) (points_place auction inputs)))
+      ap (λ (values : List ℕ). run_finish prices (mask_at masks) (points_place auction inputs)
+      (found policy prices (slice_index values) (λ k. slice_index values (prices + k)) (points_place auction inputs)))
       (book-values slopes inputs lines)
       ∙ ap (λ (z : ℕ). run_finish prices (mask_at masks) z (found policy prices supply demand z)) (points-place slopes inputs b lines)
-      ∙ ap (run_finish prices (mask_at masks) (clearing_place book)) (found-outcome book supply demand (sums-supply book) (sums-demand book))
+      ∙ ap (run_finish prices (mask_at masks) (clearing_place book))
+      (found-outcome book supply demand (sums-supply book) (sums-demand book))

@@ -6,7 +6,8 @@ use Rattle.beet_gates.specs.Plans.{plan_finish}
 use Rattle.beet_gates.specs.Scripts.{LawFrom, bounds_of, start_of}
 use Rattle.beet_bids.specs.Books.{Book, IsBook}
 use Rattle.beet_bids.specs.Outcomes.{clearing_place, outcome_of}
-use Rattle.beet_plan.specs.Auction.{Auction, auction_over, auction_plan, auction_batch, most_rounds, most_wires, most_masks, most_coefficients}
+use Rattle.beet_plan.specs.Auction.{Auction, auction_over, auction_plan, auction_batch, most_rounds, most_wires}
+use Rattle.beet_plan.specs.Auction.{most_masks, most_coefficients}
 use Rattle.beet_masking.specs.Masks.{AreMasks, mask_at}
 use Rattle.beet_plan.specs.Runs.{RunEnds, finish_of, run_finish, run_rounds}
 use Rattle.beet_bids.specs.Sums.{sums_of}
@@ -27,14 +28,18 @@ pub lines-end : (a : Auction) (o : Setup) (values slopes : List ℕ) (z : ℕ) (
     AuctionEnds a o (run_rounds a (mask_at o.masks) z) (run_finish a.prices (mask_at o.masks) z finish)
 lines-end a o values slopes z finish len next lines run =
     let law : LawFrom o.next (bounds_of (most_wires a) (most_masks a) (most_coefficients a)) (most_rounds a) (start_of (length values)) [] =
-    rw len (subst (λ n. LawFrom n (bounds_of (most_wires a) (most_masks a) (most_coefficients a)) (most_rounds a) (start_of (2 * a.prices)) []) (sym next) (auction-law a)) in
+    rw len (subst (λ n. LawFrom n (bounds_of (most_wires a) (most_masks a) (most_coefficients a)) (most_rounds a)
+    (start_of (2 * a.prices)) []) (sym next) (auction-law a)) in
     let alike = ends-alike o (bounds_of (most_wires a) (most_masks a) (most_coefficients a)) (most_rounds a) values slopes law lines in
     let counted : rounds_among o (most_rounds a) ≡ run_rounds a (mask_at o.masks) z =
     alike.0 ∙ ap (λ n. rounds_run n (most_rounds a) values o.masks) next ∙ run.rounds in
     record {
-      has_rounds = rw counted at (lawful-rounds o (bounds_of (most_wires a) (most_masks a) (most_coefficients a)) (most_rounds a) (length values) law).0;
+      has_rounds = rw counted at (lawful-rounds o (bounds_of (most_wires a) (most_masks a) (most_coefficients a))
+          (most_rounds a) (length values) law).0;
       counted = counted;
-      finish_named = ap (λ r. plan_finish (auction_plan a) (shared_at o r).opened) (sym counted) ∙ ap (plan_finish (auction_plan a)) (alike.1 ∙ ap (λ n. (clear_values n (most_rounds a) values o.masks).opened) next) ∙ run.ends;
+      finish_named = ap (λ r. plan_finish (auction_plan a) (shared_at o r).opened) (sym counted)
+          ∙ ap (plan_finish (auction_plan a))
+          (alike.1 ∙ ap (λ n. (clear_values n (most_rounds a) values o.masks).opened) next) ∙ run.ends;
     }
 
 -- a run on lines with the sums of a book ends with the book's outcome or spent, after its rounds

@@ -8,11 +8,12 @@ use Rattle.beet_field.specs.Point.{number_of}
 use Rattle.beet_field.specs.declared.point.Point.{Point}
 use Rattle.beet_shamir.specs.Line.{point_of}
 use Rattle.beet_bids.specs.Curves.{quantity}
-use Rattle.beet_book.specs.Farmers.{Farmer, point_for, slope_for, summed_point}
+use Rattle.beet_book.specs.Farmers.{BidderWithWords, point_for, slope_for, summed_point}
 
 -- sums of points are the points of the sums
-pub points-summed : (farmers : List Farmer) (i : Point) (n : ℕ) →
-    summed_point farmers i n ≡ point_of (sum_by (λ farmer. quantity farmer.bidder.curve n) farmers) (sum_by (λ farmer. slope_for farmer n) farmers % p) i
+pub points-summed : (farmers : List BidderWithWords) (i : Point) (n : ℕ) →
+    summed_point farmers i n ≡ point_of (sum_by (λ farmer. quantity farmer.bidder.curve n) farmers)
+    (sum_by (λ farmer. slope_for farmer n) farmers % p) i
 points-summed [] i n = nothing (number_of i) where
   nothing : (i : ℕ) → 0 ≡ (0 + (0 * i) % p) % p
   nothing i = omega arith

@@ -33,7 +33,8 @@ use Rattle.beet_auction.proofs.Ends.{lines-end}
 use Rattle.beet_auction.proofs.SameOpened.{SameOpened, search-goes, start-alike}
 
 -- runs of the auction's script that differ in server 3's points of the inputs open the same numbers
-same-opened : (a : Auction) (o : Setup) (points : List ℕ) → o.next ≡ auction_batch a → length points ≡ 2 * a.prices → length o.inputs.three ≡ 2 * a.prices →
+same-opened : (a : Auction) (o : Setup) (points : List ℕ) → o.next ≡ auction_batch a → length points ≡ 2 * a.prices →
+    length o.inputs.three ≡ 2 * a.prices →
     (t : ℕ) → SameOpened o points t
 same-opened a o points next long as_long t =
     subst (SameOpened o points) (zero-add t)
@@ -84,13 +85,15 @@ module _ (a : Auction) (inputs : Trio (List ℕ)) (are : ArePoints a inputs) whe
       let point : ℕ → ℕ = λ w. point_of (opened_at inputs w) (slope_at inputs w) One in
       same_number_lists inputs.one (each point (2 * a.prices)) (are.lengths One ∙ sym (length-each point (2 * a.prices)))
       (λ k lt.
-      at-one (slice_index inputs.one k) (slice_index inputs.two k) (item-small One k (omega (arith, are.lengths One))) (item-small Two k (omega (arith, are.lengths One)))
+      at-one (slice_index inputs.one k) (slice_index inputs.two k) (item-small One k (omega (arith, are.lengths One)))
+      (item-small Two k (omega (arith, are.lengths One)))
       ∙ sym (item-each point (2 * a.prices) k (omega (arith, are.lengths One))))
   on-each Two =
       let point : ℕ → ℕ = λ w. point_of (opened_at inputs w) (slope_at inputs w) Two in
       same_number_lists inputs.two (each point (2 * a.prices)) (are.lengths Two ∙ sym (length-each point (2 * a.prices)))
       (λ k lt.
-      at-two (slice_index inputs.one k) (slice_index inputs.two k) (item-small One k (omega (arith, are.lengths Two))) (item-small Two k (omega (arith, are.lengths Two)))
+      at-two (slice_index inputs.one k) (slice_index inputs.two k) (item-small One k (omega (arith, are.lengths Two)))
+      (item-small Two k (omega (arith, are.lengths Two)))
       ∙ sym (item-each point (2 * a.prices) k (omega (arith, are.lengths Two))))
   on-each Three = refl
 
@@ -120,6 +123,8 @@ any-ends a o are masks next =
     let long : length third ≡ n = length-each (λ w. point_of (opened_at o.inputs w) (slope_at o.inputs w) Three) n in
     let z = points_place a o.inputs in
     let run = auction-run a values o.masks (length-each (opened_at o.inputs) n) (values-small a o.inputs are) masks in
-    same-ending a o third (same-opened a o third next long (are.lengths Three)) (points_rounds a o.inputs o.masks) (points_finish a o.inputs o.masks)
-    (lines-end a (with_third third o) values (each (slope_at o.inputs) n) z (found a.policy a.prices (slice_index values) (λ k. slice_index values (a.prices + k)) z)
+    same-ending a o third (same-opened a o third next long (are.lengths Three)) (points_rounds a o.inputs o.masks)
+    (points_finish a o.inputs o.masks)
+    (lines-end a (with_third third o) values (each (slope_at o.inputs) n) z
+    (found a.policy a.prices (slice_index values) (λ k. slice_index values (a.prices + k)) z)
     (length-each (opened_at o.inputs) n) next (new-lines a o.inputs are) run)

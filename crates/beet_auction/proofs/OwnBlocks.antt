@@ -1,5 +1,7 @@
 -- The blocks of the auction open the same numbers in two runs that differ in points of server 3.
-use Rattle.std.proofs.Common.{◌≡◌, ℕ, zero, suc, ◌+◌, ◌-◌, ◌*◌, ◌/◌, ◌^◌, ◌<◌, ◌≤◌, inl, inr, List, [], ◌∷◌, ◌++◌, length, refl, subst, sym, ◌∙◌, ap, arith, add-zero, mul-zero, mul-suc, pow-suc, eq-eqb, ne_eqb, length-append}
+use Rattle.std.proofs.Common.{◌≡◌, ℕ, zero, suc, ◌+◌, ◌-◌, ◌*◌, ◌/◌, ◌^◌, ◌<◌, ◌≤◌, inl, inr, List, [], ◌∷◌, ◌++◌}
+use Rattle.std.proofs.Common.{length, refl, subst, sym, ◌∙◌, ap, arith, add-zero, mul-zero, mul-suc, pow-suc, eq-eqb}
+use Rattle.std.proofs.Common.{ne_eqb, length-append}
 use Rattle.std.specs.Int.{bit_at}
 use Rattle.std.proofs.lemmas.Bool.{cases_eq}
 use Rattle.beet_field.specs.Field.{p}
@@ -12,8 +14,11 @@ use Rattle.beet_gates.specs.declared.Batch.{Batch}
 use Rattle.beet_gates.specs.declared.Linear.{Linear}
 use Rattle.beet_gates.proofs.EachFacts.{length-each, each-zero, each-cons, each-suc, turns}
 use Rattle.beet_gates.proofs.LevelRuns.{next_item-has}
-use Rattle.beet_mask.specs.Mask.{bit_wire_of, chain_batches as mask_chain, mask_batches, product_batches, tree_batches as mask_tree, word_lets, xor_let}
-use Rattle.beet_compare.specs.Compare.{borrow_lets, compare_wires_of, chain_batches, last_batches, last_let, level_lets, level_products, masked_batch, next_less, next_same, borrow_batches, low_bit_batch, same_let, lowest_batch, bit_batch, answer_batch, tree_batches}
+use Rattle.beet_mask.specs.Mask.{bit_wire_of, chain_batches as mask_chain, mask_batches, product_batches}
+use Rattle.beet_mask.specs.Mask.{tree_batches as mask_tree, word_lets, xor_let}
+use Rattle.beet_compare.specs.Compare.{borrow_lets, compare_wires_of, chain_batches, last_batches, last_let, level_lets}
+use Rattle.beet_compare.specs.Compare.{level_products, masked_batch, next_less, next_same, borrow_batches}
+use Rattle.beet_compare.specs.Compare.{low_bit_batch, same_let, lowest_batch, bit_batch, answer_batch, tree_batches}
 use Rattle.beet_compare.proofs.CompareTable.{last_two}
 use Rattle.beet_gates.specs.declared.Gates.{Gates}
 use Rattle.beet_gates.specs.declared.Gates.TheVariants.{Chain, Tree}
@@ -38,7 +43,8 @@ module _ (start : ℕ) where
   all-append n [] ys h k = k
   all-append n (x ∷ xs) ys h k = (h.0, h.1, all-append (wires_after n x) xs ys h.2 k)
 
-  own-cons : (n : ℕ) (b : Batch) (bs : List Batch) → BatchOwn start n b → revealed b.act ≡ 0 → BlockOwn start (wires_after n b) bs → BlockOwn start n (b ∷ bs)
+  own-cons : (n : ℕ) (b : Batch) (bs : List Batch) → BatchOwn start n b → revealed b.act ≡ 0 →
+      BlockOwn start (wires_after n b) bs → BlockOwn start n (b ∷ bs)
   unfolding BlockOwn
   own-cons n b [] own e h = absurd h
   own-cons n b (c ∷ bs) own e h = (own, e, h)
@@ -61,10 +67,13 @@ module _ (start : ℕ) where
       let here = wires_after_all n (each rule m) in
       let one = h m (omega arith) here in
       let e : wires_after_all n (each rule (suc m)) ≡ wires_after here (rule m) =
-      ap (wires_after_all n) (each-suc rule m) ∙ wires_after_all-append n (each rule m) (rule m ∷ []) in
-      (rw (each-suc rule m) (all-append n (each rule m) (rule m ∷ []) rest.0 (one.0, one.1, tt)), omega (arith, e, one.2, rest.1, mul-suc grow m))
+      ap (wires_after_all n) (each-suc rule m) ∙ wires_after_all-append n (each rule m) (rule m ∷ []) in (
+        rw (each-suc rule m) (all-append n (each rule m) (rule m ∷ []) rest.0 (one.0, one.1, tt)),
+        omega (arith, e, one.2, rest.1, mul-suc grow m),
+      )
 
-  pairs-each : (pair : ℕ → ℕ × ℕ) (m : ℕ) → ((k : ℕ) → k < m → IsOwn start (pair k).0 × IsOwn start (pair k).1) → PairsOwn start (each pair m)
+  pairs-each : (pair : ℕ → ℕ × ℕ) (m : ℕ) → ((k : ℕ) → k < m → IsOwn start (pair k).0 × IsOwn start (pair k).1) →
+      PairsOwn start (each pair m)
   pairs-each pair zero h = rw (each-zero pair) tt
   pairs-each pair (suc m) h =
       let first = h 0 (omega arith) in
@@ -89,11 +98,15 @@ module _ (start : ℕ) where
   ]
 
   -- the exclusive or of two words, and the product of a chain
-  words-own : (n left right product : ℕ) → IsOwn start left → left + 61 ≤ start + before_bits → IsOwn start right → right + 61 ≤ start + before_bits →
+  words-own : (n left right product : ℕ) → IsOwn start left → left + 61 ≤ start + before_bits → IsOwn start right →
+      right + 61 ≤ start + before_bits →
       IsOwn start product → product + 61 ≤ start + before_bits → LetsOwn start n (word_lets left right product)
   words-own n left right product one one' two two' three three' =
       lets-each n (λ (k : ℕ). xor_let (left + k) (right + k) (product + k)) 61
-      (λ k l. (inr (omega (arith, one), omega (arith, one')), (inr (omega (arith, two), omega (arith, two')), (inr (omega (arith, three), omega (arith, three')), tt))))
+      (λ k l. (
+        inr (omega (arith, one), omega (arith, one')),
+        (inr (omega (arith, two), omega (arith, two')), (inr (omega (arith, three), omega (arith, three')), tt)),
+      ))
 
   chain-own : (n bits : ℕ) (lets : List Linear) → LetsOwn start n lets → length lets ≡ 61 → bits ≡ start + before_bits →
       BlockOwn start n (mask_chain lets bits) × (wires_after_all n (mask_chain lets bits) ≡ n + 121)
@@ -102,7 +115,11 @@ module _ (start : ℕ) where
       let batch = mul_batch lets ((bits, bits + 1) ∷ []) in
       let now = wires_after n batch in
       let last = reveal_batch [] ((bits + 120) ∷ []) in
-      let chain = own-each rule 1 now 59 (λ k l w. ((tt, ((omega (arith, e), omega (arith, e, l)), (omega (arith, e), omega (arith, e, l)), tt)), refl, omega arith)) in
+      let chain = own-each rule 1 now 59 (λ k l w. (
+        (tt, ((omega (arith, e), omega (arith, e, l)), (omega (arith, e), omega (arith, e, l)), tt)),
+        refl,
+        omega arith,
+      )) in
       let end : wires_after_all n (mask_chain lets bits) ≡ wires_after (wires_after_all now (each rule 59)) last =
       wires_after_all-append now (each rule 59) (last ∷ []) in (
         own-cons n batch _ (below, ((omega (arith, e), omega (arith, e)), (omega (arith, e), omega (arith, e)), tt)) refl
@@ -111,9 +128,11 @@ module _ (start : ℕ) where
       )
 
   -- the product of a tree
-  tree-own : (levels n : ℕ) (lets : List Linear) (item : ℕ → ℕ) (free w : ℕ) → LetsOwn start w lets → ((k : ℕ) → k < n → IsOwn start (item k)) →
+  tree-own : (levels n : ℕ) (lets : List Linear) (item : ℕ → ℕ) (free w : ℕ) → LetsOwn start w lets →
+      ((k : ℕ) → k < n → IsOwn start (item k)) →
       n ≤ 2 ^ levels → 2 ^ levels < 2 * n → start ≤ free → free + n ≤ start + (mask_wires + 60) →
-      BlockOwn start w (mask_tree levels lets n item free) × (wires_after_all w (mask_tree levels lets n item free) ≡ w + length lets + (n - 1))
+      BlockOwn start w (mask_tree levels lets n item free)
+      × (wires_after_all w (mask_tree levels lets n item free) ≡ w + length lets + (n - 1))
   tree-own zero n lets item free w below own most least from to =
       (own-last w (reveal_batch lets (item 0 ∷ [])) (below, tt) refl, omega (arith, most, least))
   tree-own (suc levels) n lets item free w below own most least from to =
@@ -125,7 +144,10 @@ module _ (start : ℕ) where
       let m = tree-own levels (next_length n) [] (next_item n item place) (free + half) (wires_after w batch) tt
       (next_item-has (IsOwn start) n item place own (λ k l. (omega (arith, from), omega (arith, to, l))))
       (omega (arith, most, power)) (omega (arith, least, power)) (omega (arith, from)) (omega (arith, to)) in (
-        own-cons w batch _ (below, pairs-each pair half (λ k l. (own (2 * k) (omega (arith, l)), own (2 * k + 1) (omega (arith, l))))) refl m.0,
+        own-cons w batch _ (
+          below,
+          pairs-each pair half (λ k l. (own (2 * k) (omega (arith, l)), own (2 * k + 1) (omega (arith, l)))),
+        ) refl m.0,
         omega (arith, m.1, length-each pair half, least, power),
       )
 
@@ -137,8 +159,8 @@ module _ (start : ℕ) where
       (omega arith) (omega arith) (omega (arith, e)) (omega (arith, e)) in
       (m.0, omega (arith, m.1, count))
 
-  -- the block of a mask
-  pub mask-own : (gates : Gates) → BlockOwn start start (mask_batches gates 3 start) × (wires_after_all start (mask_batches gates 3 start) ≡ start + mask_wires)
+  pub mask-own : (gates : Gates) → BlockOwn start start (mask_batches gates 3 start)
+      × (wires_after_all start (mask_batches gates 3 start) ≡ start + mask_wires)
   mask-own gates =
       let p1 : ℕ → ℕ × ℕ = λ k. (start + k, start + 61 + k) in
       let p2 : ℕ → ℕ × ℕ = λ k. (start + 183 + 61 + k, start + 61 + 61 + k) in
@@ -152,12 +174,14 @@ module _ (start : ℕ) where
       let n2 = length-each (λ (k : ℕ). xor_let (start + k) (start + 61 + k) (start + 183 + k)) 61 in
       let n3 = length-each (λ (k : ℕ). xor_let (start + 183 + 61 + k) (start + 61 + 61 + k) (start + 183 + 122 + k)) 61 in
       let m = product-own gates w3 (start + 183 + 122 + 61) l3
-      (words-own w3 (start + 183 + 61) (start + 61 + 61) (start + 183 + 122) (omega arith, omega arith) (omega arith) (omega arith, omega arith) (omega arith) (omega arith, omega arith) (omega arith))
+      (words-own w3 (start + 183 + 61) (start + 61 + 61) (start + 183 + 122) (omega arith, omega arith) (omega arith)
+      (omega arith, omega arith) (omega arith) (omega arith, omega arith) (omega arith))
       n3 (omega arith) in (
         own-cons start deal_batch _ (tt, tt) refl
             (own-cons w1 b2 _ (tt, pairs-each p1 61 (λ k l. ((omega arith, omega arith), (omega arith, omega arith)))) refl
             (own-cons w2 b3 _ (
-              words-own w2 start (start + 61) (start + 183) (omega arith, omega arith) (omega arith) (omega arith, omega arith) (omega arith) (omega arith, omega arith) (omega arith),
+              words-own w2 start (start + 61) (start + 183) (omega arith, omega arith) (omega arith)
+                  (omega arith, omega arith) (omega arith) (omega arith, omega arith) (omega arith),
               pairs-each p2 61 (λ k l. ((omega arith, omega arith), (omega arith, omega arith))),
             ) refl m.0)),
         omega (arith, m.1, length-each p1 61, n2, length-each p2 61),
@@ -186,7 +210,8 @@ module _ (start : ℕ) where
 
   -- the last two batches of a comparison
   last-own : (lets : List Linear) (borrow low c n : ℕ) → LetsOwn start n lets → IsOwn start borrow → start + (mask_wires + 61) ≤ low →
-      BlockOwn start n (last_batches lets borrow low start c) × (wires_after_all n (last_batches lets borrow low start c) ≡ n + length lets + 3)
+      BlockOwn start n (last_batches lets borrow low start c)
+      × (wires_after_all n (last_batches lets borrow low start c) ≡ n + length lets + 3)
   last-own lets borrow low c n below own there =
       let end = same_let (1 - bit_at c 0) (start + before_bits) in
       let product = low_bit_batch lets borrow low start c in
@@ -196,14 +221,20 @@ module _ (start : ℕ) where
           lets-append n lets (end ∷ []) below (λ o. same-own (1 - bit_at c 0) (start + before_bits) (omega arith, omega arith), tt),
           ((omega (arith, there), omega (arith, there)), own, tt),
         ) refl
-            (own-last (wires_after n product) answer
-            ((λ o. (inr (omega (arith, there), omega (arith, there)), (inr own, (inr (omega (arith, there), omega (arith, there)), tt))), tt), tt) refl),
+            (own-last (wires_after n product) answer (
+              (
+                λ o. (inr (omega (arith, there), omega (arith, there)), (inr own, (inr (omega (arith, there), omega (arith, there)), tt))),
+                tt,
+              ),
+              tt,
+            ) refl),
         omega (arith, len),
       )
 
   -- the borrows of a chain, and the answer
   borrows-own : (c : ℕ) → BlockOwn start (start + (mask_wires + 61)) (chain_batches (start + mask_wires) start c)
-      × (wires_after_all (start + (mask_wires + 61)) (chain_batches (start + mask_wires) start c) ≡ start + (mask_wires + compare_wires_of Chain))
+      × (wires_after_all (start + (mask_wires + 61)) (chain_batches (start + mask_wires) start c)
+      ≡ start + (mask_wires + compare_wires_of Chain))
   borrows-own c =
       let first = start + mask_wires in
       let one = lowest_batch first start c in
@@ -221,7 +252,8 @@ module _ (start : ℕ) where
       )) in
       let w2 = wires_after_all w1 (each (bit_batch first start c) 59) in
       let last = last-own (last_let first start c ∷ []) (first + 241) (first + 242) c w2
-      (λ own. (inr (omega arith, omega arith), (inr (omega arith, omega arith), (inl refl, tt))), tt) (omega arith, omega arith) (omega arith) in
+      (λ own. (inr (omega arith, omega arith), (inr (omega arith, omega arith), (inl refl, tt))), tt)
+      (omega arith, omega arith) (omega arith) in
       let end : wires_after_all (start + (mask_wires + 61)) (chain_batches first start c) ≡ wires_after_all w2 (last_two first start c) =
       wires_after_all-append w1 (each (bit_batch first start c) 59) (last_two first start c) in (
         own-cons (start + (mask_wires + 61)) one _ (
@@ -236,9 +268,11 @@ module _ (start : ℕ) where
       )
 
   -- the levels of a tree, and the answer
-  levels-own : (levels n : ℕ) (lets : List Linear) (g q : ℕ → ℕ) (free c w : ℕ) → LetsOwn start w lets → ((k : ℕ) → k < n → IsOwn start (g k)) →
+  levels-own : (levels n : ℕ) (lets : List Linear) (g q : ℕ → ℕ) (free c w : ℕ) → LetsOwn start w lets →
+      ((k : ℕ) → k < n → IsOwn start (g k)) →
       ((k : ℕ) → k < n → IsOwn start (q k)) → n ≤ 2 ^ levels → 2 ^ levels < 2 * n → start + (mask_wires + 61) ≤ free →
-      BlockOwn start w (tree_batches levels start c lets n g q free) × (wires_after_all w (tree_batches levels start c lets n g q free) ≡ w + length lets + 3 * n)
+      BlockOwn start w (tree_batches levels start c lets n g q free)
+      × (wires_after_all w (tree_batches levels start c lets n g q free) ≡ w + length lets + 3 * n)
   levels-own zero n lets g q free c w below less equal most least from =
       let m = last-own lets (g 0) free c w below (less 0 (omega (arith, least))) from in
       (m.0, omega (arith, m.1, most, least))
@@ -251,8 +285,10 @@ module _ (start : ℕ) where
       let rule = λ (i : ℕ). two_terms 0 (1, g (2 * i + 1)) (1, free + 2 * i) in
       let now = wires_after w batch in
       let sums : LetsOwn start now (level_lets half g free) =
-      lets-each now rule half (λ k l. (inr (less (2 * k + 1) (omega (arith, l))), (inr (omega (arith, from), omega (arith, from)), (inl refl, tt)))) in
-      let m = levels-own levels (next_length n) (level_lets half g free) (next_less n g free) (next_same n q free) (free + 2 * half + half) c now sums
+      lets-each now rule half (λ k l.
+      (inr (less (2 * k + 1) (omega (arith, l))), (inr (omega (arith, from), omega (arith, from)), (inl refl, tt)))) in
+      let m = levels-own levels (next_length n) (level_lets half g free) (next_less n g free) (next_same n q free)
+      (free + 2 * half + half) c now sums
       (next_item-has (IsOwn start) n g (λ i. free + 2 * half + i) less (λ k l. (omega (arith, from), omega (arith, from))))
       (next_item-has (IsOwn start) n q (λ i. free + 1 + 2 * i) equal (λ k l. (omega (arith, from), omega (arith, from))))
       (omega (arith, most, power)) (omega (arith, least, power)) (omega (arith, from)) in
@@ -266,7 +302,8 @@ module _ (start : ℕ) where
 
   -- the batches after the opened number
   pub borrow-own : (gates : Gates) (c : ℕ) → BlockOwn start (start + (mask_wires + 61)) (borrow_batches gates (start + mask_wires) start c)
-      × (wires_after_all (start + (mask_wires + 61)) (borrow_batches gates (start + mask_wires) start c) ≡ start + (mask_wires + compare_wires_of gates))
+      × (wires_after_all (start + (mask_wires + 61)) (borrow_batches gates (start + mask_wires) start c)
+      ≡ start + (mask_wires + compare_wires_of gates))
   borrow-own Chain c = borrows-own c
   borrow-own Tree c =
       let first = start + mask_wires in
@@ -288,7 +325,8 @@ pub record AreOwn (g : Blocks) : Type 0 where
   pub masked : (start supply demand : ℕ) → BlockOwn start (after_mask g start) (g.masked (after_mask g start) start supply demand ∷ [])
   pub answer : (start supply demand c : ℕ) →
       (let n = wires_after_all (after_mask g start) (g.masked (after_mask g start) start supply demand ∷ []) in
-      BlockOwn start n (g.answer (after_mask g start) start c) × (wires_after_all n (g.answer (after_mask g start) start c) ≡ after_both g start))
+      BlockOwn start n (g.answer (after_mask g start) start c)
+      × (wires_after_all n (g.answer (after_mask g start) start c) ≡ after_both g start))
 
 pub own-blocks : (gates : Gates) → AreOwn (blocks_of gates)
 own-blocks gates = record {

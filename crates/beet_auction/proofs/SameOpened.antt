@@ -1,5 +1,6 @@
 -- Runs of the auction that differ in server 3's points of the inputs open the same numbers.
-use Rattle.std.proofs.Common.{◌≡◌, ℕ, zero, suc, ◌+◌, ◌/◌, Bool, true, false, List, [], ◌∷◌, ◌++◌, length, refl, sym, ◌∙◌, ap, subst, arith, add-zero, add-one, append-nil}
+use Rattle.std.proofs.Common.{◌≡◌, ℕ, zero, suc, ◌+◌, ◌/◌, Bool, true, false, List, [], ◌∷◌, ◌++◌, length, refl, sym}
+use Rattle.std.proofs.Common.{◌∙◌, ap, subst, arith, add-zero, add-one, append-nil}
 use Rattle.std.specs.Prelude.{nat_lt, if◌then◌else◌, ◌==◌}
 use Rattle.std.proofs.Math.ListN.{get_or-eq_default}
 use Rattle.beet_gates.specs.Batches.{end_batch, reveal_batch}
@@ -26,7 +27,8 @@ module _ {F : Type 0} where
   ended-batch f done opened = refl
 
   -- what follows a plan by cases follows that of the case
-  follows-if : {R : Type 0} (next : ℕ → List ℕ → Batch) (t : ℕ) (opened : List ℕ) (b : Bool) (p q : Plan F) → Follows next t opened (if b then p else q) →
+  follows-if : {R : Type 0} (next : ℕ → List ℕ → Batch) (t : ℕ) (opened : List ℕ) (b : Bool) (p q : Plan F) →
+      Follows next t opened (if b then p else q) →
       (Follows next t opened p → R) → (Follows next t opened q → R) → R
   follows-if next t opened true p q f first second = first f
   follows-if next t opened false p q f first second = second f
@@ -96,7 +98,8 @@ module _ (o : Setup) (points : List ℕ) where
   same-now : (start n t : ℕ) → AlikeAt start n t → SameOpened t
   same-now start n t a = ap (λ s. s.opened) a.is
 
-  advance : (start n t : ℕ) (b : Batch) → o.next t (shared_at o t).opened ≡ b → BatchOwn start n b → AlikeAt start n t → AlikeAt start (wires_after n b) (suc t)
+  advance : (start n t : ℕ) (b : Batch) → o.next t (shared_at o t).opened ≡ b → BatchOwn start n b → AlikeAt start n t →
+      AlikeAt start (wires_after n b) (suc t)
   advance start n t b e h a =
       let s = shared_at o t in
       let s' = shared_at (with_third points o) t in
@@ -106,8 +109,10 @@ module _ (o : Setup) (points : List ℕ) where
       (batch-alike start o points b n s s' h a))
 
   module _ {F : Type 0} where
-    block-goes : (start n : ℕ) (bs : List Batch) (k : ℕ → Plan F) (t : ℕ) → BlockOwn start n bs → AlikeAt start n t → FollowsAt t (Block bs k) →
-        ((x u : ℕ) → AlikeAt start (wires_after_all n bs) u → FollowsAt u (k x) → (j : ℕ) → SameOpened (u + j)) → (j : ℕ) → SameOpened (t + j)
+    block-goes : (start n : ℕ) (bs : List Batch) (k : ℕ → Plan F) (t : ℕ) → BlockOwn start n bs → AlikeAt start n t →
+        FollowsAt t (Block bs k) →
+        ((x u : ℕ) → AlikeAt start (wires_after_all n bs) u → FollowsAt u (k x) → (j : ℕ) → SameOpened (u + j)) →
+        (j : ℕ) → SameOpened (t + j)
     unfolding BlockOwn
     block-goes start n [] k t h a f rest j = absurd h
     block-goes start n (b ∷ []) k t h a f rest zero = subst SameOpened (sym (add-zero t)) (same-now start n t a)
@@ -126,7 +131,8 @@ module _ (o : Setup) (points : List ℕ) where
         let opened : (shared_at o (suc t)).opened ≡ s.opened = ap (λ x. (batch_among o x s).opened) now ∙ opened-none o b s h.1 in
         let e : suc t + j ≡ t + suc j = omega arith in
         subst SameOpened e (block-goes start (wires_after n b) (c ∷ bs) k (suc t) h.2 (advance start n t b now h.0 a)
-        (subst (λ x. Follows o.next (suc t) x (Block (c ∷ bs) k)) (sym opened) (rw add-one at (follows-tail o.next t s.opened b c bs k f))) rest j)
+        (subst (λ x. Follows o.next (suc t) x (Block (c ∷ bs) k)) (sym opened)
+        (rw add-one at (follows-tail o.next t s.opened b c bs k f))) rest j)
 
     ended-goes : (f : F) (start n t : ℕ) → AlikeAt start n t → FollowsAt t (Ended f) → (j : ℕ) → SameOpened (t + j)
     ended-goes f start n t a g zero = subst SameOpened (sym (add-zero t)) (same-now start n t a)
@@ -146,7 +152,8 @@ module _ (o : Setup) (points : List ℕ) where
   shows-own : (start n : ℕ) (wires : List ℕ) → BatchOwn start n (reveal_batch [] wires)
   shows-own start n wires = (tt, tt)
 
-  last-goes : (b : Batch) (k : ℕ) (named : List ℕ → Finish) (start n t : ℕ) → BatchOwn start n b → AlikeAt start n t → FollowsAt t (Last b k named) →
+  last-goes : (b : Batch) (k : ℕ) (named : List ℕ → Finish) (start n t : ℕ) → BatchOwn start n b → AlikeAt start n t →
+      FollowsAt t (Last b k named) →
       (j : ℕ) → SameOpened (t + j)
   last-goes b k named start n t h a f zero = subst SameOpened (sym (add-zero t)) (same-now start n t a)
   last-goes b k named start n t h a f (suc j) =
@@ -156,24 +163,30 @@ module _ (o : Setup) (points : List ℕ) where
       let opened : (shared_at o (suc t)).opened ≡ s.opened ++ new = ap (λ x. (batch_among o x s).opened) now in
       let e : suc t + j ≡ t + suc j = omega arith in
       subst SameOpened e (ended-goes (named new) start (wires_after n b) (suc t) (advance start n t b now h a)
-      (subst (λ x. Follows o.next (suc t) x (Ended (named new))) (sym opened) (rw add-one at (follows-last o.next t s.opened new b k named f))) j)
+      (subst (λ x. Follows o.next (suc t) x (Ended (named new))) (sym opened)
+      (rw add-one at (follows-last o.next t s.opened new b k named f))) j)
 
   -- wires are opened, where there are some
-  opening-goes : (wires : List ℕ) (named : List ℕ → Finish) (start n t : ℕ) → AlikeAt start n t → FollowsAt t (opening_plan wires named) → (j : ℕ) → SameOpened (t + j)
+  opening-goes : (wires : List ℕ) (named : List ℕ → Finish) (start n t : ℕ) → AlikeAt start n t →
+      FollowsAt t (opening_plan wires named) → (j : ℕ) → SameOpened (t + j)
   opening-goes [] named start n t a f = ended-goes (named []) start n t a f
   opening-goes (w ∷ ws) named start n t a f =
       last-goes (reveal_batch [] (w ∷ ws)) (length (w ∷ ws)) named start n t (shows-own start n (w ∷ ws)) a f
 
-  end-goes : (policy : Policy) (prices place start n t : ℕ) → AlikeAt start n t → FollowsAt t (end_plan policy prices place) → (j : ℕ) → SameOpened (t + j)
+  end-goes : (policy : Policy) (prices place start n t : ℕ) → AlikeAt start n t →
+      FollowsAt t (end_plan policy prices place) → (j : ℕ) → SameOpened (t + j)
   end-goes policy prices place start n t a f =
-      follows-if o.next t (shared_at o t).opened (nat_lt place prices) (opening_plan (shown_by policy (prices + place) place) (price_with place)) (Ended NoPrice) f
+      follows-if o.next t (shared_at o t).opened (nat_lt place prices)
+      (opening_plan (shown_by policy (prices + place) place) (price_with place)) (Ended NoPrice) f
       (λ g. opening-goes (shown_by policy (prices + place) place) (price_with place) start n t a g)
       (λ g. ended-goes NoPrice start n t a g)
 
   module _ (g : Blocks) (own : AreOwn g) where
     -- masks until one is accepted
-    until-goes : {F : Type 0} (spent : F) (spare first t : ℕ) (next : ℕ → ℕ → Plan F) → AlikeAt first first t → FollowsAt t (until_accepted g spent spare first next) →
-        ((left mask u : ℕ) → AlikeAt mask (after_mask g mask) u → FollowsAt u (next left mask) → (j : ℕ) → SameOpened (u + j)) → (j : ℕ) → SameOpened (t + j)
+    until-goes : {F : Type 0} (spent : F) (spare first t : ℕ) (next : ℕ → ℕ → Plan F) → AlikeAt first first t →
+        FollowsAt t (until_accepted g spent spare first next) →
+        ((left mask u : ℕ) → AlikeAt mask (after_mask g mask) u → FollowsAt u (next left mask) → (j : ℕ) →
+        SameOpened (u + j)) → (j : ℕ) → SameOpened (t + j)
     unfolding until_accepted
     until-goes spent zero first t next a f go =
         block-goes first first (g.mask first) (λ product. if product == 1 then Ended spent else next zero first) t (own.mask first).0 a f
@@ -192,14 +205,16 @@ module _ (o : Setup) (points : List ℕ) where
         (λ h'. go (suc n) first u b' h'))
 
     -- the whole search
-    pub search-goes : (policy : Policy) (prices n lo hi spare first t : ℕ) → AlikeAt first first t → FollowsAt t (search_plan g policy prices n lo hi spare first) →
+    pub search-goes : (policy : Policy) (prices n lo hi spare first t : ℕ) → AlikeAt first first t →
+        FollowsAt t (search_plan g policy prices n lo hi spare first) →
         (j : ℕ) → SameOpened (t + j)
     unfolding search_plan
     search-goes policy prices zero lo hi spare first t a f = end-goes policy prices lo first first t a f
     search-goes policy prices (suc n) lo hi spare first t a f =
         let mid = (lo + hi) / 2 in
         let search = search_plan g policy prices n in
-        follows-if o.next t (shared_at o t).opened (nat_lt lo hi) (until_accepted g MasksSpent spare first (with_mask g prices search lo hi)) (end_plan policy prices lo) f
+        follows-if o.next t (shared_at o t).opened (nat_lt lo hi)
+        (until_accepted g MasksSpent spare first (with_mask g prices search lo hi)) (end_plan policy prices lo) f
         (λ f. until-goes MasksSpent spare first t (with_mask g prices search lo hi) a f
         (λ left mask u b h.
         let free = after_mask g mask in

@@ -17,7 +17,7 @@ use Rattle.beet_server.proofs.Passing.{at_passed, ended_at}
 use Rattle.beet_world.specs.Worlds.{World, delivered_in}
 use Rattle.beet_auction.specs.Endings.{AuctionEnds, book_finish, book_rounds}
 use Rattle.beet_auction.specs.Setups.{book_setup}
-use Rattle.beet_book.specs.Farmers.{Farmer, book_with}
+use Rattle.beet_book.specs.Farmers.{BidderWithWords, book_with}
 use Rattle.beet_auction.specs.WorldEnds.{IsAuctionCore, StandsBy, auction_in}
 use Rattle.beet_auction.proofs.BookLines.{book-lines, slopes_of}
 use Rattle.beet_auction.proofs.Ends.{book-ends}
@@ -28,7 +28,8 @@ pub stands-by : (w : World Auction) (s : Point) (c : Core Auction) → IsAuction
 stands-by w s c h rounds finish e =
     let run : Setup = auction_in w in
     let x = delivered_in w in
-    let at : c.round ≡ passed rounds x s = at_passed auction_batch run x c rounds e.has_rounds h.fits h.quiet ∙ ap (passed rounds x) h.name in
+    let at : c.round ≡ passed rounds x s =
+    at_passed auction_batch run x c rounds e.has_rounds h.fits h.quiet ∙ ap (passed rounds x) h.name in
     let over = ended_at auction_batch run x c rounds e.has_rounds h.fits in
     record {
       round = at;
@@ -40,7 +41,8 @@ stands-by w s c h rounds finish e =
     }
 
 -- on points of lines with the sums of a book it ends as the auction of the book does
-pub stands-by-book : (book : Book) (slopes : List ℕ) (w : World Auction) (s : Point) (c : Core Auction) → IsBook book → AreMasks (auction_in w).masks →
+pub stands-by-book : (book : Book) (slopes : List ℕ) (w : World Auction) (s : Point) (c : Core Auction) → IsBook book →
+    AreMasks (auction_in w).masks →
     w.start.one.script ≡ auction_over book.grid → OnLines (sums_of book) slopes (auction_in w).inputs → IsAuctionCore w s c →
     StandsBy (book_rounds book (auction_in w).masks) (book_finish book (auction_in w).masks) w s c
 stands-by-book book slopes w s c b m script lines h =
@@ -51,7 +53,8 @@ stands-by-book book slopes w s c b m script lines h =
     (book-ends book (auction_in w) slopes b m (ap auction_batch script) lines))
 
 -- and so it does on the points that the bidders of a book deal
-pub stands-by-bids : (grid : Grid) (farmers : List Farmer) (masks coefficients : Trio (List ℕ)) (w : World Auction) (s : Point) (c : Core Auction) →
+pub stands-by-bids : (grid : Grid) (farmers : List BidderWithWords) (masks coefficients : Trio (List ℕ))
+    (w : World Auction) (s : Point) (c : Core Auction) →
     IsBook (book_with grid farmers) → AreMasks masks → w.start.one.script ≡ auction_over grid →
     auction_in w ≡ book_setup grid farmers masks coefficients → IsAuctionCore w s c →
     StandsBy (book_rounds (book_with grid farmers) masks) (book_finish (book_with grid farmers) masks) w s c

@@ -24,13 +24,14 @@ values_on n wires = each (opened_at wires) n
 abbrev pub points_place : Auction → Trio (List ℕ) → ℕ
 points_place a inputs = place_of_inputs a (values_on (2 * a.prices) inputs)
 
--- how a run on these points ends with these mask words: with what the search finds, or spent where the third rejected mask
--- comes first
+-- how a run on these points ends with these mask words: with what the search finds, or spent where the third rejected
+-- mask comes first
 abbrev pub points_finish : Auction → Trio (List ℕ) → Trio (List ℕ) → Finish
 points_finish a inputs masks =
     let z = points_place a inputs in
     let values = values_on (2 * a.prices) inputs in
-    run_finish a.prices (mask_at masks) z (found a.policy a.prices (slice_index values) (λ k. slice_index values (a.prices + k)) z)
+    run_finish a.prices (mask_at masks) z
+    (found a.policy a.prices (slice_index values) (λ k. slice_index values (a.prices + k)) z)
 
 -- and after how many rounds
 abbrev pub points_rounds : Auction → Trio (List ℕ) → Trio (List ℕ) → ℕ

@@ -5,7 +5,7 @@ use Rattle.beet_words.specs.Bundles.{Words}
 use Rattle.beet_bids.specs.Books.{Book}
 use Rattle.beet_bids.specs.Grids.{Grid}
 use Rattle.beet_plan.specs.Auction.{Auction, auction_batch, auction_over, most_rounds}
-use Rattle.beet_book.specs.Farmers.{Farmer, book_inputs, farmers_of}
+use Rattle.beet_book.specs.Farmers.{BidderWithWords, book_inputs, farmers_of}
 use Rattle.beet_sharing.specs.Runs.{Setup, numbers_of, rounds_among}
 
 -- an auction has two inputs for each price
@@ -22,13 +22,15 @@ auction_setup grid inputs masks coefficients = record {
 }
 
 -- the setup of the auction of a book, whose bidders stand with their words
-abbrev pub book_setup : Grid → List Farmer → Trio (List ℕ) → Trio (List ℕ) → Setup
+abbrev pub book_setup : Grid → List BidderWithWords → Trio (List ℕ) → Trio (List ℕ) → Setup
 book_setup grid farmers masks coefficients = auction_setup grid (book_inputs grid.prices farmers) masks coefficients
 
--- the same, where book and words stand apart: the setup of the auction of a book with these words of servers and bidders
+-- the same, where book and words stand apart: the setup of the auction of a book with these words of servers and
+-- bidders
 abbrev pub setup_for : Book → Words → Setup
 setup_for book words = book_setup book.grid (farmers_of book.bidders words.bidders) words.masks words.coefficients
 
--- the rounds of its run, as the run itself has them; from the book and the mask words alone they are told by `book_rounds`
+-- the rounds of its run, as the run itself has them; from the book and the mask words alone they are told by
+-- `book_rounds`
 abbrev pub rounds_for : Book → Words → ℕ
 rounds_for book words = rounds_among (setup_for book words) (most_rounds (auction_over book.grid))

@@ -13,7 +13,9 @@ use Rattle.beet_plan.specs.declared.Finish.{Finish}
 use Rattle.beet_server.specs.Cores.{Core}
 use Rattle.beet_auction.specs.Endings.{book_finish, book_rounds}
 use Rattle.beet_view.specs.Views.{Viewed, IsView}
-use Rattle.beet_audit.specs.Audits.{Finds, HaveElements, Header, HeaderFits, OneBidder, RoundMessages, Rounds, RunsAgain, Tapes, curve_of, points_of_bidder, recombined_book, rounds_of, run_of, words_in}
+use Rattle.beet_audit.specs.Audits.{Finds, HaveElements, Header, HeaderFits, OneBidder, RoundMessages, Rounds}
+use Rattle.beet_audit.specs.Audits.{RunsAgain, Tapes, curve_of, points_of_bidder, recombined_book, rounds_of, run_of}
+use Rattle.beet_audit.specs.Audits.{words_in}
 use Rattle.beet_audit.specs.OneRuns.{Bids, OneRun}
 use Rattle.beet_audit.specs.declared.auditing.Audited.{Audited}
 use Rattle.beet_audit.specs.Verdicts.{EachBelow, EachServer, Judges}
@@ -43,7 +45,8 @@ module _ (grid : Grid) (views : Trio Viewed) where
   AllMessages = EachBelow (rounds_of grid views) (RoundMessages (run_of grid views) views)
 
   -- where something is wrong the views are of no run
-  pub not-one : {U : Type 0} (result : Result U AuditFault) (fault : AuditFault) → IsErrAnd result (λ e. e ≡ fault) → Judges (Finds grid views) result →
+  pub not-one : {U : Type 0} (result : Result U AuditFault) (fault : AuditFault) → IsErrAnd result (λ e. e ≡ fault) →
+      Judges (Finds grid views) result →
       MatchResult result (λ (done : U). OneRun grid views) (λ fault. fault ≢ OutOfMemory → OneRun grid views → ⊥)
   not-one {U = U} result fault e h =
       let p = err_from_is_err_and result e in
@@ -67,11 +70,13 @@ module _ (grid : Grid) (views : Trio Viewed) where
         (is-line grid points (curve_of grid.prices points) (bid-at i lt).is_curve (bid-at i lt).of_grid (bid-at i lt).shares)
 
     -- the run ends with the outcome of the curves that the points recombine to
-    pub ends : (cores : Trio (Core Auction)) (finish : Finish) → RunsAgain grid views cores → plan_finish (auction_plan cores.one.script) cores.one.opened ≡ Some finish →
+    pub ends : (cores : Trio (Core Auction)) (finish : Finish) → RunsAgain grid views cores →
+        plan_finish (auction_plan cores.one.script) cores.one.opened ≡ Some finish →
         (finish ≡ book_finish (recombined_book grid views) (of_each (λ (view : Viewed). view.masks) views))
         × (cores.one.round ≡ book_rounds (recombined_book grid views) (of_each (λ (view : Viewed). view.masks) views))
     ends cores finish ran named =
-        let run = ends-recombined grid views (limits One).few (λ i lt. (bid-at i lt).is_curve) on-lines (of_each words_in views) finish (rounds_of grid views)
+        let run = ends-recombined grid views (limits One).few (λ i lt. (bid-at i lt).is_curve) on-lines
+        (of_each words_in views) finish (rounds_of grid views)
         (ran.ends finish named) in
         (run.0, (ran.stands One).round ∙ run.1)
 
@@ -85,14 +90,17 @@ module _ (grid : Grid) (views : Trio Viewed) (limits : (s : Point) → IsView (m
   judged-one (Ok a) h = is-one grid views limits elements h
   judged-one (Err fault) h = λ ne one. tells-finds grid views fault (right-from_one grid views one) (h ne)
 
-  pub judged-finish : (result : Result Audited AuditFault) (cores : Trio (Core Auction)) → Judges (Finds grid views) result → RunsAgain grid views cores →
+  pub judged-finish : (result : Result Audited AuditFault) (cores : Trio (Core Auction)) →
+      Judges (Finds grid views) result → RunsAgain grid views cores →
       IfOk result (λ a. plan_finish (auction_plan cores.one.script) cores.one.opened ≡ Some a.finish) →
       IfOk result (λ a. a.finish ≡ book_finish (recombined_book grid views) Masks)
   judged-finish (Ok a) cores h ran named = (ends grid views limits elements h cores a.finish ran named).0
   judged-finish (Err fault) cores h ran named = tt
 
-  pub judged-rounds : (result : Result Audited AuditFault) (cores : Trio (Core Auction)) → Judges (Finds grid views) result → RunsAgain grid views cores →
-      IfOk result (λ a. plan_finish (auction_plan cores.one.script) cores.one.opened ≡ Some a.finish) → IfOk result (λ a. a.rounds ≡ cores.one.round) →
+  pub judged-rounds : (result : Result Audited AuditFault) (cores : Trio (Core Auction)) →
+      Judges (Finds grid views) result → RunsAgain grid views cores →
+      IfOk result (λ a. plan_finish (auction_plan cores.one.script) cores.one.opened ≡ Some a.finish) →
+      IfOk result (λ a. a.rounds ≡ cores.one.round) →
       IfOk result (λ a. a.rounds ≡ book_rounds (recombined_book grid views) Masks)
   judged-rounds (Ok a) cores h ran named counted = counted ∙ (ends grid views limits elements h cores a.finish ran named).1
   judged-rounds (Err fault) cores h ran named counted = tt

@@ -1,5 +1,6 @@
 -- A bidder with which nothing is wrong bids a curve.
-use Rattle.std.proofs.Common.{◌≡◌, ◌<◌, ◌≤◌, ◌+◌, ◌*◌, ℕ, zero, suc, List, length, slice_index, Option, Some, None, inl, inr, arith, refl, sym, ◌∙◌, ap, subst, length-append}
+use Rattle.std.proofs.Common.{◌≡◌, ◌<◌, ◌≤◌, ◌+◌, ◌*◌, ℕ, zero, suc, List, length, slice_index, Option, Some, None, inl}
+use Rattle.std.proofs.Common.{inr, arith, refl, sym, ◌∙◌, ap, subst, length-append}
 use Rattle.std.specs.Prelude.{IfSome}
 use Rattle.std.proofs.lemmas.Bool.{cases_lt}
 use Rattle.std.proofs.lemmas.List.{get_or_append_left, get_or-append-add}
@@ -18,8 +19,9 @@ use Rattle.beet_book.specs.Dealing.{AreShares, HasLengths, dealt_points, quantit
 use Rattle.beet_book.specs.Totals.{points_on}
 use Rattle.beet_view.specs.Views.{Viewed}
 use Rattle.beet_audit.specs.Audits.{IsKnown, IsStep, OneBidder, bidder_at, curve_of, points_of_bidder, value_at}
-use Rattle.beet_audit.specs.OneRuns.{Bids, Keeps}
-use Rattle.beet_audit.proofs.PointFacts.{both-sides, curve-same, item-quantities, item-shares, length-quantities, lengths-shares, line-one, line-two, line-three, on-line, trio-same, value-on}
+use Rattle.beet_audit.specs.OneRuns.{Bids, KeepsBid}
+use Rattle.beet_audit.proofs.PointFacts.{both-sides, curve-same, item-quantities, item-shares, length-quantities}
+use Rattle.beet_audit.proofs.PointFacts.{lengths-shares, line-one, line-two, line-three, on-line, trio-same, value-on}
 
 -- what falls from each place to the next falls from each to every later one
 falls : (f : ℕ → ℕ) (n : ℕ) → ((k j : ℕ) → k < n → k ≡ j + 1 → f k ≤ f j) → (i j : ℕ) → i < j → j < n → f j ≤ f i
@@ -78,9 +80,11 @@ module _ (prices : ℕ) (points : Trio (List ℕ)) where
       let bought = value_at points in
       let sold = λ (k : ℕ). value_at points (prices + k) in
       record {
-        buy_limit = let h = All-get_or (λ q. q ≤ LARGEST_QUANTITY) (each bought prices) k 0 (omega (arith, length-each bought prices, lt)) curve.buy_limit in
+        buy_limit = let h = All-get_or (λ q. q ≤ LARGEST_QUANTITY) (each bought prices) k 0
+            (omega (arith, length-each bought prices, lt)) curve.buy_limit in
             rw (get_or-each bought prices k 0 lt) at h;
-        sell_limit = let h = All-get_or (λ q. q ≤ LARGEST_QUANTITY) (each sold prices) k 0 (omega (arith, length-each sold prices, lt)) curve.sell_limit in
+        sell_limit = let h = All-get_or (λ q. q ≤ LARGEST_QUANTITY) (each sold prices) k 0
+            (omega (arith, length-each sold prices, lt)) curve.sell_limit in
             rw (get_or-each sold prices k 0 lt) at h;
         buy_never_rises = λ j e.
             let h = curve.buy_never_rises j k 0 (omega (arith, e)) (omega (arith, length-each bought prices, lt)) in
@@ -122,21 +126,27 @@ module _ (prices : ℕ) (points : Trio (List ℕ)) where
     }
 
   pub of-grid : (grid : Grid) → grid.prices ≡ prices → IsOfGrid grid (curve_of prices points)
-  of-grid grid e = record { buy_length = length-each (value_at points) prices ∙ sym e; sell_length = length-each (λ k. value_at points (prices + k)) prices ∙ sym e }
+  of-grid grid e = record {
+    buy_length = length-each (value_at points) prices ∙ sym e;
+    sell_length = length-each (λ k. value_at points (prices + k)) prices ∙ sym e;
+  }
 
 -- points of lines with the quantities of a curve
-module _ (grid : Grid) (points : Trio (List ℕ)) (curve : Curve) (is_curve : IsCurve curve) (of_grid : IsOfGrid grid curve) (x : AreShares (quantities curve) points) where
+module _ (grid : Grid) (points : Trio (List ℕ)) (curve : Curve) (is_curve : IsCurve curve)
+    (of_grid : IsOfGrid grid curve) (x : AreShares (quantities curve) points) where
   many : length (quantities curve) ≡ 2 * grid.prices
   many = omega (arith, length-append curve.buy curve.sell, of_grid.buy_length, of_grid.sell_length)
 
   small : (n : ℕ) → n < 2 * grid.prices → slice_index (quantities curve) n < p
   small n lt =
-      let h = All-get_or (λ q. q ≤ LARGEST_QUANTITY) (quantities curve) n 0 (omega (arith, many, lt)) (All-append (λ q. q ≤ LARGEST_QUANTITY) curve.buy curve.sell is_curve.buy_limit is_curve.sell_limit) in
+      let h = All-get_or (λ q. q ≤ LARGEST_QUANTITY) (quantities curve) n 0 (omega (arith, many, lt))
+      (All-append (λ q. q ≤ LARGEST_QUANTITY) curve.buy curve.sell is_curve.buy_limit is_curve.sell_limit) in
       omega (arith, h)
 
   on-line-of : (n : ℕ) → n < 2 * grid.prices → points_on points n ≡ points_of (slice_index (quantities curve) n) (slice_index x.slopes n)
   on-line-of n lt =
-      ap (λ t. points_on t n) x.shares ∙ item-shares (quantities curve) x.slopes n (omega (arith, many, lt)) (omega (arith, many, x.paired, lt))
+      ap (λ t. points_on t n) x.shares
+      ∙ item-shares (quantities curve) x.slopes n (omega (arith, many, lt)) (omega (arith, many, x.paired, lt))
 
   pub is-line : (n : ℕ) → n < 2 * grid.prices → IsLine (points_on points n)
   is-line n lt = subst IsLine (sym (on-line-of n lt)) (on-line (slice_index (quantities curve) n) (slice_index x.slopes n))
@@ -165,8 +175,12 @@ module _ (grid : Grid) (views : Trio Viewed) (i : ℕ) where
           λ k lt. line (grid.prices + k) (omega (arith, lt)),
           (
             steps-from_curve grid.prices points (subst IsCurve same b.is_curve),
-            λ s. some-from (Keeps grid curve points) (IsKnown grid.prices points) (bidder_at (member views s) i).own
-                (λ own k. record { curve = k.bid ∙ same; words = k.words; deals = k.deals ∙ ap (λ c. dealt_points c (accepted own.1)) (sym k.bid) }) (b.known s),
+            λ s. some-from (KeepsBid grid curve points) (IsKnown grid.prices points) (bidder_at (member views s) i).own
+                (λ own k. record {
+                  curve = k.bid ∙ same;
+                  words = k.words;
+                  deals = k.deals ∙ ap (λ c. dealt_points c (accepted own.1)) (sym k.bid);
+                }) (b.known s),
           ),
         ),
       )
@@ -184,6 +198,10 @@ module _ (grid : Grid) (views : Trio Viewed) (i : ℕ) where
         of_grid = of-grid prices points grid refl;
         shares = shares-from_lines prices points long elements
             (both-sides (λ m. IsLine (points_on points m)) prices right.0 right.1.0);
-        known = λ s. some-from (IsKnown prices points) (Keeps grid curve points) (bidder_at (member views s) i).own
-            (λ own k. record { bid = k.curve; words = k.words; deals = k.deals ∙ ap (λ c. dealt_points c (accepted own.1)) k.curve }) (right.1.1.1 s);
+        known = λ s. some-from (IsKnown prices points) (KeepsBid grid curve points) (bidder_at (member views s) i).own
+            (λ own k. record {
+              bid = k.curve;
+              words = k.words;
+              deals = k.deals ∙ ap (λ c. dealt_points c (accepted own.1)) k.curve;
+            }) (right.1.1.1 s);
       }

@@ -1,5 +1,6 @@
 -- The views of three servers that run the auction of a book are of one run.
-use Rattle.std.proofs.Common.{◌≡◌, ◌<◌, ◌≤◌, ◌*◌, ◌%◌, ℕ, Bool, true, false, List, [], map, length, get_or, slice_index, Some, None, All, arith, refl, sym, ◌∙◌, ap, subst, length-append}
+use Rattle.std.proofs.Common.{◌≡◌, ◌<◌, ◌≤◌, ◌*◌, ◌%◌, ℕ, Bool, true, false, List, [], map, length, get_or, slice_index}
+use Rattle.std.proofs.Common.{Some, None, All, arith, refl, sym, ◌∙◌, ap, subst, length-append}
 use Rattle.std.specs.Prelude.{IfSome, if◌then◌else◌, sum_by}
 use Rattle.std.proofs.lemmas.List.{get_or-map, get_or_default, length-map, same_lists}
 use Rattle.std.proofs.lemmas.Simd.{map-map}
@@ -18,23 +19,23 @@ use Rattle.beet_bids.specs.Grids.{Grid}
 use Rattle.beet_bids.specs.declared.book.Bidder.{Bidder}
 use Rattle.beet_plan.specs.Auction.{auction_over, most_rounds}
 use Rattle.beet_book.specs.Dealing.{AreShares, dealt_points, quantities}
-use Rattle.beet_book.specs.Farmers.{Farmer, book_inputs, book_with, farmers_of, point_for, summed_point}
+use Rattle.beet_book.specs.Farmers.{BidderWithWords, book_inputs, book_with, farmers_of, point_for, summed_point}
 use Rattle.beet_book.specs.PointSums.{inputs_at, sum_at}
 use Rattle.beet_book.specs.Totals.{points_on, supply_first}
 use Rattle.beet_book.proofs.Deals.{dealt-shares}
 use Rattle.beet_book.proofs.FarmerLists.{book-whole, farmers-bidders, farmers-words}
 use Rattle.beet_sharing.specs.Runs.{Setup, rounds_among}
 use Rattle.beet_sharing.proofs.Lined.{member-trio}
+use Rattle.beet_sharing.specs.Seen.{rounds_seen}
 use Rattle.beet_auction.specs.Setups.{auction_setup, book_setup}
 use Rattle.beet_load.specs.Counts.{counts_of}
 use Rattle.beet_load.specs.Servers.{HasEnough}
 use Rattle.beet_load.specs.Wholes.{CanDeal, CanStart}
 use Rattle.beet_view.specs.BookViews.{names, seen_at, view_for}
-use Rattle.beet_view.specs.RunViews.{rounds_seen}
 use Rattle.beet_view.specs.Views.{Viewed}
 use Rattle.beet_view.specs.declared.view.Seen.{Seen}
 use Rattle.beet_audit.specs.Audits.{all_points, bidder_at, marks_in, points_of_bidder, recombined_bidder, recombined_book, run_of, words_in}
-use Rattle.beet_audit.specs.OneRuns.{Bids, Keeps, OneRun}
+use Rattle.beet_audit.specs.OneRuns.{Bids, KeepsBid, OneRun}
 use Rattle.beet_audit.proofs.BidFacts.{recombines}
 use Rattle.beet_audit.proofs.FinishFacts.{sum-each}
 use Rattle.beet_audit.proofs.PointFacts.{item-shares, lengths-shares, trio-same}
@@ -49,10 +50,11 @@ if-some P true x h = h
 if-some P false x h = tt
 
 -- the points that a server sees of a bidder
-abbrev seen_points : Grid → Farmer → Trio (List ℕ)
+abbrev seen_points : Grid → BidderWithWords → Trio (List ℕ)
 seen_points grid farmer = trio_of (λ s. each (point_for farmer s) (2 * grid.prices))
 
-module _ (grid : Grid) (farmer : Farmer) (of_grid : IsOfGrid grid farmer.bidder.curve) (enough : 2 * grid.prices ≤ length (accepted farmer.words)) where
+module _ (grid : Grid) (farmer : BidderWithWords) (of_grid : IsOfGrid grid farmer.bidder.curve)
+    (enough : 2 * grid.prices ≤ length (accepted farmer.words)) where
   many : length (quantities farmer.bidder.curve) ≡ 2 * grid.prices
   many = omega (arith, length-append farmer.bidder.curve.buy farmer.bidder.curve.sell, of_grid.buy_length, of_grid.sell_length)
 
@@ -63,38 +65,50 @@ module _ (grid : Grid) (farmer : Farmer) (of_grid : IsOfGrid grid farmer.bidder.
       let ss = accepted farmer.words in
       let n = 2 * grid.prices in
       trio-same (seen_points grid farmer) (dealt_points farmer.bidder.curve ss) n
-      (record { one = length-each (point_for farmer One) n; two = length-each (point_for farmer Two) n; three = length-each (point_for farmer Three) n })
+      (record {
+        one = length-each (point_for farmer One) n;
+        two = length-each (point_for farmer Two) n;
+        three = length-each (point_for farmer Three) n;
+      })
       (lengths-shares vs ss n many enough)
       (λ k lt.
-      let here : points_on (seen_points grid farmer) k ≡ record { one = point_for farmer One k; two = point_for farmer Two k; three = point_for farmer Three k } =
-      λ j. record { one = item-each (point_for farmer One) n k lt j; two = item-each (point_for farmer Two) n k lt j; three = item-each (point_for farmer Three) n k lt j } in
+      let here : points_on (seen_points grid farmer) k
+      ≡ record { one = point_for farmer One k; two = point_for farmer Two k; three = point_for farmer Three k } =
+      λ j. record {
+        one = item-each (point_for farmer One) n k lt j;
+        two = item-each (point_for farmer Two) n k lt j;
+        three = item-each (point_for farmer Three) n k lt j;
+      } in
       here ∙ sym (item-shares vs ss k (omega (arith, many, lt)) (omega (arith, enough, lt))))
 
   pub seen-shares : AreShares (quantities farmer.bidder.curve) (seen_points grid farmer)
-  seen-shares = dealt-shares (quantities farmer.bidder.curve) (accepted farmer.words) (seen_points grid farmer) (omega (arith, many, enough)) seen-dealt
+  seen-shares = dealt-shares (quantities farmer.bidder.curve) (accepted farmer.words) (seen_points grid farmer)
+      (omega (arith, many, enough)) seen-dealt
 
 module _ (book : Book) (words : Words) (b : IsBook book) (can : CanStart book words) where
   abbrev grid : Grid
   grid = book.grid
 
-  abbrev farmers : List Farmer
+  abbrev farmers : List BidderWithWords
   farmers = farmers_of book.bidders words.bidders
 
   abbrev views : Trio Viewed
   views = trio_of (view_for book words)
 
-  abbrev nobody : Farmer
+  abbrev nobody : BidderWithWords
   nobody = record { bidder = record { known = None; curve = record { buy = []; sell = [] } }; words = [] }
 
-  abbrev farmer : ℕ → Farmer
+  abbrev farmer : ℕ → BidderWithWords
   farmer i = get_or farmers i nobody
 
   whole : IsBook (book_with grid farmers)
   whole = subst IsBook (sym (book-whole book words.bidders can.lists)) b
 
-  at-bidder : (P : Bidder → Type 0) → All P (map (λ (f : Farmer). f.bidder) farmers) → (i : ℕ) → i < length farmers → P (farmer i).bidder
+  at-bidder : (P : Bidder → Type 0) → All P (map (λ (f : BidderWithWords). f.bidder) farmers) → (i : ℕ) →
+      i < length farmers → P (farmer i).bidder
   at-bidder P h i lt =
-      subst P (get_or-map (λ (f : Farmer). f.bidder) farmers i nobody nobody.bidder lt) (h i nobody.bidder (omega (arith, length-map farmers (λ (f : Farmer). f.bidder), lt)))
+      subst P (get_or-map (λ (f : BidderWithWords). f.bidder) farmers i nobody nobody.bidder lt)
+      (h i nobody.bidder (omega (arith, length-map farmers (λ (f : BidderWithWords). f.bidder), lt)))
 
   is-curve : (i : ℕ) → i < length farmers → IsCurve (farmer i).bidder.curve
   is-curve = at-bidder (λ x. IsCurve x.curve) whole.curves
@@ -104,10 +118,10 @@ module _ (book : Book) (words : Words) (b : IsBook book) (can : CanStart book wo
 
   enough : (i : ℕ) → i < length farmers → 2 * grid.prices ≤ length (accepted (farmer i).words)
   enough i lt =
-      let all : All (CanDeal (counts_of grid)) (map (λ (f : Farmer). f.words) farmers) = subst (All (CanDeal (counts_of grid)))
+      let all : All (CanDeal (counts_of grid)) (map (λ (f : BidderWithWords). f.words) farmers) = subst (All (CanDeal (counts_of grid)))
       (farmers-words book.bidders words.bidders can.lists) can.bidders in
-      let here = all i [] (omega (arith, length-map farmers (λ (f : Farmer). f.words), lt)) in
-      let same = get_or-map (λ (f : Farmer). f.words) farmers i nobody [] lt in
+      let here = all i [] (omega (arith, length-map farmers (λ (f : BidderWithWords). f.words), lt)) in
+      let same = get_or-map (λ (f : BidderWithWords). f.words) farmers i nobody [] lt in
       (subst (CanDeal (counts_of grid)) same here).enough
 
   count : length views.one.bidders ≡ length farmers
@@ -128,23 +142,26 @@ module _ (book : Book) (words : Words) (b : IsBook book) (can : CanStart book wo
       ap marks_in (member-trio (view_for book words) s) ∙ map-map (λ (seen : Seen). seen.known) (seen_at grid s) farmers
       ∙ sym (map-map (λ (seen : Seen). seen.known) (seen_at grid One) farmers)
 
-  keeps : (i : ℕ) → i < length farmers → (s : Point) → IfSome (bidder_at (member views s) i).own (Keeps grid (farmer i).bidder.curve (points_of_bidder views i))
+  keeps : (i : ℕ) → i < length farmers → (s : Point) →
+      IfSome (bidder_at (member views s) i).own (KeepsBid grid (farmer i).bidder.curve (points_of_bidder views i))
   keeps i lt s =
       let f = farmer i in
-      let keep : Keeps grid f.bidder.curve (points_of_bidder views i) (f.bidder.curve, f.words) = record {
+      let keep : KeepsBid grid f.bidder.curve (points_of_bidder views i) (f.bidder.curve, f.words) = record {
         bid = refl;
         words = enough i lt;
         deals = points-of i lt ∙ seen-dealt grid f (of-grid i lt) (enough i lt);
       } in
-      subst (λ (view : Viewed). IfSome (bidder_at view i).own (Keeps grid f.bidder.curve (points_of_bidder views i))) (sym (member-trio (view_for book words) s))
-      (subst (λ (seen : Seen). IfSome seen.own (Keeps grid f.bidder.curve (points_of_bidder views i))) (sym (seen-by s i lt))
-      (if-some (Keeps grid f.bidder.curve (points_of_bidder views i)) (names f.bidder.known s) (f.bidder.curve, f.words) keep))
+      subst (λ (view : Viewed). IfSome (bidder_at view i).own (KeepsBid grid f.bidder.curve (points_of_bidder views i)))
+      (sym (member-trio (view_for book words) s))
+      (subst (λ (seen : Seen). IfSome seen.own (KeepsBid grid f.bidder.curve (points_of_bidder views i))) (sym (seen-by s i lt))
+      (if-some (KeepsBid grid f.bidder.curve (points_of_bidder views i)) (names f.bidder.known s) (f.bidder.curve, f.words) keep))
 
   bids-at : (i : ℕ) → i < length farmers → Bids grid views i (farmer i).bidder.curve
   bids-at i lt = record {
     is_curve = is-curve i lt;
     of_grid = of-grid i lt;
-    shares = subst (AreShares (quantities (farmer i).bidder.curve)) (sym (points-of i lt)) (seen-shares grid (farmer i) (of-grid i lt) (enough i lt));
+    shares = subst (AreShares (quantities (farmer i).bidder.curve)) (sym (points-of i lt))
+        (seen-shares grid (farmer i) (of-grid i lt) (enough i lt));
     known = keeps i lt;
   }
 
@@ -157,7 +174,8 @@ module _ (book : Book) (words : Words) (b : IsBook book) (can : CanStart book wo
       sum_by (λ points. slice_index (member points s) k) (all_points views) ≡ sum_by (λ f. point_for f s k) farmers
   same-sum s k lt =
       ap (λ n. sum_by (λ points. slice_index (member points s) k) (each (points_of_bidder views) n)) count
-      ∙ sum-each (λ (points : Trio (List ℕ)). slice_index (member points s) k) (points_of_bidder views) (λ (f : Farmer). point_for f s k) farmer (length farmers)
+      ∙ sum-each (λ (points : Trio (List ℕ)). slice_index (member points s) k) (points_of_bidder views)
+      (λ (f : BidderWithWords). point_for f s k) farmer (length farmers)
       (λ i within.
       ap (λ points. slice_index (member points s) k) (points-of i within)
       ∙ ap (λ (l : List ℕ). slice_index l k) (member-trio (λ s. each (point_for (farmer i) s) (2 * grid.prices)) s)
@@ -199,7 +217,7 @@ module _ (book : Book) (words : Words) (b : IsBook book) (can : CanStart book wo
   -- and their points recombine to the book
   pub same-book : recombined_book grid views ≡ book
   same-book =
-      let bidder = λ (f : Farmer). f.bidder in
+      let bidder = λ (f : BidderWithWords). f.bidder in
       let bidders : each (recombined_bidder grid views) (length views.one.bidders) ≡ book.bidders =
       ap (each (recombined_bidder grid views)) count
       ∙ each-same (recombined_bidder grid views) (λ i. (farmer i).bidder) (length farmers) same-bidder

@@ -1,5 +1,6 @@
 -- The run of three views ends as the auction of the curves that their points recombine to.
-use Rattle.std.proofs.Common.{◌≡◌, ◌<◌, ◌≤◌, ◌*◌, ◌%◌, ℕ, zero, suc, List, [], ◌∷◌, length, slice_index, All, arith, refl, sym, ◌∙◌, ap, subst}
+use Rattle.std.proofs.Common.{◌≡◌, ◌<◌, ◌≤◌, ◌*◌, ◌%◌, ℕ, zero, suc, List, [], ◌∷◌, length, slice_index, All, arith}
+use Rattle.std.proofs.Common.{refl, sym, ◌∙◌, ap, subst}
 use Rattle.std.specs.Prelude.{sum_by}
 use Rattle.std.proofs.lemmas.List.Elements.{All-head, All-tail}
 use Rattle.std.proofs.lemmas.List.Sums.{sum_by_push}
@@ -21,7 +22,7 @@ use Rattle.beet_bids.specs.declared.book.Bidder.{Bidder}
 use Rattle.beet_plan.specs.Auction.{auction_over}
 use Rattle.beet_plan.specs.declared.Finish.{Finish}
 use Rattle.beet_book.specs.Dealing.{quantities}
-use Rattle.beet_book.specs.Farmers.{Farmer, book_inputs, book_with, point_for, summed_point}
+use Rattle.beet_book.specs.Farmers.{BidderWithWords, book_inputs, book_with, point_for, summed_point}
 use Rattle.beet_book.specs.PointSums.{inputs_at, sum_at}
 use Rattle.beet_book.specs.Totals.{points_on, supply_first}
 use Rattle.beet_auction.specs.AnyPoints.{points_finish, points_rounds}
@@ -54,7 +55,8 @@ all-accepted (x ∷ xs) h =
     let rest = all-accepted xs (All-tail IsElement x xs h) in
     grind (arith, common_steps)
 
-point-on : (points : Trio (List ℕ)) (k v a : ℕ) (s : Point) → points_on points k ≡ points_of v a → slice_index (member points s) k ≡ point_of v a s
+point-on : (points : Trio (List ℕ)) (k v a : ℕ) (s : Point) → points_on points k ≡ points_of v a →
+    slice_index (member points s) k ≡ point_of v a s
 point-on points k v a One e = ap (λ (t : Trio ℕ). t.one) e
 point-on points k v a Two e = ap (λ (t : Trio ℕ). t.two) e
 point-on points k v a Three e = ap (λ (t : Trio ℕ). t.three) e
@@ -68,10 +70,10 @@ module _ (grid : Grid) (views : Trio Viewed) (few : length views.one.bidders ≤
   abbrev pub slopes : ℕ → List ℕ
   slopes i = each (own_slope (points_of_bidder views i)) (2 * grid.prices)
 
-  abbrev pub farmer : ℕ → Farmer
+  abbrev pub farmer : ℕ → BidderWithWords
   farmer i = record { bidder = recombined_bidder grid views i; words = slopes i }
 
-  abbrev pub farmers : List Farmer
+  abbrev pub farmers : List BidderWithWords
   farmers = each farmer n
 
   drawn : (i : ℕ) → accepted (slopes i) ≡ slopes i
@@ -81,10 +83,12 @@ module _ (grid : Grid) (views : Trio Viewed) (few : length views.one.bidders ≤
         below-slope : (points : Trio (List ℕ)) (k : ℕ) → IsElement (own_slope points k)
         below-slope points k = omega arith
 
-  same-point : (s : Point) (k : ℕ) → k < 2 * grid.prices → (i : ℕ) → i < n → slice_index (member (points_of_bidder views i) s) k ≡ point_for (farmer i) s k
+  same-point : (s : Point) (k : ℕ) → k < 2 * grid.prices → (i : ℕ) → i < n →
+      slice_index (member (points_of_bidder views i) s) k ≡ point_for (farmer i) s k
   same-point s k lt i within =
       let points = points_of_bidder views i in
-      let slope : slice_index (accepted (slopes i)) k ≡ own_slope points k = ap (λ (l : List ℕ). slice_index l k) (drawn i) ∙ item-each (own_slope points) (2 * grid.prices) k lt in
+      let slope : slice_index (accepted (slopes i)) k ≡ own_slope points k =
+      ap (λ (l : List ℕ). slice_index l k) (drawn i) ∙ item-each (own_slope points) (2 * grid.prices) k lt in
       point-on points k (value_at points k) (own_slope points k) s (lines i within k lt)
       ∙ ap (λ v. point_of v (own_slope points k) s) (sym (item-quantities grid.prices points k lt))
       ∙ ap (λ a. point_of (slice_index (quantities (curve_of grid.prices points)) k) a s) (sym slope)
@@ -95,24 +99,28 @@ module _ (grid : Grid) (views : Trio Viewed) (few : length views.one.bidders ≤
       ap (supply_first grid.prices)
       (each-same (sum_at (all_points views) s) (summed_point farmers s) (2 * grid.prices)
       (λ k lt. ap (λ m. m % p)
-      (sum-each (λ (points : Trio (List ℕ)). slice_index (member points s) k) (points_of_bidder views) (λ (f : Farmer). point_for f s k) farmer n (same-point s k lt))))
+      (sum-each (λ (points : Trio (List ℕ)). slice_index (member points s) k) (points_of_bidder views)
+      (λ (f : BidderWithWords). point_for f s k) farmer n (same-point s k lt))))
 
   pub same-inputs : inputs_at grid.prices (all_points views) ≡ book_inputs grid.prices farmers
   same-inputs = λ j. record { one = same-inputs-at One j; two = same-inputs-at Two j; three = same-inputs-at Three j }
 
   pub same-book : book_with grid farmers ≡ recombined_book grid views
-  same-book = ap (λ (l : List Bidder). record { grid = grid; bidders = l }) (map-each (λ (f : Farmer). f.bidder) farmer n)
+  same-book = ap (λ (l : List Bidder). record { grid = grid; bidders = l }) (map-each (λ (f : BidderWithWords). f.bidder) farmer n)
 
   pub is-recombined : IsBook (recombined_book grid views)
   is-recombined = record {
     few = omega (arith, length-each (recombined_bidder grid views) n, few);
     curves = all-each (λ (b : Bidder). IsCurve b.curve) (recombined_bidder grid views) n curves;
-    of_grid = all-each (λ (b : Bidder). IsOfGrid grid b.curve) (recombined_bidder grid views) n (λ i lt. of-grid grid.prices (points_of_bidder views i) grid refl);
+    of_grid = all-each (λ (b : Bidder). IsOfGrid grid b.curve) (recombined_bidder grid views) n
+        (λ i lt. of-grid grid.prices (points_of_bidder views i) grid refl);
   }
 
   -- so the run ends with the outcome of the book of these curves
-  pub ends-recombined : (words : Trio ServerWords) (finish : Finish) (rounds : ℕ) → EndsAuction grid (inputs_at grid.prices (all_points views)) words finish rounds →
-      (finish ≡ book_finish (recombined_book grid views) (masks_of words)) × (rounds ≡ book_rounds (recombined_book grid views) (masks_of words))
+  pub ends-recombined : (words : Trio ServerWords) (finish : Finish) (rounds : ℕ) →
+      EndsAuction grid (inputs_at grid.prices (all_points views)) words finish rounds →
+      (finish ≡ book_finish (recombined_book grid views) (masks_of words))
+      × (rounds ≡ book_rounds (recombined_book grid views) (masks_of words))
   ends-recombined words finish rounds h =
       let a = auction_over grid in
       let inputs = inputs_at grid.prices (all_points views) in
@@ -124,6 +132,8 @@ module _ (grid : Grid) (views : Trio Viewed) (few : length views.one.bidders ≤
       let lined = book-lines grid farmers is_book in
       let ss = slopes_of grid farmers in
       let dealt = book_inputs grid.prices farmers in (
-        end.0 ∙ ap (λ t. points_finish a t masks) same-inputs ∙ points-finish book ss dealt masks is_book lined ∙ ap (λ (b : Book). book_finish b masks) same-book,
-        end.1 ∙ ap (λ t. points_rounds a t masks) same-inputs ∙ points-rounds book ss dealt masks is_book lined ∙ ap (λ (b : Book). book_rounds b masks) same-book,
+        end.0 ∙ ap (λ t. points_finish a t masks) same-inputs ∙ points-finish book ss dealt masks is_book lined
+            ∙ ap (λ (b : Book). book_finish b masks) same-book,
+        end.1 ∙ ap (λ t. points_rounds a t masks) same-inputs ∙ points-rounds book ss dealt masks is_book lined
+            ∙ ap (λ (b : Book). book_rounds b masks) same-book,
       )

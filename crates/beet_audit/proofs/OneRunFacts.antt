@@ -10,7 +10,9 @@ use Rattle.beet_round.specs.Sides.{peer}
 use Rattle.beet_round.specs.declared.sides.Side.TheVariants.{Low, High}
 use Rattle.beet_sharing.specs.Runs.{Setup, message}
 use Rattle.beet_view.specs.Views.{Viewed, IsView}
-use Rattle.beet_audit.specs.Audits.{Finds, HaveElements, Header, HeaderFits, IsStep, Known, Lines, Message, MessageFrom, Monotone, OneBidder, RoundMessages, Rounds, Tapes, curve_of, first_of, held_from, points_of_bidder, rounds_of, run_of, value_at}
+use Rattle.beet_audit.specs.Audits.{Finds, HaveElements, Header, HeaderFits, IsStep, Known, Lines, Message, MessageFrom}
+use Rattle.beet_audit.specs.Audits.{Monotone, OneBidder, RoundMessages, Rounds, Tapes, curve_of, first_of, held_from}
+use Rattle.beet_audit.specs.Audits.{points_of_bidder, rounds_of, run_of, value_at}
 use Rattle.beet_audit.specs.OneRuns.{OneRun}
 use Rattle.beet_audit.specs.Verdicts.{Wants, InTurn, EachBelow, EachServer}
 use Rattle.beet_audit.specs.declared.fault.AuditFault.TheVariants.{NotALine, NotMonotone, LengthDiffers, MessageDiffers}
@@ -19,7 +21,8 @@ use Rattle.beet_audit.specs.declared.fault.Side.TheVariants.{Buy, Sell}
 use Rattle.beet_audit.proofs.BidFacts.{bids-from_right, right-from_bids}
 use Rattle.beet_audit.proofs.PointFacts.{have-lengths}
 use Rattle.beet_audit.proofs.RoundFacts.{message-right, right-message, rounds-many, seen-all, seen-high, seen-low}
-use Rattle.beet_audit.proofs.VerdictFacts.{FindsOne, Tells, all-servers, each-server, one-below, one-servers, one-turn, one-wants, tells-below, tells-servers, tells-turn, tells-wants}
+use Rattle.beet_audit.proofs.VerdictFacts.{FindsOne, Tells, all-servers, each-server, one-below, one-servers, one-turn}
+use Rattle.beet_audit.proofs.VerdictFacts.{one-wants, tells-below, tells-servers, tells-turn, tells-wants}
 
 module _ (grid : Grid) (views : Trio Viewed) where
   abbrev o : Setup
@@ -44,8 +47,10 @@ module _ (grid : Grid) (views : Trio Viewed) where
           all-servers (Rounds views rounds) (λ s. rounds-many o (member views s) s (h.servers s) rounds (h.rounds s)),
           λ t lt. all-servers (λ r. InTurn (MessageFrom o views t r (peer r Low)) (MessageFrom o views t r (peer r High)))
               (λ s. (
-                right-message (peer s Low) s t (held_from (member views s) t (peer s Low)) (message o (peer s Low) s t) (seen-low o (member views s) s (h.servers s) rounds (h.rounds s) t lt),
-                right-message (peer s High) s t (held_from (member views s) t (peer s High)) (message o (peer s High) s t) (seen-high o (member views s) s (h.servers s) rounds (h.rounds s) t lt),
+                right-message (peer s Low) s t (held_from (member views s) t (peer s Low)) (message o (peer s Low) s t)
+                    (seen-low o (member views s) s (h.servers s) rounds (h.rounds s) t lt),
+                right-message (peer s High) s t (held_from (member views s) t (peer s High)) (message o
+                    (peer s High) s t) (seen-high o (member views s) s (h.servers s) rounds (h.rounds s) t lt),
               )),
         ),
       ),
@@ -65,8 +70,10 @@ module _ (grid : Grid) (views : Trio Viewed) where
         tapes = each-server (Tapes grid views) h.1.1.0;
         rounds = λ s.
             seen-all o (member views s) s (fit s).server rounds (each-server (Rounds views rounds) h.1.1.1.0 s)
-            (λ t lt. message-right (peer s Low) s t (held_from (member views s) t (peer s Low)) (message o (peer s Low) s t) (both-low s h.1.1.1.1 t lt).0)
-            (λ t lt. message-right (peer s High) s t (held_from (member views s) t (peer s High)) (message o (peer s High) s t) (both-low s h.1.1.1.1 t lt).1);
+            (λ t lt. message-right (peer s Low) s t (held_from (member views s) t (peer s Low))
+            (message o (peer s Low) s t) (both-low s h.1.1.1.1 t lt).0)
+            (λ t lt. message-right (peer s High) s t (held_from (member views s) t (peer s High))
+            (message o (peer s High) s t) (both-low s h.1.1.1.1 t lt).1);
       }
 
   tells-message : (sender receiver : Point) (t : ℕ) (held sent : List ℕ) → Tells (Message sender receiver t held sent)
@@ -78,7 +85,8 @@ module _ (grid : Grid) (views : Trio Viewed) where
   tells-round : (t : ℕ) → Tells (RoundMessages o views t)
   tells-round t =
       tells-servers (λ s. InTurn (MessageFrom o views t s (peer s Low)) (MessageFrom o views t s (peer s High)))
-      (λ s. tells-turn (MessageFrom o views t s (peer s Low)) (MessageFrom o views t s (peer s High)) (tells-from t s (peer s Low)) (tells-from t s (peer s High)))
+      (λ s. tells-turn (MessageFrom o views t s (peer s Low)) (MessageFrom o views t s (peer s High))
+      (tells-from t s (peer s Low)) (tells-from t s (peer s High)))
 
   tells-bidder : (i : ℕ) → Tells (OneBidder grid.prices views i)
   tells-bidder i fault h n = elim n [
@@ -109,10 +117,12 @@ module _ (grid : Grid) (views : Trio Viewed) where
   one-message sender receiver t held sent =
       let counts = LengthDiffers sender receiver t (length held) (length sent) in
       let differs = λ (k : ℕ). MessageDiffers sender receiver t k (slice_index held k) (slice_index sent k) in
-      one-turn (Wants (length held ≡ length sent) counts) (EachBelow (length sent) (λ k. Wants (slice_index held k ≡ slice_index sent k) (differs k)))
+      one-turn (Wants (length held ≡ length sent) counts)
+      (EachBelow (length sent) (λ k. Wants (slice_index held k ≡ slice_index sent k) (differs k)))
       (tells-wants (length held ≡ length sent) counts) (one-wants (length held ≡ length sent) counts)
       (one-below (length sent) (λ k. Wants (slice_index held k ≡ slice_index sent k) (differs k))
-      (λ k. tells-wants (slice_index held k ≡ slice_index sent k) (differs k)) (λ k. one-wants (slice_index held k ≡ slice_index sent k) (differs k)))
+      (λ k. tells-wants (slice_index held k ≡ slice_index sent k) (differs k))
+      (λ k. one-wants (slice_index held k ≡ slice_index sent k) (differs k)))
 
   one-from : (t : ℕ) (s sender : Point) → FindsOne (MessageFrom o views t s sender)
   one-from t s sender = one-message sender s t (held_from (member views s) t sender) (message o sender s t)
@@ -134,9 +144,11 @@ module _ (grid : Grid) (views : Trio Viewed) where
       let known = Known prices views i in
       let tells : (side : Side) → Tells (lines side) = λ side fault h n. n.3.0 (h n.0 n.1) in
       let one : (side : Side) → FindsOne (lines side) = λ side.
-      one-below prices (λ k. Wants (IsLine (points_on points (first_of prices side + k))) (NotALine (i + 1) k side)) (λ k fault h n. n.0 h) (λ k a b h n. h.1 ∙ sym n.1) in
+      one-below prices (λ k. Wants (IsLine (points_on points (first_of prices side + k))) (NotALine (i + 1) k side))
+      (λ k fault h n. n.0 h) (λ k a b h n. h.1 ∙ sym n.1) in
       let steps : FindsOne monotone =
-      one-below prices (λ k. Wants (IsStep prices (value_at points) k) (NotMonotone (i + 1) k)) (λ k fault h n. n.0 h) (λ k a b h n. h.1 ∙ sym n.1) in
+      one-below prices (λ k. Wants (IsStep prices (value_at points) k) (NotMonotone (i + 1) k)) (λ k fault h n. n.0 h)
+      (λ k a b h n. h.1 ∙ sym n.1) in
       one-turn (lines Buy) (InTurn (lines Sell) (InTurn monotone known)) (tells Buy) (one Buy)
       (one-turn (lines Sell) (InTurn monotone known) (tells Sell) (one Sell)
       (one-turn monotone known (λ fault h n. n.3.0 (h n.0 n.1)) steps (λ a b h n. h.1 ∙ sym n.1)))
@@ -151,7 +163,8 @@ module _ (grid : Grid) (views : Trio Viewed) where
       let messages = EachBelow rounds (RoundMessages o views) in
       one-turn headers (InTurn bidders (InTurn tapes (InTurn counts messages))) (tells-servers (Header grid views) (λ s fault h n. n.0 h))
       (one-servers (Header grid views) (λ s fault h n. n.0 h) (λ s a b h n. h.1 ∙ sym n.1))
-      (one-turn bidders (InTurn tapes (InTurn counts messages)) (tells-below (length views.one.bidders) (OneBidder grid.prices views) tells-bidder)
+      (one-turn bidders (InTurn tapes (InTurn counts messages))
+      (tells-below (length views.one.bidders) (OneBidder grid.prices views) tells-bidder)
       (one-below (length views.one.bidders) (OneBidder grid.prices views) tells-bidder one-bidder)
       (one-turn tapes (InTurn counts messages) (tells-servers (Tapes grid views) (λ s fault h n. n.0 h))
       (one-servers (Tapes grid views) (λ s fault h n. n.0 h) (λ s a b h n. h.1 ∙ sym n.1))

@@ -1,5 +1,6 @@
 -- Points of three views on lines.
-use Rattle.std.proofs.Common.{◌≡◌, ◌<◌, ◌≤◌, ◌+◌, ◌*◌, ◌-◌, ◌%◌, ℕ, List, [], length, get_or, slice_index, map, None, Option, inl, inr, arith, sym, ◌∙◌, ap, subst, length-append}
+use Rattle.std.proofs.Common.{◌≡◌, ◌<◌, ◌≤◌, ◌+◌, ◌*◌, ◌-◌, ◌%◌, ℕ, List, [], length, get_or, slice_index, map, None}
+use Rattle.std.proofs.Common.{Option, inl, inr, arith, sym, ◌∙◌, ap, subst, length-append}
 use Rattle.std.proofs.lemmas.Bool.{cases_lt}
 use Rattle.std.proofs.lemmas.List.{get_or-map, length-map, ext_get_or, get_or_append_left, get_or-append_right}
 use Rattle.std.proofs.lemmas.Grind.{same_number_lists}
@@ -38,7 +39,8 @@ pub value-on : (v s : ℕ) → v < p → recombined (points_of v s) ≡ v
 value-on v s h = omega arith
 
 -- bidders whose marks are the same one by one have the same marks
-pub marks-same : (first bidders : List Seen) → length bidders ≡ length first → ((k : ℕ) (d : Seen) → k < length first → (get_or bidders k d).known ≡ (get_or first k d).known) →
+pub marks-same : (first bidders : List Seen) → length bidders ≡ length first →
+    ((k : ℕ) (d : Seen) → k < length first → (get_or bidders k d).known ≡ (get_or first k d).known) →
     map (λ (seen : Seen). seen.known) bidders ≡ map (λ (seen : Seen). seen.known) first
 marks-same first bidders long same =
     let mark = λ (seen : Seen). seen.known in
@@ -50,13 +52,15 @@ marks-same first bidders long same =
     get_or-map mark bidders k d None here ∙ same k d there ∙ sym (get_or-map mark first k d None there))
 
 -- and those whose marks are the same are as many
-pub marks-length : (first bidders : List Seen) → map (λ (seen : Seen). seen.known) bidders ≡ map (λ (seen : Seen). seen.known) first → length bidders ≡ length first
+pub marks-length : (first bidders : List Seen) →
+    map (λ (seen : Seen). seen.known) bidders ≡ map (λ (seen : Seen). seen.known) first → length bidders ≡ length first
 marks-length first bidders e =
     let mark = λ (seen : Seen). seen.known in
     sym (length-map bidders mark) ∙ ap (λ (l : List (Option Point)). length l) e ∙ length-map first mark
 
 -- and have each the same
-pub marks-at : (first bidders : List Seen) (k : ℕ) (d : Seen) → map (λ (seen : Seen). seen.known) bidders ≡ map (λ (seen : Seen). seen.known) first → k < length first →
+pub marks-at : (first bidders : List Seen) (k : ℕ) (d : Seen) →
+    map (λ (seen : Seen). seen.known) bidders ≡ map (λ (seen : Seen). seen.known) first → k < length first →
     (get_or bidders k d).known ≡ (get_or first k d).known
 marks-at first bidders k d e lt =
     let mark = λ (seen : Seen). seen.known in
@@ -70,7 +74,8 @@ length-quantities prices points =
     let sell = each (λ k. value_at points (prices + k)) prices in
     omega (arith, length-append buy sell, length-each (value_at points) prices, length-each (λ k. value_at points (prices + k)) prices)
 
-pub item-quantities : (prices : ℕ) (points : Trio (List ℕ)) (n : ℕ) → n < 2 * prices → slice_index (quantities (curve_of prices points)) n ≡ value_at points n
+pub item-quantities : (prices : ℕ) (points : Trio (List ℕ)) (n : ℕ) → n < 2 * prices →
+    slice_index (quantities (curve_of prices points)) n ≡ value_at points n
 item-quantities prices points n lt =
     let buy = each (value_at points) prices in
     let sell = each (λ k. value_at points (prices + k)) prices in
@@ -85,7 +90,8 @@ item-quantities prices points n lt =
     ]
 
 -- points on the lines of values and slopes
-pub item-shares : (vs ss : List ℕ) (n : ℕ) → n < length vs → n < length ss → points_on (shares_of vs ss) n ≡ points_of (slice_index vs n) (slice_index ss n)
+pub item-shares : (vs ss : List ℕ) (n : ℕ) → n < length vs → n < length ss →
+    points_on (shares_of vs ss) n ≡ points_of (slice_index vs n) (slice_index ss n)
 item-shares vs ss n h i = λ j. record {
   one = item-pairwise (λ v s. point_of v s One) vs ss n h i j;
   two = item-pairwise (λ v s. point_of v s Two) vs ss n h i j;
@@ -93,7 +99,8 @@ item-shares vs ss n h i = λ j. record {
 }
 
 -- what is dealt of a quantity
-pub dealt-here : (vs ss : List ℕ) (n q value slope : ℕ) (dealt : Trio ℕ) → q ≡ slice_index vs n → q ≤ LARGEST_QUANTITY → value ≡ q % p → slope ≡ slice_index ss n →
+pub dealt-here : (vs ss : List ℕ) (n q value slope : ℕ) (dealt : Trio ℕ) → q ≡ slice_index vs n → q ≤ LARGEST_QUANTITY →
+    value ≡ q % p → slope ≡ slice_index ss n →
     dealt ≡ points_of value slope → dealt ≡ points_of (slice_index vs n) (slice_index ss n)
 dealt-here vs ss n q value slope dealt is limit reduced at h =
     let v : value ≡ slice_index vs n = omega (arith, is, limit, reduced) in
@@ -103,9 +110,12 @@ dealt-here vs ss n q value slope dealt is limit reduced at h =
 pub trio-same : (first second : Trio (List ℕ)) (n : ℕ) → HasLengths first n → HasLengths second n →
     ((k : ℕ) → k < n → points_on first k ≡ points_on second k) → first ≡ second
 trio-same first second n h i same =
-    let one = same_number_lists first.one second.one (h.one ∙ sym i.one) (λ k lt. ap (λ (t : Trio ℕ). t.one) (same k (omega (arith, h.one, lt)))) in
-    let two = same_number_lists first.two second.two (h.two ∙ sym i.two) (λ k lt. ap (λ (t : Trio ℕ). t.two) (same k (omega (arith, h.two, lt)))) in
-    let three = same_number_lists first.three second.three (h.three ∙ sym i.three) (λ k lt. ap (λ (t : Trio ℕ). t.three) (same k (omega (arith, h.three, lt)))) in
+    let one = same_number_lists first.one second.one (h.one ∙ sym i.one)
+    (λ k lt. ap (λ (t : Trio ℕ). t.one) (same k (omega (arith, h.one, lt)))) in
+    let two = same_number_lists first.two second.two (h.two ∙ sym i.two)
+    (λ k lt. ap (λ (t : Trio ℕ). t.two) (same k (omega (arith, h.two, lt)))) in
+    let three = same_number_lists first.three second.three (h.three ∙ sym i.three)
+    (λ k lt. ap (λ (t : Trio ℕ). t.three) (same k (omega (arith, h.three, lt)))) in
     λ j. record { one = one j; two = two j; three = three j }
 
 pub lengths-shares : (vs ss : List ℕ) (n : ℕ) → length vs ≡ n → n ≤ length ss → HasLengths (shares_of vs ss) n
@@ -116,11 +126,13 @@ lengths-shares vs ss n h i = record {
 }
 
 -- the points of a bidder in views that fit, of which there are two for each price
-module _ (grid : Grid) (views : Trio Viewed) (fit : (s : Point) → HeaderFits grid views.one s (member views s)) (limits : (s : Point) → IsView (member views s)) where
+module _ (grid : Grid) (views : Trio Viewed) (fit : (s : Point) → HeaderFits grid views.one s (member views s))
+    (limits : (s : Point) → IsView (member views s)) where
   pub bidders-many : (s : Point) → length (member views s).bidders ≡ length views.one.bidders
   bidders-many s = marks-length views.one.bidders (member views s).bidders (fit s).marks
 
-  seen-at : (s : Point) (i : ℕ) → i < length views.one.bidders → IsSeenAt (member views s).server (member views s).grid (bidder_at (member views s) i)
+  seen-at : (s : Point) (i : ℕ) → i < length views.one.bidders →
+      IsSeenAt (member views s).server (member views s).grid (bidder_at (member views s) i)
   seen-at s i lt = (limits s).seen i (record { known = None; points = []; own = None }) (omega (arith, bidders-many s, lt))
 
   points-many : (s : Point) (i : ℕ) → i < length views.one.bidders → length (bidder_at (member views s) i).points ≡ 2 * grid.prices
@@ -130,7 +142,8 @@ module _ (grid : Grid) (views : Trio Viewed) (fit : (s : Point) → HeaderFits g
   have-lengths i lt = record { one = points-many One i lt; two = points-many Two i lt; three = points-many Three i lt }
 
 -- what holds at each place of both sides holds of all
-pub both-sides : (P : ℕ → Type 0) (prices : ℕ) → ((k : ℕ) → k < prices → P (0 + k)) → ((k : ℕ) → k < prices → P (prices + k)) → (n : ℕ) → n < 2 * prices → P n
+pub both-sides : (P : ℕ → Type 0) (prices : ℕ) → ((k : ℕ) → k < prices → P (0 + k)) →
+    ((k : ℕ) → k < prices → P (prices + k)) → (n : ℕ) → n < 2 * prices → P n
 both-sides P prices buy sell n lt = elim (cases_lt n prices) [
   | inl low ↦ let at : 0 + n ≡ n = omega arith in subst P at (buy n low)
   | inr high ↦ let at : prices + (n - prices) ≡ n = omega (arith, high) in subst P at (sell (n - prices) (omega (arith, high, lt)))
@@ -138,7 +151,8 @@ both-sides P prices buy sell n lt = elim (cases_lt n prices) [
 
 -- a curve with the quantities that points recombine to
 pub curve-same : (curve : Curve) (prices : ℕ) (points : Trio (List ℕ)) → length curve.buy ≡ prices → length curve.sell ≡ prices →
-    ((k : ℕ) → k < prices → slice_index curve.buy k ≡ value_at points k) → ((k : ℕ) → k < prices → slice_index curve.sell k ≡ value_at points (prices + k)) →
+    ((k : ℕ) → k < prices → slice_index curve.buy k ≡ value_at points k) →
+    ((k : ℕ) → k < prices → slice_index curve.sell k ≡ value_at points (prices + k)) →
     curve ≡ curve_of prices points
 curve-same curve prices points buying selling bought sold =
     let sells = λ (k : ℕ). value_at points (prices + k) in

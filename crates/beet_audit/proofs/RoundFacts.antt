@@ -1,5 +1,6 @@
 -- What a view holds of a run, round by round.
-use Rattle.std.proofs.Common.{◌≡◌, ◌≢◌, ◌<◌, ℕ, List, [], length, slice_index, slice_get, get_or, Option, Some, None, Result, unwrap_or, arith, refl, sym, ◌∙◌, ap, subst}
+use Rattle.std.proofs.Common.{◌≡◌, ◌≢◌, ◌<◌, ℕ, List, [], length, slice_index, slice_get, get_or, Option, Some, None}
+use Rattle.std.proofs.Common.{Result, unwrap_or, arith, refl, sym, ◌∙◌, ap, subst}
 use Rattle.std.specs.Prelude.{option_and_then}
 use Rattle.std.proofs.lemmas.List.{get_or_default, same_lists}
 use Rattle.std.proofs.lemmas.Option.{slice_get_read}
@@ -15,8 +16,9 @@ use Rattle.beet_round.specs.declared.sides.Side.TheVariants.{Low, High}
 use Rattle.beet_server.specs.Cores.{Core}
 use Rattle.beet_server.specs.Steps.{received_from}
 use Rattle.beet_sharing.specs.Runs.{Setup, message}
+use Rattle.beet_sharing.specs.Seen.{round_seen, rounds_seen}
 use Rattle.beet_server.specs.Lockstep.{IsAtRound}
-use Rattle.beet_view.specs.RunViews.{round_received, round_seen, rounds_seen}
+use Rattle.beet_view.specs.RunViews.{round_received}
 use Rattle.beet_view.specs.Views.{Viewed, from_peer}
 use Rattle.beet_view.proofs.RunFacts.{rounds-fit}
 use Rattle.beet_audit.specs.Audits.{Message, MessageFrom, Rounds, held_from}
@@ -38,7 +40,8 @@ from-high One round = refl
 from-high Two round = refl
 from-high Three round = refl
 
-module _ (view : Viewed) (s : Point) (named : view.server ≡ s) (t : ℕ) (round : List ℕ × List ℕ) (there : slice_get view.rounds t ≡ Some round) where
+module _ (view : Viewed) (s : Point) (named : view.server ≡ s) (t : ℕ) (round : List ℕ × List ℕ)
+    (there : slice_get view.rounds t ≡ Some round) where
   held-of : (sender : Point) → held_from view t sender ≡ unwrap_or (from_peer s sender round) []
   held-of sender =
       ap (λ (o : Option (List ℕ × List ℕ)). unwrap_or (option_and_then (from_peer view.server sender) o) []) there
@@ -80,14 +83,16 @@ module _ (o : Setup) (view : Viewed) (s : Point) (named : view.server ≡ s) (ro
       (λ t d lt.
       let within : t < rounds = omega (arith, many, lt) in
       let round : List ℕ × List ℕ = get_or view.rounds t d in
-      let there : slice_get view.rounds t ≡ Some round = slice_get_read view.rounds (length view.rounds) t round refl lt (get_or_default view.rounds t d round lt) in
+      let there : slice_get view.rounds t ≡ Some round =
+      slice_get_read view.rounds (length view.rounds) t round refl lt (get_or_default view.rounds t d round lt) in
       let first : round.0 ≡ message o (peer s Low) s t = sym (held-low view s named t round there) ∙ low t within in
       let second : round.1 ≡ message o (peer s High) s t = sym (held-high view s named t round there) ∙ high t within in
       let both : round ≡ round_seen o s t = λ j. (first j, second j) in
       both ∙ sym (get_or-each (round_seen o s) rounds t d within))
 
 -- what a core at the end of the run received
-module _ (o : Setup) (rounds : ℕ) (s : Point) (core : Core Auction) (at : IsAtRound auction_batch o rounds s core) (t : ℕ) (lt : t < rounds) where
+module _ (o : Setup) (rounds : ℕ) (s : Point) (core : Core Auction) (at : IsAtRound auction_batch o rounds s core)
+    (t : ℕ) (lt : t < rounds) where
   both-received : round_received core t ≡ round_seen o s t
   both-received =
       let within : t < core.round = subst (λ n. t < n) (sym at.round) lt in
@@ -97,32 +102,40 @@ module _ (o : Setup) (rounds : ℕ) (s : Point) (core : Core Auction) (at : IsAt
       ∙ ap (λ (me : Point). round_seen o me t) at.name
 
   pub received-low : unwrap_or (received_from core t (peer s Low)) [] ≡ message o (peer s Low) s t
-  received-low = ap (λ (me : Point). unwrap_or (received_from core t (peer me Low)) []) (sym at.name) ∙ ap (λ (b : List ℕ × List ℕ). b.0) both-received
+  received-low = ap (λ (me : Point). unwrap_or (received_from core t (peer me Low)) []) (sym at.name)
+      ∙ ap (λ (b : List ℕ × List ℕ). b.0) both-received
 
   pub received-high : unwrap_or (received_from core t (peer s High)) [] ≡ message o (peer s High) s t
-  received-high = ap (λ (me : Point). unwrap_or (received_from core t (peer me High)) []) (sym at.name) ∙ ap (λ (b : List ℕ × List ℕ). b.1) both-received
+  received-high = ap (λ (me : Point). unwrap_or (received_from core t (peer me High)) []) (sym at.name)
+      ∙ ap (λ (b : List ℕ × List ℕ). b.1) both-received
 
 -- what is found of a message that a core received is found of that of the run
-pub judged-low : {U : Type 0} (result : Result U AuditFault) (o : Setup) (rounds : ℕ) (s : Point) (view : Viewed) (core : Core Auction) (t : ℕ) (sender : Point) → IsAtRound auction_batch o rounds s core → t < rounds →
+pub judged-low : {U : Type 0} (result : Result U AuditFault) (o : Setup) (rounds : ℕ) (s : Point) (view : Viewed)
+    (core : Core Auction) (t : ℕ) (sender : Point) → IsAtRound auction_batch o rounds s core → t < rounds →
     sender ≡ peer s Low → Judges (Message sender s t (held_from view t sender) (unwrap_or (received_from core t sender) [])) result →
     Judges (Message (peer s Low) s t (held_from view t (peer s Low)) (message o (peer s Low) s t)) result
 judged-low result o rounds s view core t sender at lt e h =
-    subst (λ (sent : List ℕ). Judges (Message (peer s Low) s t (held_from view t (peer s Low)) sent) result) (received-low o rounds s core at t lt)
+    subst (λ (sent : List ℕ). Judges (Message (peer s Low) s t (held_from view t (peer s Low)) sent) result)
+    (received-low o rounds s core at t lt)
     (subst (λ (from : Point). Judges (Message from s t (held_from view t from) (unwrap_or (received_from core t from) [])) result) e h)
 
-pub judged-high : {U : Type 0} (result : Result U AuditFault) (o : Setup) (rounds : ℕ) (s : Point) (view : Viewed) (core : Core Auction) (t : ℕ) (sender : Point) → IsAtRound auction_batch o rounds s core → t < rounds →
+pub judged-high : {U : Type 0} (result : Result U AuditFault) (o : Setup) (rounds : ℕ) (s : Point) (view : Viewed)
+    (core : Core Auction) (t : ℕ) (sender : Point) → IsAtRound auction_batch o rounds s core → t < rounds →
     sender ≡ peer s High → Judges (Message sender s t (held_from view t sender) (unwrap_or (received_from core t sender) [])) result →
     Judges (Message (peer s High) s t (held_from view t (peer s High)) (message o (peer s High) s t)) result
 judged-high result o rounds s view core t sender at lt e h =
-    subst (λ (sent : List ℕ). Judges (Message (peer s High) s t (held_from view t (peer s High)) sent) result) (received-high o rounds s core at t lt)
+    subst (λ (sent : List ℕ). Judges (Message (peer s High) s t (held_from view t (peer s High)) sent) result)
+    (received-high o rounds s core at t lt)
     (subst (λ (from : Point). Judges (Message from s t (held_from view t from) (unwrap_or (received_from core t from) [])) result) e h)
 
 -- what is found of the rounds of a core is found of those of the run
 pub judged-count : (fault : AuditFault) (views : Trio Viewed) (s : Point) (count rounds : ℕ) → count ≡ rounds →
-    (fault ≢ OutOfMemory → Wants (length (member views s).rounds ≡ count) (RoundsDiffer s (length (member views s).rounds) count) (Some fault)) →
+    (fault ≢ OutOfMemory → Wants (length (member views s).rounds ≡ count)
+    (RoundsDiffer s (length (member views s).rounds) count) (Some fault)) →
     fault ≢ OutOfMemory → Rounds views rounds s (Some fault)
 judged-count fault views s count rounds e h =
-    subst (λ n. fault ≢ OutOfMemory → Wants (length (member views s).rounds ≡ n) (RoundsDiffer s (length (member views s).rounds) n) (Some fault)) e h
+    subst (λ n. fault ≢ OutOfMemory →
+    Wants (length (member views s).rounds ≡ n) (RoundsDiffer s (length (member views s).rounds) n) (Some fault)) e h
 
 -- both messages to a server
 abbrev pub BothTo : Setup → Trio Viewed → ℕ → Point → Option AuditFault → Type 0

@@ -25,20 +25,26 @@ use Rattle.beet_view.specs.Views.{Viewed}
 use Rattle.beet_audit.specs.Audits.{RunsAgain, all_points, points_of_bidder, rounds_of, run_of, words_in}
 
 -- the points of one bidder more are added
-pub adds-none : (grid : Grid) (views : Trio Viewed) (totals : Totals) → totals ≡ none_of grid.prices → AddsUp grid totals (each (points_of_bidder views) 0)
-adds-none grid views totals e = e ∙ sums-none grid.prices ∙ ap (λ (l : List (Trio (List ℕ))). record { prices = grid.prices; points = sums_at grid.prices l }) (sym (each-zero (points_of_bidder views)))
+pub adds-none : (grid : Grid) (views : Trio Viewed) (totals : Totals) → totals ≡ none_of grid.prices →
+    AddsUp grid totals (each (points_of_bidder views) 0)
+adds-none grid views totals e = e ∙ sums-none grid.prices ∙ ap (λ (l : List (Trio (List ℕ))).
+    record { prices = grid.prices; points = sums_at grid.prices l }) (sym (each-zero (points_of_bidder views)))
 
-pub adds-more : (grid : Grid) (views : Trio Viewed) (before after : Totals) (points : Trio (List ℕ)) (i : ℕ) → AddsUp grid before (each (points_of_bidder views) i) →
-    points ≡ points_of_bidder views i → HasLengths points (2 * grid.prices) → after ≡ record before { points = added before.points points } →
+pub adds-more : (grid : Grid) (views : Trio Viewed) (before after : Totals) (points : Trio (List ℕ)) (i : ℕ) →
+    AddsUp grid before (each (points_of_bidder views) i) →
+    points ≡ points_of_bidder views i → HasLengths points (2 * grid.prices) →
+    after ≡ record before { points = added before.points points } →
     AddsUp grid after (each (points_of_bidder views) (i + 1))
 adds-more grid views before after points i h e long a =
     let items = each (points_of_bidder views) i in
     a ∙ ap (λ (t : Totals). record t { points = added t.points points }) h
     ∙ ap (λ (sums : Trio (List ℕ)). record { prices = grid.prices; points = sums }) (sums-more grid.prices items points long)
     ∙ ap (λ (p : Trio (List ℕ)). record { prices = grid.prices; points = sums_at grid.prices (items ++ p ∷ []) }) e
-    ∙ ap (λ (l : List (Trio (List ℕ))). record { prices = grid.prices; points = sums_at grid.prices l }) (sym (each-more (points_of_bidder views) i))
+    ∙ ap (λ (l : List (Trio (List ℕ))). record { prices = grid.prices; points = sums_at grid.prices l })
+    (sym (each-more (points_of_bidder views) i))
 
-module _ (grid : Grid) (views : Trio Viewed) (inputs : Trio (List ℕ)) (totals : Totals) (i : inputs ≡ wires_of totals) (sums : AddsUp grid totals (all_points views))
+module _ (grid : Grid) (views : Trio Viewed) (inputs : Trio (List ℕ)) (totals : Totals) (i : inputs ≡ wires_of totals)
+    (sums : AddsUp grid totals (all_points views))
     (words : Trio ServerWords) (w : words ≡ of_each words_in views) where
   inputs-are : inputs ≡ inputs_at grid.prices (all_points views)
   inputs-are = i ∙ ap wires_of sums
@@ -50,14 +56,17 @@ module _ (grid : Grid) (views : Trio Viewed) (inputs : Trio (List ℕ)) (totals 
   enough h = subst (HaveEnough (counts_of grid)) (sym w) (record { one = h One; two = h Two; three = h Three })
 
   same-setup : setup_with grid inputs words ≡ run_of grid views
-  same-setup = ap (λ (x : Trio (List ℕ)). setup_with grid x words) inputs-are ∙ ap (setup_with grid (inputs_at grid.prices (all_points views))) w
+  same-setup = ap (λ (x : Trio (List ℕ)). setup_with grid x words) inputs-are
+      ∙ ap (setup_with grid (inputs_at grid.prices (all_points views))) w
 
-  module _ (start cores : Trio (Core Auction)) (starts : Starts grid inputs words start) (ended : HaveEnded auction_batch inputs_of most_rounds start cores) where
+  module _ (start cores : Trio (Core Auction)) (starts : Starts grid inputs words start)
+      (ended : HaveEnded auction_batch inputs_of most_rounds start cores) where
     stands : (s : Point) → IsAtRound auction_batch (run_of grid views) (rounds_of grid views) s (member cores s)
     stands s =
         let o = run_of grid views in
         subst (λ n. IsAtRound auction_batch o n s (member cores s)) (ap (λ a. rounds_among o (most_rounds a)) (starts.script One))
-        (subst (λ (x : Setup). IsAtRound auction_batch x (rounds_among x (most_rounds start.one.script)) s (member cores s)) (starts.setup ∙ same-setup) (ended.ended s))
+        (subst (λ (x : Setup). IsAtRound auction_batch x (rounds_among x (most_rounds start.one.script)) s
+        (member cores s)) (starts.setup ∙ same-setup) (ended.ended s))
 
     -- and so they have run to the end
     pub ran : RunsAgain grid views cores

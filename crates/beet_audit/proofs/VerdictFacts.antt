@@ -10,21 +10,25 @@ use Rattle.beet_audit.specs.declared.fault.AuditFault.{AuditFault}
 use Rattle.beet_audit.specs.declared.fault.AuditFault.TheVariants.{OutOfMemory}
 
 -- what the exit of a `?` returns
-pub exits : {U : Type 0} (finds : Option AuditFault → Type 0) (fault : AuditFault) (result : Result U AuditFault) → IsErrAnd result (λ e. e ≡ fault) →
+pub exits : {U : Type 0} (finds : Option AuditFault → Type 0) (fault : AuditFault) (result : Result U AuditFault) →
+    IsErrAnd result (λ e. e ≡ fault) →
     (fault ≢ OutOfMemory → finds (Some fault)) → Judges finds result
 exits finds fault result e h = let p = err_from_is_err_and result e in rw (p.1, p.2) h
 
 -- that of want of memory
-pub no_memory : {U : Type 0} (finds : Option AuditFault → Type 0) (result : Result U AuditFault) → IsErrAnd result (λ e. e ≡ OutOfMemory) → Judges finds result
+pub no_memory : {U : Type 0} (finds : Option AuditFault → Type 0) (result : Result U AuditFault) →
+    IsErrAnd result (λ e. e ≡ OutOfMemory) → Judges finds result
 no_memory finds result e = let p = err_from_is_err_and result e in rw (p.1, p.2) (λ ne. absurd (ne refl))
 
 -- nothing is wrong with the first, and what is found of the second is what is found
-pub goes_on : {U : Type 0} (a b : Option AuditFault → Type 0) (result : Result U AuditFault) → a None → Judges b result → Judges (InTurn a b) result
+pub goes_on : {U : Type 0} (a b : Option AuditFault → Type 0) (result : Result U AuditFault) → a None →
+    Judges b result → Judges (InTurn a b) result
 goes_on a b (Ok value) h j = (h, j)
 goes_on a b (Err fault) h j = λ ne. inr (h, j ne)
 
 -- the first is wrong
-pub stops : {U : Type 0} (a b : Option AuditFault → Type 0) (result : Result U AuditFault) → (fault : AuditFault) → IsErrAnd result (λ e. e ≡ fault) →
+pub stops : {U : Type 0} (a b : Option AuditFault → Type 0) (result : Result U AuditFault) → (fault : AuditFault) →
+    IsErrAnd result (λ e. e ≡ fault) →
     (fault ≢ OutOfMemory → a (Some fault)) → Judges (InTurn a b) result
 stops a b result fault e h = exits (InTurn a b) fault result e (λ ne. inl (h ne))
 
@@ -36,8 +40,10 @@ below_next P i before here k lt = elim (cases_lt k i) [
 ]
 
 -- one of several is wrong
-pub stops_at : {U : Type 0} (n : ℕ) (at : ℕ → Option AuditFault → Type 0) (result : Result U AuditFault) (i : ℕ) (fault : AuditFault) → i < n →
-    ((k : ℕ) → k < i → at k None) → IsErrAnd result (λ e. e ≡ fault) → (fault ≢ OutOfMemory → at i (Some fault)) → Judges (EachBelow n at) result
+pub stops_at : {U : Type 0} (n : ℕ) (at : ℕ → Option AuditFault → Type 0) (result : Result U AuditFault) (i : ℕ)
+    (fault : AuditFault) → i < n →
+    ((k : ℕ) → k < i → at k None) → IsErrAnd result (λ e. e ≡ fault) → (fault ≢ OutOfMemory → at i (Some fault)) →
+    Judges (EachBelow n at) result
 stops_at n at result i fault lt before e h = exits (EachBelow n at) fault result e (λ ne. (i, lt, before, h ne))
 
 -- what is found is not found beside nothing
@@ -78,7 +84,8 @@ one-turn a b ta oa ob one other h i = elim h [
   | inr second ↦ elim i [ inl first' ↦ absurd (ta other second.0 first') | inr second' ↦ ob one other second.1 second'.1 ]
 ]
 
-pub one-below : (n : ℕ) (at : ℕ → Option AuditFault → Type 0) → ((k : ℕ) → Tells (at k)) → ((k : ℕ) → FindsOne (at k)) → FindsOne (EachBelow n at)
+pub one-below : (n : ℕ) (at : ℕ → Option AuditFault → Type 0) → ((k : ℕ) → Tells (at k)) → ((k : ℕ) → FindsOne (at k)) →
+    FindsOne (EachBelow n at)
 one-below n at t o one other h i = elim (cases_lt h.0 i.0) [
   | inl less ↦ absurd (t h.0 one (i.2 h.0 less) h.3)
   | inr more ↦ elim (cases_lt i.0 h.0) [
@@ -87,6 +94,7 @@ one-below n at t o one other h i = elim (cases_lt h.0 i.0) [
   ]
 ]
 
-pub one-servers : (at : Point → Option AuditFault → Type 0) → ((s : Point) → Tells (at s)) → ((s : Point) → FindsOne (at s)) → FindsOne (EachServer at)
+pub one-servers : (at : Point → Option AuditFault → Type 0) → ((s : Point) → Tells (at s)) →
+    ((s : Point) → FindsOne (at s)) → FindsOne (EachServer at)
 one-servers at t o =
     one-turn (at One) (InTurn (at Two) (at Three)) (t One) (o One) (one-turn (at Two) (at Three) (t Two) (o Two) (o Three))

@@ -1,6 +1,8 @@
--- What is wanted of three views, in the order in which it is looked for: that they are of servers 1, 2 and 3 of one auction, that the bidders'
--- points are lines of curves, that the tapes have the words of a run, and that the rounds and messages are those of the run.
-use Rattle.std.specs.Prelude.{◌≡◌, ◌+◌, ◌*◌, ◌≤◌, ◌<◌, ℕ, List, [], length, map, slice_index, slice_index_or, Option, Some, None, unwrap_or, IfSome}
+-- What is wanted of three views, in the order in which it is looked for: that they are of servers 1, 2 and 3 of one
+-- auction, that the bidders' points are lines of curves, that the tapes have the words of a run, and that the rounds
+-- and messages are those of the run.
+use Rattle.std.specs.Prelude.{◌≡◌, ◌+◌, ◌*◌, ◌^◌, ◌≤◌, ◌<◌, ℕ, List, [], length, map, slice_index, slice_index_or}
+use Rattle.std.specs.Prelude.{Option, Some, None, unwrap_or, IfSome}
 use Rattle.beet_field.specs.Trio.{member, of_each}
 use Rattle.beet_field.specs.declared.point.Point.{Point}
 use Rattle.beet_field.specs.declared.trio.Trio.{Trio}
@@ -17,7 +19,7 @@ use Rattle.beet_plan.specs.Auction.{Auction, auction_batch, auction_over, auctio
 use Rattle.beet_plan.specs.declared.Finish.{Finish}
 use Rattle.beet_server.specs.Cores.{Core}
 use Rattle.beet_server.specs.Lockstep.{IsAtRound}
-use Rattle.beet_book.specs.Dealing.{dealt_points}
+use Rattle.beet_book.specs.Dealing.{HasLengths, dealt_points}
 use Rattle.beet_book.specs.PointSums.{inputs_at}
 use Rattle.beet_book.specs.Totals.{points_on}
 use Rattle.beet_round.specs.Sides.{peer}
@@ -30,7 +32,9 @@ use Rattle.beet_view.specs.declared.view.Seen.{Seen}
 use Rattle.beet_view.specs.Views.{Viewed, numbers_of}
 use Rattle.beet_audit.specs.Verdicts.{EachBelow, EachServer, InTurn, Wants}
 use Rattle.beet_audit.specs.declared.fault.AuditFault.{AuditFault}
-use Rattle.beet_audit.specs.declared.fault.AuditFault.TheVariants.{HeaderDiffers, NotALine, NotMonotone, KnownDiffers, TooFewWords, RoundsDiffer, LengthDiffers, MessageDiffers}
+use Rattle.beet_audit.specs.declared.fault.AuditFault.TheVariants.{HeaderDiffers, NotALine, NotMonotone, KnownDiffers}
+use Rattle.beet_audit.specs.declared.fault.AuditFault.TheVariants.{TooFewWords, RoundsDiffer, LengthDiffers}
+use Rattle.beet_audit.specs.declared.fault.AuditFault.TheVariants.{MessageDiffers}
 use Rattle.beet_audit.specs.declared.fault.Side.{Side}
 use Rattle.beet_audit.specs.declared.fault.Side.TheVariants.{Buy, Sell}
 
@@ -38,7 +42,8 @@ use Rattle.beet_audit.specs.declared.fault.Side.TheVariants.{Buy, Sell}
 abbrev pub marks_in : Viewed → List (Option Point)
 marks_in view = map (λ seen. seen.known) view.bidders
 
--- a view in the place of a server: it is of this server, over this grid, and has the bidders of the first view, with their marks
+-- a view in the place of a server: it is of this server, over this grid, and has the bidders of the first view, with
+-- their marks
 pub record HeaderFits (grid : Grid) (first : Viewed) (s : Point) (view : Viewed) : Type 0 where
   pub server : view.server ≡ s
   pub over : view.grid ≡ grid
@@ -55,6 +60,12 @@ bidder_at view i = slice_index_or view.bidders i (record { known = None; points 
 abbrev pub points_of_bidder : Trio Viewed → ℕ → Trio (List ℕ)
 points_of_bidder views i = of_each (λ view. (bidder_at view i).points) views
 
+-- each view has the bidder at this place, with two points for each price at each server
+pub record IsBidderOf (prices : ℕ) (views : Trio Viewed) (i : ℕ) : Type 0 where
+  pub lengths : HasLengths (points_of_bidder views i) (2 * prices)
+  pub there : (s : Point) → i < length (member views s).bidders
+  pub over : (s : Point) → (member views s).grid.prices ≡ prices
+
 -- each server has an n-th point
 pub record HavePlace (points : Trio (List ℕ)) (n : ℕ) : Type 0 where
   pub one : n < length points.one
@@ -67,7 +78,8 @@ value_at points n = recombined (points_on points n)
 
 -- the quantities that the points recombine to: buy at each place, and then sell
 abbrev pub curve_of : ℕ → Trio (List ℕ) → Curve
-curve_of prices points = record { buy = each (value_at points) prices; sell = each (λ k. value_at points (prices + k)) prices }
+curve_of prices points =
+    record { buy = each (value_at points) prices; sell = each (λ k. value_at points (prices + k)) prices }
 
 -- where the points of a side begin
 abbrev pub first_of : ℕ → Side → ℕ
@@ -79,8 +91,8 @@ abbrev pub Lines : ℕ → ℕ → Trio (List ℕ) → Side → Option AuditFaul
 Lines prices i points side =
     EachBelow prices (λ k. Wants (IsLine (points_on points (first_of prices side + k))) (NotALine (i + 1) k side))
 
--- what is bought and sold at a place, where these are the quantities: both are within the limit, buy does not rise from the place before, and
--- sell does not fall
+-- what is bought and sold at a place, where these are the quantities: both are within the limit, buy does not rise from
+-- the place before, and sell does not fall
 pub record IsStep (prices : ℕ) (values : ℕ → ℕ) (k : ℕ) : Type 0 where
   pub buy_limit : values k ≤ LARGEST_QUANTITY
   pub sell_limit : values (prices + k) ≤ LARGEST_QUANTITY
@@ -90,8 +102,8 @@ pub record IsStep (prices : ℕ) (values : ℕ → ℕ) (k : ℕ) : Type 0 where
 abbrev pub Monotone : ℕ → ℕ → Trio (List ℕ) → Option AuditFault → Type 0
 Monotone prices i points = EachBelow prices (λ k. Wants (IsStep prices (value_at points) k) (NotMonotone (i + 1) k))
 
--- a curve and words that a server keeps of a bidder: the curve is what the points recombine to, and they are what it deals with the words, of
--- which there are enough
+-- a curve and words that a server keeps of a bidder: the curve is what the points recombine to, and they are what it
+-- deals with the words, of which there are enough
 pub record IsKnown (prices : ℕ) (points : Trio (List ℕ)) (own : Curve × List ℕ) : Type 0 where
   pub curve : own.0 ≡ curve_of prices points
   pub words : 2 * prices ≤ length (accepted own.1)
@@ -99,20 +111,22 @@ pub record IsKnown (prices : ℕ) (points : Trio (List ℕ)) (own : Curve × Lis
 
 abbrev pub Known : ℕ → Trio Viewed → ℕ → Option AuditFault → Type 0
 Known prices views i =
-    Wants ((s : Point) → IfSome (bidder_at (member views s) i).own (IsKnown prices (points_of_bidder views i))) (KnownDiffers (i + 1))
+    Wants ((s : Point) → IfSome (bidder_at (member views s) i).own (IsKnown prices (points_of_bidder views i)))
+    (KnownDiffers (i + 1))
 
 -- one bidder after another: its lines, its curve, and what a server knows of it
 abbrev pub OneBidder : ℕ → Trio Viewed → ℕ → Option AuditFault → Type 0
 OneBidder prices views i =
     let points = points_of_bidder views i in
-    InTurn (Lines prices i points Buy) (InTurn (Lines prices i points Sell) (InTurn (Monotone prices i points) (Known prices views i)))
+    InTurn (Lines prices i points Buy)
+    (InTurn (Lines prices i points Sell) (InTurn (Monotone prices i points) (Known prices views i)))
 
 -- the points of all bidders are numbers of the field
 abbrev pub HaveElements : Grid → Trio Viewed → Type 0
 HaveElements grid views =
-    (i : ℕ) → i < length views.one.bidders → (n : ℕ) → n < 2 * grid.prices → AreElements (points_on (points_of_bidder views i) n)
+    (i : ℕ) → i < length views.one.bidders → (n : ℕ) → n < 2 * grid.prices →
+    AreElements (points_on (points_of_bidder views i) n)
 
--- the words of a server
 abbrev pub words_in : Viewed → ServerWords
 words_in view = record { masks = view.masks; coefficients = view.coefficients }
 
@@ -123,11 +137,11 @@ Tapes grid views s = Wants (HasEnough (counts_of grid) (words_in (member views s
 abbrev pub all_points : Trio Viewed → List (Trio (List ℕ))
 all_points views = each (points_of_bidder views) (length views.one.bidders)
 
--- the run of three servers on these points, added up, and the words of the tapes; the messages of the views are no part of it
+-- the run of three servers on these points, added up, and the words of the tapes; the messages of the views are no part
+-- of it
 abbrev pub run_of : Grid → Trio Viewed → Setup
 run_of grid views = setup_with grid (inputs_at grid.prices (all_points views)) (of_each words_in views)
 
--- its rounds
 abbrev pub rounds_of : Grid → Trio Viewed → ℕ
 rounds_of grid views = rounds_among (run_of grid views) (most_rounds (auction_over grid))
 
@@ -145,21 +159,28 @@ Rounds views rounds s = let held = length (member views s).rounds in Wants (held
 abbrev pub held_from : Viewed → ℕ → Point → List ℕ
 held_from view t sender = unwrap_or (numbers_of view t sender) []
 
+-- a view holds a message of so many numbers as no memory holds
+abbrev pub HoldsTooMany : Trio Viewed → Type 0
+HoldsTooMany views = (s : Point) × (t : ℕ) × (sender : Point) × (2 ^ 32 ≤ length (held_from (member views s) t sender))
+
 -- a message that is held is the one that is sent: it has as many numbers, and then each is the same
 abbrev pub Message : Point → Point → ℕ → List ℕ → List ℕ → Option AuditFault → Type 0
 Message sender receiver t held sent =
     InTurn (Wants (length held ≡ length sent) (LengthDiffers sender receiver t (length held) (length sent)))
     (EachBelow (length sent) (λ k.
-    Wants (slice_index held k ≡ slice_index sent k) (MessageDiffers sender receiver t k (slice_index held k) (slice_index sent k))))
+    Wants (slice_index held k ≡ slice_index sent k)
+    (MessageDiffers sender receiver t k (slice_index held k) (slice_index sent k))))
 
 -- that of a sender in a view
 abbrev pub MessageFrom : Setup → Trio Viewed → ℕ → Point → Point → Option AuditFault → Type 0
-MessageFrom o views t receiver sender = Message sender receiver t (held_from (member views receiver) t sender) (message o sender receiver t)
+MessageFrom o views t receiver sender =
+    Message sender receiver t (held_from (member views receiver) t sender) (message o sender receiver t)
 
 -- both messages to each server in a round, the lower sender's first
 abbrev pub RoundMessages : Setup → Trio Viewed → ℕ → Option AuditFault → Type 0
 RoundMessages o views t =
-    EachServer (λ receiver. InTurn (MessageFrom o views t receiver (peer receiver Low)) (MessageFrom o views t receiver (peer receiver High)))
+    EachServer (λ receiver. InTurn (MessageFrom o views t receiver (peer receiver Low))
+    (MessageFrom o views t receiver (peer receiver High)))
 
 -- the first thing that is wrong with three views over a grid, or that nothing is
 abbrev pub Finds : Grid → Trio Viewed → Option AuditFault → Type 0
@@ -168,7 +189,8 @@ Finds grid views =
     let rounds = rounds_of grid views in
     InTurn (EachServer (Header grid views))
     (InTurn (EachBelow (length views.one.bidders) (OneBidder grid.prices views))
-    (InTurn (EachServer (Tapes grid views)) (InTurn (EachServer (Rounds views rounds)) (EachBelow rounds (RoundMessages o views)))))
+    (InTurn (EachServer (Tapes grid views))
+    (InTurn (EachServer (Rounds views rounds)) (EachBelow rounds (RoundMessages o views)))))
 
 -- the book of the curves that the points recombine to, with the marks of the first view
 abbrev pub recombined_bidder : Grid → Trio Viewed → ℕ → Bidder
@@ -178,4 +200,5 @@ recombined_bidder grid views i = record {
 }
 
 abbrev pub recombined_book : Grid → Trio Viewed → Book
-recombined_book grid views = record { grid = grid; bidders = each (recombined_bidder grid views) (length views.one.bidders) }
+recombined_book grid views =
+    record { grid = grid; bidders = each (recombined_bidder grid views) (length views.one.bidders) }

@@ -1,13 +1,14 @@
 //! The audit.
 
-ghost use Rattle.std.specs.Prelude.{◌≡◌, ◌≢◌, MatchResult, IfOk, Some};
+ghost use Rattle.std.specs.Prelude.{◌≡◌, ◌≢◌, MatchResult, IfErr, IfOk, Some};
 ghost use Rattle.beet_field.specs.Trio.{of_each};
 ghost use Rattle.beet_gates.specs.Plans.{plan_finish};
 ghost use Rattle.beet_bids.specs.Grids.{Grid as Auction};
 ghost use Rattle.beet_plan.specs.Auction.{auction_plan};
 ghost use Rattle.beet_auction.specs.Endings.{book_finish, book_rounds};
 ghost use Rattle.beet_run.specs.Runs.{HasEndedRun};
-ghost use Rattle.beet_audit.specs.Audits.{Finds, RoundMessages, Rounds, RunsAgain, recombined_book, rounds_of, run_of};
+ghost use Rattle.beet_audit.specs.Audits.{Finds, HoldsTooMany, RoundMessages, Rounds, RunsAgain, recombined_book};
+ghost use Rattle.beet_audit.specs.Audits.{rounds_of, run_of};
 ghost use Rattle.beet_audit.specs.OneRuns.{OneRun};
 ghost use Rattle.beet_audit.specs.Verdicts.{EachBelow, EachServer, InTurn, Judges};
 ghost use Rattle.beet_audit.specs.declared.fault.AuditFault.TheVariants.{OutOfMemory as Memory};
@@ -46,6 +47,7 @@ fn compare(
     ensures finish { IfOk result (λ audited.
         plan_finish (auction_plan cores.now.one.script) cores.now.one.opened ≡ Some audited.finish) }
     ensures rounds { IfOk result (λ audited. audited.rounds ≡ cores.now.one.round) }
+    ensures memory { IfErr result (λ fault. fault ≡ Memory → HoldsTooMany views.now) }
 {
     check_rounds(views, cores)?;
     check_messages(views, cores)?;
@@ -55,12 +57,12 @@ fn compare(
     })
 }
 
-/// Whether three views are those of servers 1, 2 and 3 in one run of the auction over the grid, or the first thing that is
-/// wrong.
+/// Whether three views are those of servers 1, 2 and 3 in one run of the auction over the grid, or the first thing that
+/// is wrong.
 ///
-/// First the headers are compared, then each bidder is looked at, and then the tapes are counted. Then three servers run
-/// the auction again on the points and the tapes of the views, and the rounds and the messages of the views are compared
-/// with those of this run.
+/// First the headers are compared, then each bidder is looked at, and then the tapes are counted. Then three servers
+/// run the auction again on the points and the tapes of the views, and the rounds and the messages of the views are
+/// compared with those of this run.
 pub fn audit(alloc: Global, grid: &Grid, views: &Trio<View>) -> Result<Audited, AuditFault>
     ensures found { Judges (Finds grid.now views.now) result }
     ensures one_run { MatchResult result (λ audited. OneRun grid.now views.now)

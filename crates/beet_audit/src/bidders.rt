@@ -2,7 +2,7 @@
 
 ghost use Rattle.std.specs.Prelude.{◌≡◌, ◌<◌, ◌≤◌, ◌*◌, ℕ, IfOk, length};
 ghost use Rattle.beet_field.specs.Trio.{member};
-ghost use Rattle.beet_field.specs.declared.point.Point.{Point as Server};
+ghost use Rattle.beet_field.specs.declared.point.Point.{Point};
 ghost use Rattle.beet_shamir.specs.Line.{AreElements};
 ghost use Rattle.beet_words.specs.declared.bundle.TheConstants.{MOST_BIDDERS};
 ghost use Rattle.beet_bids.specs.declared.grid.TheConstants.{MOST_PRICES};
@@ -30,8 +30,8 @@ fn check_bidder(
     requires lengths { HasLengths (points_of_bidder views.now bidder) (2 * prices) }
     requires few { bidder < MOST_BIDDERS }
     requires limit { prices ≤ MOST_PRICES }
-    requires bidder { (s : Server) → bidder < length (member views.now s).bidders }
-    requires prices { (s : Server) → (member views.now s).grid.prices ≡ prices }
+    requires bidder { (s : Point) → bidder < length (member views.now s).bidders }
+    requires prices { (s : Point) → (member views.now s).grid.prices ≡ prices }
     ensures bidder { Judges (OneBidder prices views.now bidder) result }
     ensures elements { IfOk result (λ done. (n : ℕ) → n < 2 * prices
         → AreElements (points_on (points_of_bidder views.now bidder) n)) }
@@ -49,8 +49,8 @@ pub(crate) fn check_bidders(
     grid: &Grid,
     views: &Trio<View>,
 ) -> Result<(), AuditFault>
-    requires fit { (s : Server) → HeaderFits grid.now views.now.one s (member views.now s) }
-    requires limits { (s : Server) → IsView (member views.now s) }
+    requires fit { (s : Point) → HeaderFits grid.now views.now.one s (member views.now s) }
+    requires limits { (s : Point) → IsView (member views.now s) }
     ensures bidders { Judges (EachBelow (length views.now.one.bidders) (OneBidder grid.now.prices views.now)) result }
     ensures elements { IfOk result (λ done. HaveElements grid.now views.now) }
 {

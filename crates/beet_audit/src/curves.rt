@@ -1,14 +1,16 @@
 //! Whether the points of a bidder are those of lines, and what they recombine to is a curve.
 
-ghost use Rattle.std.specs.Prelude.{◌≡◌, ◌↔◌, ◌<◌, ◌≤◌, ◌*◌, ◌+◌, ℕ, IsTrue, IfOk};
+ghost use Rattle.std.specs.Prelude.{◌≡◌, ◌≢◌, ◌↔◌, ◌<◌, ◌≤◌, ◌*◌, ◌+◌, ℕ, IsTrue, IfErr, IfOk};
 ghost use Rattle.beet_shamir.specs.Line.{AreElements};
 ghost use Rattle.beet_words.specs.declared.bundle.TheConstants.{MOST_BIDDERS};
 ghost use Rattle.beet_bids.specs.declared.curve.TheConstants.{LARGEST_QUANTITY as Largest};
 ghost use Rattle.beet_bids.specs.declared.grid.TheConstants.{MOST_PRICES};
 ghost use Rattle.beet_book.specs.Dealing.{HasLengths};
 ghost use Rattle.beet_book.specs.Totals.{points_on};
-ghost use Rattle.beet_audit.specs.Audits.{IsStep, Lines, Monotone, first_of as begins, points_of_bidder, value_at as value_of};
+ghost use Rattle.beet_audit.specs.Audits.{IsStep, Lines, Monotone, first_of as begins, points_of_bidder};
+ghost use Rattle.beet_audit.specs.Audits.{value_at as value_of};
 ghost use Rattle.beet_audit.specs.Verdicts.{Judges};
+ghost use Rattle.beet_audit.specs.declared.fault.AuditFault.TheVariants.{OutOfMemory as Memory};
 
 use crate::fault::{AuditFault, Side};
 use crate::points::{points_at, value_at};
@@ -40,6 +42,7 @@ pub(crate) fn check_lines(
     ensures lines { Judges (Lines prices bidder (points_of_bidder views.now bidder) side) result }
     ensures elements { IfOk result (λ done. (k : ℕ) → k < prices
         → AreElements (points_on (points_of_bidder views.now bidder) (begins prices side + k))) }
+    ensures memory { IfErr result (λ fault. fault ≢ Memory) }
 {
     let first = first_of(prices, side);
     for place in 0..prices {
@@ -93,7 +96,8 @@ pub(crate) fn check_monotone(views: &Trio<View>, bidder: u32, prices: u32) -> Re
     requires lengths { HasLengths (points_of_bidder views.now bidder) (2 * prices) }
     requires few { bidder < MOST_BIDDERS }
     requires limit { prices ≤ MOST_PRICES }
-    ensures { Judges (Monotone prices bidder (points_of_bidder views.now bidder)) result }
+    ensures monotone { Judges (Monotone prices bidder (points_of_bidder views.now bidder)) result }
+    ensures memory { IfErr result (λ fault. fault ≢ Memory) }
 {
     for place in 0..prices {
         if !is_step(views, bidder, prices, place) {

@@ -13,19 +13,20 @@ pub enum Side {
     Sell,
 }
 
-/// Why three views are not the views of one run: the first thing that is wrong, in the order of these variants, or want of
-/// memory. Bidders count from 1, places and rounds from 0. The three things that are looked for at one bidder come before
-/// those at the next, and what is looked for in one message before what is in the next.
+/// Why three views are not the views of one run: the first thing that is wrong, in the order of these variants, or want
+/// of memory. Bidders count from 1, places and rounds from 0. The three things that are looked for at one bidder come
+/// before those at the next, and what is looked for in one message before what is in the next.
 #[derive(Clone, Copy, PartialEq, Eq, Debug, Error)]
 pub enum AuditFault {
-    /// The view in the place of this server is not its view, or not over the grid, or its bidders or their marks are not
-    /// those of the first view.
+    /// The view in the place of this server is not its view, or not over the grid, or its bidders or their marks are
+    /// not those of the first view.
     #[error("a view has another server, grid, number of bidders or mark")]
     HeaderDiffers(Point),
     /// The three points of this bidder at this place of this side lie on no line.
     #[error("points of bidder {0} at place {1} lie on no line")]
     NotALine(u32, u32, Side),
-    /// What this bidder buys or sells at this place is too much, or it buys more or sells less than at the place before.
+    /// What this bidder buys or sells at this place is too much, or it buys more or sells less than at the place
+    /// before.
     #[error("bidder {0} breaks the rules for curves at place {1}")]
     NotMonotone(u32, u32),
     /// The curve or the words that a server keeps of this bidder are not those of its points.
@@ -40,7 +41,8 @@ pub enum AuditFault {
     /// The message of this sender to this receiver in this round has so many numbers, and in the run so many.
     #[error("a message of round {2} has {3} numbers, and in the run {4}")]
     LengthDiffers(Point, Point, u32, u32, u32),
-    /// The message of this sender to this receiver in this round has this number at this place, and in the run that one.
+    /// The message of this sender to this receiver in this round has this number at this place, and in the run that
+    /// one.
     #[error("a message of round {2} has another number at place {3}")]
     MessageDiffers(Point, Point, u32, u32, Fe, Fe),
     /// Memory ran out.

@@ -2,23 +2,22 @@
 
 ghost use Rattle.std.specs.Prelude.{◌≡◌, ◌↔◌, ◌<◌, ◌≤◌, ◌*◌, ℕ, IsTrue, IfOk, IfSome, length, slice_index};
 ghost use Rattle.beet_field.specs.Trio.{member};
-ghost use Rattle.beet_field.specs.declared.point.Point.{Point as Server};
+ghost use Rattle.beet_field.specs.declared.point.Point.{Point};
 ghost use Rattle.beet_words.specs.Words.{accepted};
 ghost use Rattle.beet_words.specs.declared.bundle.TheConstants.{MOST_BIDDERS};
 ghost use Rattle.beet_bids.specs.declared.curve.TheConstants.{LARGEST_QUANTITY as Largest};
 ghost use Rattle.beet_bids.specs.declared.grid.TheConstants.{MOST_PRICES};
 ghost use Rattle.beet_book.specs.Dealing.{HasLengths, dealt_points, quantities};
-ghost use Rattle.beet_audit.specs.Audits.{IsKnown, Known, bidder_at, curve_of, points_of_bidder};
+ghost use Rattle.beet_audit.specs.Audits.{IsBidderOf, IsKnown, Known, bidder_at, curve_of, points_of_bidder};
 ghost use Rattle.beet_audit.specs.Verdicts.{Judges};
 
 use crate::fault::AuditFault;
 use crate::points::{points_at, value_at};
 use beet_bids::Curve;
 use beet_field::{Fe, Trio};
-use beet_map::numbers_in;
 use beet_shamir::deal;
 use beet_view::View;
-use beet_words::WordList;
+use beet_words::{WordList, numbers_in};
 use std::alloc::{AllocError, Global};
 
 /// Whether a curve is what the points of a bidder recombine to.
@@ -132,11 +131,9 @@ pub(crate) fn check_known(
     bidder: u32,
     prices: u32,
 ) -> Result<(), AuditFault>
-    requires lengths { HasLengths (points_of_bidder views.now bidder) (2 * prices) }
     requires few { bidder < MOST_BIDDERS }
     requires limit { prices ≤ MOST_PRICES }
-    requires bidder { (s : Server) → bidder < length (member views.now s).bidders }
-    requires prices { (s : Server) → (member views.now s).grid.prices ≡ prices }
+    requires bidder { IsBidderOf prices views.now bidder }
     ensures { Judges (Known prices views.now bidder) result }
 {
     let one = knows(alloc, views, bidder, prices, &views.one)?;

@@ -1,17 +1,19 @@
 //! Whether the rounds and the messages of three views are those of a run.
 
-ghost use Rattle.std.specs.Prelude.{◌≡◌, ◌<◌, [], ℕ, length, slice_index, unwrap_or};
+ghost use Rattle.std.specs.Prelude.{◌≡◌, ◌≢◌, ◌<◌, ◌≤◌, ◌^◌, ◌⊎◌, [], ℕ, IfErr, length, slice_index, unwrap_or};
 ghost use Rattle.beet_field.specs.Trio.{member};
-ghost use Rattle.beet_field.specs.declared.point.Point.{Point as Server};
+ghost use Rattle.beet_field.specs.declared.TheConstants.{MOST_NUMBERS};
 ghost use Rattle.beet_plan.specs.Auction.{auction_batch};
 ghost use Rattle.beet_round.specs.Sides.{peer};
 ghost use Rattle.beet_round.specs.declared.sides.Side.TheVariants.{Low, High};
 ghost use Rattle.beet_server.specs.Steps.{received_from};
 ghost use Rattle.beet_sharing.specs.Runs.{Setup, message};
 ghost use Rattle.beet_server.specs.Lockstep.{IsAtRound};
-ghost use Rattle.beet_audit.specs.Audits.{Message, MessageFrom, RoundMessages, Rounds, held_from};
+ghost use Rattle.beet_audit.specs.Audits.{HoldsTooMany, Message, MessageFrom, RoundMessages, Rounds, held_from};
 ghost use Rattle.beet_audit.specs.Verdicts.{EachBelow, EachServer, InTurn, Judges, Wants};
-ghost use Rattle.beet_audit.specs.declared.fault.AuditFault.TheVariants.{MessageDiffers as NumberDiffers, RoundsDiffer as OtherRounds};
+ghost use Rattle.beet_audit.specs.declared.fault.AuditFault.TheVariants.{MessageDiffers as NumberDiffers};
+ghost use Rattle.beet_audit.specs.declared.fault.AuditFault.TheVariants.{OutOfMemory as Memory};
+ghost use Rattle.beet_audit.specs.declared.fault.AuditFault.TheVariants.{RoundsDiffer as OtherRounds};
 
 use crate::fault::AuditFault;
 use beet_field::{Fe, Point, Trio};
@@ -22,8 +24,9 @@ use beet_view::View;
 
 /// Refuses a server whose view has not the rounds of its core.
 fn check_count(s: Point, view: &View, core: &ServerCore<AuctionScript>) -> Result<(), AuditFault>
-    ensures { Judges (Wants (length view.now.rounds ≡ core.now.round)
+    ensures count { Judges (Wants (length view.now.rounds ≡ core.now.round)
         (OtherRounds s (length view.now.rounds) core.now.round)) result }
+    ensures memory { IfErr result (λ fault. fault ≢ Memory) }
 {
     let held = view.rounds();
     let expected = core.round();
@@ -39,8 +42,9 @@ pub(crate) fn check_rounds(
     views: &Trio<View>,
     cores: &Trio<ServerCore<AuctionScript>>,
 ) -> Result<(), AuditFault>
-    ensures { (rounds : ℕ) → ((s : Server) → (member cores.now s).round ≡ rounds)
+    ensures rounds { (rounds : ℕ) → ((s : Point) → (member cores.now s).round ≡ rounds)
         → Judges (EachServer (Rounds views.now rounds)) result }
+    ensures memory { IfErr result (λ fault. fault ≢ Memory) }
 {
     check_count(Point::One, &views.one, &cores.one)?;
     check_count(Point::Two, &views.two, &cores.two)?;
@@ -57,8 +61,9 @@ fn check_numbers(
     sent: &[Fe],
 ) -> Result<(), AuditFault>
     requires { length held.now ≡ length sent.now }
-    ensures { Judges (EachBelow (length sent.now) (λ k. Wants (slice_index held.now k ≡ slice_index sent.now k)
+    ensures numbers { Judges (EachBelow (length sent.now) (λ k. Wants (slice_index held.now k ≡ slice_index sent.now k)
         (NumberDiffers sender receiver round k (slice_index held.now k) (slice_index sent.now k)))) result }
+    ensures memory { IfErr result (λ fault. fault ≡ Memory → 2 ^ 32 ≤ length sent.now) }
 {
     let Ok(count) = u32::try_from(sent.len()) else {
         return Err(AuditFault::OutOfMemory);
@@ -83,7 +88,9 @@ fn check_message(
     held: &[Fe],
     sent: &[Fe],
 ) -> Result<(), AuditFault>
-    ensures { Judges (Message sender receiver round held.now sent.now) result }
+    ensures message { Judges (Message sender receiver round held.now sent.now) result }
+    ensures memory { IfErr result (λ fault. fault ≡ Memory
+        → (2 ^ 32 ≤ length held.now) ⊎ (2 ^ 32 ≤ length sent.now)) }
 {
     let (Ok(count), Ok(expected)) = (u32::try_from(held.len()), u32::try_from(sent.len())) else {
         return Err(AuditFault::OutOfMemory);
@@ -106,7 +113,8 @@ fn numbers_held(view: &View, round: u32, sender: Point) -> &[Fe]
 
 /// The numbers of a sender that a core received in a round.
 fn numbers_sent(core: &ServerCore<AuctionScript>, round: u32, sender: Point) -> &[Fe]
-    ensures { result.now ≡ unwrap_or (received_from core.now round sender) [] }
+    ensures numbers { result.now ≡ unwrap_or (received_from core.now round sender) [] }
+    ensures few { length result.now ≤ MOST_NUMBERS }
 {
     match core.received(round, sender) {
         Some(numbers) => numbers,
@@ -122,8 +130,9 @@ fn check_sender(
     core: &ServerCore<AuctionScript>,
     round: u32,
 ) -> Result<(), AuditFault>
-    ensures { Judges (Message sender receiver round (held_from view.now round sender)
+    ensures message { Judges (Message sender receiver round (held_from view.now round sender)
         (unwrap_or (received_from core.now round sender) [])) result }
+    ensures memory { IfErr result (λ fault. fault ≡ Memory → 2 ^ 32 ≤ length (held_from view.now round sender)) }
 {
     let held = numbers_held(view, round, sender);
     let sent = numbers_sent(core, round, sender);
@@ -137,12 +146,14 @@ fn check_receiver(
     core: &ServerCore<AuctionScript>,
     round: u32,
 ) -> Result<(), AuditFault>
-    ensures { (o : Setup) (rounds : ℕ) → IsAtRound auction_batch o rounds receiver core.now → round < rounds
+    ensures messages { (o : Setup) (rounds : ℕ) → IsAtRound auction_batch o rounds receiver core.now → round < rounds
         → Judges (InTurn
         (Message (peer receiver Low) receiver round (held_from view.now round (peer receiver Low))
         (message o (peer receiver Low) receiver round))
         (Message (peer receiver High) receiver round (held_from view.now round (peer receiver High))
         (message o (peer receiver High) receiver round))) result }
+    ensures memory { IfErr result (λ fault. fault ≡ Memory
+        → (sender : Point) × (2 ^ 32 ≤ length (held_from view.now round sender))) }
 {
     check_sender(receiver, Side::Low.peer(receiver), view, core, round)?;
     check_sender(receiver, Side::High.peer(receiver), view, core, round)?;
@@ -155,8 +166,10 @@ fn check_round(
     cores: &Trio<ServerCore<AuctionScript>>,
     round: u32,
 ) -> Result<(), AuditFault>
-    ensures { (o : Setup) (rounds : ℕ) → ((s : Server) → IsAtRound auction_batch o rounds s (member cores.now s))
+    ensures messages { (o : Setup) (rounds : ℕ)
+        → ((s : Point) → IsAtRound auction_batch o rounds s (member cores.now s))
         → round < rounds → Judges (RoundMessages o views.now round) result }
+    ensures memory { IfErr result (λ fault. fault ≡ Memory → HoldsTooMany views.now) }
 {
     check_receiver(Point::One, &views.one, &cores.one, round)?;
     check_receiver(Point::Two, &views.two, &cores.two, round)?;
@@ -169,8 +182,10 @@ pub(crate) fn check_messages(
     views: &Trio<View>,
     cores: &Trio<ServerCore<AuctionScript>>,
 ) -> Result<(), AuditFault>
-    ensures { (o : Setup) (rounds : ℕ) → ((s : Server) → IsAtRound auction_batch o rounds s (member cores.now s))
+    ensures messages { (o : Setup) (rounds : ℕ)
+        → ((s : Point) → IsAtRound auction_batch o rounds s (member cores.now s))
         → Judges (EachBelow rounds (RoundMessages o views.now)) result }
+    ensures memory { IfErr result (λ fault. fault ≡ Memory → HoldsTooMany views.now) }
 {
     for round in 0..cores.one.round() {
         check_round(views, cores, round)?;

@@ -2,7 +2,7 @@
 
 ghost use Rattle.std.specs.Prelude.{◌≡◌, ◌<◌, ◌*◌, ◌^◌, ℕ, IfErr, IfOk, length};
 ghost use Rattle.beet_field.specs.Trio.{member, of_each};
-ghost use Rattle.beet_field.specs.declared.point.Point.{Point as Server};
+ghost use Rattle.beet_field.specs.declared.point.Point.{Point};
 ghost use Rattle.beet_book.specs.Dealing.{HasLengths};
 ghost use Rattle.beet_book.specs.PointSums.{AddsUp};
 ghost use Rattle.beet_load.specs.Counts.{counts_of};
@@ -38,7 +38,7 @@ fn copy_bidder(
     views: &Trio<View>,
     bidder: u32,
 ) -> Result<Dealt, AllocError>
-    requires bidder { (s : Server) → bidder < length (member views.now s).bidders }
+    requires bidder { (s : Point) → bidder < length (member views.now s).bidders }
     requires lengths { HasLengths (points_of_bidder views.now bidder) (2 * grid.now.prices) }
     ensures { IfOk result (λ dealt. dealt ≡ points_of_bidder views.now bidder) }
 {
@@ -50,7 +50,7 @@ fn copy_bidder(
 
 /// The points of all bidders, added up.
 fn sum_points(alloc: Global, grid: &Grid, views: &Trio<View>) -> Result<Totals, AllocError>
-    requires bidders { (s : Server) → length (member views.now s).bidders ≡ length views.now.one.bidders }
+    requires bidders { (s : Point) → length (member views.now s).bidders ≡ length views.now.one.bidders }
     requires few { length views.now.one.bidders < 2 ^ 32 }
     requires lengths { (i : ℕ) → i < length views.now.one.bidders
         → HasLengths (points_of_bidder views.now i) (2 * grid.now.prices) }
@@ -98,18 +98,18 @@ fn copy_all_words(alloc: Global, views: &Trio<View>) -> Result<Trio<ServerWords>
     Trio::try_of(|at| copy_words(alloc, views.get(at)))
 }
 
-/// Runs three fresh servers on the points and the tapes of three views to the end of the auction. The messages of the views
-/// are not looked at. Want of memory is the only error.
+/// Runs three fresh servers on the points and the tapes of three views to the end of the auction. The messages of the
+/// views are not looked at. Want of memory is the only error.
 pub(crate) fn run_again(
     alloc: Global,
     grid: &Grid,
     views: &Trio<View>,
 ) -> Result<Trio<ServerCore<AuctionScript>>, AuditFault>
-    requires bidders { (s : Server) → length (member views.now s).bidders ≡ length views.now.one.bidders }
+    requires bidders { (s : Point) → length (member views.now s).bidders ≡ length views.now.one.bidders }
     requires few { length views.now.one.bidders < 2 ^ 32 }
     requires lengths { (i : ℕ) → i < length views.now.one.bidders
         → HasLengths (points_of_bidder views.now i) (2 * grid.now.prices) }
-    requires enough { (s : Server) → HasEnough (counts_of grid.now) (words_in (member views.now s)) }
+    requires enough { (s : Point) → HasEnough (counts_of grid.now) (words_in (member views.now s)) }
     ensures memory { IfErr result (λ fault. fault ≡ Memory) }
     ensures ran { IfOk result (RunsAgain grid.now views.now) }
 {

@@ -1,11 +1,11 @@
 //! Whether the tapes of three views have the words of a run.
 
-ghost use Rattle.std.specs.Prelude.{◌↔◌, IsTrue};
+ghost use Rattle.std.specs.Prelude.{◌≢◌, ◌↔◌, IfErr, IsTrue};
 ghost use Rattle.beet_load.specs.Counts.{counts_of};
 ghost use Rattle.beet_load.specs.Servers.{HasEnough};
 ghost use Rattle.beet_audit.specs.Audits.{Tapes, words_in};
 ghost use Rattle.beet_audit.specs.Verdicts.{EachServer, Judges, Wants};
-ghost use Rattle.beet_audit.specs.declared.fault.AuditFault.TheVariants.{TooFewWords as TooFew};
+ghost use Rattle.beet_audit.specs.declared.fault.AuditFault.TheVariants.{OutOfMemory as Memory, TooFewWords as TooFew};
 
 use crate::fault::AuditFault;
 use beet_bids::Grid;
@@ -26,7 +26,8 @@ fn has_words(grid: &Grid, view: &View) -> bool
 
 /// Refuses a server whose view has a tape of too few words.
 fn check_tape(grid: &Grid, s: Point, view: &View) -> Result<(), AuditFault>
-    ensures { Judges (Wants (HasEnough (counts_of grid.now) (words_in view.now)) (TooFew s)) result }
+    ensures tape { Judges (Wants (HasEnough (counts_of grid.now) (words_in view.now)) (TooFew s)) result }
+    ensures memory { IfErr result (λ fault. fault ≢ Memory) }
 {
     if has_words(grid, view) {
         Ok(())
@@ -37,7 +38,8 @@ fn check_tape(grid: &Grid, s: Point, view: &View) -> Result<(), AuditFault>
 
 /// Refuses the first server whose view has a tape of too few words.
 pub(crate) fn check_tapes(grid: &Grid, views: &Trio<View>) -> Result<(), AuditFault>
-    ensures { Judges (EachServer (Tapes grid.now views.now)) result }
+    ensures tapes { Judges (EachServer (Tapes grid.now views.now)) result }
+    ensures memory { IfErr result (λ fault. fault ≢ Memory) }
 {
     check_tape(grid, Point::One, &views.one)?;
     check_tape(grid, Point::Two, &views.two)?;

@@ -9,28 +9,29 @@ use Rattle.beet_words.specs.Bundles.{Words, AreWords}
 use Rattle.beet_words.specs.Words.{IsWord}
 use Rattle.beet_bids.specs.Books.{Book, IsBook}
 use Rattle.beet_bids.specs.Curves.{IsOfGrid}
-use Rattle.beet_book.specs.Farmers.{Farmer, farmers_of}
+use Rattle.beet_book.specs.Farmers.{BidderWithWords, farmers_of}
 use Rattle.beet_masking.proofs.Words.{word-small}
 use Rattle.beet_book.proofs.FarmerLists.{farmers-words}
 use Rattle.beet_sharing.proofs.Lined.{member-trio}
 use Rattle.beet_load.specs.Wholes.{CanStart}
 use Rattle.beet_view.specs.BookViews.{names, seen_at, view_for}
 use Rattle.beet_view.specs.declared.view.Seen.{Seen}
-use Rattle.beet_kept.proofs.FittingViews.{own-kept}
-use Rattle.beet_kept.proofs.HasRuns.{seen-all}
+use Rattle.beet_transcripts.proofs.FittingViews.{own-kept}
+use Rattle.beet_transcripts.proofs.HasRuns.{seen-all}
 use Rattle.beet_audit.specs.Audits.{bidder_at}
 use Rattle.beet_audit_laws.proofs.KeptWords.{IsKeptAt}
 use Rattle.beet_audit_laws.proofs.ThirdFacts.{IsSound, kept-from}
 
 module _ (book : Book) (words : Words) (b : IsBook book) (can : CanStart book words) (are : AreWords words) where
-  abbrev farmers : List Farmer
+  abbrev farmers : List BidderWithWords
   farmers = farmers_of book.bidders words.bidders
 
   -- the words of each bidder
-  farmer-words : (n : ℕ) (d : Farmer) → n < length farmers → All IsWord (get_or farmers n d).words
+  farmer-words : (n : ℕ) (d : BidderWithWords) → n < length farmers → All IsWord (get_or farmers n d).words
   farmer-words n d lt =
-      let list = λ (f : Farmer). f.words in
-      let all : All (All IsWord) (map list farmers) = subst (All (All IsWord)) (farmers-words book.bidders words.bidders can.lists) are.bidders in
+      let list = λ (f : BidderWithWords). f.words in
+      let all : All (All IsWord) (map list farmers) =
+      subst (All (All IsWord)) (farmers-words book.bidders words.bidders can.lists) are.bidders in
       subst (All IsWord) (get_or-map list farmers n d d.words lt) (all n d.words (omega (arith, length-map farmers list, lt)))
 
   -- what is kept of each bidder
@@ -38,10 +39,11 @@ module _ (book : Book) (words : Words) (b : IsBook book) (can : CanStart book wo
       IsKeptAt s (bidder_at (view_for book words s) n).known (bidder_at (view_for book words s) n).own
   kept-at s n lt =
       let nobody : Seen = record { known = None; points = []; own = None } in
-      let none : Farmer = record { bidder = record { known = None; curve = record { buy = []; sell = [] } }; words = [] } in
+      let none : BidderWithWords = record { bidder = record { known = None; curve = record { buy = []; sell = [] } }; words = [] } in
       let lt' : n < length farmers = omega (arith, length-map farmers (seen_at book.grid s), lt) in
       let farmer = get_or farmers n none in
-      let is : bidder_at (view_for book words s) n ≡ seen_at book.grid s farmer = get_or-map (seen_at book.grid s) farmers n none nobody lt' in
+      let is : bidder_at (view_for book words s) n ≡ seen_at book.grid s farmer =
+      get_or-map (seen_at book.grid s) farmers n none nobody lt' in
       kept-from s (bidder_at (view_for book words s) n).known (bidder_at (view_for book words s) n).own (λ own. IsOfGrid book.grid own.0)
       (seen-all book words b can s n nobody lt).own
       (subst (λ (seen : Seen). IfSome seen.own (λ own. All IsWord own.1)) (sym is)

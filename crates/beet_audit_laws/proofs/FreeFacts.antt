@@ -1,5 +1,5 @@
 -- Views that are the same as those of one run, in all that the run uses, are of one run too.
-use Rattle.std.proofs.Common.{◌≡◌, ◌≤◌, ◌<◌, ◌*◌, ℕ, List, [], length, slice_index, None, arith, sym, ◌∙◌, ap, subst}
+use Rattle.std.proofs.Common.{◌≡◌, ◌≤◌, ◌<◌, ◌*◌, ℕ, [], length, slice_index, None, arith, sym, ◌∙◌, ap, subst}
 use Rattle.std.proofs.lemmas.List.{get_or_default}
 use Rattle.beet_field.specs.Trio.{member}
 use Rattle.beet_field.specs.declared.point.Point.{Point}
@@ -16,19 +16,20 @@ use Rattle.beet_round.specs.Sides.{peer}
 use Rattle.beet_round.specs.declared.sides.Side.TheVariants.{Low, High}
 use Rattle.beet_sharing.specs.Runs.{HasRounds, Setup, coming, rounds_among, shared_at, standing_at}
 use Rattle.beet_sharing.proofs.Rounds.{among-rounds, lawful-rounds}
+use Rattle.beet_sharing.specs.Seen.{round_seen, rounds_seen}
+use Rattle.beet_sharing.proofs.SameRuns.{UseSame, message-same, run-same, uses-below}
 use Rattle.beet_view.specs.declared.view.Seen.{Seen}
-use Rattle.beet_view.specs.RunViews.{round_seen, rounds_seen}
 use Rattle.beet_view.specs.Views.{Viewed}
 use Rattle.beet_audit.specs.Audits.{bidder_at, marks_in, points_of_bidder, rounds_of, run_of}
 use Rattle.beet_audit.specs.OneRuns.{Bids, OneRun}
 use Rattle.beet_audit.proofs.PointFacts.{marks-same}
 use Rattle.beet_audit_laws.specs.InUse.{SameAmong}
 use Rattle.beet_audit_laws.proofs.KeptWords.{keeps-alike}
-use Rattle.beet_audit_laws.proofs.SameRuns.{UseSame, message-same, run-same, uses-below}
-use Rattle.beet_audit_laws.proofs.SharedPoints.{inputs, masks, masks', masks-at, numbers, numbers', numbers-at, run, run', same-setup, script}
+use Rattle.beet_audit_laws.proofs.SharedPoints.{BothRuns, both-runs, masks-at, numbers-at, run, run', same-setup}
 use Rattle.beet_audit_laws.proofs.ThirdFacts.{bidders-many}
 
-module _ (grid : Grid) (views others : Trio Viewed) (one : OneRun grid views) (same : (s : Point) → SameAmong grid views s (member others s)) where
+module _ (grid : Grid) (views others : Trio Viewed) (one : OneRun grid views)
+    (same : (s : Point) → SameAmong grid views s (member others s)) where
   count : length others.one.bidders ≡ length views.one.bidders
   count = (same One).count
 
@@ -42,7 +43,6 @@ module _ (grid : Grid) (views others : Trio Viewed) (one : OneRun grid views) (s
     three = ((same Three).bidders n (within Three n lt)).points x;
   }
 
-  -- the marks
   same-marks : (s : Point) → marks_in (member others s) ≡ marks_in (member views s)
   same-marks s =
       let nobody : Seen = record { known = None; points = []; own = None } in
@@ -61,17 +61,8 @@ module _ (grid : Grid) (views others : Trio Viewed) (one : OneRun grid views) (s
   abbrev o' : Setup
   o' = run' grid views others count points
 
-  abbrev m : Trio (List ℕ)
-  m = masks grid views others count points
-
-  abbrev m' : Trio (List ℕ)
-  m' = masks' grid views others count points
-
-  abbrev d : Trio (List ℕ)
-  d = numbers grid views others count points
-
-  abbrev d' : Trio (List ℕ)
-  d' = numbers' grid views others count points
+  abbrev both : BothRuns
+  both = both-runs grid views others count points
 
   abbrev rounds : ℕ
   rounds = rounds_of grid views
@@ -80,17 +71,20 @@ module _ (grid : Grid) (views others : Trio Viewed) (one : OneRun grid views) (s
   setup = same-setup grid views others count points
 
   -- the run uses the same
-  below : (t : ℕ) → t < rounds → UseSame m m' d d' (standing_at o t) (coming o t).act
+  below : (t : ℕ) → t < rounds →
+      UseSame both.masks both.masks' both.numbers both.numbers' (standing_at o t) (coming o t).act
   below =
-      uses-below (script grid views others count points) (inputs grid views others count points) m m' d d' rounds
+      uses-below both.script both.inputs both.masks both.masks' both.numbers both.numbers' rounds
       (λ s n lt. ap (λ l. slice_index l n) (masks-at others s) ∙ (same s).masks n lt ∙ ap (λ l. slice_index l n) (sym (masks-at views s)))
-      (λ s n lt. ap (λ l. slice_index l n) (numbers-at others s) ∙ (same s).numbers n lt ∙ ap (λ l. slice_index l n) (sym (numbers-at views s)))
+      (λ s n lt. ap (λ l. slice_index l n) (numbers-at others s) ∙ (same s).numbers n lt
+      ∙ ap (λ l. slice_index l n) (sym (numbers-at views s)))
 
-  uses : (t : ℕ) → t < rounds → shared_at o' t ≡ shared_at o t → UseSame m m' d d' (standing_at o t) (coming o t).act
+  uses : (t : ℕ) → t < rounds → shared_at o' t ≡ shared_at o t →
+      UseSame both.masks both.masks' both.numbers both.numbers' (standing_at o t) (coming o t).act
   uses t lt e = below t lt
 
   runs : (t : ℕ) → t ≤ rounds → shared_at o' t ≡ shared_at o t
-  runs = run-same (script grid views others count points) (inputs grid views others count points) m m' d d' rounds uses
+  runs = run-same both.script both.inputs both.masks both.masks' both.numbers both.numbers' rounds uses
 
   -- and has as many rounds
   abbrev auction : Auction
@@ -106,10 +100,10 @@ module _ (grid : Grid) (views others : Trio Viewed) (one : OneRun grid views) (s
   has' =
       let last = runs rounds (omega arith) in
       record {
-        ends = (λ x. is_end (script grid views others count points rounds (last x).opened).act) ∙ has.0.ends;
+        ends = (λ x. is_end (both.script rounds (last x).opened).act) ∙ has.0.ends;
         goes = λ t lt.
             let same-before = runs t (omega arith) in
-            (λ x. is_end (script grid views others count points t (same-before x).opened).act) ∙ has.0.goes t lt;
+            (λ x. is_end (both.script t (same-before x).opened).act) ∙ has.0.goes t lt;
       }
 
   rounds-same : rounds_of grid others ≡ rounds
@@ -120,7 +114,8 @@ module _ (grid : Grid) (views others : Trio Viewed) (one : OneRun grid views) (s
       (same s).rounds ∙ one.rounds s
       ∙ sym (each-same (round_seen o' s) (round_seen o s) rounds
       (λ t lt.
-      let message = message-same (script grid views others count points) (inputs grid views others count points) m m' d d' rounds uses t lt in
+      let message =
+      message-same both.script both.inputs both.masks both.masks' both.numbers both.numbers' rounds uses t lt in
       λ x. (message (peer s Low) s x, message (peer s High) s x)))
       ∙ ap (λ n. rounds_seen o' s n) (sym rounds-same) ∙ ap (λ (x : Setup). rounds_seen x s (rounds_of grid others)) (sym setup)
 

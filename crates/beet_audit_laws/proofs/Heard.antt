@@ -11,19 +11,22 @@ use Rattle.beet_gates.specs.declared.Act.{Act}
 use Rattle.beet_gates.specs.declared.Act.TheVariants.{Deal, Mul, Reveal, End}
 use Rattle.beet_gates.specs.declared.Batch.{Batch}
 use Rattle.beet_gates.proofs.EachFacts.{get_or-each}
-use Rattle.beet_sharing.specs.Runs.{Setup, Shared, coming, draws_in, hidden_at, message, secret_hidden, sent_for, shared_at, standing_at, with_batch_lets}
+use Rattle.beet_gates.specs.Draws.{draws_in}
+use Rattle.beet_sharing.specs.Runs.{Setup, Shared, coming, hidden_at, message, secret_hidden, sent_for, shared_at}
+use Rattle.beet_sharing.specs.Runs.{standing_at, with_batch_lets}
+use Rattle.beet_sharing.proofs.SameRuns.{UseSame, first, second}
 use Rattle.beet_map.specs.Mapped.{AreWords}
 use Rattle.beet_map.proofs.Moves.{same_or, secret_small}
 use Rattle.beet_map.proofs.Symmetry.{AreElements}
 use Rattle.beet_audit_laws.proofs.CommonPoints.{same-line, same-slope}
-use Rattle.beet_audit_laws.proofs.SameRuns.{UseSame, first, second}
 
 -- lists by rules that are the same have the same items
 pub each-item : {A : Type 0} (f g : ℕ → A) (n m k : ℕ) → each f n ≡ each g m → k < n → k < m → f k ≡ g k
 each-item {A = A} f g n m k e lt lt' =
     sym (get_or-each f n k (f k) lt) ∙ ap (λ (l : List A). get_or l k (f k)) e ∙ get_or-each g m k (f k) lt'
 
-module _ (next : ℕ → List ℕ → Batch) (inputs masks masks' numbers numbers' : Trio (List ℕ)) (words : AreWords masks) (words' : AreWords masks')
+module _ (next : ℕ → List ℕ → Batch) (inputs masks masks' numbers numbers' : Trio (List ℕ)) (words : AreWords masks)
+    (words' : AreWords masks')
     (elements : AreElements numbers) (elements' : AreElements numbers') where
   abbrev o : Setup
   o = first next inputs masks masks' numbers numbers'
@@ -43,30 +46,36 @@ module _ (next : ℕ → List ℕ → Batch) (inputs masks masks' numbers number
   module _ (i j : Point) (apart : i ≢ j) where
     -- a sender that both hear
     module _ (s : Shared) (from : Point) where
-      bit-and-number : sent_for o' s Deal from i ≡ sent_for o s Deal from i → sent_for o' s Deal from j ≡ sent_for o s Deal from j → (k : ℕ) → k < 61 →
+      bit-and-number : sent_for o' s Deal from i ≡ sent_for o s Deal from i →
+          sent_for o' s Deal from j ≡ sent_for o s Deal from j → (k : ℕ) → k < 61 →
           (bit_at (slice_index (member masks' from) s.dealt) k ≡ bit_at (slice_index (member masks from) s.dealt) k)
           × (slice_index (member numbers' from) (s.drawn + k) ≡ slice_index (member numbers from) (s.drawn + k))
       bit-and-number e f k lt =
           let word = slice_index (member masks from) s.dealt in
           let word' = slice_index (member masks' from) s.dealt in
-          same-line i j apart (bit_at word k) (slice_index (member numbers from) (s.drawn + k)) (bit_at word' k) (slice_index (member numbers' from) (s.drawn + k))
+          same-line i j apart (bit_at word k) (slice_index (member numbers from) (s.drawn + k)) (bit_at word' k)
+          (slice_index (member numbers' from) (s.drawn + k))
           (secret_small Deal (member s.wires from) word k) (elements from (s.drawn + k)) (secret_small Deal (member s.wires from) word' k)
           (elements' from (s.drawn + k)) (hidden-heard s Deal from i e k lt) (hidden-heard s Deal from j f k lt)
 
-      word-heard : (a : Act) → sent_for o' s a from i ≡ sent_for o s a from i → sent_for o' s a from j ≡ sent_for o s a from j → 0 < deals_in a →
+      word-heard : (a : Act) → sent_for o' s a from i ≡ sent_for o s a from i →
+          sent_for o' s a from j ≡ sent_for o s a from j → 0 < deals_in a →
           slice_index (member masks' from) s.dealt ≡ slice_index (member masks from) s.dealt
       word-heard Deal e f some =
-          same_from_bits_below 61 (slice_index (member masks' from) s.dealt) (slice_index (member masks from) s.dealt) (words' from s.dealt) (words from s.dealt)
+          same_from_bits_below 61 (slice_index (member masks' from) s.dealt) (slice_index (member masks from) s.dealt)
+          (words' from s.dealt) (words from s.dealt)
           (λ k lt. (bit-and-number e f k lt).0)
       word-heard (Mul pairs) e f some = absurd (omega arith)
       word-heard (Reveal shown) e f some = absurd (omega arith)
       word-heard End e f some = absurd (omega arith)
 
-      number-heard : (a : Act) → sent_for o' s a from i ≡ sent_for o s a from i → sent_for o' s a from j ≡ sent_for o s a from j → (k : ℕ) → k < draws_in a →
+      number-heard : (a : Act) → sent_for o' s a from i ≡ sent_for o s a from i →
+          sent_for o' s a from j ≡ sent_for o s a from j → (k : ℕ) → k < draws_in a →
           slice_index (member numbers' from) (s.drawn + k) ≡ slice_index (member numbers from) (s.drawn + k)
       number-heard Deal e f k lt = (bit-and-number e f k lt).1
       number-heard (Mul pairs) e f k lt =
-          same-slope i (secret_hidden o s (Mul pairs) from k) (slice_index (member numbers from) (s.drawn + k)) (slice_index (member numbers' from) (s.drawn + k))
+          same-slope i (secret_hidden o s (Mul pairs) from k) (slice_index (member numbers from) (s.drawn + k))
+          (slice_index (member numbers' from) (s.drawn + k))
           (elements from (s.drawn + k)) (elements' from (s.drawn + k)) (hidden-heard s (Mul pairs) from i e k lt)
       number-heard (Reveal shown) e f k lt = absurd (omega arith)
       number-heard End e f k lt = absurd (omega arith)
@@ -86,7 +95,8 @@ module _ (next : ℕ → List ℕ → Batch) (inputs masks masks' numbers number
         word = by-server (λ x. 0 < deals_in a → slice_index (member masks' x) s.dealt ≡ slice_index (member masks x) s.dealt)
             (λ some. ap (λ l. slice_index l s.dealt) masks-i) (λ some. ap (λ l. slice_index l s.dealt) masks-j)
             (λ x not-i not-j some. word-heard s x a (to-i x not-i) (to-j x not-j) some);
-        number = by-server (λ x. (k : ℕ) → k < draws_in a → slice_index (member numbers' x) (s.drawn + k) ≡ slice_index (member numbers x) (s.drawn + k))
+        number = by-server (λ x. (k : ℕ) → k < draws_in a →
+            slice_index (member numbers' x) (s.drawn + k) ≡ slice_index (member numbers x) (s.drawn + k))
             (λ k lt. ap (λ l. slice_index l (s.drawn + k)) numbers-i) (λ k lt. ap (λ l. slice_index l (s.drawn + k)) numbers-j)
             (λ x not-i not-j k lt. number-heard s x a (to-i x not-i) (to-j x not-j) k lt);
       }
@@ -99,4 +109,5 @@ module _ (next : ℕ → List ℕ → Batch) (inputs masks masks' numbers number
       heard rounds to-i to-j t lt same =
           let back : (from to : Point) → sent_for o' (standing_at o t) (coming o t).act from to ≡ message o' from to t =
           λ from to x. sent_for o' (with_batch_lets (next t (sym same x).opened) (sym same x)) (next t (sym same x).opened).act from to in
-          use-same (standing_at o t) (coming o t).act (λ from ne. back from i ∙ to-i t lt from ne) (λ from ne. back from j ∙ to-j t lt from ne)
+          use-same (standing_at o t) (coming o t).act (λ from ne. back from i ∙ to-i t lt from ne)
+          (λ from ne. back from j ∙ to-j t lt from ne)

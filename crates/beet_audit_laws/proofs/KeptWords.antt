@@ -6,12 +6,12 @@ use Rattle.beet_field.specs.declared.point.Point.TheVariants.{One}
 use Rattle.beet_field.specs.declared.trio.Trio.{Trio}
 use Rattle.beet_shamir.specs.Line.{points_of}
 use Rattle.beet_words.specs.Words.{IsWord, accepted}
+use Rattle.beet_words.proofs.WordLists.{accepted_small}
 use Rattle.beet_bids.specs.Curves.{Curve, IsOfGrid}
 use Rattle.beet_bids.specs.Grids.{Grid}
 use Rattle.beet_book.specs.Dealing.{dealt_points, quantities}
 use Rattle.beet_book.specs.Totals.{points_on}
-use Rattle.beet_map.proofs.WordLists.{accepted_small}
-use Rattle.beet_audit.specs.OneRuns.{Keeps}
+use Rattle.beet_audit.specs.OneRuns.{KeepsBid}
 use Rattle.beet_audit.proofs.PointFacts.{item-shares, lengths-shares, trio-same}
 use Rattle.beet_audit_laws.specs.InUse.{DealsAlike, KeptAlike, SameDrawn}
 use Rattle.beet_audit_laws.proofs.CommonPoints.{same-slope}
@@ -29,7 +29,8 @@ module _ (grid : Grid) (curve : Curve) (of_grid : IsOfGrid grid curve) where
       let vs = quantities curve in
       let many = quantities-many grid curve of_grid in
       trio-same (dealt_points curve (accepted words)) (dealt_points curve (accepted others)) (2 * grid.prices)
-      (lengths-shares vs (accepted words) (2 * grid.prices) many enough) (lengths-shares vs (accepted others) (2 * grid.prices) many enough')
+      (lengths-shares vs (accepted words) (2 * grid.prices) many enough)
+      (lengths-shares vs (accepted others) (2 * grid.prices) many enough')
       (λ k lt.
       item-shares vs (accepted words) k (omega (arith, many, lt)) (omega (arith, enough, lt))
       ∙ ap (points_of (slice_index vs k)) (sym (same k lt))
@@ -42,7 +43,8 @@ module _ (grid : Grid) (curve : Curve) (of_grid : IsOfGrid grid curve) where
   same-drawn words others enough enough' are are' same k lt =
       let vs = quantities curve in
       let many = quantities-many grid curve of_grid in
-      let point : points_of (slice_index vs k) (slice_index (accepted others) k) ≡ points_of (slice_index vs k) (slice_index (accepted words) k) =
+      let point : points_of (slice_index vs k) (slice_index (accepted others) k)
+      ≡ points_of (slice_index vs k) (slice_index (accepted words) k) =
       sym (item-shares vs (accepted others) k (omega (arith, many, lt)) (omega (arith, enough', lt)))
       ∙ ap (λ t. points_on t k) same
       ∙ item-shares vs (accepted words) k (omega (arith, many, lt)) (omega (arith, enough, lt)) in
@@ -51,7 +53,7 @@ module _ (grid : Grid) (curve : Curve) (of_grid : IsOfGrid grid curve) where
 
   module _ (points points' : Trio (List ℕ)) (same : points' ≡ points) where
     -- what is kept of one bidder in two runs deals alike
-    deals-alike : (own other : Curve × List ℕ) → Keeps grid curve points own → Keeps grid curve points' other →
+    deals-alike : (own other : Curve × List ℕ) → KeepsBid grid curve points own → KeepsBid grid curve points' other →
         ((n : ℕ) → IsWord (slice_index own.1 n)) → ((n : ℕ) → IsWord (slice_index other.1 n)) → DealsAlike (2 * grid.prices) own other
     deals-alike own other keeps keeps' are are' = record {
       curve = keeps'.bid ∙ sym keeps.bid;
@@ -60,15 +62,16 @@ module _ (grid : Grid) (curve : Curve) (of_grid : IsOfGrid grid curve) where
     }
 
     pub kept-alike : (s : Point) (mark : Option Point) (own other : Option (Curve × List ℕ)) → IsKeptAt s mark own → IsKeptAt s mark other →
-        IfSome own (Keeps grid curve points) → IfSome other (Keeps grid curve points') → KeptAlike (2 * grid.prices) own other
+        IfSome own (KeepsBid grid curve points) → IfSome other (KeepsBid grid curve points') → KeptAlike (2 * grid.prices) own other
     kept-alike s mark None None h h' keeps keeps' = tt
     kept-alike s mark None (Some other) h h' keeps keeps' = h h'.0
     kept-alike s mark (Some own) None h h' keeps keeps' = h' h.0
     kept-alike s mark (Some own) (Some other) h h' keeps keeps' = deals-alike own other keeps keeps' h.1 h'.1
 
     -- and what deals alike is kept of one bidder
-    pub keeps-alike : (own other : Option (Curve × List ℕ)) → KeptAlike (2 * grid.prices) own other → IfSome own (Keeps grid curve points) →
-        IfSome other (Keeps grid curve points')
+    pub keeps-alike : (own other : Option (Curve × List ℕ)) → KeptAlike (2 * grid.prices) own other →
+        IfSome own (KeepsBid grid curve points) →
+        IfSome other (KeepsBid grid curve points')
     keeps-alike None None h keeps = tt
     keeps-alike None (Some other) h keeps = absurd h
     keeps-alike (Some own) None h keeps = tt

@@ -1,5 +1,4 @@
 pub mod CommonPoints
-pub mod SameRuns
 pub mod Heard
 pub mod SharedPoints
 pub mod KeptWords

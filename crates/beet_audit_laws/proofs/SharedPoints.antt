@@ -16,13 +16,13 @@ use Rattle.beet_book.specs.PointSums.{inputs_at}
 use Rattle.beet_book.specs.Totals.{points_on}
 use Rattle.beet_sharing.specs.Runs.{Setup, numbers_of}
 use Rattle.beet_sharing.proofs.Lined.{member-each}
+use Rattle.beet_sharing.proofs.SameRuns.{first, second}
 use Rattle.beet_load.specs.Servers.{coefficients_of, masks_of}
 use Rattle.beet_run.specs.Runs.{setup_with}
 use Rattle.beet_view.specs.Views.{Viewed}
 use Rattle.beet_audit.specs.Audits.{all_points, bidder_at, points_of_bidder, run_of, words_in}
 use Rattle.beet_audit.proofs.PointFacts.{item-shares, lengths-shares, trio-same}
 use Rattle.beet_audit_laws.proofs.CommonPoints.{same-points}
-use Rattle.beet_audit_laws.proofs.SameRuns.{first, second}
 
 -- points that are shares of values
 module _ (values : List ℕ) (points : Trio (List ℕ)) (x : AreShares values points) where
@@ -33,13 +33,15 @@ module _ (values : List ℕ) (points : Trio (List ℕ)) (x : AreShares values po
   as-many n many = subst (λ t. HasLengths t n) (sym x.shares) (lengths-shares values x.slopes n many (omega (arith, x.paired, many)))
 
 -- the points of a wire at one server
-on-wire : (points : Trio (List ℕ)) (k v a : ℕ) → points_on points k ≡ points_of v a → (s : Point) → slice_index (member points s) k ≡ point_of v a s
+on-wire : (points : Trio (List ℕ)) (k v a : ℕ) → points_on points k ≡ points_of v a → (s : Point) →
+    slice_index (member points s) k ≡ point_of v a s
 on-wire points k v a e One = ap (λ (t : Trio ℕ). t.one) e
 on-wire points k v a e Two = ap (λ (t : Trio ℕ). t.two) e
 on-wire points k v a e Three = ap (λ (t : Trio ℕ). t.three) e
 
 -- shares that are the same at two servers are the same
-pub same-shares : (i j : Point) → i ≢ j → (n : ℕ) (vs ws : List ℕ) (points points' : Trio (List ℕ)) → AreShares vs points → AreShares ws points' →
+pub same-shares : (i j : Point) → i ≢ j → (n : ℕ) (vs ws : List ℕ) (points points' : Trio (List ℕ)) →
+    AreShares vs points → AreShares ws points' →
     length vs ≡ n → length ws ≡ n → member points' i ≡ member points i → member points' j ≡ member points j → points' ≡ points
 same-shares i j apart n vs ws points points' x x' many many' at-i at-j =
     trio-same points' points n (as-many ws points' x' n many') (as-many vs points x n many)
@@ -70,32 +72,33 @@ numbers-at views Three = refl
 pub points-at : (views : Trio Viewed) (n : ℕ) (s : Point) → member (points_of_bidder views n) s ≡ (bidder_at (member views s) n).points
 points-at views n s = member-each (λ view. (bidder_at view n).points) views s
 
+-- what two runs of one script on the same points go on: the words and numbers of each
+pub record BothRuns : Type 0 where
+  pub script : ℕ → List ℕ → Batch
+  pub inputs : Trio (List ℕ)
+  pub masks : Trio (List ℕ)
+  pub masks' : Trio (List ℕ)
+  pub numbers : Trio (List ℕ)
+  pub numbers' : Trio (List ℕ)
+
 -- three views, and three others whose bidders have the same points
 module _ (grid : Grid) (views others : Trio Viewed) (count : length others.one.bidders ≡ length views.one.bidders)
     (points : (n : ℕ) → n < length views.one.bidders → points_of_bidder others n ≡ points_of_bidder views n) where
-  abbrev pub inputs : Trio (List ℕ)
-  inputs = inputs_at grid.prices (all_points views)
-
-  abbrev pub masks : Trio (List ℕ)
-  masks = masks_of (of_each words_in views)
-
-  abbrev pub masks' : Trio (List ℕ)
-  masks' = masks_of (of_each words_in others)
-
-  abbrev pub numbers : Trio (List ℕ)
-  numbers = numbers_of (coefficients_of (of_each words_in views))
-
-  abbrev pub numbers' : Trio (List ℕ)
-  numbers' = numbers_of (coefficients_of (of_each words_in others))
-
-  abbrev pub script : ℕ → List ℕ → Batch
-  script = auction_batch (auction_over grid)
+  abbrev pub both-runs : BothRuns
+  both-runs = record {
+    script = auction_batch (auction_over grid);
+    inputs = inputs_at grid.prices (all_points views);
+    masks = masks_of (of_each words_in views);
+    masks' = masks_of (of_each words_in others);
+    numbers = numbers_of (coefficients_of (of_each words_in views));
+    numbers' = numbers_of (coefficients_of (of_each words_in others));
+  }
 
   abbrev pub run : Setup
-  run = first script inputs masks masks' numbers numbers'
+  run = let b = both-runs in first b.script b.inputs b.masks b.masks' b.numbers b.numbers'
 
   abbrev pub run' : Setup
-  run' = second script inputs masks masks' numbers numbers'
+  run' = let b = both-runs in second b.script b.inputs b.masks b.masks' b.numbers b.numbers'
 
   same-all : all_points others ≡ all_points views
   same-all =

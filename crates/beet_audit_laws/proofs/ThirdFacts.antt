@@ -7,6 +7,7 @@ use Rattle.beet_field.specs.declared.point.Point.{Point}
 use Rattle.beet_field.specs.declared.point.Point.TheVariants.{One, Two, Three}
 use Rattle.beet_field.specs.declared.trio.Trio.{Trio}
 use Rattle.beet_words.specs.Words.{IsWord, accepted}
+use Rattle.beet_words.proofs.WordLists.{accepted_small}
 use Rattle.beet_gates.proofs.EachFacts.{each-same, length-each}
 use Rattle.beet_bids.specs.Curves.{Curve, IsCurve, IsOfGrid}
 use Rattle.beet_bids.specs.Grids.{Grid}
@@ -15,21 +16,21 @@ use Rattle.beet_book.specs.Dealing.{quantities}
 use Rattle.beet_round.specs.Sides.{peer}
 use Rattle.beet_round.specs.declared.sides.Side.TheVariants.{Low, High}
 use Rattle.beet_sharing.specs.Runs.{Setup, coming, message, shared_at, standing_at}
-use Rattle.beet_map.proofs.WordLists.{accepted_small}
+use Rattle.beet_sharing.specs.Seen.{round_seen, rounds_seen}
+use Rattle.beet_sharing.proofs.SameRuns.{UseSame, message-same, numbers-same, words-same}
 use Rattle.beet_view.specs.declared.view.Seen.{Seen}
-use Rattle.beet_view.specs.RunViews.{round_seen, rounds_seen}
 use Rattle.beet_view.specs.Transcripts.{AreNumbers}
 use Rattle.beet_view.specs.Views.{IsView, Viewed}
 use Rattle.beet_audit.specs.Audits.{bidder_at, curve_of, marks_in, points_of_bidder, rounds_of, run_of}
-use Rattle.beet_audit.specs.OneRuns.{Keeps, OneRun}
+use Rattle.beet_audit.specs.OneRuns.{KeepsBid, OneRun}
 use Rattle.beet_audit.proofs.BidFacts.{recombines, some-from}
 use Rattle.beet_audit.proofs.PointFacts.{marks-at, marks-length}
 use Rattle.beet_audit_laws.specs.InUse.{SameAmong, SeenAlike}
 use Rattle.beet_audit_laws.proofs.Heard.{each-item, heard}
 use Rattle.beet_audit_laws.proofs.KeptWords.{IsKeptAt, kept-alike}
-use Rattle.beet_audit_laws.proofs.SameRuns.{UseSame, message-same, numbers-same, words-same}
 use Rattle.beet_book.proofs.Quantities.{quantities-many}
-use Rattle.beet_audit_laws.proofs.SharedPoints.{inputs, masks, masks', masks-at, numbers, numbers', numbers-at, points-at, run, run', same-setup, same-shares, script}
+use Rattle.beet_audit_laws.proofs.SharedPoints.{BothRuns, both-runs, masks-at, numbers-at, points-at, run, run'}
+use Rattle.beet_audit_laws.proofs.SharedPoints.{same-setup, same-shares}
 
 -- a view whose words are words, and which keeps a curve of exactly the bidders whose mark names its server
 pub record IsSound (view : Viewed) : Type 0 where
@@ -67,10 +68,12 @@ by-peer P Three low high Two other = high
 by-peer P Three low high Three other = absurd (other refl)
 
 -- all views of one run have as many bidders
-pub bidders-many : (grid : Grid) (views : Trio Viewed) → OneRun grid views → (s : Point) → length (member views s).bidders ≡ length views.one.bidders
+pub bidders-many : (grid : Grid) (views : Trio Viewed) → OneRun grid views → (s : Point) →
+    length (member views s).bidders ≡ length views.one.bidders
 bidders-many grid views h s = marks-length views.one.bidders (member views s).bidders (h.marks s)
 
-module _ (grid : Grid) (views others : Trio Viewed) (sound : (s : Point) → IsSound (member views s)) (sound' : (s : Point) → IsSound (member others s))
+module _ (grid : Grid) (views others : Trio Viewed) (sound : (s : Point) → IsSound (member views s))
+    (sound' : (s : Point) → IsSound (member others s))
     (one : OneRun grid views) (one' : OneRun grid others) (i j : Point) (apart : i ≢ j) (at-i : member others i ≡ member views i)
     (at-j : member others j ≡ member views j) where
   same-marks : (s : Point) → marks_in (member others s) ≡ marks_in (member views s)
@@ -86,14 +89,16 @@ module _ (grid : Grid) (views others : Trio Viewed) (sound : (s : Point) → IsS
   below n lt = subst (λ m. n < m) (sym count) lt
 
   -- the points of the bidders
-  same-at : (s : Point) (n : ℕ) → member others s ≡ member views s → member (points_of_bidder others n) s ≡ member (points_of_bidder views n) s
+  same-at : (s : Point) (n : ℕ) → member others s ≡ member views s →
+      member (points_of_bidder others n) s ≡ member (points_of_bidder views n) s
   same-at s n e = points-at others n s ∙ ap (λ (view : Viewed). (bidder_at view n).points) e ∙ sym (points-at views n s)
 
   points : (n : ℕ) → n < length views.one.bidders → points_of_bidder others n ≡ points_of_bidder views n
   points n lt =
       let bid = one.bids n lt in
       let bid' = one'.bids n (below n lt) in
-      same-shares i j apart (2 * grid.prices) (quantities (one.curves n)) (quantities (one'.curves n)) (points_of_bidder views n) (points_of_bidder others n)
+      same-shares i j apart (2 * grid.prices) (quantities (one.curves n)) (quantities (one'.curves n))
+      (points_of_bidder views n) (points_of_bidder others n)
       bid.shares bid'.shares (quantities-many grid (one.curves n) bid.of_grid) (quantities-many grid (one'.curves n) bid'.of_grid)
       (same-at i n at-i) (same-at j n at-j)
 
@@ -120,7 +125,8 @@ module _ (grid : Grid) (views others : Trio Viewed) (sound : (s : Point) → IsS
   -- the messages to the servers whose views are the same
   module _ (s : Point) (e : member others s ≡ member views s) where
     seen-same : rounds_seen o' s (rounds_of grid others) ≡ rounds_seen o s rounds
-    seen-same = ap (λ (x : Setup). rounds_seen x s (rounds_of grid others)) (sym setup) ∙ sym (one'.rounds s) ∙ ap (λ (view : Viewed). view.rounds) e ∙ one.rounds s
+    seen-same = ap (λ (x : Setup). rounds_seen x s (rounds_of grid others)) (sym setup) ∙ sym (one'.rounds s)
+        ∙ ap (λ (view : Viewed). view.rounds) e ∙ one.rounds s
 
     rounds-same : rounds_of grid others ≡ rounds
     rounds-same =
@@ -129,35 +135,31 @@ module _ (grid : Grid) (views others : Trio Viewed) (sound : (s : Point) → IsS
 
     messages-to : (t : ℕ) → t < rounds → (from : Point) → from ≢ s → message o' from s t ≡ message o from s t
     messages-to t lt =
-        let round = each-item (round_seen o' s) (round_seen o s) (rounds_of grid others) rounds t seen-same (subst (λ n. t < n) (sym rounds-same) lt) lt in
-        by-peer (λ from. message o' from s t ≡ message o from s t) s (ap (λ (r : List ℕ × List ℕ). r.0) round) (ap (λ (r : List ℕ × List ℕ). r.1) round)
+        let round = each-item (round_seen o' s) (round_seen o s) (rounds_of grid others) rounds t seen-same
+        (subst (λ n. t < n) (sym rounds-same) lt) lt in
+        by-peer (λ from. message o' from s t ≡ message o from s t) s (ap (λ (r : List ℕ × List ℕ). r.0) round)
+        (ap (λ (r : List ℕ × List ℕ). r.1) round)
 
-  abbrev m : Trio (List ℕ)
-  m = masks grid views others count points
+  abbrev both : BothRuns
+  both = both-runs grid views others count points
 
-  abbrev m' : Trio (List ℕ)
-  m' = masks' grid views others count points
-
-  abbrev d : Trio (List ℕ)
-  d = numbers grid views others count points
-
-  abbrev d' : Trio (List ℕ)
-  d' = numbers' grid views others count points
-
-  masks-of : (s : Point) → member others s ≡ member views s → member m' s ≡ member m s
+  masks-of : (s : Point) → member others s ≡ member views s → member both.masks' s ≡ member both.masks s
   masks-of s e = masks-at others s ∙ ap (λ (view : Viewed). view.masks) e ∙ sym (masks-at views s)
 
-  numbers-of : (s : Point) → member others s ≡ member views s → member d' s ≡ member d s
+  numbers-of : (s : Point) → member others s ≡ member views s → member both.numbers' s ≡ member both.numbers s
   numbers-of s e = numbers-at others s ∙ ap (λ (view : Viewed). accepted view.coefficients) e ∙ sym (numbers-at views s)
 
   -- so all three use the same
-  uses : (t : ℕ) → t < rounds → shared_at o' t ≡ shared_at o t → UseSame m m' d d' (standing_at o t) (coming o t).act
+  uses : (t : ℕ) → t < rounds → shared_at o' t ≡ shared_at o t →
+      UseSame both.masks both.masks' both.numbers both.numbers' (standing_at o t) (coming o t).act
   uses =
-      heard (script grid views others count points) (inputs grid views others count points) m m' d d'
+      heard both.script both.inputs both.masks both.masks' both.numbers both.numbers'
       (λ s n. subst (λ l. IsWord (slice_index l n)) (sym (masks-at views s)) ((sound s).masks n))
       (λ s n. subst (λ l. IsWord (slice_index l n)) (sym (masks-at others s)) ((sound' s).masks n))
-      (λ s n. subst (λ l. slice_index l n < p) (sym (numbers-at views s)) (accepted_small (member views s).coefficients (sound s).coefficients n))
-      (λ s n. subst (λ l. slice_index l n < p) (sym (numbers-at others s)) (accepted_small (member others s).coefficients (sound' s).coefficients n))
+      (λ s n. subst (λ l. slice_index l n < p) (sym (numbers-at views s))
+      (accepted_small (member views s).coefficients (sound s).coefficients n))
+      (λ s n. subst (λ l. slice_index l n < p) (sym (numbers-at others s))
+      (accepted_small (member others s).coefficients (sound' s).coefficients n))
       i j apart (masks-of i at-i) (masks-of j at-j) (numbers-of i at-i) (numbers-of j at-j) rounds (messages-to i at-i) (messages-to j at-j)
 
   -- a bidder at a server
@@ -166,10 +168,12 @@ module _ (grid : Grid) (views others : Trio Viewed) (sound : (s : Point) → IsS
     first-lt = subst (λ k. n < k) (bidders-many grid views one s) lt
 
     mark : (bidder_at (member others s) n).known ≡ (bidder_at (member views s) n).known
-    mark = marks-at (member views s).bidders (member others s).bidders n (record { known = None; points = []; own = None }) (same-marks s) lt
+    mark = marks-at (member views s).bidders (member others s).bidders n
+        (record { known = None; points = []; own = None }) (same-marks s) lt
 
     own-kept : IsKeptAt s (bidder_at (member views s) n).known (bidder_at (member views s) n).own
-    own-kept = subst (λ x. IsKeptAt x (bidder_at (member views s) n).known (bidder_at (member views s) n).own) (one.servers s) ((sound s).kept n lt)
+    own-kept = subst (λ x. IsKeptAt x (bidder_at (member views s) n).known (bidder_at (member views s) n).own)
+        (one.servers s) ((sound s).kept n lt)
 
     other-kept : IsKeptAt s (bidder_at (member views s) n).known (bidder_at (member others s) n).own
     other-kept =
@@ -185,8 +189,10 @@ module _ (grid : Grid) (views others : Trio Viewed) (sound : (s : Point) → IsS
           mark = mark;
           points = sym (points-at others n s) ∙ ap (λ t. member t s) (points n first-lt) ∙ points-at views n s;
           kept = kept-alike grid (one.curves n) bid.of_grid (points_of_bidder views n) (points_of_bidder others n) (points n first-lt) s
-              (bidder_at (member views s) n).known (bidder_at (member views s) n).own (bidder_at (member others s) n).own own-kept other-kept (bid.known s)
-              (subst (λ c. IfSome (bidder_at (member others s) n).own (Keeps grid c (points_of_bidder others n))) (curves n first-lt) (bid'.known s));
+              (bidder_at (member views s) n).known (bidder_at (member views s) n).own
+              (bidder_at (member others s) n).own own-kept other-kept (bid.known s)
+              (subst (λ c. IfSome (bidder_at (member others s) n).own (KeepsBid grid c (points_of_bidder others n)))
+              (curves n first-lt) (bid'.known s));
         }
 
   rounds-at : (s : Point) → (member others s).rounds ≡ (member views s).rounds
@@ -194,7 +200,8 @@ module _ (grid : Grid) (views others : Trio Viewed) (sound : (s : Point) → IsS
       one'.rounds s ∙ ap (λ (x : Setup). rounds_seen x s (rounds_of grid others)) setup ∙ ap (λ n. rounds_seen o' s n) (rounds-same i at-i)
       ∙ each-same (round_seen o' s) (round_seen o s) rounds
       (λ t lt.
-      let same = message-same (script grid views others count points) (inputs grid views others count points) m m' d d' rounds uses t lt in
+      let same =
+      message-same both.script both.inputs both.masks both.masks' both.numbers both.numbers' rounds uses t lt in
       λ x. (same (peer s Low) s x, same (peer s High) s x))
       ∙ sym (one.rounds s)
 
@@ -209,10 +216,10 @@ module _ (grid : Grid) (views others : Trio Viewed) (sound : (s : Point) → IsS
     enough = one'.tapes s;
     masks = λ n lt.
         ap (λ l. slice_index l n) (sym (masks-at others s))
-        ∙ words-same (script grid views others count points) (inputs grid views others count points) m m' d d' rounds uses s n lt
+        ∙ words-same both.script both.inputs both.masks both.masks' both.numbers both.numbers' rounds uses s n lt
         ∙ ap (λ l. slice_index l n) (masks-at views s);
     numbers = λ n lt.
         ap (λ l. slice_index l n) (sym (numbers-at others s))
-        ∙ numbers-same (script grid views others count points) (inputs grid views others count points) m m' d d' rounds uses s n lt
+        ∙ numbers-same both.script both.inputs both.masks both.masks' both.numbers both.numbers' rounds uses s n lt
         ∙ ap (λ l. slice_index l n) (numbers-at views s);
   }

@@ -12,12 +12,13 @@ use Rattle.beet_round.proofs.SideFacts.{peer-apart, peer-one}
 use Rattle.beet_map.proofs.Moves.{same_or}
 use Rattle.beet_view.specs.Views.{Viewed}
 use Rattle.beet_audit.specs.Audits.{bidder_at, points_of_bidder}
-use Rattle.beet_audit.specs.OneRuns.{Keeps, OneRun}
+use Rattle.beet_audit.specs.OneRuns.{KeepsBid, OneRun}
 use Rattle.beet_audit_laws.specs.InUse.{KeptAlike, SameAmong, SameButAt}
 use Rattle.beet_audit_laws.proofs.FreeFacts.{free-run}
 use Rattle.beet_audit_laws.proofs.ThirdFacts.{IsSound, bidders-many, third-same}
 
-kept-itself : (grid : Grid) (curve : Curve) (points : Trio (List ℕ)) (own : Option (Curve × List ℕ)) → IfSome own (Keeps grid curve points) →
+kept-itself : (grid : Grid) (curve : Curve) (points : Trio (List ℕ)) (own : Option (Curve × List ℕ)) →
+    IfSome own (KeepsBid grid curve points) →
     KeptAlike (2 * grid.prices) own own
 kept-itself grid curve points None keeps = tt
 kept-itself grid curve points (Some own) keeps = record { curve = refl; enough = keeps.words; numbers = λ n lt. refl }
@@ -41,7 +42,8 @@ same-itself grid views one s = record {
   numbers = λ n lt. refl;
 }
 
-pub third-law : (grid : Grid) (views others : Trio Viewed) (s : Point) → ((r : Point) → IsSound (member views r)) → ((r : Point) → IsSound (member others r)) →
+pub third-law : (grid : Grid) (views others : Trio Viewed) (s : Point) → ((r : Point) → IsSound (member views r)) →
+    ((r : Point) → IsSound (member others r)) →
     OneRun grid views → SameButAt s views others → OneRun grid others ↔ SameAmong grid views s (member others s)
 third-law grid views others s sound sound' one same = (
   λ one'.

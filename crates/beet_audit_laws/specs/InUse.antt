@@ -14,7 +14,8 @@ use Rattle.beet_view.specs.Transcripts.{AreNumbers}
 use Rattle.beet_view.specs.Views.{Viewed, IsView}
 use Rattle.beet_audit.specs.Audits.{bidder_at, run_of, rounds_of, words_in}
 
--- three views are as the type of a view keeps each: its parts fit together, and its numbers are within the limits of their types
+-- three views are as the type of a view keeps each: its parts fit together, and its numbers are within the limits of
+-- their types
 abbrev pub AreViews : Trio Viewed → Type 0
 AreViews views = (s : Point) → IsView (member views s) × AreNumbers (member views s)
 
@@ -41,8 +42,8 @@ pub record SeenAlike (prices : ℕ) (seen other : Seen) : Type 0 where
   pub points : other.points ≡ seen.points
   pub kept : KeptAlike (2 * prices) seen.own other.own
 
--- two views are the same in all that a run uses, in which the server deals so many words and draws so many numbers; the words behind these,
--- and where the words stand that are passed over, may differ
+-- two views are the same in all that a run uses, in which the server deals so many words and draws so many numbers; the
+-- words behind these, and where the words stand that are passed over, may differ
 pub record SameInUse (grid : Grid) (dealt drawn : ℕ) (view other : Viewed) : Type 0 where
   pub server : other.server ≡ view.server
   pub over : other.grid ≡ view.grid

@@ -1,5 +1,6 @@
 -- The sums of a book: supply never falls and demand never rises, and so supply reaches demand from one place on.
-use Rattle.std.proofs.Common.{◌≡◌, ℕ, zero, suc, ◌+◌, ◌-◌, ◌*◌, ◌^◌, ◌<◌, ◌≤◌, inl, inr, Bool, true, false, List, [], ◌∷◌, map, length, slice_index, get_or, Some, refl, ap, sym, ◌∙◌, arith}
+use Rattle.std.proofs.Common.{◌≡◌, ℕ, zero, suc, ◌+◌, ◌-◌, ◌*◌, ◌^◌, ◌<◌, ◌≤◌, inl, inr, Bool, true, false, List, []}
+use Rattle.std.proofs.Common.{◌∷◌, map, length, slice_index, get_or, Some, refl, ap, sym, ◌∙◌, arith}
 use Rattle.std.specs.Prelude.{All, find, unwrap_or, nat_le}
 use Rattle.std.specs.List.{range_with_len, sum_by}
 use Rattle.std.proofs.lemmas.Bool.{cases_eq, cases_lt, cases_Bool, leb-true}
@@ -41,7 +42,8 @@ sum-at-most f g (x ∷ xs) all =
     omega (arith, sum_by-cons f x xs, sum_by-cons g x xs, first, rest)
 
 -- all bidders
-module _ (grid : Grid) (bidders : List Bidder) (j k : ℕ) (curves : All (λ b. IsCurve b.curve) bidders) (of_grid : All (λ b. IsOfGrid grid b.curve) bidders)
+module _ (grid : Grid) (bidders : List Bidder) (j k : ℕ) (curves : All (λ b. IsCurve b.curve) bidders)
+    (of_grid : All (λ b. IsOfGrid grid b.curve) bidders)
     (up : j ≤ k) (last : k < grid.prices) where
   supply-rises : supply_at bidders j ≤ supply_at bidders k
   supply-rises =
@@ -55,7 +57,8 @@ module _ (grid : Grid) (bidders : List Bidder) (j k : ℕ) (curves : All (λ b. 
 
 -- the first number of a range at which a test gives true, or the end of the range
 module _ (test : ℕ → Bool) (end : ℕ) where
-  first-within : (n a : ℕ) → a + n ≡ end → (a ≤ unwrap_or (find test (range_with_len a n)) end) × (unwrap_or (find test (range_with_len a n)) end ≤ end)
+  first-within : (n a : ℕ) → a + n ≡ end →
+      (a ≤ unwrap_or (find test (range_with_len a n)) end) × (unwrap_or (find test (range_with_len a n)) end ≤ end)
   first-within zero a e = (omega arith, omega arith)
   first-within (suc n) a e = elim (cases_Bool (test a)) [
     | inl t ↦ rw t (omega arith, omega arith)

@@ -1,5 +1,6 @@
 -- Lists that never rise, and lists that never fall.
-use Rattle.std.proofs.Common.{◌≡◌, ℕ, suc, zero, ◌<◌, ◌≤◌, ◌+◌, ◌↔◌, Bool, true, false, IsTrue, nat_le, List, length, get_or, AllPairs, arith, rules, sym}
+use Rattle.std.proofs.Common.{◌≡◌, ℕ, suc, zero, ◌<◌, ◌≤◌, ◌+◌, ◌↔◌, Bool, true, false, IsTrue, nat_le, List, length}
+use Rattle.std.proofs.Common.{get_or, AllPairs, arith, rules, sym}
 use Rattle.std.specs.List.{IsAllAdjacentAnswer}
 use Rattle.std.proofs.lemmas.Bool.{leb-true, leb-false, true≢false}
 

@@ -1,5 +1,8 @@
 -- Which line holds at a place.
-use Rattle.std.proofs.Common.{◌≡◌, ℕ, zero, suc, ◌+◌, ◌-◌, ◌<◌, ◌≤◌, Bool, true, false, nat_eq, nat_le, IsTrue, is_some, cond, List, [], ◌∷◌, ◌++◌, map, reverse, replicate, find, take, length, get_or, slice_get, All, AllPairs, Option, Some, None, unwrap_or, refl, ap, sym, subst, ◌∙◌, arith, inl, inr, append-nil, append_assoc}
+use Rattle.std.proofs.Common.{◌≡◌, ℕ, zero, suc, ◌+◌, ◌-◌, ◌<◌, ◌≤◌, Bool, true, false, nat_eq, nat_le, IsTrue, is_some}
+use Rattle.std.proofs.Common.{cond, List, [], ◌∷◌, ◌++◌, map, reverse, replicate, find, take, length, get_or, slice_get}
+use Rattle.std.proofs.Common.{All, AllPairs, Option, Some, None, unwrap_or, refl, ap, sym, subst, ◌∙◌, arith, inl, inr}
+use Rattle.std.proofs.Common.{append-nil, append_assoc}
 use Rattle.std.specs.Option.{option_or}
 use Rattle.std.specs.List.{range_with_len}
 use Rattle.std.proofs.lemmas.Bool.{cases_lt, cases_eq, true≢false, le-leb, lt-leb, eqb-true, leb-true}
@@ -45,10 +48,12 @@ line_at-get (line ∷ lines) (suc i) price d within here later =
     ∙ rw (line_at-get lines i price d (omega arith) here (λ j e above h. later (suc j) e (omega arith) (omega arith))) refl
 
 -- the line at a price, by the line at it among the later lines
-found_after : (line : Line) (lines : List Line) (price : ℕ) (later : Line) → line_at lines price ≡ Some later → line_at (line ∷ lines) price ≡ Some later
+found_after : (line : Line) (lines : List Line) (price : ℕ) (later : Line) → line_at lines price ≡ Some later →
+    line_at (line ∷ lines) price ≡ Some later
 found_after line lines price later e = line_at-cons line lines price ∙ rw e refl
 
-found_first : (line : Line) (lines : List Line) (price : ℕ) → line_at lines price ≡ None → line.price ≤ price → line_at (line ∷ lines) price ≡ Some line
+found_first : (line : Line) (lines : List Line) (price : ℕ) → line_at lines price ≡ None → line.price ≤ price →
+    line_at (line ∷ lines) price ≡ Some line
 found_first line lines price e low =
     let on : nat_le line.price price ≡ true = le-leb _ _ low in
     line_at-cons line lines price ∙ rw (e, on) refl
@@ -58,7 +63,8 @@ first_is true line held e = (cc, refl)
 first_is false line held e = absurd (cc)
 
 -- a line that holds is one of the lines
-all_from : (P : Line → Type 0) (line : Line) (price : ℕ) (held : Line) → P line → (o : Option Line) → ((later : Line) → o ≡ Some later → P later) →
+all_from : (P : Line → Type 0) (line : Line) (price : ℕ) (held : Line) → P line → (o : Option Line) →
+    ((later : Line) → o ≡ Some later → P later) →
     option_or o (cond (nat_le line.price price) (Some line) None) ≡ Some held → P held
 all_from P line price held here None rest e = subst P (first_is (nat_le line.price price) line held e).0 here
 all_from P line price held here (Some later) rest e = let same : later ≡ held = cc in subst P same (rest later refl)
@@ -66,7 +72,8 @@ all_from P line price held here (Some later) rest e = let same : later ≡ held 
 line_at-all : (P : Line → Type 0) (lines : List Line) (price : ℕ) (held : Line) → All P lines → line_at lines price ≡ Some held → P held
 line_at-all P [] price held all e = absurd (cc)
 line_at-all P (line ∷ lines) price held all e =
-    all_from P line price held (All-head P line lines all) (line_at lines price) (λ later is. line_at-all P lines price later (All-tail P line lines all) is)
+    all_from P line price held (All-head P line lines all) (line_at lines price)
+    (λ later is. line_at-all P lines price later (All-tail P line lines all) is)
     (sym (line_at-cons line lines price) ∙ e)
 
 -- at a higher price the same line holds, or a later one
@@ -78,7 +85,8 @@ record Later (lines : List Line) (price : ℕ) (before : Line) : Type 0 where
 
 first_later : (line : Line) (lines : List Line) (price : ℕ) → All (Precedes line) lines → line.price ≤ price →
     (o : Option Line) → line_at lines price ≡ o → Later (line ∷ lines) price line
-first_later line lines price all low None e = record { line = line; found = found_first line lines price e low; buy = omega arith; sell = omega arith }
+first_later line lines price all low None e =
+    record { line = line; found = found_first line lines price e low; buy = omega arith; sell = omega arith }
 first_later line lines price all low (Some later) e =
     let after = line_at-all (Precedes line) lines price later all e in
     record { line = later; found = found_after line lines price later e; buy = after.buy; sell = after.sell }
@@ -96,7 +104,8 @@ later_from line lines low high held rise all (Some before) rest e =
     subst (Later (line ∷ lines) high) same
     (record { line = later.line; found = found_after line lines high later.line later.found; buy = later.buy; sell = later.sell })
 
-line_at-later : (lines : List Line) (low high : ℕ) (held : Line) → low ≤ high → AllPairs Precedes lines → line_at lines low ≡ Some held → Later lines high held
+line_at-later : (lines : List Line) (low high : ℕ) (held : Line) → low ≤ high → AllPairs Precedes lines →
+    line_at lines low ≡ Some held → Later lines high held
 line_at-later [] low high held rise order e = absurd (cc)
 line_at-later (line ∷ lines) low high held rise order e =
     later_from line lines low high held rise (λ k d h. order zero (suc k) d (omega arith) (omega arith)) (line_at lines low)
@@ -117,7 +126,8 @@ found_some (line ∷ lines) base price some first low =
     found_from line lines price (omega (arith, first line)) (line_at lines price) refl
 
 -- a line holds at each place
-held_found : (grid : Grid) (lines : List Line) (place : ℕ) → AreLines grid lines → line_at lines (price_of grid place) ≡ Some (held_line grid lines place)
+held_found : (grid : Grid) (lines : List Line) (place : ℕ) → AreLines grid lines →
+    line_at lines (price_of grid place) ≡ Some (held_line grid lines place)
 held_found grid lines place are =
     let found = found_some lines grid.base (price_of grid place) are.some are.base (omega arith) in
     found.1 ∙ sym (ap (λ (o : Option Line). Some (unwrap_or o (record { price = 0; buy = 0; sell = 0 }))) found.1)
@@ -131,7 +141,8 @@ price-lt grid j k some h = omega (arith, mul-le (suc j) grid.tick k grid.tick h 
 held_later : (grid : Grid) (lines : List Line) (j k : ℕ) → AreLines grid lines → j ≤ k →
     ((held_line grid lines k).buy ≤ (held_line grid lines j).buy) × ((held_line grid lines j).sell ≤ (held_line grid lines k).sell)
 held_later grid lines j k are h =
-    let later = line_at-later lines (price_of grid j) (price_of grid k) (held_line grid lines j) (price-le grid j k h) are.in_order (held_found grid lines j are) in
+    let later = line_at-later lines (price_of grid j) (price_of grid k) (held_line grid lines j)
+    (price-le grid j k h) are.in_order (held_found grid lines j are) in
     let same : later.line ≡ held_line grid lines k = cc (later.found, held_found grid lines k are) in
     subst (λ (l : Line). (l.buy ≤ (held_line grid lines j).buy) × ((held_line grid lines j).sell ≤ l.sell)) same (later.buy, later.sell)
 
@@ -143,18 +154,24 @@ curve_in-is grid lines are =
     record {
       one_length = length-map-range_with_len sell 0 grid.prices ∙ sym (length-map-range_with_len buy 0 grid.prices);
       buy_limit = All-map (λ quantity. quantity ≤ LARGEST_QUANTITY) buy (places_of grid)
-          (λ k d h. line_at-all (λ l. l.buy ≤ LARGEST_QUANTITY) lines (price_of grid (get_or (places_of grid) k d)) _ are.buy_limit (held_found grid lines (get_or (places_of grid) k d) are));
+          (λ k d h. line_at-all (λ l. l.buy ≤ LARGEST_QUANTITY) lines (price_of grid (get_or (places_of grid) k d)) _
+          are.buy_limit (held_found grid lines (get_or (places_of grid) k d) are));
       sell_limit = All-map (λ quantity. quantity ≤ LARGEST_QUANTITY) sell (places_of grid)
-          (λ k d h. line_at-all (λ l. l.sell ≤ LARGEST_QUANTITY) lines (price_of grid (get_or (places_of grid) k d)) _ are.sell_limit (held_found grid lines (get_or (places_of grid) k d) are));
+          (λ k d h. line_at-all (λ l. l.sell ≤ LARGEST_QUANTITY) lines (price_of grid (get_or (places_of grid) k d)) _
+          are.sell_limit (held_found grid lines (get_or (places_of grid) k d) are));
       buy_never_rises = λ i j d h k.
           let within : j < grid.prices = omega (arith, length-map-range_with_len buy 0 grid.prices) in
-          let first : get_or (map buy (places_of grid)) i d ≡ buy i = get_or-map-range_with_len buy 0 grid.prices i i d (omega arith) (omega arith) in
-          let second : get_or (map buy (places_of grid)) j d ≡ buy j = get_or-map-range_with_len buy 0 grid.prices j j d within (omega arith) in
+          let first : get_or (map buy (places_of grid)) i d ≡ buy i =
+          get_or-map-range_with_len buy 0 grid.prices i i d (omega arith) (omega arith) in
+          let second : get_or (map buy (places_of grid)) j d ≡ buy j =
+          get_or-map-range_with_len buy 0 grid.prices j j d within (omega arith) in
           omega (arith, first, second, (held_later grid lines i j are (omega arith)).0);
       sell_never_falls = λ i j d h k.
           let within : j < grid.prices = omega (arith, length-map-range_with_len sell 0 grid.prices) in
-          let first : get_or (map sell (places_of grid)) i d ≡ sell i = get_or-map-range_with_len sell 0 grid.prices i i d (omega arith) (omega arith) in
-          let second : get_or (map sell (places_of grid)) j d ≡ sell j = get_or-map-range_with_len sell 0 grid.prices j j d within (omega arith) in
+          let first : get_or (map sell (places_of grid)) i d ≡ sell i =
+          get_or-map-range_with_len sell 0 grid.prices i i d (omega arith) (omega arith) in
+          let second : get_or (map sell (places_of grid)) j d ≡ sell j =
+          get_or-map-range_with_len sell 0 grid.prices j j d within (omega arith) in
           omega (arith, first, second, (held_later grid lines i j are (omega arith)).1);
     }
 
@@ -177,7 +194,8 @@ begin_is : (grid : Grid) (lines : List Line) (i : ℕ) (d : Line) → AreLines g
 begin_is grid lines i d are within =
     let here : slice_get lines i ≡ Some (get_or lines i d) = slice_get-get_or lines i d within in
     let at : begin_at grid lines i ≡ unwrap_or (place_of grid (get_or lines i d).price) 0 = ap (begin_of grid) here in
-    let place : place_of grid (get_or lines i d).price ≡ Some (unwrap_or (place_of grid (get_or lines i d).price) 0) = some_is _ (are.on_grid i d within) in
+    let place : place_of grid (get_or lines i d).price ≡ Some (unwrap_or (place_of grid (get_or lines i d).price) 0) =
+    some_is _ (are.on_grid i d within) in
     let found = find-range_found (λ (k : ℕ). nat_eq (price_of grid k) (get_or lines i d).price) 0 grid.prices _ place in
     rw at (omega (arith, found.0), eqb-true _ _ found.1)
 
@@ -210,11 +228,13 @@ begin_rises grid lines i d are within =
     ]
 
 -- a later line begins above a place before it
-later_above : (grid : Grid) (lines : List Line) (i j place : ℕ) (d : Line) → AreLines grid lines → 1 ≤ grid.tick → place < begin_at grid lines (i + 1) →
+later_above : (grid : Grid) (lines : List Line) (i j place : ℕ) (d : Line) → AreLines grid lines → 1 ≤ grid.tick →
+    place < begin_at grid lines (i + 1) →
     i < j → j < length lines → price_of grid place < (get_or lines j d).price
 later_above grid lines i j place d are some high after inside =
     let next = begin_is grid lines (i + 1) d are (omega arith) in
-    let below : price_of grid place < (get_or lines (i + 1) d).price = omega (arith, next.1, price-lt grid place (begin_at grid lines (i + 1)) some high) in
+    let below : price_of grid place < (get_or lines (i + 1) d).price =
+    omega (arith, next.1, price-lt grid place (begin_at grid lines (i + 1)) some high) in
     elim (cases_eq (i + 1) j) [
       | inl e ↦ rw (← e) below
       | inr differ ↦ omega (arith, below, (are.in_order (i + 1) j d (omega arith) inside).price)
@@ -241,7 +261,15 @@ constant_after f v from zero same =
 constant_after f v from (suc n) same =
     let e : from + suc n ≡ from + n + 1 = omega arith in
     let more : n + 1 ≡ suc n = omega arith in
-    rw (e, map-range_with_len_more f 0 (from + n) (from + n) (omega arith), constant_after f v from n (λ k l h. same k l (omega arith)), same (from + n) (omega arith) (omega arith), append_assoc, replicate_more n v, more) refl
+    rw (
+      e,
+      map-range_with_len_more f 0 (from + n) (from + n) (omega arith),
+      constant_after f v from n (λ k l h. same k l (omega arith)),
+      same (from + n) (omega arith) (omega arith),
+      append_assoc,
+      replicate_more n v,
+      more,
+    ) refl
 
 -- a list that is filled up to the place where the next line begins
 pub filled : (f : ℕ → ℕ) (items : List ℕ) (n from end v : ℕ) → n ≡ length items → items ≡ map f (range_with_len 0 from) → from ≤ end →

@@ -1,5 +1,6 @@
 -- The auction file: a header, and four rows of a key and a value; in version 2 a fifth one says what is opened.
-use Rattle.std.specs.Prelude.{ℕ, Bool, true, false, ◌||◌, if◌then◌else◌, List, [], ◌∷◌, Option, None, Some, Result, Ok, Err, is_some, nat_le, drop, slice_get, option_and_then, unwrap_or, bytes_eq, codes}
+use Rattle.std.specs.Prelude.{ℕ, Bool, true, false, ◌||◌, if◌then◌else◌, List, [], ◌∷◌, Option, None, Some, Result, Ok}
+use Rattle.std.specs.Prelude.{Err, is_some, nat_le, drop, slice_get, option_and_then, unwrap_or, bytes_eq, codes}
 use Rattle.beet_forms.specs.Faults.{Reading, first_fault, reading_of}
 use Rattle.beet_forms.specs.Numbers.{number_of, decimal_value}
 use Rattle.beet_forms.specs.Rows.{rows_of, two_of}
@@ -78,7 +79,8 @@ named_in named other value = unwrap_or (option_and_then named value) other
 -- the rows behind the gates: in version 2 the row that says what is opened, and none after it
 abbrev pub last_reasons : Bool → List Row → List (Option ℕ)
 last_reasons false rows = extra_reason (slice_get rows 0) ∷ []
-last_reasons true rows = name_reason policy_named (value_of (codes "opens") (slice_get rows 0)) ∷ extra_reason (slice_get rows 1) ∷ []
+last_reasons true rows =
+    name_reason policy_named (value_of (codes "opens") (slice_get rows 0)) ∷ extra_reason (slice_get rows 1) ∷ []
 
 -- what is opened; in version 1 it is the volume
 abbrev pub policy_in : Bool → List Row → Policy

@@ -1,5 +1,6 @@
 -- The bid file: a header, and a line for each price from which the quantities change.
-use Rattle.std.specs.Prelude.{ℕ, Bool, not, ◌==◌, ◌&&◌, ◌||◌, nat_lt, nat_le, if◌then◌else◌, List, [], ◌∷◌, map, drop, reverse, find, filter_map, zip, Option, None, Some, is_none, is_ok, unwrap_or, codes}
+use Rattle.std.specs.Prelude.{ℕ, Bool, not, ◌==◌, ◌&&◌, ◌||◌, nat_lt, nat_le, if◌then◌else◌, List, [], ◌∷◌, map, drop}
+use Rattle.std.specs.Prelude.{reverse, find, filter_map, zip, Option, None, Some, is_none, is_ok, unwrap_or, codes}
 use Rattle.beet_forms.specs.Faults.{Reading, first_fault, reading_of}
 use Rattle.beet_forms.specs.Numbers.{number_of, decimal_value}
 use Rattle.beet_forms.specs.Rows.{rows_of, begins_with, three_of}
@@ -8,7 +9,8 @@ use Rattle.beet_bids.specs.Grids.{Grid, price_of, place_of, places_of}
 use Rattle.beet_bids.specs.declared.curve.TheConstants.{LARGEST_QUANTITY}
 use Rattle.beet_bids.specs.Curves.{Curve}
 use Rattle.beet_forms.specs.declared.faults.TheConstants.{BAD_HEADER, BAD_ROW}
-use Rattle.beet_bids.specs.declared.lines.TheConstants.{OFF_GRID, NOT_ASCENDING, BUY_RISES, SELL_FALLS, QUANTITY_TOO_LARGE, NO_BASE}
+use Rattle.beet_bids.specs.declared.lines.TheConstants.{OFF_GRID, NOT_ASCENDING, BUY_RISES, SELL_FALLS}
+use Rattle.beet_bids.specs.declared.lines.TheConstants.{QUANTITY_TOO_LARGE, NO_BASE}
 use Rattle.beet_bids.specs.declared.lines.Line.{Line}
 
 -- whether a text is a number, however large
@@ -24,8 +26,8 @@ line_in (Some fields) =
     else None
 
 -- the line of a row that has three numbers
-abbrev pub line_of : Row → Option Line
-line_of row = line_in (three_of row)
+abbrev pub bid_line_of : Row → Option Line
+bid_line_of row = line_in (three_of row)
 
 -- whether a quantity of the line is above its limit
 abbrev pub is_large : Line → Bool
@@ -85,8 +87,8 @@ curve_in grid lines = record {
 -- the curve of the rows, or the first row that is refused
 abbrev pub bid_in : Grid → List Row → Reading Curve
 bid_in grid rows =
-    reading_of (first_fault 1 (header_reason rows ∷ line_reasons grid (map line_of (drop 1 rows))))
-    (curve_in grid (filter_map line_of (drop 1 rows)))
+    reading_of (first_fault 1 (header_reason rows ∷ line_reasons grid (map bid_line_of (drop 1 rows))))
+    (curve_in grid (filter_map bid_line_of (drop 1 rows)))
 
 -- what a bid file reads as, for a grid
 abbrev pub bid_of : Grid → List ℕ → Reading Curve

@@ -6,7 +6,8 @@ use Rattle.beet_gates.specs.declared.Gates.{Gates}
 use Rattle.beet_bids.specs.declared.outcomes.Policy.{Policy}
 use Rattle.beet_bids.specs.declared.grid.TheConstants.{LARGEST_BASE, LARGEST_TICK, MOST_PRICES}
 
--- a lowest price, the step from one price to the next, how many prices there are, the kind of gates, and what is opened beside the price
+-- a lowest price, the step from one price to the next, how many prices there are, the kind of gates, and what is opened
+-- beside the price
 pub record Grid : Type 0 where
   pub base : ℕ
   pub tick : ℕ

@@ -1,5 +1,6 @@
 -- The lines of a bid.
-use Rattle.std.specs.Prelude.{◌≡◌, ℕ, ◌+◌, ◌<◌, ◌≤◌, min, List, Option, None, Some, is_some, unwrap_or, length, slice_get, slice_index_or, All, AllPairs, IsTrue, ◌-◌}
+use Rattle.std.specs.Prelude.{◌≡◌, ℕ, ◌+◌, ◌<◌, ◌≤◌, min, List, Option, None, Some, is_some, unwrap_or, length}
+use Rattle.std.specs.Prelude.{slice_get, slice_index_or, All, AllPairs, IsTrue, ◌-◌}
 use Rattle.beet_bids.specs.Grids.{Grid, price_of, place_of}
 use Rattle.beet_bids.specs.declared.curve.TheConstants.{LARGEST_QUANTITY}
 use Rattle.beet_bids.specs.declared.lines.Line.{Line}

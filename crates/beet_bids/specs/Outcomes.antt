@@ -8,7 +8,8 @@ use Rattle.beet_bids.specs.declared.outcomes.Policy.TheVariants.{Price as PriceA
 use Rattle.beet_bids.specs.declared.outcomes.Outcome.{Outcome}
 use Rattle.beet_bids.specs.declared.outcomes.Outcome.TheVariants.{Price, No}
 
--- of the demand and the supply at the place of the price, those that a policy opens: none, the demand, or both, the demand first
+-- of the demand and the supply at the place of the price, those that a policy opens: none, the demand, or both, the
+-- demand first
 abbrev pub shown_by : {A : Type 0} → Policy → A → A → List A
 shown_by PriceAlone demand supply = []
 shown_by Volume demand supply = demand ∷ []
@@ -33,6 +34,5 @@ outcome_at book (Some place) =
     let shown = shown_by book.grid.policy (demand_at book.bidders place) (supply_at book.bidders place) in
     Price place (price_of book.grid place) (slice_get shown 0) (slice_get shown 1)
 
--- the outcome of a book
 abbrev pub outcome_of : Book → Outcome
 outcome_of book = outcome_at book (reached_place book)

@@ -3,7 +3,9 @@
 ghost use Rattle.std.specs.Prelude.{◌≡◌, ◌≤◌, ◌∷◌, IfOk, OnOk, length, option_map, slice_get, codes};
 ghost use Rattle.beet_forms.specs.Faults.{Answers, first_fault, reading_of, row_reading};
 ghost use Rattle.beet_forms.specs.Rows.{two_of};
-ghost use Rattle.beet_bids.specs.AuctionFiles.{auction_in, auction_of, gates_named, last_reasons, name_reason, named_in, number_in, number_reason, policy_in, policy_named, tells_policy, value_in, value_of, version_reason};
+ghost use Rattle.beet_bids.specs.AuctionFiles.{auction_in, auction_of, gates_named, last_reasons, name_reason};
+ghost use Rattle.beet_bids.specs.AuctionFiles.{named_in, number_in, number_reason, policy_in, policy_named};
+ghost use Rattle.beet_bids.specs.AuctionFiles.{tells_policy, value_in, value_of, version_reason};
 
 use crate::grid::{Grid, LARGEST_BASE, LARGEST_TICK, MOST_PRICES};
 use crate::outcomes::Policy;
@@ -131,7 +133,8 @@ fn read_policy(rows: &mut RowReader, row: &mut Row) -> Result<Policy, ReadFault>
 
 /// Takes what comes behind the gates, to the end: row 6, where the version has one.
 fn read_rest(rows: &mut RowReader, row: &mut Row, tells: bool) -> Result<Policy, ReadFault>
-    ensures { Answers (λ policy. policy) (reading_of (first_fault 6 (last_reasons tells rows.old)) (policy_in tells rows.old)) result }
+    ensures { Answers (λ policy. policy)
+        (reading_of (first_fault 6 (last_reasons tells rows.old)) (policy_in tells rows.old)) result }
 {
     let policy = if tells {
         read_policy(rows, row)?
@@ -161,9 +164,9 @@ fn read_grid(rows: &mut RowReader, row: &mut Row) -> Result<Grid, ReadFault>
 }
 
 /// The grid of an auction file: the rows `beet-auction,1`, `base,N`, `tick,N`, `prices,N`, and `gates,chain` or
-/// `gates,tree`. It opens the volume. After `beet-auction,2` a sixth row says what it opens: `opens,price`, `opens,volume` or
-/// `opens,full`. The first row that breaks this is named: row 1 as [`BAD_HEADER`] or [`WRONG_VERSION`], each other one as
-/// [`BAD_KEY`] or [`BAD_VALUE`].
+/// `gates,tree`. It opens the volume. After `beet-auction,2` a sixth row says what it opens: `opens,price`,
+/// `opens,volume` or `opens,full`. The first row that breaks this is named: row 1 as [`BAD_HEADER`] or
+/// [`WRONG_VERSION`], each other one as [`BAD_KEY`] or [`BAD_VALUE`].
 pub fn read_auction(alloc: Global, bytes: &[u8]) -> Result<Grid, ReadFault>
     requires { length bytes.now ≤ LONGEST_FILE }
     ensures { Answers (λ grid. grid) (auction_of bytes.now) result }

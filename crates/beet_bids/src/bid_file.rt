@@ -32,10 +32,10 @@ fn read_curve(
     Ok(curve_of(alloc, grid, &lines)?)
 }
 
-/// The curve of a bid file: the row `beet-bid,1`, and rows `PRICE,BUY,SELL` from the base on, in rising order. Between two
-/// rows the quantities of the earlier one hold. The first row that breaks this is named. Its reason is [`BAD_HEADER`] for
-/// row 1, and for a further row the first that stands against it of [`BAD_ROW`], [`OFF_GRID`], [`NO_BASE`],
-/// [`NOT_ASCENDING`], [`QUANTITY_TOO_LARGE`], [`BUY_RISES`] and [`SELL_FALLS`].
+/// The curve of a bid file: the row `beet-bid,1`, and rows `PRICE,BUY,SELL` from the base on, in rising order. Between
+/// two rows the quantities of the earlier one hold. The first row that breaks this is named. Its reason is
+/// [`BAD_HEADER`] for row 1, and for a further row the first that stands against it of [`BAD_ROW`], [`OFF_GRID`],
+/// [`NO_BASE`], [`NOT_ASCENDING`], [`QUANTITY_TOO_LARGE`], [`BUY_RISES`] and [`SELL_FALLS`].
 pub fn read_bid(alloc: Global, grid: &Grid, bytes: &[u8]) -> Result<Curve, ReadFault>
     requires { length bytes.now ≤ LONGEST_FILE }
     ensures reads { Answers (λ curve. curve) (bid_of grid.now bytes.now) result }

@@ -36,8 +36,8 @@ impl Book {
     ghost use Rattle.beet_bids.specs.Books.{IsBook};
     ghost use Rattle.beet_bids.specs.Curves.{IsOfGrid};
 
-    /// The book of these bidders, or none where they are too many or a curve is of another grid; the bidders are dropped
-    /// then.
+    /// The book of these bidders, or none where they are too many or a curve is of another grid; the bidders are
+    /// dropped then.
     pub fn new(grid: Grid, bidders: Vec<Bidder>) -> Option<Book>
         ensures made { SomeIff result
             ((length bidders.items ≤ MOST_BIDDERS)

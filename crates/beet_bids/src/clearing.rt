@@ -34,8 +34,8 @@ pub fn demand(book: &Book, place: u32) -> u64
     sum
 }
 
-/// The first price of a book at which supply reaches demand, with what the policy of its grid opens there: the demand is the
-/// volume.
+/// The first price of a book at which supply reaches demand, with what the policy of its grid opens there: the demand
+/// is the volume.
 pub fn outcome(book: &Book) -> Outcome
     ensures { result ≡ outcome_of book.now }
 {

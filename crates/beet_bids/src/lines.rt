@@ -1,11 +1,13 @@
 //! The lines of a bid.
 
-ghost use Rattle.std.specs.Prelude.{◌≡◌, ◌<◌, ◌≤◌, ◌+◌, ◌^◌, length, min, Some, None, if◌then◌else◌, option_map, map, filter_map, IfOk};
+ghost use Rattle.std.specs.Prelude.{◌≡◌, ◌<◌, ◌≤◌, ◌+◌, ◌^◌, length, min, Some, None, if◌then◌else◌, option_map, map};
+ghost use Rattle.std.specs.Prelude.{filter_map, IfOk};
 ghost use Rattle.beet_forms.specs.Faults.{Answers, first_fault, reading_of, row_reading};
 ghost use Rattle.beet_forms.specs.Numbers.{decimal_value};
 ghost use Rattle.beet_bids.specs.Curves.{IsOfGrid};
 ghost use Rattle.beet_bids.specs.Lines.{AreLines, begin_at, cut_line};
-ghost use Rattle.beet_bids.specs.BidFiles.{curve_in, first_reason, is_large, is_number, line_of, line_reason, line_reasons, next_reason};
+ghost use Rattle.beet_bids.specs.BidFiles.{curve_in, first_reason, is_large, is_number, bid_line_of, line_reason};
+ghost use Rattle.beet_bids.specs.BidFiles.{line_reasons, next_reason};
 
 use crate::curve::{Curve, LARGEST_QUANTITY};
 use crate::grid::Grid;
@@ -53,7 +55,7 @@ fn cut_number(digits: &[u8], largest: u64) -> Option<u64>
 
 /// The line of a row, with each number cut to one above the largest that it may be.
 fn cut_line(grid: &Grid, row: &Row) -> Option<Line>
-    ensures { result ≡ option_map (cut_line grid.now) (line_of row.now) }
+    ensures { result ≡ option_map (cut_line grid.now) (bid_line_of row.now) }
 {
     let (price, buy, sell) = three_fields(row)?;
     let price = cut_number(price, grid.price(grid.prices() - 1))?;
@@ -114,7 +116,7 @@ fn line_reason(grid: &Grid, before: Option<Line>, line: Line) -> Option<u32>
 
 /// The line of the row of this number.
 fn read_line(grid: &Grid, before: Option<Line>, number: u32, row: &Row) -> Result<Line, ReadFault>
-    ensures { let line = line_of row.now in
+    ensures { let line = bid_line_of row.now in
         let reason = line_reason grid.now before line in
         Answers (λ read. Some read) (row_reading number reason line) result }
 {
@@ -135,8 +137,8 @@ pub(crate) fn read_lines(
     row: &mut Row,
 ) -> Result<Vec<Line>, ReadFault>
     requires { length rows.old + 2 < 2 ^ 32 }
-    ensures reads { let fault = first_fault 2 (line_reasons grid.now (map line_of rows.old)) in
-        Answers (λ v. v.items) (reading_of fault (filter_map line_of rows.old)) result }
+    ensures reads { let fault = first_fault 2 (line_reasons grid.now (map bid_line_of rows.old)) in
+        Answers (λ v. v.items) (reading_of fault (filter_map bid_line_of rows.old)) result }
     ensures lines { IfOk result (λ v. AreLines grid.now v.items) }
 {
     let mut lines = Vec::with_capacity(alloc, grid.prices() as usize)?;

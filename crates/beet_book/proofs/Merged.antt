@@ -9,7 +9,7 @@ use Rattle.beet_field.specs.declared.point.Point.TheVariants.{One, Two, Three}
 use Rattle.beet_gates.specs.Each.{each}
 use Rattle.beet_gates.proofs.EachFacts.{length-each, item-each}
 use Rattle.beet_bids.specs.Curves.{Curve, quantity}
-use Rattle.beet_book.specs.Farmers.{Farmer, point_for, summed_point, summed_points}
+use Rattle.beet_book.specs.Farmers.{BidderWithWords, point_for, summed_point, summed_points}
 use Rattle.beet_book.specs.Totals.{field_sums, added, plain_sums, summed_quantities}
 use Rattle.beet_book.proofs.Pairs.{length-pairwise, item-pairwise}
 use Rattle.beet_book.proofs.Sums.{sums-by_item}
@@ -18,14 +18,16 @@ use Rattle.beet_book.proofs.Summed.{length-summed, item-summed}
 two-sums : (a b : ℕ) → (a + b) % p ≡ add_of (a % p) (b % p)
 two-sums a b = omega arith
 
-points-at : (prices : ℕ) (few rest : List Farmer) (i : Point) →
-    each (summed_point (few ++ rest) i) (2 * prices) ≡ field_sums (each (summed_point few i) (2 * prices)) (each (summed_point rest i) (2 * prices))
+points-at : (prices : ℕ) (few rest : List BidderWithWords) (i : Point) →
+    each (summed_point (few ++ rest) i) (2 * prices)
+    ≡ field_sums (each (summed_point few i) (2 * prices)) (each (summed_point rest i) (2 * prices))
 points-at prices few rest i =
     let n = 2 * prices in
     let front = length-each (summed_point few i) n in
     let back = length-each (summed_point rest i) n in
     let whole = length-each (summed_point (few ++ rest) i) n in
-    sums-by_item (each (summed_point few i) n) (each (summed_point rest i) n) (each (summed_point (few ++ rest) i) n) (omega arith) (omega arith)
+    sums-by_item (each (summed_point few i) n) (each (summed_point rest i) n) (each (summed_point (few ++ rest) i) n)
+    (omega arith) (omega arith)
     (λ k lt.
     let within : k < n = omega arith in
     item-each (summed_point (few ++ rest) i) n k within
@@ -35,7 +37,7 @@ points-at prices few rest i =
     ∙ ap (λ total. add_of (get_or (each (summed_point few i) n) k 0) total) (sym (item-each (summed_point rest i) n k within)))
 
 -- the points of both are the points of each, added up
-pub points-joined : (prices : ℕ) (few rest : List Farmer) →
+pub points-joined : (prices : ℕ) (few rest : List BidderWithWords) →
     summed_points prices (few ++ rest) ≡ added (summed_points prices few) (summed_points prices rest)
 points-joined prices few rest = λ j. record {
   one = points-at prices few rest One j;
@@ -52,7 +54,8 @@ quantities-joined prices few rest =
     let back = length-summed prices rest in
     let whole = length-summed prices (few ++ rest) in
     let both = length-pairwise plus (summed_quantities prices few) (summed_quantities prices rest) in
-    same_number_lists (summed_quantities prices (few ++ rest)) (plain_sums (summed_quantities prices few) (summed_quantities prices rest)) (omega arith)
+    same_number_lists (summed_quantities prices (few ++ rest))
+    (plain_sums (summed_quantities prices few) (summed_quantities prices rest)) (omega arith)
     (λ k lt.
     let within : k < 2 * prices = omega arith in
     item-summed prices (few ++ rest) k within

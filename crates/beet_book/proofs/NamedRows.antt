@@ -1,5 +1,7 @@
 -- Rows with names, one after another.
-use Rattle.std.proofs.Common.{◌≡◌, ℕ, ◌+◌, ◌-◌, ◌≤◌, List, [], ◌∷◌, ◌++◌, Bool, true, false, ◌||◌, ◌==◌, if◌then◌else◌, length, take, None, Ok, Err, Result, refl, sym, ◌∙◌, ap, arith, append_assoc, length-append}
+use Rattle.std.proofs.Common.{◌≡◌, ℕ, ◌+◌, ◌-◌, ◌≤◌, List, [], ◌∷◌, ◌++◌, Bool, true, false, ◌||◌, ◌==◌, if◌then◌else◌}
+use Rattle.std.proofs.Common.{length, take, None, Ok, Err, Result, refl, sym, ◌∙◌, ap, arith, append_assoc}
+use Rattle.std.proofs.Common.{length-append}
 use Rattle.std.specs.Prelude.{bytes_eq}
 use Rattle.std.specs.List.{filter_map}
 use Rattle.std.specs.Result.{result_ok, result_err}
@@ -18,10 +20,12 @@ reading-ok number (Ok y) x e = let same : y ≡ x = cc e in ap Ok same
 reading-ok number (Err reason) x e = cc e
 
 -- an accepted row has a value, and is not one too many
-accepted : (A : Type 0) (value_in : Row → Result A ℕ) (taken : Bool) (number : ℕ) (row : Row) (value : A) → named_in value_in taken number row ≡ Ok value →
+accepted : (A : Type 0) (value_in : Row → Result A ℕ) (taken : Bool) (number : ℕ) (row : Row) (value : A) →
+    named_in value_in taken number row ≡ Ok value →
     (value_in row ≡ Ok value) × ((number == ONE_TOO_MANY) ≡ false)
 accepted A value_in taken number row value e = cases (number == ONE_TOO_MANY) taken (value_in row) e where
-  cases : (last taken : Bool) (r : Result A ℕ) → (if last then Err TOO_MANY else untaken taken r) ≡ Ok value → (r ≡ Ok value) × (last ≡ false)
+  cases : (last taken : Bool) (r : Result A ℕ) → (if last then Err TOO_MANY else untaken taken r) ≡ Ok value →
+      (r ≡ Ok value) × (last ≡ false)
   cases true taken r e = cc e
   cases false taken (Err reason) e = cc e
   cases false true (Ok x) e = cc e
@@ -36,7 +40,8 @@ reason-at A value_in done more row number is =
     ∙ ap (λ xs. result_err (named_in value_in (has_name (first_field row) xs) number row)) (take-append_seam done (row ∷ more))
 
 -- the names with that of one more row
-name-more : (done : List Row) (row : Row) (text : List ℕ) → has_name text (done ++ row ∷ []) ≡ (bytes_eq (first_field row) text || has_name text done)
+name-more : (done : List Row) (row : Row) (text : List ℕ) →
+    has_name text (done ++ row ∷ []) ≡ (bytes_eq (first_field row) text || has_name text done)
 name-more done row text =
     list_any-append (λ row. bytes_eq (first_field row) text) done (row ∷ [])
     ∙ turned (has_name text done) (bytes_eq (first_field row) text) where
@@ -47,7 +52,8 @@ name-more done row text =
       turned false false = refl
 
 -- all rows but those that are left were read as these values, and these names are known
-pub record ReadSoFar (A : Type 0) (value_in : Row → Result A ℕ) (all left : List Row) (values : List A) (known : List ℕ → Bool) : Type 0 where
+pub record ReadSoFar (A : Type 0) (value_in : Row → Result A ℕ) (all left : List Row) (values : List A)
+    (known : List ℕ → Bool) : Type 0 where
   pub done : List Row
   pub whole : done ++ left ≡ all
   pub count : length done ≡ length values
@@ -61,7 +67,8 @@ abbrev next_in : (A : Type 0) → (Row → Result A ℕ) → List A → (List �
 next_in A value_in values known row = named_in value_in (known (first_field row)) (length values + 2) row
 
 -- the reason against the next row
-reason-next : (A : Type 0) (value_in : Row → Result A ℕ) (all left : List Row) (values : List A) (known : List ℕ → Bool) (row : Row) (more : List Row) →
+reason-next : (A : Type 0) (value_in : Row → Result A ℕ) (all left : List Row) (values : List A) (known : List ℕ → Bool)
+    (row : Row) (more : List Row) →
     (so_far : ReadSoFar A value_in all left values known) → left ≡ row ∷ more →
     reason_against value_in all (length values + 2) row ≡ result_err (next_in A value_in values known row)
 reason-next A value_in all left values known row more so_far is =
@@ -71,7 +78,8 @@ reason-next A value_in all left values known row more so_far is =
     ∙ ap (λ taken. result_err (named_in value_in taken (length values + 2) row)) (sym (so_far.names (first_field row)))
 
 -- an accepted row was read
-pub row_read : (A : Type 0) (value_in : Row → Result A ℕ) (all left : List Row) (values : List A) (known after : List ℕ → Bool) (row : Row) (more : List Row) (value : A) →
+pub row_read : (A : Type 0) (value_in : Row → Result A ℕ) (all left : List Row) (values : List A)
+    (known after : List ℕ → Bool) (row : Row) (more : List Row) (value : A) →
     ReadSoFar A value_in all left values known → left ≡ row ∷ more →
     reading_at (length values + 2) (next_in A value_in values known row) ≡ Ok value →
     ((text : List ℕ) → after text ≡ (bytes_eq (first_field row) text || known text)) →
@@ -79,17 +87,22 @@ pub row_read : (A : Type 0) (value_in : Row → Result A ℕ) (all left : List R
 row_read A value_in all left values known after row more value so_far is reads names =
     let next = reading-ok (length values + 2) (next_in A value_in values known row) value reads in
     let parts = accepted A value_in (known (first_field row)) (length values + 2) row value next in
-    let none : reason_against value_in all (length values + 2) row ≡ None = reason-next A value_in all left values known row more so_far is ∙ ap result_err next in
+    let none : reason_against value_in all (length values + 2) row ≡ None =
+    reason-next A value_in all left values known row more so_far is ∙ ap result_err next in
     let longer : length (values ++ value ∷ []) ≡ length values + 1 = length-append values (value ∷ []) in
     let number : length (values ++ value ∷ []) + 2 ≡ length values + 2 + 1 = omega (arith, longer) in
-    let passed : first_row_fault (reason_against value_in all) (length values + 2) left ≡ first_row_fault (reason_against value_in all) (length values + 2 + 1) more = rw (is, none) refl in
-    let here : filter_map (λ row. result_ok (value_in row)) left ≡ value ∷ filter_map (λ row. result_ok (value_in row)) more = rw (is, parts.0) refl in
+    let passed : first_row_fault (reason_against value_in all) (length values + 2) left
+    ≡ first_row_fault (reason_against value_in all) (length values + 2 + 1) more = rw (is, none) refl in
+    let here : filter_map (λ row. result_ok (value_in row)) left
+    ≡ value ∷ filter_map (λ row. result_ok (value_in row)) more = rw (is, parts.0) refl in
     record {
       done = so_far.done ++ row ∷ [];
       whole = append_assoc so_far.done (row ∷ []) more ∙ ap (λ xs. so_far.done ++ xs) (sym is) ∙ so_far.whole;
       count = omega (arith, length-append so_far.done (row ∷ []), so_far.count, longer);
       few = omega (arith, so_far.few, longer, eqb-false _ _ parts.1);
       fault = rw number (sym passed ∙ so_far.fault);
-      read = append_assoc values (value ∷ []) (filter_map (λ row. result_ok (value_in row)) more) ∙ ap (λ xs. values ++ xs) (sym here) ∙ so_far.read;
-      names = λ text. names text ∙ ap (λ b. bytes_eq (first_field row) text || b) (so_far.names text) ∙ sym (name-more so_far.done row text);
+      read = append_assoc values (value ∷ []) (filter_map (λ row. result_ok (value_in row)) more)
+          ∙ ap (λ xs. values ++ xs) (sym here) ∙ so_far.read;
+      names = λ text. names text ∙ ap (λ b. bytes_eq (first_field row) text || b) (so_far.names text)
+          ∙ sym (name-more so_far.done row text);
     }

@@ -23,7 +23,8 @@ pub pairwise-front : (f : ℕ → ℕ → ℕ) (xs ys : List ℕ) → length xs 
 pairwise-front f xs ys h =
     let n = length xs in
     let short : length (take n ys) ≡ n = length-take-le n ys h in
-    same_number_lists (pairwise f xs (take n ys)) (pairwise f xs ys) (omega (arith, length-pairwise f xs (take n ys), length-pairwise f xs ys))
+    same_number_lists (pairwise f xs (take n ys)) (pairwise f xs ys)
+    (omega (arith, length-pairwise f xs (take n ys), length-pairwise f xs ys))
     (λ k lt.
     let within : k < n = omega (arith, length-pairwise f xs (take n ys)) in
     item-pairwise f xs (take n ys) k within (omega arith)

@@ -42,8 +42,10 @@ module _ {few rest : List Curve} {front front_left back back_left : List Tape} {
   }
 
 -- the list of both parts, where both are dealt
-pub over-both : {V E : Type 0} (items : V → List (Trio (List ℕ))) (grid : Grid) (few rest : List Curve) (front front_left back back_left : List Tape) (a b r : Result V E) →
-    length front ≡ length few → IfOk a (λ v. DealsOver grid few front front_left (items v)) → IfOk b (λ v. DealsOver grid rest back back_left (items v)) →
+pub over-both : {V E : Type 0} (items : V → List (Trio (List ℕ))) (grid : Grid) (few rest : List Curve)
+    (front front_left back back_left : List Tape) (a b r : Result V E) →
+    length front ≡ length few → IfOk a (λ v. DealsOver grid few front front_left (items v)) →
+    IfOk b (λ v. DealsOver grid rest back back_left (items v)) →
     IfOk r (λ v. IsOkAnd a (λ x. IsOkAnd b (λ y. items v ≡ items x ++ items y))) →
     IfOk r (λ v. DealsOver grid (few ++ rest) (front ++ back) (front_left ++ back_left) (items v))
 over-both items grid few rest front front_left back back_left (Ok x) (Ok y) (Ok v) paired f g is = rw is (over-joined grid paired f g)

@@ -22,12 +22,14 @@ length-summed prices curves = length-map-range_with_len (λ n. sum_by (λ curve.
 
 pub item-summed : (prices : ℕ) (curves : List Curve) (n : ℕ) → n < 2 * prices →
     get_or (summed_quantities prices curves) n 0 ≡ sum_by (λ curve. quantity curve n) curves
-item-summed prices curves n h = get_or-map-range_with_len (λ n. sum_by (λ curve. quantity curve n) curves) 0 (2 * prices) n n 0 h (omega arith)
+item-summed prices curves n h =
+    get_or-map-range_with_len (λ n. sum_by (λ curve. quantity curve n) curves) 0 (2 * prices) n n 0 h (omega arith)
 
 -- the sums of no curve are zeros
 summed-none : (prices : ℕ) → summed_quantities prices [] ≡ replicate (2 * prices) 0
 summed-none prices =
-    same_number_lists (summed_quantities prices []) (replicate (2 * prices) 0) (length-summed prices [] ∙ sym (length-replicate (2 * prices) 0))
+    same_number_lists (summed_quantities prices []) (replicate (2 * prices) 0)
+    (length-summed prices [] ∙ sym (length-replicate (2 * prices) 0))
     (λ k h.
     let within : k < 2 * prices = omega (arith, length-summed prices []) in
     item-summed prices [] k within ∙ sym (get_or-replicate (2 * prices) k 0 0 within))
@@ -51,12 +53,12 @@ summed-more prices curves curve h =
     ∙ ap (λ n. n + quantity curve k) (sym (item-summed prices curves k within))
     ∙ sym (item-pairwise plus before (quantities curve) k (omega arith) (omega arith)))
 
--- the points of zeros are zeros
 zeros : (n : ℕ) (at : Point) → replicate n 0 ≡ points_at (replicate n 0) (replicate n 0) at
 zeros n at =
     let none : List ℕ = replicate n 0 in
     let long : length none ≡ n = length-replicate n 0 in
-    let both : length (points_at none none at) ≡ min (length none) (length none) = length-pairwise (λ value slope. point_of value slope at) none none in
+    let both : length (points_at none none at) ≡ min (length none) (length none) =
+    length-pairwise (λ value slope. point_of value slope at) none none in
     same_number_lists none (points_at none none at) (omega arith)
     (λ k lt.
     let within : k < n = omega arith in

@@ -1,5 +1,6 @@
 -- Points of lines, added up.
-use Rattle.std.proofs.Common.{◌≡◌, ℕ, ◌+◌, ◌*◌, ◌-◌, ◌%◌, ◌<◌, ◌≤◌, List, length, get_or, take, drop, arith, refl, sym, ◌∙◌, ap, length-drop, inl, inr, length-append}
+use Rattle.std.proofs.Common.{◌≡◌, ℕ, ◌+◌, ◌*◌, ◌-◌, ◌%◌, ◌<◌, ◌≤◌, List, length, get_or, take, drop, arith, refl, sym}
+use Rattle.std.proofs.Common.{◌∙◌, ap, length-drop, inl, inr, length-append}
 use Rattle.std.proofs.lemmas.Bool.{cases_lt}
 use Rattle.std.proofs.lemmas.List.{get_or_append_left, get_or-append_right, get_or-drop, get_or-take, length-take-le}
 use Rattle.std.proofs.lemmas.Grind.{same_number_lists}
@@ -59,7 +60,16 @@ pub added-values : (a b : Trio (List ℕ)) (one two three : List ℕ) →
 added-values a b one two three e f g v w x y = record {
   slopes = plain_sums x.slopes y.slopes;
   paired = omega (arith, length-pairwise (λ m n. m + n) v w, length-pairwise (λ m n. m + n) x.slopes y.slopes, x.paired, y.paired);
-  shares = rw (e, f, g, x.shares, y.shares, points_at-sums v w x.slopes y.slopes One x.paired y.paired, points_at-sums v w x.slopes y.slopes Two x.paired y.paired, points_at-sums v w x.slopes y.slopes Three x.paired y.paired) refl;
+  shares = rw (
+    e,
+    f,
+    g,
+    x.shares,
+    y.shares,
+    points_at-sums v w x.slopes y.slopes One x.paired y.paired,
+    points_at-sums v w x.slopes y.slopes Two x.paired y.paired,
+    points_at-sums v w x.slopes y.slopes Three x.paired y.paired,
+  ) refl;
 }
 
 -- supply comes first, and demand after it
@@ -105,12 +115,14 @@ wire-value prices wire v s h paired lt =
     let two = length-points v s Two paired in
     elim (cases_lt wire prices) [
       | inl low ↦
-          recombined-line (get_or v (prices + wire) 0) (get_or s (prices + wire) 0) _ _ (get_or (supply_first prices (points_at v s Three)) wire 0)
+          recombined-line (get_or v (prices + wire) 0) (get_or s (prices + wire) 0) _ _
+          (get_or (supply_first prices (points_at v s Three)) wire 0)
           (item-supply prices (points_at v s One) wire (omega arith) low ∙ item-points v s One (prices + wire) (omega arith) paired)
           (item-supply prices (points_at v s Two) wire (omega arith) low ∙ item-points v s Two (prices + wire) (omega arith) paired)
           ∙ ap (λ n. n % p) (sym (item-supply prices v wire h low))
       | inr high ↦
-          recombined-line (get_or v (wire - prices) 0) (get_or s (wire - prices) 0) _ _ (get_or (supply_first prices (points_at v s Three)) wire 0)
+          recombined-line (get_or v (wire - prices) 0) (get_or s (wire - prices) 0) _ _
+          (get_or (supply_first prices (points_at v s Three)) wire 0)
           (item-demand prices (points_at v s One) wire (omega arith) high lt ∙ item-points v s One (wire - prices) (omega arith) paired)
           (item-demand prices (points_at v s Two) wire (omega arith) high lt ∙ item-points v s Two (wire - prices) (omega arith) paired)
           ∙ ap (λ n. n % p) (sym (item-demand prices v wire h high lt))

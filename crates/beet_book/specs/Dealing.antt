@@ -64,7 +64,8 @@ pub record CanDealEach (grid : Grid) (curves : List Curve) (tapes : List Tape) :
   pub words : All (λ tape. 2 * grid.prices ≤ length (left_of tape)) tapes
 
 -- each curve of the grid was dealt by its own tape, and at each server there is a point for each of its quantities
-pub record DealsOver (grid : Grid) (curves : List Curve) (old new : List Tape) (dealt : List (Trio (List ℕ))) : Type 0 where
+pub record DealsOver (grid : Grid) (curves : List Curve) (old new : List Tape)
+    (dealt : List (Trio (List ℕ))) : Type 0 where
   pub each : DealsEach curves old new dealt
   pub lengths : All (λ points. HasLengths points (2 * grid.prices)) dealt
 

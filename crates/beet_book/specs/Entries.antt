@@ -21,7 +21,8 @@ name_of text = if is_name_of text then Some text else None
 abbrev pub known_of : List ℕ → Option (Option Point)
 known_of text = if bytes_eq text (codes "0") then Some None else option_map Some (server_of text)
 
--- where a bidder's words come from, by the kind and the text; or none where the kind is unknown or the text is not of it
+-- where a bidder's words come from, by the kind and the text; or none where the kind is unknown or the text is not of
+-- it
 abbrev pub source_of : List ℕ → List ℕ → Option BidderSource
 source_of kind text =
     if bytes_eq kind (codes "seed") then option_map Seed (seed_of text)
@@ -37,7 +38,8 @@ entry_of _ _ _ _ = Err BAD_ROW
 -- the entry of a row's five fields, or the reason against them; a row of another width has none
 abbrev pub entry_of_fields : Option (List ℕ × List ℕ × List ℕ × List ℕ × List ℕ) → Result Entry ℕ
 entry_of_fields None = Err BAD_ROW
-entry_of_fields (Some (name, known, bid, kind, source)) = entry_of (name_of name) (known_of known) (name_of bid) (source_of kind source)
+entry_of_fields (Some (name, known, bid, kind, source)) =
+    entry_of (name_of name) (known_of known) (name_of bid) (source_of kind source)
 
 -- the entry of a bidder's row, or the reason against the row
 abbrev pub entry_in : Row → Result Entry ℕ

@@ -12,36 +12,36 @@ use Rattle.beet_bids.specs.declared.book.Bidder.{Bidder}
 use Rattle.beet_book.specs.Totals.{inputs_by, sums_by}
 
 -- a bidder and the words that it deals its quantities with
-pub record Farmer : Type 0 where
+pub record BidderWithWords : Type 0 where
   pub bidder : Bidder
   pub words : List ℕ
 
 -- bidders with their words, in order
-abbrev pub farmers_of : List Bidder → List (List ℕ) → List Farmer
+abbrev pub farmers_of : List Bidder → List (List ℕ) → List BidderWithWords
 farmers_of [] words = []
 farmers_of (bidder ∷ bidders) [] = []
 farmers_of (bidder ∷ bidders) (list ∷ words) = record { bidder = bidder; words = list } ∷ farmers_of bidders words
 
 -- the book of these bidders
-abbrev pub book_with : Grid → List Farmer → Book
+abbrev pub book_with : Grid → List BidderWithWords → Book
 book_with grid farmers = record { grid = grid; bidders = map (λ farmer. farmer.bidder) farmers }
 
 -- the slope for the n-th quantity of a bidder: the n-th number drawn from its words
-abbrev pub slope_for : Farmer → ℕ → ℕ
+abbrev pub slope_for : BidderWithWords → ℕ → ℕ
 slope_for farmer n = slice_index (accepted farmer.words) n
 
 -- the point at i of the n-th quantity of a bidder
-abbrev pub point_for : Farmer → Point → ℕ → ℕ
+abbrev pub point_for : BidderWithWords → Point → ℕ → ℕ
 point_for farmer i n = point_of (quantity farmer.bidder.curve n) (slope_for farmer n) i
 
 -- the points at i of the n-th quantities of all bidders, added up
-abbrev pub summed_point : List Farmer → Point → ℕ → ℕ
+abbrev pub summed_point : List BidderWithWords → Point → ℕ → ℕ
 summed_point farmers i n = sum_by (λ farmer. point_for farmer i n) farmers % p
 
 -- the sums at each server, over so many prices: buy first
-abbrev pub summed_points : ℕ → List Farmer → Trio (List ℕ)
+abbrev pub summed_points : ℕ → List BidderWithWords → Trio (List ℕ)
 summed_points prices farmers = sums_by (summed_point farmers) prices
 
 -- the inputs at each server: supply at each place, and then demand at each place
-abbrev pub book_inputs : ℕ → List Farmer → Trio (List ℕ)
+abbrev pub book_inputs : ℕ → List BidderWithWords → Trio (List ℕ)
 book_inputs prices farmers = inputs_by (summed_point farmers) prices

@@ -1,5 +1,6 @@
 -- Files of a header and then few rows, each of which begins with a name of its own.
-use Rattle.std.specs.Prelude.{ℕ, Bool, ◌-◌, ◌==◌, if◌then◌else◌, List, [], take, drop, Option, unwrap_or, Result, Ok, Err, bytes_eq}
+use Rattle.std.specs.Prelude.{ℕ, Bool, ◌-◌, ◌==◌, if◌then◌else◌, List, [], take, drop, Option, unwrap_or, Result, Ok}
+use Rattle.std.specs.Prelude.{Err, bytes_eq}
 use Rattle.std.specs.List.{filter_map, list_any, slice_get}
 use Rattle.std.specs.Result.{result_ok, result_err}
 use Rattle.beet_forms.specs.declared.row.Row.{Row}
@@ -13,7 +14,6 @@ abbrev pub reading_at : {A : Type 0} → ℕ → Result A ℕ → Reading A
 reading_at number (Ok value) = Ok value
 reading_at number (Err reason) = Err (at_row number reason)
 
--- the first field of a row
 abbrev pub first_field : Row → List ℕ
 first_field row = unwrap_or (slice_get row 0) []
 
@@ -26,18 +26,22 @@ abbrev pub untaken : {A : Type 0} → Bool → Result A ℕ → Result A ℕ
 untaken taken (Ok value) = if taken then Err SAME_NAME else Ok value
 untaken taken (Err reason) = Err reason
 
--- the value of a row with this number, or the first reason against it: it is one row too many, it is not of its form, or its name is taken
+-- the value of a row with this number, or the first reason against it: it is one row too many, it is not of its form,
+-- or its name is taken
 abbrev pub named_in : {A : Type 0} → (Row → Result A ℕ) → Bool → ℕ → Row → Result A ℕ
 named_in value_in taken number row = if number == ONE_TOO_MANY then Err TOO_MANY else untaken taken (value_in row)
 
 -- the reason against a row, where the name of an earlier row is taken; the first of the rows is row 2
 abbrev pub reason_against : {A : Type 0} → (Row → Result A ℕ) → List Row → ℕ → Row → Option ℕ
-reason_against value_in rows number row = result_err (named_in value_in (has_name (first_field row) (take (number - 2) rows)) number row)
+reason_against value_in rows number row =
+    result_err (named_in value_in (has_name (first_field row) (take (number - 2) rows)) number row)
 
 -- what the rows after the header read as: their values, or the first row that is refused
 abbrev pub named_rows : {A : Type 0} → (Row → Result A ℕ) → List Row → Reading (List A)
-named_rows value_in rows = reading_of (first_row_fault (reason_against value_in rows) 2 rows) (filter_map (λ row. result_ok (value_in row)) rows)
+named_rows value_in rows = reading_of (first_row_fault (reason_against value_in rows) 2 rows)
+    (filter_map (λ row. result_ok (value_in row)) rows)
 
 -- what the rows of a file with this header read as
 abbrev pub named_file : {A : Type 0} → (Row → Result A ℕ) → Row → List Row → Reading (List A)
-named_file value_in header rows = if begins_with rows header then named_rows value_in (drop 1 rows) else Err (at_row 1 BAD_HEADER)
+named_file value_in header rows =
+    if begins_with rows header then named_rows value_in (drop 1 rows) else Err (at_row 1 BAD_HEADER)

@@ -23,7 +23,8 @@ inputs_at prices bidders = inputs_by (sum_at bidders) prices
 abbrev pub AddsUp : Grid → Totals → List (Trio (List ℕ)) → Type 0
 AddsUp grid totals bidders = totals ≡ record { prices = grid.prices; points = sums_at grid.prices bidders }
 
--- totals that are the points of some bidders, added up, are afterwards those of these bidders and a block of further ones
+-- totals that are the points of some bidders, added up, are afterwards those of these bidders and a block of further
+-- ones
 abbrev pub AddsBlock : Totals → List (Trio (List ℕ)) → Totals → Type 0
 AddsBlock before block after =
     (grid : Grid) (bidders : List (Trio (List ℕ))) → AddsUp grid before bidders → AddsUp grid after (bidders ++ block)

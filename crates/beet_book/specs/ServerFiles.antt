@@ -1,5 +1,6 @@
 -- The file of the servers: the row beet-servers,1 and then a row for each server, or one for a bundle of words.
-use Rattle.std.specs.Prelude.{ℕ, Bool, false, if◌then◌else◌, List, [], ◌∷◌, drop, Option, Some, None, option_map, Result, Ok, Err, bytes_eq, codes}
+use Rattle.std.specs.Prelude.{ℕ, Bool, false, if◌then◌else◌, List, [], ◌∷◌, drop, Option, Some, None, option_map}
+use Rattle.std.specs.Prelude.{Result, Ok, Err, bytes_eq, codes}
 use Rattle.std.specs.List.{slice_get}
 use Rattle.std.specs.Option.{ok_or}
 use Rattle.beet_forms.specs.declared.row.Row.{Row}
@@ -76,7 +77,8 @@ sources_in rows = sources_from rows (slice_get rows 0)
 
 -- what the rows of a servers file read as
 abbrev pub servers_in : List Row → Reading Servers
-servers_in rows = if begins_with rows (codes "beet-servers" ∷ codes "1" ∷ []) then sources_in (drop 1 rows) else Err (at_row 1 BAD_HEADER)
+servers_in rows = if begins_with rows (codes "beet-servers" ∷ codes "1" ∷ []) then sources_in (drop 1 rows)
+    else Err (at_row 1 BAD_HEADER)
 
 -- what a servers file reads as
 abbrev pub servers_of : List ℕ → Reading Servers

@@ -1,5 +1,6 @@
 -- Totals: the points of several bidders added up, and put in the order of an auction's input wires.
-use Rattle.std.specs.Prelude.{◌≡◌, ℕ, ◌+◌, ◌*◌, ◌%◌, ◌<◌, List, ◌++◌, length, map, take, drop, slice_index, sum_by, replicate, Some}
+use Rattle.std.specs.Prelude.{◌≡◌, ℕ, ◌+◌, ◌*◌, ◌%◌, ◌<◌, List, ◌++◌, length, map, take, drop, slice_index, sum_by}
+use Rattle.std.specs.Prelude.{replicate, Some}
 use Rattle.std.specs.List.{fold, range_with_len, slice_get}
 use Rattle.beet_field.specs.Trio.{trio_of}
 use Rattle.beet_field.specs.declared.point.Point.{Point}
@@ -83,11 +84,13 @@ pub record HaveValues (values : List (List ℕ)) (bidders : List (Trio (List ℕ
 -- points of lines of several bidders are added to points of lines with the sums of all their values
 abbrev pub AddsAllValues : Trio (List ℕ) → List (Trio (List ℕ)) → Trio (List ℕ) → Type 0
 AddsAllValues before bidders after =
-    (v : List ℕ) (values : List (List ℕ)) → AreShares v before → HaveValues values bidders → AreShares (fold plain_sums v values) after
+    (v : List ℕ) (values : List (List ℕ)) → AreShares v before → HaveValues values bidders →
+    AreShares (fold plain_sums v values) after
 
 -- points of lines become points of lines with the quantities of the curve added to their values
 abbrev pub AddsQuantities : Curve → Trio (List ℕ) → Trio (List ℕ) → Type 0
-AddsQuantities curve before after = (v : List ℕ) → AreShares v before → AreShares (plain_sums v (quantities curve)) after
+AddsQuantities curve before after =
+    (v : List ℕ) → AreShares v before → AreShares (plain_sums v (quantities curve)) after
 
 -- where the totals are points of lines, each wire recombines to the value of its line, modulo p
 abbrev pub CarriesValues : Totals → Trio (List ℕ) → Type 0

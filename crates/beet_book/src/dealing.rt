@@ -7,7 +7,8 @@ ghost use Rattle.beet_words.specs.Tapes.{drawn_from, left_of};
 ghost use Rattle.beet_bids.specs.Curves.{IsOfGrid};
 ghost use Rattle.beet_shamir.specs.Line.{points_of};
 ghost use Rattle.beet_book.specs.Columns.{HasRoom, pushed};
-ghost use Rattle.beet_book.specs.Dealing.{AreShares, CanDealEach, DealsBidder, DealsEach, DealsOver, HasLengths, quantities};
+ghost use Rattle.beet_book.specs.Dealing.{AreShares, CanDealEach, DealsBidder, DealsEach, DealsOver, HasLengths};
+ghost use Rattle.beet_book.specs.Dealing.{quantities};
 
 use crate::columns::Columns;
 use crate::threads::{FEWEST_FOR_TWO, workers};
@@ -185,8 +186,8 @@ fn deal_both<R: Threads + Sync>(
     joined(few_dealt, rest_dealt)
 }
 
-/// Deals each curve by its own tape, as `deal_bidder` does, by a thread for each processor. Where memory runs out, nothing
-/// is known of how far the tapes are passed.
+/// Deals each curve by its own tape, as `deal_bidder` does, by a thread for each processor. Where memory runs out,
+/// nothing is known of how far the tapes are passed.
 pub fn deal_many<R: Threads + Sync>(
     rt: &R,
     alloc: Global,

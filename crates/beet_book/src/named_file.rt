@@ -100,8 +100,8 @@ fn read_all<V: NamedRow>(
 }
 
 /// The values of a file of bidders: the row of this kind and `1`, and then at most 2,000 rows with names, no two of one
-/// name. The first row with a fault is named. Its reason is [`BAD_HEADER`] for row 1, and for a further row the first that
-/// stands against it of [`TOO_MANY`], those of its reader, and [`SAME_NAME`].
+/// name. The first row with a fault is named. Its reason is [`BAD_HEADER`] for row 1, and for a further row the first
+/// that stands against it of [`TOO_MANY`], those of its reader, and [`SAME_NAME`].
 pub fn read_named<V: NamedRow>(
     alloc: Global,
     kind: &[u8],

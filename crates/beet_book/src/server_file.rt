@@ -1,11 +1,13 @@
 //! The reader of servers files.
 
-ghost use Rattle.std.specs.Prelude.{◌≡◌, ◌≤◌, ◌∷◌, ◌⊎◌, length, drop, slice_get, IfOk, OnOk, MatchResult, Ok, None, Some};
+ghost use Rattle.std.specs.Prelude.{◌≡◌, ◌≤◌, ◌∷◌, ◌⊎◌, length, drop, slice_get, IfOk, OnOk, MatchResult, Ok, None};
+ghost use Rattle.std.specs.Prelude.{Some};
 ghost use Rattle.beet_forms.specs.Faults.{Answers};
-ghost use Rattle.beet_forms.specs.declared.faults.Place.TheVariants.{Row as AtRow};
+ghost use Rattle.beet_forms.specs.declared.faults.FaultPlace.TheVariants.{Row as AtRow};
 ghost use Rattle.beet_forms.specs.declared.faults.ReadFault.TheVariants.{Bad, OutOfMemory};
 ghost use Rattle.beet_book.specs.NamedRows.{reading_at};
-ghost use Rattle.beet_book.specs.ServerFiles.{begins, bundle_in, last_before, servers_in, servers_of, server_in, source_in, sources_in, three_in};
+ghost use Rattle.beet_book.specs.ServerFiles.{begins, bundle_in, last_before, servers_in, servers_of, server_in};
+ghost use Rattle.beet_book.specs.ServerFiles.{source_in, sources_in, three_in};
 
 use crate::entries::BAD_SOURCE;
 use crate::named_file::TOO_MANY;
@@ -121,7 +123,8 @@ fn read_bundle(alloc: Global, row: &Row) -> Result<Servers, ReadFault>
 /// Refuses a row that is left, which has this number.
 fn no_more(rows: &mut RowReader, row: &mut Row, number: u32) -> Result<(), ReadFault>
     ensures { MatchResult result (λ _. slice_get rows.old 0 ≡ None)
-        (λ fault. (fault ≡ OutOfMemory) ⊎ ((slice_get rows.old 0 ≡ Some row.new) × (fault ≡ Bad (AtRow number) TOO_MANY))) }
+        (λ fault. (fault ≡ OutOfMemory)
+        ⊎ ((slice_get rows.old 0 ≡ Some row.new) × (fault ≡ Bad (AtRow number) TOO_MANY))) }
 {
     if rows.next(row)? {
         return Err(ReadFault::at_row(number, TOO_MANY));
@@ -168,11 +171,11 @@ fn read_rows(alloc: Global, rows: &mut RowReader, row: &mut Row) -> Result<Serve
     read_sources(alloc, rows, row)
 }
 
-/// Where the words come from, of a servers file: the row `beet-servers,1` and then either the row `bundle,NAME`, or a row
-/// for each of the servers 1, 2 and 3 in order, `S,seed,HEX` or `S,tape,COEFFICIENTS,MASKS`.
+/// Where the words come from, of a servers file: the row `beet-servers,1` and then either the row `bundle,NAME`, or a
+/// row for each of the servers 1, 2 and 3 in order, `S,seed,HEX` or `S,tape,COEFFICIENTS,MASKS`.
 ///
-/// The first row with a fault is named. Its reason is [`BAD_HEADER`] for row 1, and for a further row the first that stands
-/// against it of [`BAD_ROW`], [`BAD_SOURCE`] and [`TOO_MANY`].
+/// The first row with a fault is named. Its reason is [`BAD_HEADER`] for row 1, and for a further row the first that
+/// stands against it of [`BAD_ROW`], [`BAD_SOURCE`] and [`TOO_MANY`].
 pub fn read_servers(alloc: Global, bytes: &[u8]) -> Result<Servers, ReadFault>
     requires { length bytes.now ≤ LONGEST_FILE }
     ensures { Answers (λ servers. servers) (servers_of bytes.now) result }

@@ -6,7 +6,8 @@ ghost use Rattle.beet_words.specs.Tapes.{drawn_from, left_of};
 ghost use Rattle.beet_bids.specs.declared.curve.TheConstants.{LARGEST_QUANTITY};
 ghost use Rattle.beet_book.specs.Dealing.{dealt_points, points_by, quantities, HasLengths};
 ghost use Rattle.beet_book.specs.PointSums.{AddsBlock};
-ghost use Rattle.beet_book.specs.Totals.{added, all_added, field_sums, none_of, wires_of, AddsAllValues, AddsQuantities, AddsValues, CarriesValues};
+ghost use Rattle.beet_book.specs.Totals.{added, all_added, field_sums, none_of, wires_of, AddsAllValues};
+ghost use Rattle.beet_book.specs.Totals.{AddsQuantities, AddsValues, CarriesValues};
 
 use crate::dealing::Dealt;
 use beet_bids::{Curve, Grid};
@@ -140,8 +141,8 @@ impl Totals {
         add_each(&mut self.points.three, &other.points.three);
     }
 
-    /// Deals the quantities of a bidder straight into the sums: what `deal_bidder` and then `add` do, with no list of the
-    /// bidder's points between.
+    /// Deals the quantities of a bidder straight into the sums: what `deal_bidder` and then `add` do, with no list of
+    /// the bidder's points between.
     pub fn deal(&mut self, curve: &Curve, tape: &mut Tape)
         requires buy { length curve.now.buy ≡ self.old.prices }
         requires sell { length curve.now.sell ≡ self.old.prices }

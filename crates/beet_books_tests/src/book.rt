@@ -84,8 +84,8 @@ const BOOKS: [(&str, Refusal); 6] = [
 ];
 
 /// A book of two bidders.
-const ANNA_AND_BO: &str =
-    "beet-book,1\nanna,0,anna.bid,tape,anna.tape\nbo,3,bo.bid,seed,0a0A0a0a0a0a0a0a0a0a0a0a0a0a0a0a0a0a0a0a0a0a0a0a0a0a0a0a0a0a0a0a\n";
+const ANNA_AND_BO: &str = "beet-book,1\nanna,0,anna.bid,tape,anna.tape\n\
+    bo,3,bo.bid,seed,0a0A0a0a0a0a0a0a0a0a0a0a0a0a0a0a0a0a0a0a0a0a0a0a0a0a0a0a0a0a0a0a\n";
 
 /// The entries of a book.
 fn entries_of(rt: &impl Abort, alloc: Global, text: &str) -> Result<Vec<Entry>, ReadFault> {

@@ -1,7 +1,7 @@
 //! The field, its three points, and lines over it.
 
 use beet_field::{Fe, P, Point, Trio};
-use beet_shamir::{deal, is_line, line_of, recombine, reshare};
+use beet_shamir::{deal, is_line, line_through, recombine, reshare};
 use std::process::Abort;
 
 /// The largest number of the field.
@@ -97,7 +97,7 @@ fn one_value_for_each_point(rt: HostRuntime) {
 
 /// The value and the slope of the line with 18 at point 3 and 8 at point 1, and its point at 2.
 fn line_of_two_points() -> (u64, u64, u64) {
-    let line = line_of(Point::Three, Fe::reduce(18), Point::One, Fe::reduce(8));
+    let line = line_through(Point::Three, Fe::reduce(18), Point::One, Fe::reduce(8));
     (
         line.value.value(),
         line.slope.value(),

@@ -1,5 +1,5 @@
 use beet_forms::{
-    Name, NumberFault, Place, Row, RowReader, fault_line, five_fields, four_fields, is_header,
+    FaultPlace, Name, NumberFault, Row, RowReader, fault_line, five_fields, four_fields, is_header,
     is_name, number, push_decimal, rows, three_fields, two_fields,
 };
 use std::alloc::Global;
@@ -96,7 +96,7 @@ fn expect_line(
     rt: &impl Abort,
     alloc: Global,
     file: &str,
-    place: Place,
+    place: FaultPlace,
     reason: u32,
     wanted: &str,
 ) {
@@ -107,9 +107,9 @@ fn expect_line(
 #[test]
 fn fault_lines(rt: HostRuntime) {
     let in_row = "bad file: x.bid row 2 reason 7\n";
-    expect_line(&rt, rt.alloc(), "x.bid", Place::Row(2), 7, in_row);
+    expect_line(&rt, rt.alloc(), "x.bid", FaultPlace::Row(2), 7, in_row);
     let at = "bad file: o.2 at 34992 reason 2\n";
-    expect_line(&rt, rt.alloc(), "o.2", Place::At(34_992), 2, at);
+    expect_line(&rt, rt.alloc(), "o.2", FaultPlace::At(34_992), 2, at);
 }
 
 /// Five rows, of two, three, two, four and five fields.

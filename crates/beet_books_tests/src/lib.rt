@@ -1,5 +1,5 @@
-//! The tests of files, words and books: of beet_field, beet_shamir, beet_store, beet_forms, beet_words, beet_bids, beet_book and
-//! beet_farmer, which are proved over their contracts alone.
+//! The tests of files, words and books: of beet_field, beet_shamir, beet_store, beet_forms, beet_words, beet_bids,
+//! beet_book and beet_farmer, which are proved over their contracts alone.
 #![tactic(auto)]
 
 #[cfg(test)]

@@ -69,7 +69,8 @@ fn agree(one: &Dealt, other: &Dealt) -> bool {
         && one.points(Point::Three) == other.points(Point::Three)
 }
 
-/// Compares the points of a bidder, and how far its tape is passed, with what it is dealt alone by a tape as it was before.
+/// Compares the points of a bidder, and how far its tape is passed, with what it is dealt alone by a tape as it was
+/// before.
 fn expect_alone(
     rt: &impl Abort,
     alloc: Global,

@@ -208,7 +208,7 @@ const FILE: &str = "beet_store_test.tmp";
 
 /// Compares how many calls have failed.
 fn expect_faults<R>(rt: &impl Abort, shelf: &HostShelf<R>, desk: &HostDesk<R>) {
-    assert!(rt; shelf.faults() == 3);
+    assert!(rt; shelf.faults() == 2);
     assert!(rt; desk.faults() == 1);
 }
 

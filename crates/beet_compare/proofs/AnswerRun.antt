@@ -1,5 +1,6 @@
 -- What the last two batches of a comparison do in a clear run: the answer is opened.
-use Rattle.std.proofs.Common.{◌≡◌, ℕ, ◌+◌, ◌-◌, ◌*◌, ◌%◌, ◌<◌, inl, inr, List, [], ◌∷◌, ◌++◌, length, slice_index, refl, ap, ◌∙◌, arith, length-append, append_assoc, add-zero}
+use Rattle.std.proofs.Common.{◌≡◌, ℕ, ◌+◌, ◌-◌, ◌*◌, ◌%◌, ◌<◌, inl, inr, List, [], ◌∷◌, ◌++◌, length, slice_index, refl}
+use Rattle.std.proofs.Common.{ap, ◌∙◌, arith, length-append, append_assoc, add-zero}
 use Rattle.std.specs.Int.{bit_at}
 use Rattle.std.proofs.lemmas.Nat.Bits.{bit_at-lt}
 use Rattle.beet_gates.specs.declared.Linear.{Linear}
@@ -26,7 +27,8 @@ pub record AfterLast (r c g : ℕ) (wires : List ℕ) (v after : Values) : Type 
   pub opened : after.opened ≡ v.opened ++ (1 + same (1 - bit_at c 0) (bit_at r 0) + g) % 2 ∷ []
   pub dealt : after.dealt ≡ v.dealt
 
-pub last-run : (deals : ℕ → List ℕ) (lets : List Linear) (place low mask r c g : ℕ) (wires : List ℕ) (v : Values) → with_lets v.wires lets ≡ wires → length wires ≡ low →
+pub last-run : (deals : ℕ → List ℕ) (lets : List Linear) (place low mask r c g : ℕ) (wires : List ℕ) (v : Values) →
+    with_lets v.wires lets ≡ wires → length wires ≡ low →
     Holds wires (mask + 366) 61 (bit_at r) → place < low → slice_index wires place ≡ g → g < 2 →
     AfterLast r c g wires v (batches_on deals (last_batches lets place low mask c) v)
 last-run deals lets place low mask r c g wires v made len bits below at_g hg =
@@ -34,7 +36,8 @@ last-run deals lets place low mask r c g wires v made len bits below at_g hg =
     let flip_lt : 1 - bit_at c 0 < 2 = omega arith in
     let hb : b < 2 = same-lt (1 - bit_at c 0) (bit_at r 0) flip_lt (bit_at-lt r 0) in
     let r0 : slice_index wires (mask + 366) ≡ bit_at r 0 = rw add-zero at (bits.at 0 (omega arith)) in
-    let eb : let_of wires (same_let (1 - bit_at c 0) (mask + 366)) ≡ b = same_let-value wires (mask + 366) (1 - bit_at c 0) (bit_at r 0) flip_lt (bit_at-lt r 0) r0 in
+    let eb : let_of wires (same_let (1 - bit_at c 0) (mask + 366)) ≡ b =
+    same_let-value wires (mask + 366) (1 - bit_at c 0) (bit_at r 0) flip_lt (bit_at-lt r 0) r0 in
     let with_b = wires ++ b ∷ [] in
     let all : with_lets v.wires (lets ++ same_let (1 - bit_at c 0) (mask + 366) ∷ []) ≡ with_b =
     with_lets-append v.wires lets (same_let (1 - bit_at c 0) (mask + 366) ∷ [])
@@ -52,9 +55,11 @@ last-run deals lets place low mask r c g wires v made len bits below at_g hg =
     let g_then : slice_index full place ≡ g = index-append with_b (b * g ∷ []) place (omega (arith, below, len_b)) ∙ g_there in
     let f_then : slice_index full (low + 1) ≡ b * g = index-new with_b (b * g) (low + 1) len_b in
     let eo : let_of full (three_terms 1 (2305843009213693950, low) (2305843009213693950, place) (2, low + 1)) ≡ o =
-    value-three_terms full 1 (2305843009213693950, low) (2305843009213693950, place) (2, low + 1) ∙ rw (b_then, g_then, f_then) (answer-value b g hb hg) in
+    value-three_terms full 1 (2305843009213693950, low) (2305843009213693950, place) (2, low + 1)
+    ∙ rw (b_then, g_then, f_then) (answer-value b g hb hg) in
     let shown : slice_index (full ++ o ∷ []) (low + 2) ≡ o = index-new full o (low + 2) len_full in
-    let answered : batch_on deals (answer_batch place low) (record v { wires = full }) ≡ record v { wires = full ++ o ∷ []; opened = v.opened ++ o ∷ [] } =
+    let answered : batch_on deals (answer_batch place low) (record v { wires = full })
+    ≡ record v { wires = full ++ o ∷ []; opened = v.opened ++ o ∷ [] } =
     rw (eo, shown) refl in
     let e : batches_on deals (last_batches lets place low mask c) v ≡ record v { wires = full ++ o ∷ []; opened = v.opened ++ o ∷ [] } =
     ap (λ (s : Values). batch_on deals (answer_batch place low) s) multiplied ∙ answered in

@@ -71,7 +71,6 @@ borrow-value c x m w hc hx hm one = elim (bit_cases c hc) [
   ]
 ]
 
--- the answer
 pub answer-value : (b g : ℕ) → b < 2 → g < 2 →
     (1 + 2305843009213693950 * b + 2305843009213693950 * g + 2 * (b * g)) % 2305843009213693951 ≡ (1 + b + g) % 2
 answer-value b g hb hg = elim (bit_cases b hb) [

@@ -1,5 +1,6 @@
 -- What the batches of a chain after the opened c do in a clear run: the borrow goes from bit to bit, and the answer is opened.
-use Rattle.std.proofs.Common.{◌≡◌, ℕ, zero, suc, ◌+◌, ◌-◌, ◌*◌, ◌%◌, ◌<◌, inl, inr, List, [], ◌∷◌, ◌++◌, length, slice_index, refl, ap, sym, ◌∙◌, arith, length-append, append_assoc, add-zero, add_assoc}
+use Rattle.std.proofs.Common.{◌≡◌, ℕ, zero, suc, ◌+◌, ◌-◌, ◌*◌, ◌%◌, ◌<◌, inl, inr, List, [], ◌∷◌, ◌++◌, length}
+use Rattle.std.proofs.Common.{slice_index, refl, ap, sym, ◌∙◌, arith, length-append, append_assoc, add-zero, add_assoc}
 use Rattle.std.specs.Int.{bit_at}
 use Rattle.std.proofs.lemmas.List.{get_or-append-add}
 use Rattle.std.proofs.lemmas.Nat.Bits.{bit_at-lt}
@@ -31,8 +32,10 @@ borrow_let-value : (wires : List ℕ) (i m c r k : ℕ) → slice_index wires i 
     let_of wires (two_terms 0 (1 - bit_at c k, i) (1, m)) ≡ borrow c r (suc k)
 borrow_let-value wires i m c r k e f =
     value-three_terms wires 0 (1 - bit_at c k, i) (1, m) (0, 0)
-    ∙ rw (e, f) (borrow-value (bit_at c k) (bit_at r k) (same (bit_at c k) (bit_at r k) * borrow c r k) (slice_index wires 0) (bit_at-lt c k) (bit_at-lt r k)
-    (product-lt (same (bit_at c k) (bit_at r k)) (borrow c r k) (same-lt (bit_at c k) (bit_at r k) (bit_at-lt c k) (bit_at-lt r k)) (less-bit c r 0 k))
+    ∙ rw (e, f) (borrow-value (bit_at c k) (bit_at r k) (same (bit_at c k) (bit_at r k) * borrow c r k)
+    (slice_index wires 0) (bit_at-lt c k) (bit_at-lt r k)
+    (product-lt (same (bit_at c k) (bit_at r k)) (borrow c r k)
+    (same-lt (bit_at c k) (bit_at r k) (bit_at-lt c k) (bit_at-lt r k)) (less-bit c r 0 k))
     (no_product (bit_at c k) (bit_at r k) (borrow c r k)))
     ∙ sym (borrow-suc c r k)
 
@@ -63,7 +66,8 @@ third : (wires : List ℕ) (g q x place : ℕ) → place ≡ length wires + 2 �
 third wires g q x place e = rw e (get_or-append-add wires (g ∷ q ∷ x ∷ []) 2 0)
 
 -- the batch of bit 1
-first-bit : (deals : ℕ → List ℕ) (first mask c r : ℕ) (v : Values) → length v.wires ≡ first + 61 → Holds v.wires (mask + 366) 61 (bit_at r) →
+first-bit : (deals : ℕ → List ℕ) (first mask c r : ℕ) (v : Values) → length v.wires ≡ first + 61 →
+    Holds v.wires (mask + 366) 61 (bit_at r) →
     AtBit first c r 0 v (batch_on deals (lowest_batch first mask c) v)
 first-bit deals first mask c r v len bits =
     let g = borrow c r 1 in
@@ -81,7 +85,8 @@ first-bit deals first mask c r v len bits =
     same_let-value (v.wires ++ g ∷ []) (mask + 367) (bit_at c 1) (bit_at r 1) (bit_at-lt c 1) (bit_at-lt r 1)
     (index-append v.wires (g ∷ []) (mask + 367) (omega (arith, bits.room)) ∙ at1) in
     let e : first + 61 + 1 ≡ first + 62 = omega arith in
-    let run = rw e at (bit-run deals v (first + 61) g q (one_term 0 (1 - bit_at c 0, mask + 366)) (same_let (bit_at c 1) (mask + 367)) len (less-bit c r 0 1) hq eg eq) in
+    let run = rw e at (bit-run deals v (first + 61) g q (one_term 0 (1 - bit_at c 0, mask + 366))
+    (same_let (bit_at c 1) (mask + 367)) len (less-bit c r 0 1) hq eg eq) in
     rw run (record {
       more = g ∷ q ∷ q * g ∷ [];
       wires = refl;
@@ -105,7 +110,8 @@ next-bit deals first mask c r j v now bits h at =
     let eg : let_of now.wires (two_terms 0 (1 - bit_at c (suc j), mask + 366 + suc j) (1, first + 63 + 3 * j)) ≡ g =
     borrow_let-value now.wires (mask + 366 + suc j) (first + 63 + 3 * j) c r (suc j) (bits_now.at (suc j) (omega arith)) at.product in
     let eq : let_of (now.wires ++ g ∷ []) (same_let (bit_at c (suc (suc j))) (mask + 366 + suc (suc j))) ≡ q =
-    same_let-value (now.wires ++ g ∷ []) (mask + 366 + suc (suc j)) (bit_at c (suc (suc j))) (bit_at r (suc (suc j))) (bit_at-lt c (suc (suc j))) (bit_at-lt r (suc (suc j)))
+    same_let-value (now.wires ++ g ∷ []) (mask + 366 + suc (suc j)) (bit_at c (suc (suc j))) (bit_at r (suc (suc j)))
+    (bit_at-lt c (suc (suc j))) (bit_at-lt r (suc (suc j)))
     ((holds-append now.wires (g ∷ []) (mask + 366) 61 _ bits_now).at (suc (suc j)) (omega arith)) in
     let run = bit-run deals now (first + 64 + 3 * j) g q
     (two_terms 0 (1 - bit_at c (suc j), mask + 366 + suc j) (1, first + 63 + 3 * j))
@@ -136,7 +142,8 @@ pub record AfterBorrow (gates : Gates) (first c r : ℕ) (v after : Values) : Ty
   pub opened : after.opened ≡ v.opened ++ (1 + same (1 - bit_at c 0) (bit_at r 0) + borrow c r 61) % 2 ∷ []
   pub dealt : after.dealt ≡ v.dealt
 
-pub chain-run : (deals : ℕ → List ℕ) (first mask c r : ℕ) (v : Values) → length v.wires ≡ first + 61 → Holds v.wires (mask + 366) 61 (bit_at r) →
+pub chain-run : (deals : ℕ → List ℕ) (first mask c r : ℕ) (v : Values) → length v.wires ≡ first + 61 →
+    Holds v.wires (mask + 366) 61 (bit_at r) →
     AfterBorrow Chain first c r v (batches_on deals (chain_batches first mask c) v)
 chain-run deals first mask c r v len bits =
     let rule = bit_batch first mask c in
@@ -154,11 +161,13 @@ chain-run deals first mask c r v len bits =
     let made : now.wires ++ let_of now.wires (last_let first mask c) ∷ [] ≡ wires = ap (λ (n : ℕ). now.wires ++ n ∷ []) eg in
     let len_wires : length wires ≡ first + 242 = omega (arith, len_now, length-append now.wires (g ∷ [])) in
     let w = last-run deals (last_let first mask c ∷ []) (first + 241) (first + 242) mask r c g wires now made len_wires
-    (holds-append now.wires (g ∷ []) (mask + 366) 61 _ bits_now) (omega arith) (index-new now.wires g (first + 241) len_now) (less-bit c r 0 61) in
+    (holds-append now.wires (g ∷ []) (mask + 366) 61 _ bits_now) (omega arith)
+    (index-new now.wires g (first + 241) len_now) (less-bit c r 0 61) in
     let e = batches_on-append deals (each rule 59) (last_batches (last_let first mask c ∷ []) (first + 241) (first + 242) mask c) begun in
     rw e (record {
       more = at.more ++ (g ∷ w.more);
-      wires = w.wires_are ∙ append_assoc now.wires (g ∷ []) w.more ∙ ap (λ (l : List ℕ). l ++ (g ∷ w.more)) at.wires ∙ append_assoc v.wires at.more (g ∷ w.more);
+      wires = w.wires_are ∙ append_assoc now.wires (g ∷ []) w.more ∙ ap (λ (l : List ℕ). l ++ (g ∷ w.more)) at.wires
+          ∙ append_assoc v.wires at.more (g ∷ w.more);
       len = rw w.wires_are (omega (arith, length-append wires w.more, len_wires, w.three));
       opened = w.opened ∙ ap (λ (l : List ℕ). l ++ (1 + same (1 - bit_at c 0) (bit_at r 0) + g) % 2 ∷ []) at.opened;
       dealt = w.dealt ∙ at.dealt;

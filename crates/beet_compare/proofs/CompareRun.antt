@@ -15,14 +15,16 @@ use Rattle.beet_compare.proofs.TreeRun.{tree-run}
 use Rattle.beet_compare.proofs.Parity.{answer-parity, answer-even}
 
 -- the batches after the opened c
-borrow-run : (deals : ℕ → List ℕ) (gates : Gates) (first mask c r : ℕ) (v : Values) → length v.wires ≡ first + 61 → Holds v.wires (mask + 366) 61 (bit_at r) →
+borrow-run : (deals : ℕ → List ℕ) (gates : Gates) (first mask c r : ℕ) (v : Values) → length v.wires ≡ first + 61 →
+    Holds v.wires (mask + 366) 61 (bit_at r) →
     AfterBorrow gates first c r v (batches_on deals (borrow_batches gates first mask c) v)
 borrow-run deals Chain first mask c r v len bits = chain-run deals first mask c r v len bits
 borrow-run deals Tree first mask c r v len bits = tree-run deals mask c r first v len bits
 
 pub compare-run : (deals : ℕ → List ℕ) (gates : Gates) (first mask supply demand r s d : ℕ) (before : Values) →
     BeforeCompare first mask supply demand r s d before →
-    AfterCompare gates first r s d before (batches_on deals (compare_batches gates first mask supply demand (add_of (doubled s d) r)) before)
+    AfterCompare gates first r s d before
+    (batches_on deals (compare_batches gates first mask supply demand (add_of (doubled s d) r)) before)
 compare-run deals gates first mask supply demand r s d before h =
     let bits : Holds before.wires (mask + 366) 61 (bit_at r) = record { room = omega (arith, h.len, h.room); at = h.bits } in
     let c = add_of (doubled s d) r in

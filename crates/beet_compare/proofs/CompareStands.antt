@@ -1,5 +1,6 @@
 -- The blocks of a comparison name only wires that stand.
-use Rattle.std.proofs.Common.{◌≡◌, ◌∙◌, ℕ, zero, suc, ◌+◌, ◌-◌, ◌*◌, ◌/◌, ◌^◌, ◌<◌, ◌≤◌, inl, inr, List, length, pow-suc, [], ◌∷◌, ◌++◌, refl, arith, eq-eqb, ne_eqb, length-append}
+use Rattle.std.proofs.Common.{◌≡◌, ◌∙◌, ℕ, zero, suc, ◌+◌, ◌-◌, ◌*◌, ◌/◌, ◌^◌, ◌<◌, ◌≤◌, inl, inr, List, length}
+use Rattle.std.proofs.Common.{pow-suc, [], ◌∷◌, ◌++◌, refl, arith, eq-eqb, ne_eqb, length-append}
 use Rattle.std.specs.Int.{bit_at}
 use Rattle.std.proofs.lemmas.Bool.{cases_eq}
 use Rattle.beet_gates.specs.Batches.{mul_batch}
@@ -13,9 +14,13 @@ use Rattle.beet_gates.specs.Scripts.{Standing, after, TermsBelow, LetsBelow}
 use Rattle.beet_gates.specs.Plans.{BlockStands, after_all}
 use Rattle.beet_gates.proofs.EachFacts.{length-each, turns}
 use Rattle.beet_gates.proofs.LevelRuns.{next_item-has}
-use Rattle.beet_gates.proofs.Standings.{Moved, pairs_below-each, lets_below-each, lets_below-append, block-cons, block-last, block-append, quiet-each, after_all-append}
+use Rattle.beet_gates.proofs.Standings.{Moved, pairs_below-each, lets_below-each, lets_below-append, block-cons}
+use Rattle.beet_gates.proofs.Standings.{block-last, block-append, quiet-each, after_all-append}
 use Rattle.beet_field.specs.Field.{p}
-use Rattle.beet_compare.specs.Compare.{masked_batch, borrow_lets, borrow_batches, chain_batches, compare_draws_of, compare_wires_of, last_batches, last_let, level_lets, level_products, next_less, next_same, low_bit_batch, same_let, lowest_batch, bit_batch, answer_batch, tree_batches}
+use Rattle.beet_compare.specs.Compare.{masked_batch, borrow_lets, borrow_batches, chain_batches, compare_draws_of}
+use Rattle.beet_compare.specs.Compare.{compare_wires_of, last_batches, last_let, level_lets, level_products, next_less}
+use Rattle.beet_compare.specs.Compare.{next_same, low_bit_batch, same_let, lowest_batch, bit_batch, answer_batch}
+use Rattle.beet_compare.specs.Compare.{tree_batches}
 use Rattle.beet_compare.proofs.CompareTable.{last_two}
 
 pub masked-stands : (first mask supply demand : ℕ) (s : Standing) → s.wires ≡ first → mask + 487 ≤ first → supply < first → demand < first →
@@ -41,7 +46,8 @@ same_let-below n bit w h = elim (cases_eq bit 1) [
 ]
 
 -- the last two batches
-last-stands : (lets : List Linear) (borrow low mask c : ℕ) (s : Standing) → low ≡ s.wires + length lets → LetsBelow s.wires lets → length lets ≤ 127 → borrow < low → mask + 366 < low →
+last-stands : (lets : List Linear) (borrow low mask c : ℕ) (s : Standing) → low ≡ s.wires + length lets →
+    LetsBelow s.wires lets → length lets ≤ 127 → borrow < low → mask + 366 < low →
     BlockStands s (last_batches lets borrow low mask c) × Moved s (after_all s (last_batches lets borrow low mask c)) (length lets + 3) 0 1
 last-stands lets borrow low mask c s e below few there bit =
     let end = same_let (1 - bit_at c 0) (mask + 366) in
@@ -49,14 +55,18 @@ last-stands lets borrow low mask c s e below few there bit =
     let one = low_bit_batch lets borrow low mask c in
     let two = answer_batch borrow low in
     let now = after s one in
-    let ends = lets_below-append s.wires lets (end ∷ []) below (same_let-below (s.wires + length lets) (1 - bit_at c 0) (mask + 366) (omega (arith, e, bit)), tt) in (
+    let ends = lets_below-append s.wires lets (end ∷ []) below
+    (same_let-below (s.wires + length lets) (1 - bit_at c 0) (mask + 366) (omega (arith, e, bit)), tt) in (
       block-cons s one (two ∷ []) (record {
         stands = (ends, (omega arith, (omega (arith, e, len), omega (arith, e, len, there), tt)), (omega (arith, len, few), omega arith));
         going = refl;
         silent = refl;
       })
-          (block-last now two
-          (((omega (arith, e, len), (omega (arith, e, len, there), (omega (arith, e, len), tt))), tt), (omega arith, (omega (arith, e, len), tt)), (omega arith, omega arith)) refl),
+          (block-last now two (
+            ((omega (arith, e, len), (omega (arith, e, len, there), (omega (arith, e, len), tt))), tt),
+            (omega arith, (omega (arith, e, len), tt)),
+            (omega arith, omega arith),
+          ) refl),
       record { more_wires = omega (arith, len); more_masks = omega arith; more_coefficients = omega arith; dealers = refl },
     )
 
@@ -68,7 +78,10 @@ chain-stands first mask c s e hm =
     let chain = quiet-each (bit_batch first mask c) 3 s1 59 (λ k l t w. (
       record {
         stands = (
-          ((omega arith, (omega (arith, w), (omega arith, tt))), (same_let-below (t.wires + 1) (bit_at c (k + 2)) (mask + 366 + (k + 2)) (omega (arith, w)), tt)),
+          (
+            (omega arith, (omega (arith, w), (omega arith, tt))),
+            (same_let-below (t.wires + 1) (bit_at c (k + 2)) (mask + 366 + (k + 2)) (omega (arith, w)), tt),
+          ),
           (omega arith, (omega (arith, w), omega (arith, w), tt)),
           (omega arith, omega arith),
         );
@@ -102,13 +115,22 @@ chain-stands first mask c s e hm =
     )
 
 -- the levels of a tree and the last two batches
-tree-stands : (levels n : ℕ) (lets : List Linear) (g q : ℕ → ℕ) (free mask c : ℕ) (s : Standing) → free ≡ s.wires + length lets → LetsBelow s.wires lets → length lets ≤ 127 →
+tree-stands : (levels n : ℕ) (lets : List Linear) (g q : ℕ → ℕ) (free mask c : ℕ) (s : Standing) →
+    free ≡ s.wires + length lets → LetsBelow s.wires lets → length lets ≤ 127 →
     n ≤ 2 ^ levels → 2 ^ levels < 2 * n → n ≤ 65 → ((k : ℕ) → k < n → g k < free) → ((k : ℕ) → k < n → q k < free) → mask + 366 < free →
-    BlockStands s (tree_batches levels mask c lets n g q free) × Moved s (after_all s (tree_batches levels mask c lets n g q free)) (length lets + 3 * n) 0 (2 * n - 1)
+    BlockStands s (tree_batches levels mask c lets n g q free)
+    × Moved s (after_all s (tree_batches levels mask c lets n g q free)) (length lets + 3 * n) 0 (2 * n - 1)
 tree-stands zero n lets g q free mask c s e below few most least small hg hq bit =
     let one : n ≡ 1 = omega (arith, most, least) in
-    let m = last-stands lets (g 0) free mask c s e below few (hg 0 (omega (arith, least))) bit in
-    (m.0, record { more_wires = omega (arith, m.1.more_wires, one); more_masks = m.1.more_masks; more_coefficients = omega (arith, m.1.more_coefficients, one); dealers = m.1.dealers })
+    let m = last-stands lets (g 0) free mask c s e below few (hg 0 (omega (arith, least))) bit in (
+      m.0,
+      record {
+        more_wires = omega (arith, m.1.more_wires, one);
+        more_masks = m.1.more_masks;
+        more_coefficients = omega (arith, m.1.more_coefficients, one);
+        dealers = m.1.dealers;
+      },
+    )
 tree-stands (suc levels) n lets g q free mask c s e below few most least small hg hq bit =
     let half = n / 2 in
     let power : 2 ^ suc levels ≡ 2 ^ levels * 2 = pow-suc 2 levels in
@@ -124,8 +146,12 @@ tree-stands (suc levels) n lets g q free mask c s e below few most least small h
     let len' = length-each rule half in
     let then_free = free + 2 * half + half in
     let lets_then : LetsBelow now.wires (level_lets (n / 2) g free) =
-    lets_below-each now.wires rule half (λ k l. (omega (arith, wires, hg (2 * k + 1) (omega (arith, l))), (omega (arith, wires, l), (omega (arith, wires, l), tt)))) in
-    let m = tree-stands levels (next_length n) (level_lets (n / 2) g free) (next_less n g free) (next_same n q free) then_free mask c now (omega (arith, wires, len'))
+    lets_below-each now.wires rule half (λ k l. (
+      omega (arith, wires, hg (2 * k + 1) (omega (arith, l))),
+      (omega (arith, wires, l), (omega (arith, wires, l), tt)),
+    )) in
+    let m = tree-stands levels (next_length n) (level_lets (n / 2) g free) (next_less n g free)
+    (next_same n q free) then_free mask c now (omega (arith, wires, len'))
     lets_then (omega (arith, len', small)) (omega (arith, most, power)) (omega (arith, least, power)) (omega (arith, small))
     (next_item-has (λ (x : ℕ). x < then_free) n g (λ i. free + 2 * half + i) (λ k l. omega (arith, hg k l)) (λ k l. omega (arith, l)))
     (next_item-has (λ (x : ℕ). x < then_free) n q (λ i. free + 1 + 2 * i) (λ k l. omega (arith, hq k l)) (λ k l. omega (arith, l)))
@@ -134,7 +160,11 @@ tree-stands (suc levels) n lets g q free mask c s e below few most least small h
     (turns (λ k place. (place.0 < s.wires + length lets) × (place.1 < s.wires + length lets)) f h half
     (λ i l. (omega (arith, e, hq (2 * i + 1) (omega (arith, l))), omega (arith, e, hg (2 * i) (omega (arith, l)))))
     (λ i l. (omega (arith, e, hq (2 * i + 1) (omega (arith, l))), omega (arith, e, hq (2 * i) (omega (arith, l)))))) in (
-      block-cons s batch _ (record { stands = (below, (omega (arith, len, some), pairs), (omega (arith, few), omega (arith, len, small))); going = refl; silent = refl }) m.0,
+      block-cons s batch _ (record {
+        stands = (below, (omega (arith, len, some), pairs), (omega (arith, few), omega (arith, len, small)));
+        going = refl;
+        silent = refl;
+      }) m.0,
       record {
         more_wires = omega (arith, m.1.more_wires, len, len', some);
         more_masks = omega (arith, m.1.more_masks);
@@ -156,6 +186,15 @@ borrow-stands Tree first mask c s e hm =
     (turns (λ k rule. TermsBelow (s.wires + k) rule.terms) less equal 61
     (λ i l. (omega (arith, e, hm, l), (omega (arith, e, l), (omega (arith, e, l), tt))))
     (λ i l. same_let-below (s.wires + (2 * i + 1)) (bit_at c i) (mask + 366 + i) (omega (arith, e, hm, l)))) in
-    let m = tree-stands 6 61 (borrow_lets mask c) (λ k. first + 61 + 2 * k) (λ k. first + 62 + 2 * k) (first + 183) mask c s (omega (arith, e, len)) lets
-    (omega (arith, len)) (omega arith) (omega arith) (omega arith) (λ k l. omega (arith, l)) (λ k l. omega (arith, l)) (omega (arith, hm)) in
-    (m.0, record { more_wires = omega (arith, m.1.more_wires, len); more_masks = m.1.more_masks; more_coefficients = m.1.more_coefficients; dealers = m.1.dealers })
+    let m = tree-stands 6 61 (borrow_lets mask c) (λ k. first + 61 + 2 * k) (λ k. first + 62 + 2 * k)
+    (first + 183) mask c s (omega (arith, e, len)) lets
+    (omega (arith, len)) (omega arith) (omega arith) (omega arith) (λ k l. omega (arith, l)) (λ k l. omega (arith, l))
+    (omega (arith, hm)) in (
+      m.0,
+      record {
+        more_wires = omega (arith, m.1.more_wires, len);
+        more_masks = m.1.more_masks;
+        more_coefficients = m.1.more_coefficients;
+        dealers = m.1.dealers;
+      },
+    )

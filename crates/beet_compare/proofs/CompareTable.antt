@@ -1,5 +1,6 @@
 -- The batch at each step of the block of a comparison.
-use Rattle.std.proofs.Common.{◌≡◌, ℕ, suc, ◌+◌, ◌-◌, ◌<◌, ◌≤◌, List, [], ◌∷◌, length, slice_get, Some, None, refl, ap, ◌∙◌, arith, length-append}
+use Rattle.std.proofs.Common.{◌≡◌, ℕ, suc, ◌+◌, ◌-◌, ◌<◌, ◌≤◌, List, [], ◌∷◌, length, slice_get, Some, None, refl, ap}
+use Rattle.std.proofs.Common.{◌∙◌, arith, length-append}
 use Rattle.beet_gates.specs.declared.Batch.{Batch}
 use Rattle.beet_gates.specs.declared.Gates.{Gates}
 use Rattle.beet_gates.specs.declared.Gates.TheVariants.{Chain, Tree}
@@ -15,7 +16,11 @@ last_two first mask c = last_batches (last_let first mask c ∷ []) (first + 241
 
 module _ (first mask c : ℕ) where
   length-chain_batches : length (chain_batches first mask c) ≡ 62
-  length-chain_batches = omega (arith, length-append (each (bit_batch first mask c) 59) (last_two first mask c), length-each (bit_batch first mask c) 59)
+  length-chain_batches = omega (
+    arith,
+    length-append (each (bit_batch first mask c) 59) (last_two first mask c),
+    length-each (bit_batch first mask c) 59,
+  )
 
   pub chain-bit : (step : ℕ) → 1 ≤ step → step ≤ 59 → slice_get (chain_batches first mask c) step ≡ Some (bit_batch first mask c (step - 1))
   chain-bit step low high =
@@ -36,9 +41,13 @@ module _ (first mask supply demand c : ℕ) where
   length-compare_batches Chain = omega (arith, length-chain_batches first mask c)
   length-compare_batches Tree = refl
 
-  pub compare-past : (gates : Gates) (step : ℕ) → compare_rounds_of gates ≤ step → slice_get (compare_batches gates first mask supply demand c) step ≡ None
-  compare-past gates step h = get-past (compare_batches gates first mask supply demand c) step (omega (arith, h, length-compare_batches gates))
+  pub compare-past : (gates : Gates) (step : ℕ) → compare_rounds_of gates ≤ step →
+      slice_get (compare_batches gates first mask supply demand c) step ≡ None
+  compare-past gates step h =
+      get-past (compare_batches gates first mask supply demand c) step (omega (arith, h, length-compare_batches gates))
 
   pub compare-there : (gates : Gates) (step : ℕ) → step < compare_rounds_of gates →
-      Some (batch_at (compare_batches gates first mask supply demand c) step) ≡ slice_get (compare_batches gates first mask supply demand c) step
-  compare-there gates step h = batch-there (compare_batches gates first mask supply demand c) step (omega (arith, h, length-compare_batches gates))
+      Some (batch_at (compare_batches gates first mask supply demand c) step)
+      ≡ slice_get (compare_batches gates first mask supply demand c) step
+  compare-there gates step h = batch-there (compare_batches gates first mask supply demand c) step
+      (omega (arith, h, length-compare_batches gates))

@@ -1,5 +1,6 @@
 -- What the first batch of a comparison does in a clear run: it opens the doubled difference and the mask, added modulo p.
-use Rattle.std.proofs.Common.{◌≡◌, ℕ, zero, suc, ◌+◌, ◌-◌, ◌*◌, ◌/◌, ◌%◌, ◌^◌, ◌<◌, List, [], ◌∷◌, ◌++◌, length, slice_index, refl, ap, sym, ◌∙◌, arith, length-append, append_assoc, add_assoc}
+use Rattle.std.proofs.Common.{◌≡◌, ℕ, zero, suc, ◌+◌, ◌-◌, ◌*◌, ◌/◌, ◌%◌, ◌^◌, ◌<◌, List, [], ◌∷◌, ◌++◌, length}
+use Rattle.std.proofs.Common.{slice_index, refl, ap, sym, ◌∙◌, arith, length-append, append_assoc, add_assoc}
 use Rattle.std.specs.Int.{bit_at}
 use Rattle.std.proofs.lemmas.Nat.{shr_le}
 use Rattle.beet_gates.specs.declared.Linear.{Linear}
@@ -28,7 +29,8 @@ sum_let first mask (suc k) = two_terms 0 (2, first + k) (1, mask + 366 + (58 - k
 high : ℕ → ℕ → ℕ
 high r k = r / 2 ^ (59 - k)
 
-sum_let-value : (first mask r : ℕ) (wires : List ℕ) → r < 2305843009213693951 → length wires ≡ first → Holds wires (mask + 366) 61 (bit_at r) →
+sum_let-value : (first mask r : ℕ) (wires : List ℕ) → r < 2305843009213693951 → length wires ≡ first →
+    Holds wires (mask + 366) 61 (bit_at r) →
     (k : ℕ) → k < 60 → let_of (wires ++ each (high r) k) (sum_let first mask k) ≡ high r k
 unfolding high sum_let
 sum_let-value first mask r wires hr len bits zero h =
@@ -47,7 +49,8 @@ sum_let-value first mask r wires hr len bits (suc k) h =
     let m : 59 - suc k ≡ 58 - k = omega arith in
     let n : 58 - k + 1 ≡ 59 - k = omega arith in
     let e : r / 2 ^ (59 - suc k) ≡ 2 * (r / 2 ^ (59 - k)) + bit_at r (58 - k) = rw m (rw n at (high-bits r (58 - k))) in
-    double-let now (first + k) (mask + 366 + (58 - k)) (r / 2 ^ (59 - k)) (bit_at r (58 - k)) (omega (arith, e, shr_le r (59 - suc k))) a b ∙ sym e
+    double-let now (first + k) (mask + 366 + (58 - k)) (r / 2 ^ (59 - k)) (bit_at r (58 - k))
+    (omega (arith, e, shr_le r (59 - suc k))) a b ∙ sym e
 
 -- what the batch leaves
 pub record AfterMasked (first c : ℕ) (v after : Values) : Type 0 where

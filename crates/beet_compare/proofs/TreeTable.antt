@@ -21,7 +21,8 @@ products-told pairs g q g' q' less equal =
     (λ i l. rw (turn-first f' h' i, equal (2 * i + 1) (omega (arith, l)), less (2 * i) (omega (arith, l))) refl)
     (λ i l. rw (turn-second f' h' i, equal (2 * i + 1) (omega (arith, l)), equal (2 * i) (omega (arith, l))) refl))
 
-pub lets-told : (pairs : ℕ) (g g' : ℕ → ℕ) (at free : ℕ) → at ≡ free → ((k : ℕ) → k < 2 * pairs → g k ≡ g' k) → level_lets pairs g at ≡ level_lets pairs g' free
+pub lets-told : (pairs : ℕ) (g g' : ℕ → ℕ) (at free : ℕ) → at ≡ free → ((k : ℕ) → k < 2 * pairs → g k ≡ g' k) →
+    level_lets pairs g at ≡ level_lets pairs g' free
 lets-told pairs g g' at free e less =
     each-same (λ i. two_terms 0 (1, g (2 * i + 1)) (1, at + 2 * i)) (λ i. two_terms 0 (1, g' (2 * i + 1)) (1, free + 2 * i)) pairs
     (λ i l. rw (less (2 * i + 1) (omega (arith, l)), e) refl)
@@ -42,7 +43,8 @@ module _ (first n at free : ℕ) (e : at ≡ free) where
   same-all q last k = items-told n (level_same first at (n / 2)) q (λ i. free + 1 + 2 * i) refl (λ i h. omega (arith, e)) last k
 
 -- a whole batch
-pub level-told : (lets pairs : ℕ) (before g' g q : ℕ → ℕ) (less same : ℕ → ℕ) (at free : ℕ) → at ≡ free → ((k : ℕ) → k < 2 * lets → before k ≡ g' k) →
+pub level-told : (lets pairs : ℕ) (before g' g q : ℕ → ℕ) (less same : ℕ → ℕ) (at free : ℕ) → at ≡ free →
+    ((k : ℕ) → k < 2 * lets → before k ≡ g' k) →
     ((k : ℕ) → k < 2 * pairs → less k ≡ g k) → ((k : ℕ) → k < 2 * pairs → same k ≡ q k) →
     mul_batch (level_lets lets before at) (level_products pairs less same) ≡ mul_batch (level_lets lets g' free) (level_products pairs g q)
 level-told lets pairs before g' g q less same at free e a b c =

@@ -1,9 +1,11 @@
-//! The block of a comparison: with an accepted mask it tells whether the summed supply reaches the summed demand, and nothing else.
+//! The block of a comparison: with an accepted mask it tells whether the summed supply reaches the summed demand, and
+//! nothing else.
 //!
 //! It opens twice the difference with the mask added, modulo p, and then 1 where supply reaches demand and 0 elsewhere.
 #![tactic(auto)]
 
-ghost use Rattle.std.specs.Prelude.{◌≡◌, ◌<◌, ◌≤◌, ◌+◌, ◌-◌, ◌*◌, ◌^◌, ◌↔◌, ℕ, List, [], ◌∷◌, ◌++◌, length, slice_get, IsNone, IsTrue};
+ghost use Rattle.std.specs.Prelude.{◌≡◌, ◌<◌, ◌≤◌, ◌+◌, ◌-◌, ◌*◌, ◌^◌, ◌↔◌, ℕ, List, [], ◌∷◌, ◌++◌, length, slice_get};
+ghost use Rattle.std.specs.Prelude.{IsNone, IsTrue};
 ghost use Rattle.std.specs.Int.{bit_at};
 ghost use Rattle.beet_field.specs.Field.{IsElement, add_of};
 ghost use Rattle.beet_gates.specs.Batches.{mul_batch};
@@ -13,7 +15,11 @@ ghost use Rattle.beet_gates.specs.Each.{each};
 ghost use Rattle.beet_gates.specs.Levels.{wire_of};
 ghost use Rattle.beet_gates.specs.declared.TheConstants.{MOST_LETS};
 ghost use Rattle.beet_gates.specs.Linears.{three_terms, two_terms};
-ghost use Rattle.beet_compare.specs.Compare.{compare_rounds_of, compare_wires_of, masked_batch, same_let, lowest_batch, bit_batch, low_bit_batch, answer_batch, last_let, chain_batches, borrow_lets, level_products, level_lets, bits_less, bits_same, level_less, level_same, borrow_batches, compare_batches, doubled, is_doubled_even, BeforeCompare, AfterCompare};
+ghost use Rattle.beet_compare.specs.Compare.{compare_rounds_of, compare_wires_of, masked_batch, same_let, lowest_batch};
+ghost use Rattle.beet_compare.specs.Compare.{bit_batch, low_bit_batch, answer_batch, last_let, chain_batches};
+ghost use Rattle.beet_compare.specs.Compare.{borrow_lets, level_products, level_lets, bits_less, bits_same, level_less};
+ghost use Rattle.beet_compare.specs.Compare.{level_same, borrow_batches, compare_batches, doubled, is_doubled_even};
+ghost use Rattle.beet_compare.specs.Compare.{BeforeCompare, AfterCompare};
 
 use arrayvec::ArrayVec;
 use beet_field::{Fe, MINUS_ONE, MINUS_TWO, MOST_NUMBERS};
@@ -21,11 +27,12 @@ use beet_gates::{
     Act, Batch, Gates, LevelItems, Linear, MASK_WIRES, MOST_LETS, WIRES_BEFORE_BITS, level_pairs,
 };
 
-/// The rounds of a block with chain gates: the opening of the masked difference, one for each bit, and the opening of the answer.
+/// The rounds of a block with chain gates: the opening of the masked difference, one for each bit, and the opening of
+/// the answer.
 const CHAIN_ROUNDS: u32 = 63;
 
-/// The rounds of a block with tree gates: the opening of the masked difference, one for each level, one for the low bit, and the opening of the
-/// answer.
+/// The rounds of a block with tree gates: the opening of the masked difference, one for each level, one for the low
+/// bit, and the opening of the answer.
 const TREE_ROUNDS: u32 = 9;
 
 /// The wires of a block with chain gates.
@@ -90,7 +97,8 @@ fn same(bit: u128, wire: u32) -> Linear
     }
 }
 
-/// The borrow past a bit of c and a wire with the same bit of the mask, where `below` has the borrow that comes from below.
+/// The borrow past a bit of c and a wire with the same bit of the mask, where `below` has the borrow that comes from
+/// below.
 fn borrow_past(c_bit: u128, wire: u32, below: (u128, u32)) -> Linear
     requires bit { c_bit < 2 }
     requires below { IsElement below.0 }
@@ -117,7 +125,8 @@ fn high_bits(first: u32, mask: u32, lets: &mut ArrayVec<Linear, MOST_LETS>)
     requires first { first + 60 < 2 ^ 32 }
     requires mask { mask + MASK_WIRES < 2 ^ 32 }
     ensures count { length lets.new.items ≡ length lets.old.items + 59 }
-    ensures items { lets.new.items ≡ lets.old.items ++ each (λ k. two_terms 0 (2, first + k) (1, mask + WIRES_BEFORE_BITS + (58 - k))) 59 }
+    ensures items { lets.new.items
+        ≡ lets.old.items ++ each (λ k. two_terms 0 (2, first + k) (1, mask + WIRES_BEFORE_BITS + (58 - k))) 59 }
 {
     let zero = Fe::reduce(0);
     for k in 0..59 {
@@ -235,17 +244,24 @@ fn refill_chain(step: u32, first: u32, mask: u32, c: Fe, batch: &mut Batch)
     }
 }
 
+/// Wires of a tree's bits, which stand by turns.
+fn bits_from(start: u32, carried: u32) -> LevelItems
+    ensures { result ≡ record { start = start; step = 2; results = 61; carried = carried } }
+{
+    LevelItems {
+        start,
+        step: 2,
+        results: 61,
+        carried,
+    }
+}
+
 /// The wires of the borrows of a tree's bits.
 fn bits_less(first: u32) -> LevelItems
     requires { first + TREE_WIRES < 2 ^ 32 }
     ensures { result ≡ bits_less first }
 {
-    LevelItems {
-        start: first + 61,
-        step: 2,
-        results: 61,
-        carried: first + 181,
-    }
+    bits_from(first + 61, first + 181)
 }
 
 /// The wires that tell whether the bits of a tree are the same.
@@ -253,12 +269,7 @@ fn bits_same(first: u32) -> LevelItems
     requires { first + TREE_WIRES < 2 ^ 32 }
     ensures { result ≡ bits_same first }
 {
-    LevelItems {
-        start: first + 62,
-        step: 2,
-        results: 61,
-        carried: first + 182,
-    }
+    bits_from(first + 62, first + 182)
 }
 
 /// The wires of the borrows after a level with so many results, whose products begin at a wire.
@@ -275,7 +286,8 @@ fn level_less(first: u32, products: u32, results: u32) -> LevelItems
     }
 }
 
-/// The wires that tell whether segments are the same, after a level with so many results, whose products begin at a wire.
+/// The wires that tell whether segments are the same, after a level with so many results, whose products begin at a
+/// wire.
 fn level_same(first: u32, products: u32, results: u32) -> LevelItems
     requires first { first + TREE_WIRES < 2 ^ 32 }
     requires products { products + 3 * results < first + TREE_WIRES }
@@ -339,7 +351,8 @@ fn add_level_lets<const K: usize>(
     }
 }
 
-/// The batch of a level with `K` pairs, after a level with `N` pairs of the list `before`, whose products begin at a wire.
+/// The batch of a level with `K` pairs, after a level with `N` pairs of the list `before`, whose products begin at a
+/// wire.
 fn set_level<const N: usize, const K: usize>(
     batch: &mut Batch,
     first: u32,
@@ -367,7 +380,8 @@ fn set_level<const N: usize, const K: usize>(
 fn set_bits(batch: &mut Batch, first: u32, mask: u32, c: Fe)
     requires first { first + TREE_WIRES < 2 ^ 32 }
     requires mask { mask + MASK_WIRES < 2 ^ 32 }
-    ensures { batch.new ≡ mul_batch (borrow_lets mask c) (level_products 30 (wire_of (bits_less first)) (wire_of (bits_same first))) }
+    ensures { batch.new
+        ≡ mul_batch (borrow_lets mask c) (level_products 30 (wire_of (bits_less first)) (wire_of (bits_same first))) }
 {
     batch.lets.clear();
     add_bits(mask, c, &mut batch.lets);
@@ -378,7 +392,8 @@ fn set_bits(batch: &mut Batch, first: u32, mask: u32, c: Fe)
 fn set_last_level(batch: &mut Batch, first: u32, mask: u32, c: Fe)
     requires first { first + TREE_WIRES < 2 ^ 32 }
     requires mask { mask + MASK_WIRES < 2 ^ 32 }
-    ensures { batch.new ≡ low_bit_batch (level_lets 1 (wire_of (level_less first (first + 354) 2)) (first + 360)) (first + 362) (first + 363) mask c }
+    ensures { batch.new ≡ low_bit_batch (level_lets 1 (wire_of (level_less first (first + 354) 2)) (first + 360))
+        (first + 362) (first + 363) mask c }
 {
     batch.lets.clear();
     add_level_lets::<1>(
@@ -452,8 +467,9 @@ pub fn refill_compare(
     }
 }
 
-/// The batch at this step of a block whose first wire is `first`, or none past its end. It compares the wires `supply` and `demand`
-/// with the mask whose block begins at the wire `mask`; from step 1 on, `c` is the number that step 0 opened.
+/// The batch at this step of a block whose first wire is `first`, or none past its end. It compares the wires `supply`
+/// and `demand` with the mask whose block begins at the wire `mask`; from step 1 on, `c` is the number that step 0
+/// opened.
 pub fn compare_batch(
     gates: Gates,
     step: u32,
@@ -476,13 +492,14 @@ pub fn compare_batch(
     Some(batch)
 }
 
-/// What a block does on plain values, wherever it stands and whatever was opened before it: with an accepted mask r, and y twice the
-/// difference of supply and demand modulo p, it opens y + r modulo p and then 1 exactly where y is even. Where the two sums differ
-/// by less than 2^59, that is exactly where supply is at least demand.
+/// What a block does on plain values, wherever it stands and whatever was opened before it: with an accepted mask r,
+/// and y twice the difference of supply and demand modulo p, it opens y + r modulo p and then 1 exactly where y is
+/// even. Where the two sums differ by less than 2^59, that is exactly where supply is at least demand.
 pub fn compare_law()
     ensures opens { (deals : ℕ → List ℕ) (gates : Gates) (first mask supply demand r s d : ℕ) (before : Values) →
         BeforeCompare first mask supply demand r s d before →
-        AfterCompare gates first r s d before (batches_on deals (compare_batches gates first mask supply demand (add_of (doubled s d) r)) before) }
+        AfterCompare gates first r s d before
+        (batches_on deals (compare_batches gates first mask supply demand (add_of (doubled s d) r)) before) }
     ensures means { (s d : ℕ) → IsElement s → IsElement d → s < d + 2 ^ 59 → d < s + 2 ^ 59 →
         IsTrue (is_doubled_even s d) ↔ (d ≤ s) }
 {}

@@ -11,7 +11,7 @@ use Rattle.beet_plan.specs.Runs.{finish_of}
 use Rattle.beet_plan.specs.declared.Finish.{Finish}
 use Rattle.beet_plan.specs.declared.Finish.TheVariants.{Price, NoPrice, MasksSpent}
 use Rattle.beet_auction.specs.Endings.{book_finish}
-use Rattle.beet_headline.specs.Halves.{are_spent}
+use Rattle.beet_headline.specs.Statements.{are_spent}
 
 pub never-spent : (outcome : Outcome) → finish_of outcome ≢ MasksSpent
 never-spent (PriceAt place price volume supply) e = cc e
@@ -28,7 +28,8 @@ unfolding outcome-in
 outcome-told book None = refl
 outcome-told book (Some place) = refl
 
-pub one-outcome : (one other : Book) → other.grid ≡ one.grid → finish_of (outcome_of other) ≡ finish_of (outcome_of one) → outcome_of other ≡ outcome_of one
+pub one-outcome : (one other : Book) → other.grid ≡ one.grid →
+    finish_of (outcome_of other) ≡ finish_of (outcome_of one) → outcome_of other ≡ outcome_of one
 one-outcome one other grids e =
     same_Some (outcome_of other) (outcome_of one)
     (sym (outcome-told other (reached_place other)) ∙ (λ i. outcome-in (grids i) (e i)) ∙ outcome-told one (reached_place one))

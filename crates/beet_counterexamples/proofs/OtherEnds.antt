@@ -21,7 +21,7 @@ use Rattle.beet_delivery.proofs.Undelivered.{none_undelivered}
 use Rattle.beet_server.specs.Endings.{Ending, Ends, Waits}
 use Rattle.beet_auction.specs.Setups.{rounds_for, setup_for}
 use Rattle.beet_auction.specs.Endings.{book_rounds}
-use Rattle.beet_headline.specs.Halves.{AllDelivered, CanRun, are_spent, standing}
+use Rattle.beet_headline.specs.Statements.{AllDelivered, CanRun, are_spent, standing}
 use Rattle.beet_headline.proofs.Delivering.{to-the-end}
 use Rattle.beet_headline.proofs.Standings.{all-ended, ends, stands, waiting}
 use Rattle.beet_counterexamples.proofs.Finishes.{never-spent}
@@ -65,9 +65,11 @@ module _ (book : Book) (words : Words) (b : IsBook book) (runs : CanRun book wor
         ]
       ]
 
-  pub none-opened : (es : List Triple) (s : Point) (outcome : Outcome) → are_spent book words ≡ true → standing book words es s ≢ Ends (Some (finish_of outcome))
+  pub none-opened : (es : List Triple) (s : Point) (outcome : Outcome) → are_spent book words ≡ true →
+      standing book words es s ≢ Ends (Some (finish_of outcome))
   none-opened es s outcome many e =
-      never-spent outcome (same_Some (finish_of outcome) MasksSpent ((stands book words b runs es s).spent many (Some (finish_of outcome)) e))
+      never-spent outcome (same_Some (finish_of outcome) MasksSpent
+      ((stands book words b runs es s).spent many (Some (finish_of outcome)) e))
 
   pub other-rounds : (rounds : ℕ) → HasRounds (setup_for book words) rounds → rounds ≡ book_rounds book words.masks
   other-rounds rounds h = one-number (setup_for book words) rounds (book_rounds book words.masks) h (ends book words b runs).has_rounds

@@ -8,25 +8,25 @@ use Rattle.beet_field.specs.declared.point.Point.TheVariants.{One, Two, Three}
 use Rattle.beet_field.specs.declared.trio.Trio.{Trio}
 use Rattle.beet_words.specs.Bundles.{Words}
 use Rattle.beet_words.specs.Words.{IsWord, accepted, ones}
+use Rattle.beet_words.proofs.WordLists.{accepted-append}
 use Rattle.beet_bids.specs.Books.{Book}
 use Rattle.beet_sharing.specs.Runs.{Setup, numbers_of}
 use Rattle.beet_auction.specs.Setups.{rounds_for, setup_for}
 use Rattle.beet_map.specs.Mapped.{GateMapped}
-use Rattle.beet_map.proofs.WordLists.{accepted-append}
-use Rattle.beet_worlds.specs.MappedWords.{Mapped}
+use Rattle.beet_auction_map.specs.MappedWords.{Mapped}
 use Rattle.beet_counterexamples.specs.Places.{MappedWithoutPlaces}
 
 -- one word more, that is all ones
-abbrev longer : List ℕ → List ℕ
+abbrev pub longer : List ℕ → List ℕ
 longer words = words ++ ones ∷ []
 
-longer-accepted : (words : List ℕ) → accepted (longer words) ≡ accepted words
+pub longer-accepted : (words : List ℕ) → accepted (longer words) ≡ accepted words
 longer-accepted words = accepted-append words (ones ∷ []) ∙ append-nil (accepted words)
 
-longer-other : (words : List ℕ) → longer words ≢ words
+pub longer-other : (words : List ℕ) → longer words ≢ words
 longer-other words e = absurd (omega (arith, ap length e, length-append words (ones ∷ [])))
 
-longer-words : (words : List ℕ) → All IsWord words → All IsWord (longer words)
+pub longer-words : (words : List ℕ) → All IsWord words → All IsWord (longer words)
 longer-words words all = All-append IsWord words (ones ∷ []) all (All-cons IsWord ones [] (omega arith) (λ k d lt. absurd (omega arith)))
 
 -- at another server than s
@@ -63,7 +63,8 @@ pub other-words : (s : Point) (first second : Book) (words words' : Words) → M
 other-words s first second words words' m =
     let other : Words = record words' { coefficients = longer-beside s words'.coefficients } in
     let same : setup_for second words' ≡ setup_for second other =
-    ap (λ (numbers : Trio (List ℕ)). record (setup_for second words') { numbers = numbers }) (sym (beside-numbers s words'.coefficients)) in (
+    ap (λ (numbers : Trio (List ℕ)). record (setup_for second words') { numbers = numbers })
+    (sym (beside-numbers s words'.coefficients)) in (
       other,
       record {
         lists = m.lists;

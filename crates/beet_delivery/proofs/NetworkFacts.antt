@@ -1,8 +1,12 @@
 -- What holds of every set of delivered messages, and after every list of events, among servers of any number and name.
-use Rattle.std.proofs.Common.{◌≡◌, ◌≤◌, ◌<◌, ◌+◌, ◌==◌, ◌&&◌, ◌||◌, nat_lt, nat_le, ℕ, zero, suc, Bool, true, false, true≢false, List, [], ◌∷◌, ◌++◌, cond, sym, refl, ap, subst, ◌∙◌, ◌⊎◌, inl, inr, ⊎_elim, arith}
-use Rattle.std.proofs.lemmas.Bool.{and_parts, and_from, or_cases, or_left, or_right, both_ways, cond-true, cond-false, cond_both, cases_lt, ltb-true, leb-true, eqb-true, lt-ltb, le-leb, eq-eqb}
+use Rattle.std.proofs.Common.{◌≡◌, ◌≤◌, ◌<◌, ◌+◌, ◌==◌, ◌&&◌, ◌||◌, nat_lt, nat_le, ℕ, zero, suc, Bool, true, false}
+use Rattle.std.proofs.Common.{true≢false, List, [], ◌∷◌, ◌++◌, cond, sym, refl, ap, subst, ◌∙◌, ◌⊎◌, inl, inr, ⊎_elim}
+use Rattle.std.proofs.Common.{arith}
+use Rattle.std.proofs.lemmas.Bool.{and_parts, and_from, or_cases, or_left, or_right, both_ways, cond-true, cond-false}
+use Rattle.std.proofs.lemmas.Bool.{cond_both, cases_lt, ltb-true, leb-true, eqb-true, lt-ltb, le-leb, eq-eqb}
 use Rattle.std.specs.Prelude.{count_by}
-use Rattle.beet_delivery.specs.Networks.{Network, Triple, Delivered, nothing, has, with_triple, all_in, first_rounds, passed, is_sent, deliver, after_from, after, triples_of}
+use Rattle.beet_delivery.specs.Networks.{Network, Triple, Delivered, nothing, has, with_triple, all_in, first_rounds}
+use Rattle.beet_delivery.specs.Networks.{passed, is_sent, deliver, after_from, after, triples_of}
 
 -- whether a message is this one
 abbrev pub is_at : {P : Type 0} → Network P → Triple P → Triple P → Bool

@@ -1,10 +1,13 @@
 -- Where nothing that is sent is undelivered, each server has passed all rounds.
-use Rattle.std.proofs.Common.{◌≡◌, ◌≢◌, ◌≤◌, ◌<◌, ◌&&◌, not, nat_lt, ℕ, zero, suc, Bool, true, false, length, cond, sym, ap, ◌∙◌, inl, inr, arith}
-use Rattle.std.proofs.lemmas.Bool.{and_parts, and_from, and_left, and_right, both_ways, not_from_false, not_from_true, cond_both, cases_Bool, cases_lt, false_from_ne_true, lt-ltb, ltb-true}
+use Rattle.std.proofs.Common.{◌≡◌, ◌≢◌, ◌≤◌, ◌<◌, ◌&&◌, not, nat_lt, ℕ, zero, suc, Bool, true, false, length, cond, sym}
+use Rattle.std.proofs.Common.{ap, ◌∙◌, inl, inr, arith}
+use Rattle.std.proofs.lemmas.Bool.{and_parts, and_from, and_left, and_right, both_ways, not_from_false, not_from_true}
+use Rattle.std.proofs.lemmas.Bool.{cond_both, cases_Bool, cases_lt, false_from_ne_true, lt-ltb, ltb-true}
 use Rattle.std.proofs.lemmas.List.Sums.{length-filter, sum_by-le-sum_by}
 use Rattle.std.specs.Prelude.{filter}
 use Rattle.beet_delivery.specs.Networks.{Network, Triple, Delivered, has, passed, is_sent, all_triples, undelivered, all_delivered}
-use Rattle.beet_delivery.proofs.NetworkFacts.{IsNetwork, WasSent, is_at, passed_in, passed_largest, passed_most, sent_from, sent_parts, triple_is}
+use Rattle.beet_delivery.proofs.NetworkFacts.{IsNetwork, WasSent, is_at, passed_in, passed_largest, passed_most}
+use Rattle.beet_delivery.proofs.NetworkFacts.{sent_from, sent_parts, triple_is}
 use Rattle.beet_delivery.proofs.Counting.{count_none, one_there}
 
 module _ {P : Type 0} {net : Network P} (law : IsNetwork net) (rounds : ℕ) where

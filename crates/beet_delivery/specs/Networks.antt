@@ -1,8 +1,10 @@
 -- Which messages are delivered after a list of events, and what follows from it, among servers of any number and name.
-use Rattle.std.specs.Prelude.{ℕ, zero, suc, ◌==◌, ◌&&◌, ◌||◌, not, nat_lt, nat_le, if◌then◌else◌, List, [], ◌∷◌, length, map, filter, Bool, true, false}
+use Rattle.std.specs.Prelude.{ℕ, zero, suc, ◌==◌, ◌&&◌, ◌||◌, not, nat_lt, nat_le, if◌then◌else◌, List, [], ◌∷◌, length}
+use Rattle.std.specs.Prelude.{map, filter, Bool, true, false}
 use Rattle.std.specs.List.{range_with_len, flat_map}
 
--- the servers of a run by name, whom each hears, in order, whether two names are the same, and whether one server sends another messages
+-- the servers of a run by name, whom each hears, in order, whether two names are the same, and whether one server sends
+-- another messages
 pub record Network (P : Type 0) : Type 0 where
   pub servers : List P
   pub peers : P → List P

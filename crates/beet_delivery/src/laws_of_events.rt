@@ -1,11 +1,14 @@
 //! What holds of every set of delivered messages, and after every list of events: any order, with
 //! repeats, and with messages that come late or never.
-ghost use Rattle.std.specs.Prelude.{◌≡◌, ◌≢◌, ◌<◌, ◌≤◌, ◌+◌, ◌==◌, ◌&&◌, not, if◌then◌else◌, ℕ, List, ◌∷◌, ◌++◌, Bool, true, false, All, AllPairs, count_by};
+ghost use Rattle.std.specs.Prelude.{◌≡◌, ◌≢◌, ◌<◌, ◌≤◌, ◌+◌, ◌==◌, ◌&&◌, not, if◌then◌else◌, ℕ, List, ◌∷◌, ◌++◌, Bool};
+ghost use Rattle.std.specs.Prelude.{true, false, All, AllPairs, count_by};
 ghost use Rattle.beet_field.specs.declared.point.Point.{Point};
 ghost use Rattle.beet_field.specs.declared.point.Point.TheVariants.{One, Two, Three};
 ghost use Rattle.beet_round.specs.Sides.{peer};
 ghost use Rattle.beet_round.specs.declared.sides.Side.{Side};
-ghost use Rattle.beet_delivery.specs.Events.{Triple, Delivered, nothing, same, has, with_triple, passed, is_sent, after, after_from, adding, all_triples, listed, undelivered, all_delivered};
+ghost use Rattle.beet_delivery.specs.Events.{Triple, Delivered, nothing, same, has, with_triple, passed, is_sent};
+ghost use Rattle.beet_delivery.specs.Events.{after, after_from, adding, all_triples, listed, undelivered};
+ghost use Rattle.beet_delivery.specs.Events.{all_delivered};
 ghost use Rattle.beet_delivery.specs.Examples.{eight_events, four_added};
 
 /// After every list of events no two servers are more than one round apart, each delivered message

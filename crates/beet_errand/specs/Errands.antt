@@ -1,8 +1,8 @@
 -- What a job does outside before it answers: it fetches files, one after another, and judges each before the next.
-use Rattle.std.specs.Prelude.{ℕ, List, [], ◌++◌, length, codes, decimal, Option, Some, None, Ok, Err, Bool, nat_lt, if◌then◌else◌}
+use Rattle.std.specs.Prelude.{ℕ, List, [], ◌++◌, codes, decimal, Ok, Err}
 use Rattle.beet_field.specs.Point.{number_of}
 use Rattle.beet_field.specs.declared.point.Point.{Point}
-use Rattle.beet_store.specs.Files.{File, bytes_of}
+use Rattle.beet_store.specs.Files.{File, FetchAnswer, Bytes, Longer, Nothing}
 use Rattle.beet_forms.specs.Faults.{Fault, Reading, at_row}
 use Rattle.beet_errand.specs.declared.fetching.TheConstants.{TOO_LONG}
 use Rattle.beet_errand.specs.declared.answer.Refusal.{Refusal}
@@ -78,24 +78,8 @@ judged name (Err fault) next = bad_file name fault
 abbrev pub reads : {A : Type 0} → List ℕ → ℕ → (List ℕ → Reading A) → (A → Errand) → Errand
 reads name limit grammar next = Wants name limit (λ bytes. judged name (grammar bytes) next)
 
--- how an errand goes on that wanted a file, with the bytes that are held under its name
-abbrev pub with_bytes : List ℕ → ℕ → (List ℕ → Errand) → Option (List ℕ) → Errand
-with_bytes name limit next None = unread name
-with_bytes name limit next (Some bytes) = if nat_lt limit (length bytes) then bad_file name too_long else next bytes
-
--- how an errand goes on after a fetch that failed or did not
-abbrev pub after_fetch : List File → List ℕ → ℕ → (List ℕ → Errand) → Bool → Errand
-after_fetch files name limit next failed = if failed then unread name else with_bytes name limit next (bytes_of files name)
-
--- what a fetch answers, whatever the shelf tells: the bytes of a whole file, that it is longer than its limit, or that it cannot be
--- fetched
-pub data FetchAnswer : Type 0 where
-  Bytes : List ℕ → FetchAnswer
-  Longer : FetchAnswer
-  Nothing : FetchAnswer
-
 -- how an errand goes on that wanted a file, with what its fetch answered
 abbrev pub after_answer : List ℕ → (List ℕ → Errand) → FetchAnswer → Errand
 after_answer name next (Bytes bytes) = next bytes
-after_answer name next Longer = bad_file name too_long
+after_answer name next (Longer n) = bad_file name too_long
 after_answer name next Nothing = unread name

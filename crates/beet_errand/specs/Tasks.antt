@@ -1,7 +1,7 @@
 -- What a run of a program is to do: the task of the job that its words name, and what is said of the end of any run.
 use Rattle.std.specs.Prelude.{◌≡◌, ◌≤◌, ◌⊎◌, ℕ, Option, Some, None, Result, Ok, Err}
 use Rattle.beet_store.specs.Causes.{Rose}
-use Rattle.beet_store.specs.Desks.{Given, DeskSeen}
+use Rattle.beet_store.specs.Desks.{DeskSeen, DeskTold}
 use Rattle.beet_store.specs.Files.{Seen, Told}
 use Rattle.beet_errand.specs.Errands.{Answer, Errand, Ends, Step, refuses}
 use Rattle.beet_errand.specs.Fetches.{CauseOf, Finishes, IsDone, IsRead, Refuses}
@@ -17,11 +17,11 @@ use Rattle.beet_errand.specs.declared.answer.Stop.TheVariants.{Refused, OutOfMem
 
 -- what an answer shows, of what was told before and after it was reached
 abbrev pub Shows : Type 1
-Shows = Option Told → Option Told → Answer → Type 0
+Shows = Told → Told → Answer → Type 0
 
 -- a value was read by a step, and the answer shows this of it
 pub record ShowsRead {A : Type 0} (step : Step A) (shows : A → Answer → Type 0)
-    (old now : Option Told) (answer : Answer) : Type 0 where
+    (old now : Told) (answer : Answer) : Type 0 where
   pub value : A
   pub read : IsRead old now step value
   pub shown : shows value answer
@@ -48,26 +48,27 @@ MayRefuse own (ToShow other step shows) = other ≡ own
 -- what holds of the errand of a task, with what the shelf tells before it. Words that name no job are answered by the
 -- usage line. Of a task that shows it holds of an answer that shows this much; or of the errand that reads, however it
 -- would go on, so that the job ends in it
-abbrev pub OfTask : Task → Option Told → Option Told → (Option Told → Errand → Type 0) → Type 0
+abbrev pub OfTask : Task → Told → Told → (Told → Errand → Type 0) → Type 0
 OfTask NoTask old now P = P old (refuses Usage usage_text)
 OfTask (ToAnswer errand) old now P = P old errand
 OfTask (ToShow {A = A} own step shows) old now P =
     ((answer : Answer) × shows old now answer × P now (Ends answer)) ⊎ ((next : A → Errand) → P old (step next))
 
 -- the errand of a task runs to this exit status
-abbrev pub RunsTask : Task → Option Told → Option Told → Option Given → Option Given → ℕ → Type 0
-RunsTask task told told_now given given_now status =
-    OfTask task told told_now (λ before errand. Runs errand before told_now given given_now status)
+abbrev pub RunsTask : Task → Told → Told → DeskTold → DeskTold → ℕ → Type 0
+RunsTask task told told_now desk desk_now status =
+    OfTask task told told_now (λ before errand. Runs errand before told_now desk desk_now status)
 
--- the job of a task is done, or it is refused with a cause
+-- the job of a task is done, or it is refused with a cause. The count of faults is as it was, unless a file cannot be
+-- fetched
 abbrev pub EndsFor : Task → ℕ → ℕ → Result Answer Stop → Type 0
-EndsFor task before now (Ok answer) = IsDone answer.status
+EndsFor task before now (Ok answer) = IsDone answer.status × (now ≡ before)
 EndsFor task before now (Err (Refused refusal line)) =
     CauseOf (IsNoTask task) (λ own. MayRefuse own task) before now refusal
-EndsFor task before now (Err OutOfMemory) = Unit {0}
+EndsFor task before now (Err OutOfMemory) = now ≡ before
 
 -- what an answer shows, if the task is one that shows
-abbrev pub AnswerShows : Task → Option Told → Option Told → Result Answer Stop → Type 0
+abbrev pub AnswerShows : Task → Told → Told → Result Answer Stop → Type 0
 AnswerShows NoTask old now result = Unit {0}
 AnswerShows (ToAnswer errand) old now result = Unit {0}
 AnswerShows (ToShow own step shows) old now (Ok answer) = shows old now answer
@@ -101,11 +102,12 @@ pub record EndsRun (named : Option (Result Answer Stop)) (desk desk_now : DeskSe
   pub code : status ≡ code_of end
 
 -- a task that shows has left that: an answer that shows, with all its files put, in order, and then its text said
-abbrev pub LeavesShown : Task → Option Told → Option Told → Option Given → Option Given → Type 0
-LeavesShown NoTask old now given given_now = Unit {0}
-LeavesShown (ToAnswer errand) old now given given_now = Unit {0}
-LeavesShown (ToShow own step shows) old now given given_now =
-    (answer : Answer) × shows old now answer × IsDone answer.status × GivesAll given given_now answer.files answer.text (Ok tt)
+abbrev pub LeavesShown : Task → Told → Told → DeskTold → DeskTold → Type 0
+LeavesShown NoTask old now desk desk_now = Unit {0}
+LeavesShown (ToAnswer errand) old now desk desk_now = Unit {0}
+LeavesShown (ToShow own step shows) old now desk desk_now =
+    (answer : Answer) × shows old now answer × IsDone answer.status
+    × GivesAll desk desk_now answer.files answer.text (Ok tt)
 
 -- a run of a program over a shelf and a desk, for the task of its words
 pub record DoesRun (task : Task) (shelf shelf_now : Seen) (desk desk_now : DeskSeen) (status : ℕ) : Type 0 where
@@ -114,15 +116,18 @@ pub record DoesRun (task : Task) (shelf shelf_now : Seen) (desk desk_now : DeskS
   -- the status of wrong words comes only where the words name no job
   pub usage : status ≡ 2 → IsNoTask task
   -- then exactly the usage line is said, and nothing is put
-  pub usage_line : status ≡ 2 → Said desk.given desk_now.given usage_text
+  pub usage_line : status ≡ 2 → Said desk.told desk_now.told usage_text
   -- where the words name no job no other status comes, unless memory ran out or the desk took no line
   pub no_job : IsNoTask task → (status ≡ 2) ⊎ (status ≡ 1) ⊎ (status ≡ 4)
   -- a file that cannot be fetched is told only where the shelf's count of faults rose
   pub read : status ≡ 3 → Rose shelf.faults shelf_now.faults
   -- a file or a text that is not taken is told only where the desk's count of faults rose
   pub write : status ≡ 4 → Rose desk.faults desk_now.faults
-  -- and a fault of the desk is not passed over
-  pub undisturbed : (status ≡ 1) ⊎ (status ≡ 4) ⊎ (desk_now.faults ≡ desk.faults)
+  -- and a fault of the desk is not passed over: at every other status its count is as it was
+  pub desk_count : (status ≡ 4) ⊎ (desk_now.faults ≡ desk.faults)
+  -- nor is a fault of the shelf: at every other status than these its count is as it was. At 1 and 4 the desk has found
+  -- no memory for the line of a file that cannot be fetched, or has not taken it
+  pub shelf_count : (status ≡ 1) ⊎ (status ≡ 3) ⊎ (status ≡ 4) ⊎ (shelf_now.faults ≡ shelf.faults)
   -- the count of faults of the shelf never falls
   pub shelf_faults : shelf.faults ≤ shelf_now.faults
   -- nor does that of the desk
@@ -132,6 +137,6 @@ pub record DoesRun (task : Task) (shelf shelf_now : Seen) (desk desk_now : DeskS
   -- transcripts are refused only by a job that audits them
   pub audit : status ≡ 8 → MayRefuse OfAudit task
   -- the files fetched, the files put, the text said and the status are those of the task
-  pub runs : RunsTask task shelf.told shelf_now.told desk.given desk_now.given status
+  pub runs : RunsTask task shelf.told shelf_now.told desk.told desk_now.told status
   -- a job that is done and shows has left its answer at the desk, whole
-  pub shows : (status ≡ 0) ⊎ (status ≡ 6) → LeavesShown task shelf.told shelf_now.told desk.given desk_now.given
+  pub shows : (status ≡ 0) ⊎ (status ≡ 6) → LeavesShown task shelf.told shelf_now.told desk.told desk_now.told

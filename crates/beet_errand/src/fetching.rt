@@ -7,7 +7,7 @@ ghost use Rattle.beet_errand.specs.Errands.{Wants};
 ghost use Rattle.beet_errand.specs.Fetches.{Reads, Judges, Refuses};
 
 use crate::answer::{Refusal, Stop};
-use beet_forms::{Place, ReadFault, fault_line};
+use beet_forms::{FaultPlace, ReadFault, fault_line};
 use beet_store::{FetchFault, Shelf};
 use std::alloc::{AllocError, Global};
 
@@ -21,21 +21,15 @@ fn read_fault_line(alloc: Global, name: &str) -> Result<Vec<u8>, AllocError>
 /// The reason of a file that is longer than its limit, at row 0.
 pub const TOO_LONG: u32 = 20;
 
-/// Refuses a job whose file cannot be fetched.
-fn unread(alloc: Global, name: &str) -> Stop
-    ensures { Refuses Refusal.ReadFault (read_fault_text name.now) result }
-{
-    Stop::of_line(Refusal::ReadFault, read_fault_line(alloc, name))
-}
-
 /// Refuses a file at the first place that breaks its format.
-pub fn refuse(alloc: Global, name: &str, place: Place, reason: u32) -> Stop
+pub fn refuse(alloc: Global, name: &str, place: FaultPlace, reason: u32) -> Stop
     ensures { Refuses Refusal.BadFile (fault_line_of name.now place reason) result }
 {
     Stop::of_line(Refusal::BadFile, fault_line(alloc, name, place, reason))
 }
 
-/// The whole file of the name, of at most `limit` bytes.
+/// The whole file of the name, of at most `limit` bytes. The line for a file that cannot be fetched is made first, so
+/// that want of memory never stands for a fetch that failed.
 pub fn fetch_file<S: Shelf>(
     alloc: Global,
     shelf: &mut S,
@@ -45,10 +39,11 @@ pub fn fetch_file<S: Shelf>(
     ensures limited { IfOk result (λ bytes. vec_len bytes ≤ limit) }
     ensures reads { Reads (λ bytes. bytes.items) (S.seen shelf.old) (S.seen shelf.new) (Wants name.now limit) result }
 {
+    let unread = read_fault_line(alloc, name)?;
     match shelf.fetch(alloc, name, limit) {
         Ok(bytes) => Ok(bytes),
-        Err(FetchFault::Failed) => Err(unread(alloc, name)),
-        Err(FetchFault::TooLong(_)) => Err(refuse(alloc, name, Place::Row(0), TOO_LONG)),
+        Err(FetchFault::Failed) => Err(Stop::Refused(Refusal::ReadFault, unread)),
+        Err(FetchFault::TooLong(_)) => Err(refuse(alloc, name, FaultPlace::Row(0), TOO_LONG)),
         Err(FetchFault::OutOfMemory) => Err(Stop::OutOfMemory),
     }
 }

@@ -29,7 +29,8 @@ fn give<K: Desk>(
     desk.say(text)
 }
 
-/// Gives the files and the text of a reply to the desk. The status is the reply's, or that of the call that was refused.
+/// Gives the files and the text of a reply to the desk. The status is the reply's, or that of the call that was
+/// refused.
 fn send<K: Desk>(alloc: Global, desk: &mut K, reply: &Reply) -> Status
     ensures { AnswersBy reply.now (K.seen desk.old) (K.seen desk.new) result }
 {

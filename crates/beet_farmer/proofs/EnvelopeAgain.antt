@@ -22,7 +22,8 @@ points_at-points : (bytes points : List ℕ) (at : ℕ) →
     StandsAt bytes at (flat_map number_bytes points) →
     times (length points) (point_at bytes) at ≡ Ok (points, at + length (flat_map number_bytes points))
 points_at-points bytes points at below s =
-    let each : (point offset : ℕ) → IsElement point → StandsAt bytes offset (number_bytes point) → point_at bytes offset ≡ Ok (point, offset + length (number_bytes point)) =
+    let each : (point offset : ℕ) → IsElement point → StandsAt bytes offset (number_bytes point) →
+    point_at bytes offset ≡ Ok (point, offset + length (number_bytes point)) =
     λ point offset small stands. number_at-number bytes below_p offset point (omega arith) (omega arith) (omega arith) stands in
     times-parts bytes (point_at bytes) number_bytes IsElement points at each below s
 
@@ -72,13 +73,16 @@ after_header-bytes grid server rest limits =
     let at_tick = StandsAt-right file 16 (number_bytes grid.base) after_base at_base in
     let at_prices = StandsAt-right file 24 (number_bytes grid.tick) prices at_tick in
     after_header-parts grid server file refl
-    (only-number file 8 (number_of server) WRONG_SERVER (small-point server) (StandsAt-left file 8 (number_bytes (number_of server)) after_server at_server))
+    (only-number file 8 (number_of server) WRONG_SERVER (small-point server)
+    (StandsAt-left file 8 (number_bytes (number_of server)) after_server at_server))
     (only-number file 16 grid.base WRONG_GRID limits.base_limit (StandsAt-left file 16 (number_bytes grid.base) after_base at_base))
-    (only-number file 24 grid.tick WRONG_GRID (omega (arith, limits.tick_limit)) (StandsAt-left file 24 (number_bytes grid.tick) prices at_tick))
+    (only-number file 24 grid.tick WRONG_GRID (omega (arith, limits.tick_limit))
+    (StandsAt-left file 24 (number_bytes grid.tick) prices at_tick))
     (only-number file 32 grid.prices WRONG_GRID (omega (arith, limits.prices_limit)) at_prices)
 
 -- the bytes of an envelope are read as the envelope
-pub envelope_of-bytes : (grid : Grid) (envelope : Envelope) → IsGrid grid → length envelope.points ≡ 2 * grid.prices → All IsElement envelope.points →
+pub envelope_of-bytes : (grid : Grid) (envelope : Envelope) → IsGrid grid → length envelope.points ≡ 2 * grid.prices →
+    All IsElement envelope.points →
     envelope_of grid envelope.server (envelope_bytes grid envelope) ≡ Ok envelope
 envelope_of-bytes grid envelope limits long below =
     let header = header_bytes grid envelope.server in
@@ -87,10 +91,12 @@ envelope_of-bytes grid envelope limits long below =
     let at_start : StandsAt file 0 file = record { front = []; rest = []; whole = sym (append-nil file); place = refl } in
     let at_points = StandsAt-right file 0 header points at_start in
     let read : times (2 * grid.prices) (point_at file) 40 ≡ Ok (envelope.points, 40 + length points) =
-    subst (λ n. times n (point_at file) 40 ≡ Ok (envelope.points, 40 + length points)) long (points_at-points file envelope.points 40 below at_points) in
+    subst (λ n. times n (point_at file) 40 ≡ Ok (envelope.points, 40 + length points)) long
+    (points_at-points file envelope.points 40 below at_points) in
     let all : length file ≡ 40 + length points = length-append header points in
     let end : ended file AFTER_POINTS (40 + length points) ≡ Ok tt = rw (le-ltb (40 + length points) (length file) (omega arith)) refl in
-    envelope_of-parts grid envelope.server file envelope.points (40 + length points) (after_header-bytes grid envelope.server points limits) read end
+    envelope_of-parts grid envelope.server file envelope.points (40 + length points)
+    (after_header-bytes grid envelope.server points limits) read end
 
 points-size : (points : List ℕ) → length (flat_map number_bytes points) ≡ 8 * length points
 points-size [] = refl
@@ -101,4 +107,9 @@ points-size (point ∷ points) =
 pub envelope-size : (grid : Grid) (envelope : Envelope) → length envelope.points ≡ 2 * grid.prices →
     length (envelope_bytes grid envelope) ≡ 40 + 16 * grid.prices
 envelope-size grid envelope long =
-    omega (arith, length-append (header_bytes grid envelope.server) (flat_map number_bytes envelope.points), points-size envelope.points, long)
+    omega (
+      arith,
+      length-append (header_bytes grid envelope.server) (flat_map number_bytes envelope.points),
+      points-size envelope.points,
+      long,
+    )

@@ -1,2 +1,3 @@
 pub mod EnvelopeAgain
+pub mod SealedAgain
 mod EntryParts

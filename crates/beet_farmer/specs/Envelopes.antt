@@ -9,7 +9,8 @@ use Rattle.beet_words.specs.declared.fields.Allowed.{Allowed}
 use Rattle.beet_words.specs.Fields.{◌>>=◌, Part, number_bytes, number_at, times, after_magic, ended}
 use Rattle.beet_bids.specs.Grids.{Grid}
 use Rattle.beet_words.specs.declared.bundle.TheConstants.{BAD_MAGIC}
-use Rattle.beet_farmer.specs.declared.envelope.TheConstants.{WRONG_GRID, TRUNCATED_ENVELOPE, BAD_POINT, AFTER_POINTS, WRONG_SERVER}
+use Rattle.beet_farmer.specs.declared.envelope.TheConstants.{WRONG_GRID, TRUNCATED_ENVELOPE, BAD_POINT, AFTER_POINTS}
+use Rattle.beet_farmer.specs.declared.envelope.TheConstants.{WRONG_SERVER}
 use Rattle.beet_farmer.specs.declared.envelope.Envelope.{Envelope}
 
 -- the text that an envelope begins with
@@ -24,11 +25,11 @@ only number reason = record { low = number; high = number; truncated = TRUNCATED
 abbrev pub below_p : Allowed
 below_p = record { low = 0; high = p - 1; truncated = TRUNCATED_ENVELOPE; outside = BAD_POINT }
 
--- a point
 abbrev pub point_at : List ℕ → Part ℕ
 point_at bytes = number_at bytes below_p
 
--- the offset after the fields that stand before the points: the server, and the base, the tick and the number of prices of the grid
+-- the offset after the fields that stand before the points: the server, and the base, the tick and the number of prices
+-- of the grid
 unfoldable pub after_header : Grid → Point → List ℕ → Reading ℕ
 after_header grid server bytes = do
   start ← after_magic bytes magic BAD_MAGIC
@@ -54,6 +55,5 @@ header_bytes grid server =
     ++ (number_bytes grid.tick
     ++ number_bytes grid.prices)))
 
--- the bytes of an envelope
 abbrev pub envelope_bytes : Grid → Envelope → List ℕ
 envelope_bytes grid envelope = header_bytes grid envelope.server ++ flat_map number_bytes envelope.points

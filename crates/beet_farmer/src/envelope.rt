@@ -5,7 +5,8 @@ ghost use Rattle.beet_field.specs.Field.{IsElement};
 ghost use Rattle.beet_forms.specs.Faults.{Answers};
 ghost use Rattle.beet_forms.specs.declared.faults.TheConstants.{LONGEST_FILE};
 ghost use Rattle.beet_bids.specs.Grids.{IsGrid};
-ghost use Rattle.beet_farmer.specs.Envelopes.{only as only_number, below_p, after_header, envelope_of, header_bytes, envelope_bytes};
+ghost use Rattle.beet_farmer.specs.Envelopes.{only as only_number, below_p, after_header, envelope_of, header_bytes};
+ghost use Rattle.beet_farmer.specs.Envelopes.{envelope_bytes};
 
 use beet_bids::Grid;
 use beet_field::{P, Point};
@@ -92,10 +93,10 @@ fn read_header(grid: &Grid, server: Point, bytes: &[u8]) -> Result<usize, ReadFa
 
 /// The envelope for this server, of this grid.
 ///
-/// The first place from the left that breaks the format is named: the front as [`BAD_MAGIC`]; a field that is cut off as
-/// [`TRUNCATED_ENVELOPE`]; the server as [`WRONG_SERVER`]; a base, a tick or a number of prices as [`WRONG_GRID`]; a point
-/// as [`BAD_POINT`]; the first byte after the last point as [`AFTER_POINTS`]. The file is gone over once, and memory is
-/// taken for no more points than it can hold.
+/// The first place from the left that breaks the format is named: the front as [`BAD_MAGIC`]; a field that is cut off
+/// as [`TRUNCATED_ENVELOPE`]; the server as [`WRONG_SERVER`]; a base, a tick or a number of prices as [`WRONG_GRID`]; a
+/// point as [`BAD_POINT`]; the first byte after the last point as [`AFTER_POINTS`]. The file is gone over once, and
+/// memory is taken for no more points than it can hold.
 #[tactic(auto, unfolding(crate::specs::Envelopes::envelope_of))]
 pub fn read_envelope(
     alloc: Global,

@@ -87,8 +87,8 @@ impl NamedRow for ListEntry {
 
 /// The bidders of a list: the row `beet-list,1` and then at most 2,000 rows `NAME,E1,E2,E3`.
 ///
-/// The first row with a fault is named, as `read_named` does: a row as [`BAD_ROW`] that has not four fields or has a field
-/// that is no name.
+/// The first row with a fault is named, as `read_named` does: a row as [`BAD_ROW`] that has not four fields or has a
+/// field that is no name.
 pub fn read_list(alloc: Global, bytes: &[u8]) -> Result<Vec<ListEntry>, ReadFault>
     requires { length bytes.now ≤ LONGEST_FILE }
     ensures reads { Answers (λ entries. entries.items) (list_of bytes.now) result }

@@ -3,7 +3,6 @@ use Rattle.std.specs.Prelude.{ℕ, if◌then◌else◌, List, [], ◌∷◌, Opt
 use Rattle.beet_field.specs.declared.point.Point.{Point}
 use Rattle.beet_field.specs.declared.point.Point.TheVariants.{One, Two, Three}
 
--- the number of the point
 abbrev pub number_of : Point → ℕ
 number_of One = 1
 number_of Two = 2

@@ -1,8 +1,10 @@
 -- A read of a record gives the first of the rows that are left.
-use Rattle.std.proofs.Common.{◌≡◌, ℕ, Bool, true, false, List, [], Option, Some, None, IsSome, Bor, Result, Ok, Err, IfOk, IfErr, IsErrAnd, MatchResult, OnErr, OnOk, refl, sym, subst, ◌∙◌, inl}
+use Rattle.std.proofs.Common.{◌≡◌, ℕ, Bool, true, false, List, [], Option, Some, None, IsSome, Bor, Result, Ok, Err}
+use Rattle.std.proofs.Common.{IfOk, IfErr, IsErrAnd, MatchResult, OnErr, OnOk, refl, sym, subst, ◌∙◌, inl}
 use Rattle.std.proofs.lemmas.Bool.{true≢false}
 use Rattle.csv.specs.Machine.{next_record}
-use Rattle.csv.specs.Reading.{default_config, has_failed, stops_reader, error_kind, is_flexible, reader_trim, took_first, Ready, ReadsNext, ReadRecord, ExplainsRead}
+use Rattle.csv.specs.Reading.{default_config, has_failed, stops_reader, error_kind, is_flexible, reader_trim}
+use Rattle.csv.specs.Reading.{took_first, Ready, ReadsNext, ReadRecord, ExplainsRead}
 use Rattle.csv.specs.declared.parser.State.{State}
 use Rattle.csv.specs.declared.reader.Reader.{Reader}
 use Rattle.csv.specs.declared.reader.Trim.TheVariants as trim
@@ -14,7 +16,8 @@ use Rattle.beet_forms.specs.Rows.{same_row}
 use Rattle.beet_forms.proofs.Records.{first_left}
 
 -- a reader of texts of any lengths fails of the reader underneath or of memory alone
-pub stops : {R : Type 0} (rem : R → Option (List ℕ)) (old new : Reader R) (why : ErrorKind) → is_flexible old ≡ true → ExplainsRead rem old new false why → stops_reader why ≡ true
+pub stops : {R : Type 0} (rem : R → Option (List ℕ)) (old new : Reader R) (why : ErrorKind) → is_flexible old ≡ true →
+    ExplainsRead rem old new false why → stops_reader why ≡ true
 stops rem old new (kind.Io e) flexible explains = refl
 stops rem old new kind.OutOfMemory flexible explains = refl
 stops rem old new (kind.UnequalLengths pos expected len) flexible explains = absurd (true≢false (sym flexible ∙ explains.0))
@@ -43,7 +46,8 @@ ReadsOn old new result fields =
     IsReading new × IfOk result (λ found. Gives found (rows_left old) fields (rows_left new)) × OnErr result (rows_left new ≡ [])
 
 -- a reader reads on, and gives the first of the rows that were left, where memory suffices
-pub read_on : (old new : Reader (Bor (List ℕ))) (result : Result Bool Error) (fields : List (List ℕ)) → IsReading old → ReadsOn old new result fields
+pub read_on : (old new : Reader (Bor (List ℕ))) (result : Result Bool Error) (fields : List (List ℕ)) → IsReading old →
+    ReadsOn old new result fields
 read_on old new result fields reading = by (has_failed old) refl result where
   by : (f : Bool) → has_failed old ≡ f → (r : Result Bool Error) → ReadsOn old new r fields
   by true f (Ok true) failed ready reads flexible goes fails why = cc (failed f)
@@ -57,7 +61,8 @@ read_on old new result fields reading = by (has_failed old) refl result where
   by false f (Ok found) failed ready reads flexible goes fails why =
       let here = reading f in
       let read = reads here.trim here.ready in
-      let known = known_after old.state new.state (text_left old) (text_left new) found fields here.known (rw read.1 (rw here.config at read.0)) in (
+      let known = known_after old.state new.state (text_left old) (text_left new) found fields here.known
+      (rw read.1 (rw here.config at read.0)) in (
         (λ g. record {
           config = read.2 ∙ here.config;
           trim = read.3 ∙ here.trim;
@@ -76,13 +81,14 @@ pub stops_read : (old new : Reader (Bor (List ℕ))) (result : Result Bool Error
     result ≡ Err why →
     stops_reader (error_kind why) ≡ true
 stops_read old new (Ok found) why reading failed explains is = cc is
-stops_read old new (Err e) why reading failed explains is = subst (λ w. stops_reader (error_kind w) ≡ true) same (by (has_failed old) refl) where
-  same : e ≡ why
-  same = cc is
+stops_read old new (Err e) why reading failed explains is =
+    subst (λ w. stops_reader (error_kind w) ≡ true) same (by (has_failed old) refl) where
+      same : e ≡ why
+      same = cc is
 
-  by : (f : Bool) → has_failed old ≡ f → stops_reader (error_kind e) ≡ true
-  by true f = cc (failed f)
-  by false f = stops (λ s. Some s.now) old new (error_kind e) (reading f).flexible (explains (reading f).ready)
+      by : (f : Bool) → has_failed old ≡ f → stops_reader (error_kind e) ≡ true
+      by true f = cc (failed f)
+      by false f = stops (λ s. Some s.now) old new (error_kind e) (reading f).flexible (explains (reading f).ready)
 
 -- what holds of a value that is there holds of it where the error becomes another
 pub ok_kept : {T E D : Type 0} (P : T → Type 0) (Told : E → D → Type 0) (result : Result T E) (told : Result T D) →
@@ -99,12 +105,14 @@ err_kept P Told (Err e) (Ok x) is h = absurd is
 err_kept P Told (Err e) (Err d) is h = h
 
 -- a row that is taken and is the header, or another one
-pub passes : (same found : Bool) (old new : List (List (List ℕ))) (row header : List (List ℕ)) → Gives found old row new → found ≡ true → same ≡ same_row row header →
+pub passes : (same found : Bool) (old new : List (List (List ℕ))) (row header : List (List ℕ)) →
+    Gives found old row new → found ≡ true → same ≡ same_row row header →
     Passes same old header new
 passes same false old new row header gives is e = absurd (true≢false (sym is))
 passes same true old new row header gives is e = rw gives (e, λ h. refl)
 
 -- where there is no row, there is no header
-pub passes_none : (found : Bool) (old new : List (List (List ℕ))) (row header : List (List ℕ)) → Gives found old row new → found ≡ false → Passes found old header new
+pub passes_none : (found : Bool) (old new : List (List (List ℕ))) (row header : List (List ℕ)) →
+    Gives found old row new → found ≡ false → Passes found old header new
 passes_none true old new row header gives is = absurd (true≢false is)
 passes_none false old new row header gives is = rw gives (refl, λ h. absurd (true≢false (sym h)))

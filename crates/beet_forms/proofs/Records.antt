@@ -1,6 +1,8 @@
 -- The records that are left of a text.
-use Rattle.std.proofs.Common.{◌≡◌, ℕ, zero, suc, ◌+◌, ◌<◌, ◌≤◌, List, [], ◌∷◌, length, Bool, true, false, if◌then◌else◌, ◌==◌, ◌&&◌, Option, Some, None, subst, refl, arith, ap, ◌++◌}
-use Rattle.csv.specs.Machine.{Read, next_record, step, is_end, ends_at_end, ends_with, after_end, is_byte, in_field, start_field, start_record, fields_after, field_after}
+use Rattle.std.proofs.Common.{◌≡◌, ℕ, zero, suc, ◌+◌, ◌<◌, ◌≤◌, List, [], ◌∷◌, length, Bool, true, false, if◌then◌else◌}
+use Rattle.std.proofs.Common.{◌==◌, ◌&&◌, Option, Some, None, subst, refl, arith, ap, ◌++◌}
+use Rattle.csv.specs.Machine.{Read, next_record, step, is_end, ends_at_end, ends_with, after_end, is_byte, in_field}
+use Rattle.csv.specs.Machine.{start_field, start_record, fields_after, field_after}
 use Rattle.csv.specs.Reading.{default_config, NextIs, records, records_from, records_next, strip_bom, is_bom}
 use Rattle.beet_forms.specs.RowReaders.{Gives}
 use Rattle.csv.specs.declared.parser.Config.{Config}
@@ -20,7 +22,8 @@ rests-if true x y p q = p
 rests-if false x y p q = q
 
 rests-after_end : (t : Terminator) (c : ℕ) → ends_at_end (after_end t c) ≡ false
-rests-after_end term.CRLF c = elim (c == 13) as (λ v. ends_at_end (if v then st.AfterCr else st.StartRecord) ≡ false) [ true ↦ refl | false ↦ refl ]
+rests-after_end term.CRLF c = elim (c == 13) as (λ v. ends_at_end (if v then st.AfterCr else st.StartRecord) ≡ false)
+    [ true ↦ refl | false ↦ refl ]
 rests-after_end (term.Any t) c = refl
 
 plain : (s : State) (a : Action) → is_end a ≡ false → Rests (s, a)
@@ -134,7 +137,8 @@ first_left cfg s s2 xs ys (Some p) found fields e (is, same, state, rest) =
     let small : spare s ≤ 1 = spare-le s in
     let turn : length xs + 2 ≡ suc (length xs + 1) = omega arith in
     rw (is, same, state, rest, turn, e)
-    (ap (λ rs. p.0 ∷ rs) (enough_turns cfg p.1 p.2 (length xs + 1) (length p.2 + 2) (omega (arith, left.1, none, small)) (omega (arith, none))))
+    (ap (λ rs. p.0 ∷ rs) (enough_turns cfg p.1 p.2 (length xs + 1) (length p.2 + 2) (omega (arith, left.1, none, small))
+    (omega (arith, none))))
 
 -- from its start, a text has all its records left
 pub all_left : (cfg : Config) (xs : List ℕ) → records_from cfg (length xs + 2) st.StartRecord xs ≡ records cfg xs

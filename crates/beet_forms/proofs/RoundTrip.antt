@@ -1,9 +1,12 @@
 -- A printed number is read back, and what is read is what is printed.
-use Rattle.std.proofs.Common.{◌≡◌, ℕ, zero, suc, ◌<◌, ◌≤◌, ◌^◌, List, length, get_or, Bool, true, false, nat_lt, ◌==◌, ◌&&◌, if◌then◌else◌, not, decimal, Result, Ok, Err, IfOk, arith, rules, refl, ◌∙◌, ap, sym}
+use Rattle.std.proofs.Common.{◌≡◌, ℕ, zero, suc, ◌<◌, ◌≤◌, ◌^◌, List, length, get_or, Bool, true, false, nat_lt, ◌==◌}
+use Rattle.std.proofs.Common.{◌&&◌, if◌then◌else◌, not, decimal, Result, Ok, Err, IfOk, arith, rules, refl, ◌∙◌, ap}
+use Rattle.std.proofs.Common.{sym}
 use Rattle.std.specs.List.{list_all}
 use Rattle.std.specs.Char.{is_ascii_digit}
 use Rattle.std.proofs.lemmas.Str.Parse.{IsNumeralModel, numerals_by_fold}
-use Rattle.std.proofs.lemmas.Fmt.{decimal-digits_value, digits_decimal, digits_value-decimal, decimal_nonempty, first_decimal, decimal_digit}
+use Rattle.std.proofs.lemmas.Fmt.{decimal-digits_value, digits_decimal, digits_value-decimal, decimal_nonempty}
+use Rattle.std.proofs.lemmas.Fmt.{first_decimal, decimal_digit}
 use Rattle.std.proofs.lemmas.Bool.Decides.{nat_tests}
 use Rattle.beet_forms.specs.Numbers.{read_on, number_of}
 use Rattle.beet_forms.specs.declared.decimals.NumberFault.{NumberFault}
@@ -31,7 +34,8 @@ pub number_of-decimal : (n max : ℕ) → n < 2 ^ 64 → n ≤ max → number_of
 number_of-decimal n max h k =
     let value = digits_value-decimal own n h in
     let some = decimal_nonempty n h in
-    passes (decimal n) max (grind (arith, nat_tests)) (digits_decimal own n h) (plain_first n h) (rw value (grind (arith, nat_tests))) ∙ ap Ok value
+    passes (decimal n) max (grind (arith, nat_tests)) (digits_decimal own n h) (plain_first n h)
+    (rw value (grind (arith, nat_tests))) ∙ ap Ok value
 
 single : (n x : ℕ) → (n == 0) ≡ false → (nat_lt 1 n && (x == 48)) ≡ false → x ≡ 48 → n ≡ 1
 single n x some plain e = grind (arith, nat_tests)
@@ -43,7 +47,8 @@ decimal-number_of ds max n h e =
     refl refl refl refl e where
       by : (a b c d : Bool) → (length ds == 0) ≡ a → list_all is_ascii_digit ds ≡ b →
           (nat_lt 1 (length ds) && (get_or ds 0 0 == 48)) ≡ c → nat_lt max (read_on 0 ds) ≡ d →
-          (if a then Err Empty else if not b then Err NotDigit else if c then Err LeadingZero else if d then Err TooLarge else Ok (read_on 0 ds)) ≡ Ok n →
+          (if a then Err Empty else if not b then Err NotDigit else if c then Err LeadingZero else if d then
+          Err TooLarge else Ok (read_on 0 ds)) ≡ Ok n →
           decimal n ≡ ds
       by true b c d some digits plain small e = cc e
       by false false c d some digits plain small e = cc e
@@ -51,9 +56,11 @@ decimal-number_of ds max n h e =
       by false true false true some digits plain small e = cc e
       by false true false false some digits plain small e =
           let value : read_on 0 ds ≡ n = cc e in
-          ap decimal (sym value) ∙ decimal-digits_value own ds digits (grind (arith, nat_tests)) (single (length ds) (get_or ds 0 0) some plain) (grind (arith, nat_tests))
+          ap decimal (sym value) ∙ decimal-digits_value own ds digits (grind (arith, nat_tests))
+          (single (length ds) (get_or ds 0 0) some plain) (grind (arith, nat_tests))
 
 -- the same of the answer that is this number, or a fault
-pub printed_again : (ds : List ℕ) (max : ℕ) (answer : Result ℕ NumberFault) → max < 2 ^ 64 → answer ≡ number_of ds max → IfOk answer (λ n. decimal n ≡ ds)
+pub printed_again : (ds : List ℕ) (max : ℕ) (answer : Result ℕ NumberFault) → max < 2 ^ 64 → answer ≡ number_of ds max →
+    IfOk answer (λ n. decimal n ≡ ds)
 printed_again ds max (Ok n) h e = decimal-number_of ds max n h (sym e)
 printed_again ds max (Err fault) h e = tt

@@ -2,13 +2,13 @@
 use Rattle.std.specs.Prelude.{◌≡◌, ℕ, ◌+◌, List, [], ◌∷◌, Option, Some, None, option_map, Result, Ok, Err}
 use Rattle.std.specs.Option.{option_or}
 use Rattle.beet_forms.specs.declared.row.Row.{Row}
-use Rattle.beet_forms.specs.declared.faults.Place.{Place}
-use Rattle.beet_forms.specs.declared.faults.Place.TheVariants.{Row as AtRow}
+use Rattle.beet_forms.specs.declared.faults.FaultPlace.{FaultPlace}
+use Rattle.beet_forms.specs.declared.faults.FaultPlace.TheVariants.{Row as AtRow}
 use Rattle.beet_forms.specs.declared.faults.ReadFault.{ReadFault}
 use Rattle.beet_forms.specs.declared.faults.ReadFault.TheVariants.{Bad, OutOfMemory}
 
 pub record Fault : Type 0 where
-  pub place : Place
+  pub place : FaultPlace
   pub reason : ℕ
 
 -- a fault at a row of a text file, for a reason
@@ -32,7 +32,8 @@ abbrev pub first_fault : ℕ → List (Option ℕ) → Option Fault
 first_fault number [] = None
 first_fault number (reason ∷ reasons) = option_or (option_map (at_row number) reason) (first_fault (number + 1) reasons)
 
--- the fault of the first row for which the judge has a reason; the judge is told each row's number, counted on from the first
+-- the fault of the first row for which the judge has a reason; the judge is told each row's number, counted on from the
+-- first
 abbrev pub first_row_fault : (ℕ → Row → Option ℕ) → ℕ → List Row → Option Fault
 first_row_fault judge number [] = None
 first_row_fault judge number (row ∷ rows) =

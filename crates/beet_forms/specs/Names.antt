@@ -10,4 +10,5 @@ is_plain byte = nat_le 32 byte && not (byte == 127)
 
 -- whether the bytes are a name
 abbrev pub is_name_of : List ℕ → Bool
-is_name_of bytes = nat_le 1 (length bytes) && nat_le (length bytes) LONGEST_NAME && list_all is_plain bytes && is_utf8 bytes
+is_name_of bytes =
+    nat_le 1 (length bytes) && nat_le (length bytes) LONGEST_NAME && list_all is_plain bytes && is_utf8 bytes

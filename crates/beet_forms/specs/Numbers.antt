@@ -1,5 +1,6 @@
 -- Decimal numbers of text files.
-use Rattle.std.specs.Prelude.{◌≡◌, ◌≤◌, ℕ, ◌+◌, ◌*◌, ◌-◌, ◌==◌, ◌&&◌, not, nat_lt, if◌then◌else◌, List, [], ◌∷◌, length, slice_index, decimal, Option, Some, None, Result, Ok, Err}
+use Rattle.std.specs.Prelude.{◌≡◌, ◌≤◌, ℕ, ◌+◌, ◌*◌, ◌-◌, ◌==◌, ◌&&◌, not, nat_lt, if◌then◌else◌, List, [], ◌∷◌, length}
+use Rattle.std.specs.Prelude.{slice_index, decimal, Option, Some, None, Result, Ok, Err}
 use Rattle.std.specs.List.{list_all}
 use Rattle.std.specs.Char.{is_ascii_digit}
 use Rattle.beet_forms.specs.declared.decimals.NumberFault.{NumberFault}
@@ -17,7 +18,8 @@ decimal_value ds = read_on 0 ds
 -- the number of a text of digits, and within that none where it is above the largest; none where a byte is no digit
 abbrev pub digits_within : ℕ → List ℕ → Option (Option ℕ)
 digits_within max ds =
-    if list_all is_ascii_digit ds then Some (if nat_lt max (decimal_value ds) then None else Some (decimal_value ds)) else None
+    if list_all is_ascii_digit ds then
+    Some (if nat_lt max (decimal_value ds) then None else Some (decimal_value ds)) else None
 
 -- the number of a text, or the first fault in their order
 abbrev pub number_of : List ℕ → ℕ → Result ℕ NumberFault

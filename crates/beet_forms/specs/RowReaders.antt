@@ -2,7 +2,8 @@
 use Rattle.std.specs.Prelude.{◌≡◌, ℕ, ◌+◌, Bool, true, false, List, [], ◌∷◌, length, drop, Option, Some, None, IsSome}
 use Rattle.std.proofs.Common.{Bor}
 use Rattle.beet_forms.specs.Rows.{begins_with}
-use Rattle.csv.specs.Reading.{default_config, records_from, source_of, has_failed, is_flexible, reader_config, reader_state, reader_trim, Ready}
+use Rattle.csv.specs.Reading.{default_config, records_from, source_of, has_failed, is_flexible, reader_config}
+use Rattle.csv.specs.Reading.{reader_state, reader_trim, Ready}
 use Rattle.csv.specs.declared.parser.State.{State}
 use Rattle.csv.specs.declared.reader.Reader.{Reader}
 use Rattle.csv.specs.declared.reader.Trim.TheVariants as trim

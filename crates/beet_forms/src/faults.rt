@@ -1,7 +1,7 @@
 //! The error of every reader of a file, and the line that tells it.
 
 ghost use Rattle.std.specs.Prelude.{◌≡◌, IfOk};
-ghost use Rattle.beet_forms.specs.declared.faults.Place.TheVariants.{Row, At};
+ghost use Rattle.beet_forms.specs.declared.faults.FaultPlace.TheVariants.{Row, At};
 ghost use Rattle.beet_forms.specs.declared.faults.ReadFault.TheVariants.{Bad, OutOfMemory};
 ghost use Rattle.beet_forms.specs.FaultLines.{fault_line_of};
 
@@ -14,12 +14,13 @@ pub const LONGEST_FILE: u64 = 67_108_864;
 /// The reason against row 1 of a text file where it is missing or is not the header.
 pub const BAD_HEADER: u32 = 1;
 
-/// The reason of a text file against a row that is missing, has another number of fields, or has a field that is not of its form.
+/// The reason of a text file against a row that is missing, has another number of fields, or has a field that is not of
+/// its form.
 pub const BAD_ROW: u32 = 2;
 
 /// Where a file breaks its format.
 #[derive(Clone, Copy, Debug, PartialEq, Eq)]
-pub enum Place {
+pub enum FaultPlace {
     /// The record or line of a text file, counted from 1; 0 stands for the file as a whole.
     Row(u32),
     /// The offset of a field of a binary file in bytes, counted from 0.
@@ -31,7 +32,7 @@ pub enum Place {
 pub enum ReadFault {
     /// The first offending place, with its reason by the format's own numbers.
     #[error("the file is not of its format: reason {reason}")]
-    Bad { place: Place, reason: u32 },
+    Bad { place: FaultPlace, reason: u32 },
     /// Memory ran out.
     #[error("out of memory")]
     OutOfMemory,
@@ -43,7 +44,7 @@ impl ReadFault {
         ensures { result ≡ Bad (Row number) reason }
     {
         ReadFault::Bad {
-            place: Place::Row(number),
+            place: FaultPlace::Row(number),
             reason,
         }
     }
@@ -53,7 +54,7 @@ impl ReadFault {
         ensures { result ≡ Bad (At offset) reason }
     {
         ReadFault::Bad {
-            place: Place::At(offset),
+            place: FaultPlace::At(offset),
             reason,
         }
     }
@@ -80,14 +81,18 @@ impl<T: Drop> From<AllocFailed<T>> for ReadFault {
 pub fn fault_line(
     alloc: Global,
     file: &str,
-    place: Place,
+    place: FaultPlace,
     reason: u32,
 ) -> Result<Vec<u8>, AllocError>
     ensures { IfOk result (λ line. line.items ≡ fault_line_of file.now place reason) }
 {
     let line = match place {
-        Place::Row(number) => format!(in alloc; "bad file: {file} row {number} reason {reason}\n")?,
-        Place::At(offset) => format!(in alloc; "bad file: {file} at {offset} reason {reason}\n")?,
+        FaultPlace::Row(number) => format!(in alloc;
+            "bad file: {file} row {number} reason {reason}\n"
+        )?,
+        FaultPlace::At(offset) => format!(in alloc;
+            "bad file: {file} at {offset} reason {reason}\n"
+        )?,
     };
     Ok(line.into_bytes())
 }

@@ -10,7 +10,7 @@ mod row;
 mod shapes;
 
 pub use decimals::{NumberFault, number, push_decimal};
-pub use faults::{BAD_HEADER, BAD_ROW, LONGEST_FILE, Place, ReadFault, fault_line};
+pub use faults::{BAD_HEADER, BAD_ROW, FaultPlace, LONGEST_FILE, ReadFault, fault_line};
 pub use holding::beside;
 pub use names::{LONGEST_NAME, Name, is_name};
 pub use reader::RowReader;

@@ -21,7 +21,8 @@ fn are_plain(bytes: &[u8]) -> bool
 
 /// The bytes as text, where they are UTF-8.
 fn as_text(bytes: &[u8]) -> Option<&str>
-    ensures { MatchOption result (is_utf8 bytes.now ≡ false) (λ text. (text.now ≡ bytes.now) × (is_utf8 bytes.now ≡ true)) }
+    ensures { MatchOption result (is_utf8 bytes.now ≡ false)
+        (λ text. (text.now ≡ bytes.now) × (is_utf8 bytes.now ≡ true)) }
 {
     match str::from_utf8(bytes) {
         Ok(text) => Some(text),
@@ -31,7 +32,8 @@ fn as_text(bytes: &[u8]) -> Option<&str>
 
 /// The bytes as text, where they are a name.
 fn as_name(bytes: &[u8]) -> Option<&str>
-    ensures { MatchOption result (is_name_of bytes.now ≡ false) (λ text. (text.now ≡ bytes.now) × (is_name_of bytes.now ≡ true)) }
+    ensures { MatchOption result (is_name_of bytes.now ≡ false)
+        (λ text. (text.now ≡ bytes.now) × (is_name_of bytes.now ≡ true)) }
 {
     if bytes.is_empty() || bytes.len() > LONGEST_NAME || !are_plain(bytes) {
         return None;

@@ -11,8 +11,9 @@ use csv::{ByteRecord, Error, ErrorKind, Reader, ReaderBuilder};
 use std::alloc::{AllocError, Global};
 use std::marker::Model;
 
-/// The want of memory that an error of reading rows tells. No other kind comes: rows may have any lengths and any bytes.
-/// The reader underneath is a slice, which does not fail; `csv` promises nothing of that, so its kind is named here too.
+/// The want of memory that an error of reading rows tells. No other kind comes: rows may have any lengths and any
+/// bytes. The reader underneath is a slice, which does not fail; `csv` promises nothing of that, so its kind is named
+/// here too.
 fn want_of_memory(error: Error) -> AllocError
     requires { stops_reader (error_kind error) ≡ true }
 {
@@ -26,7 +27,8 @@ fn want_of_memory(error: Error) -> AllocError
 fn read(reader: &mut Reader<&[u8]>, row: &mut ByteRecord) -> Result<bool, AllocError>
     requires { IsReading reader.old }
     ensures reading { IsReading reader.new }
-    ensures gives { IfOk result (λ found. Gives found (rows_left reader.old) (fields_of row.new) (rows_left reader.new)) }
+    ensures gives { IfOk result
+        (λ found. Gives found (rows_left reader.old) (fields_of row.new) (rows_left reader.new)) }
     ensures failed { OnErr result (rows_left reader.new ≡ []) }
 {
     reader.read_byte_record(row).map_err(want_of_memory)
@@ -63,16 +65,16 @@ impl<'a> RowReader<'a> {
         }
     }
 
-    /// Puts the next row in the place of `row`, and answers whether there was one. Want of memory is the only error. It ends the
-    /// reading: each later call answers that no row is left.
+    /// Puts the next row in the place of `row`, and answers whether there was one. Want of memory is the only error. It
+    /// ends the reading: each later call answers that no row is left.
     pub fn next(&mut self, row: &mut Row) -> Result<bool, AllocError>
         ensures { MatchResult result (λ found. Gives found self.old row.new self.new) (λ _. self.new ≡ []) }
     {
         read(&mut self.reader, &mut row.record)
     }
 
-    /// Takes the next row, and answers whether there is one and it is these two fields, byte for byte. Want of memory is the only
-    /// error, and ends the reading.
+    /// Takes the next row, and answers whether there is one and it is these two fields, byte for byte. Want of memory
+    /// is the only error, and ends the reading.
     pub fn begins_with(
         &mut self,
         row: &mut Row,

@@ -1,5 +1,6 @@
 -- Runs on plain values that open the same numbers in the end did so all along, and have as many rounds.
-use Rattle.std.proofs.Common.{◌≡◌, ◌≤◌, ◌<◌, ◌+◌, ◌-◌, ℕ, zero, suc, List, [], ◌++◌, length, take, true, false, sym, refl, ap, subst, ◌∙◌, ⊎_elim, arith, append-nil, append_assoc, length-append}
+use Rattle.std.proofs.Common.{◌≡◌, ◌≤◌, ◌<◌, ◌+◌, ◌-◌, ℕ, zero, suc, List, [], ◌++◌, length, take, true, false, sym}
+use Rattle.std.proofs.Common.{refl, ap, subst, ◌∙◌, ⊎_elim, arith, append-nil, append_assoc, length-append}
 use Rattle.std.proofs.Math.Seq.{take-append_seam}
 use Rattle.std.proofs.lemmas.Bool.{cases_lt}
 use Rattle.beet_gates.specs.Clear.{EndsAfter, Values, clear_at, is_end}
@@ -55,7 +56,8 @@ module _ (next : ℕ → List ℕ → Batch) (deals deals' : ℕ → List ℕ) (
       let h' = opens-more deals' (next t v'.opened) v' in
       let as_many : length h'.0 ≡ length h.0 = h'.1 ∙ (λ i. revealed (next t (e i)).act) ∙ sym h.1 in
       let len : length (second (suc t)).opened ≡ length (first (suc t)).opened =
-      ap length h'.2 ∙ length-append v'.opened h'.0 ∙ (λ i. length (e i) + as_many i) ∙ sym (length-append v.opened h.0) ∙ sym (ap length h.2) in
+      ap length h'.2 ∙ length-append v'.opened h'.0 ∙ (λ i. length (e i) + as_many i) ∙ sym (length-append v.opened h.0)
+      ∙ sym (ap length h.2) in
       let g = grows next deals inputs (suc t) r le in
       let g' = grows next deals' inputs' (suc t) r' le' in
       fronts (first (suc t)).opened (second (suc t)).opened g.more g'.more len (sym g'.is ∙ all ∙ g.is)
@@ -66,7 +68,8 @@ module _ (next : ℕ → List ℕ → Batch) (deals deals' : ℕ → List ℕ) (
         (λ (lt : r' < r).
         let e = opened-both r' le (omega arith) in
         let go : is_end (next r' (first r').opened).act ≡ false = ends.1 r' lt in
-        let stop : is_end (next r' (first r').opened).act ≡ true = (λ i. is_end (next r' (sym e i)).act) ∙ ends'.0 in absurd (cc (go, stop)))
+        let stop : is_end (next r' (first r').opened).act ≡ true = (λ i. is_end (next r' (sym e i)).act) ∙ ends'.0 in
+        absurd (cc (go, stop)))
         (λ (h : r ≤ r'). h)
         (cases_lt r' r)
 

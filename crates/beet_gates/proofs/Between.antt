@@ -1,5 +1,6 @@
 -- Two numbers compared on a segment of their bits: that of a segment from those of its two parts.
-use Rattle.std.proofs.Common.{◌≡◌, ℕ, ◌+◌, ◌-◌, ◌*◌, ◌/◌, ◌%◌, ◌^◌, ◌<◌, ◌≤◌, inl, inr, suc, refl, mul_comm, suc-mul, zero-mul, mul-zero, arith, eq-eqb, ne_eqb}
+use Rattle.std.proofs.Common.{◌≡◌, ℕ, ◌+◌, ◌-◌, ◌*◌, ◌/◌, ◌%◌, ◌^◌, ◌<◌, ◌≤◌, inl, inr, suc, refl, mul_comm, suc-mul}
+use Rattle.std.proofs.Common.{zero-mul, mul-zero, arith, eq-eqb, ne_eqb}
 use Rattle.std.specs.Prelude.{nat_lt, ◌==◌, if◌then◌else◌}
 use Rattle.std.specs.Int.{bit_at}
 use Rattle.std.proofs.lemmas.Bool.{cases_lt, cases_eq}
@@ -33,10 +34,12 @@ same-parts m hc lc hr lr h k = elim (cases_eq hc hr) [
   | inl e ↦ elim (cases_eq lc lr) [
     | inl f ↦ rw (eq-eqb lc lr f, eq-eqb hc hr e, eq-eqb (hc * m + lc) (hr * m + lr) (rw (e, f) refl)) refl
     | inr f ↦
-        rw (ne_eqb lc lr f, ne_eqb (hc * m + lc) (hr * m + lr) (λ q. f (same_from_place hc lc hr lr m h k q).1)) (mul-zero (if hc == hr then 1 else 0))
+        rw (ne_eqb lc lr f, ne_eqb (hc * m + lc) (hr * m + lr) (λ q. f (same_from_place hc lc hr lr m h k q).1))
+        (mul-zero (if hc == hr then 1 else 0))
   ]
   | inr e ↦
-      rw (ne_eqb hc hr e, ne_eqb (hc * m + lc) (hr * m + lr) (λ q. e (same_from_place hc lc hr lr m h k q).0)) (zero-mul (if lc == lr then 1 else 0))
+      rw (ne_eqb hc hr e, ne_eqb (hc * m + lc) (hr * m + lr) (λ q. e (same_from_place hc lc hr lr m h k q).0))
+      (zero-mul (if lc == lr then 1 else 0))
 ]
 
 -- a high part that is below makes the whole be below
@@ -44,7 +47,8 @@ above : (m hc lc hr lr : ℕ) → lc < m → hc < hr → hc * m + lc < hr * m + 
 above m hc lc hr lr h below = omega (arith, mul-le (suc hc) m hr m below (omega arith), suc-mul hc m)
 
 less-parts : (m hc lc hr lr : ℕ) → lc < m → lr < m →
-    (if nat_lt hc hr then 1 else 0) + (if hc == hr then 1 else 0) * (if nat_lt lc lr then 1 else 0) ≡ (if nat_lt (hc * m + lc) (hr * m + lr) then 1 else 0)
+    (if nat_lt hc hr then 1 else 0) + (if hc == hr then 1 else 0) * (if nat_lt lc lr then 1 else 0)
+    ≡ (if nat_lt (hc * m + lc) (hr * m + lr) then 1 else 0)
 less-parts m hc lc hr lr h k = elim (cases_lt hc hr) [
   | inl below ↦ let far = above m hc lc hr lr h below in grind (arith, nat_tests, far)
   | inr rest ↦ elim (cases_eq hc hr) [
@@ -59,13 +63,16 @@ pub same-splits : (c r : ℕ) → Splits (λ low high. low * high) (same_between
 same-splits c r a b d h k =
     let m = 2 ^ (b - a) in
     rw (mul_comm (same_between c r a b) (same_between c r b d), parts c a b d h k, parts r a b d h k)
-    (same-parts m (part c b d) (part c a b) (part r b d) (part r a b) (mod_below (c / 2 ^ a) m (pow_pos (b - a))) (mod_below (r / 2 ^ a) m (pow_pos (b - a))))
+    (same-parts m (part c b d) (part c a b) (part r b d) (part r a b) (mod_below (c / 2 ^ a) m (pow_pos (b - a)))
+    (mod_below (r / 2 ^ a) m (pow_pos (b - a))))
 
-pub less-splits : (c r a b d : ℕ) → a ≤ b → b ≤ d → less_between c r b d + same_between c r b d * less_between c r a b ≡ less_between c r a d
+pub less-splits : (c r a b d : ℕ) → a ≤ b → b ≤ d →
+    less_between c r b d + same_between c r b d * less_between c r a b ≡ less_between c r a d
 less-splits c r a b d h k =
     let m = 2 ^ (b - a) in
     rw (parts c a b d h k, parts r a b d h k)
-    (less-parts m (part c b d) (part c a b) (part r b d) (part r a b) (mod_below (c / 2 ^ a) m (pow_pos (b - a))) (mod_below (r / 2 ^ a) m (pow_pos (b - a))))
+    (less-parts m (part c b d) (part c a b) (part r b d) (part r a b) (mod_below (c / 2 ^ a) m (pow_pos (b - a)))
+    (mod_below (r / 2 ^ a) m (pow_pos (b - a))))
 
 -- both, and how they are combined
 abbrev pub less_and_same : ℕ → ℕ → ℕ → ℕ → ℕ × ℕ
@@ -80,7 +87,8 @@ both-split c r a b d h k =
 
 -- they are bits
 pub same-bit : (c r a b : ℕ) → same_between c r a b < 2
-same-bit c r a b = elim (cases_eq (part c a b) (part r a b)) [ inl e ↦ rw (eq-eqb _ _ e) (omega arith) | inr e ↦ rw (ne_eqb _ _ e) (omega arith) ]
+same-bit c r a b = elim (cases_eq (part c a b) (part r a b))
+    [ inl e ↦ rw (eq-eqb _ _ e) (omega arith) | inr e ↦ rw (ne_eqb _ _ e) (omega arith) ]
 
 pub less-bit : (c r a b : ℕ) → less_between c r a b < 2
 less-bit c r a b = grind (arith, nat_tests)

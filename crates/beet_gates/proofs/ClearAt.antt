@@ -1,8 +1,9 @@
 -- Where a run on plain values ends.
-use Rattle.std.proofs.Common.{◌≡◌, ℕ, zero, suc, ◌+◌, inl, inr, ◌<◌, ◌≤◌, ◌⊎◌, Bool, true, false, List, [], length, get_or, refl, ◌∙◌, arith, add-one, zero-add}
+use Rattle.std.proofs.Common.{◌≡◌, ℕ, zero, suc, ◌+◌, inl, inr, ◌<◌, ◌≤◌, ◌⊎◌, Bool, true, false, not, List, [], length}
+use Rattle.std.proofs.Common.{get_or, refl, ◌∙◌, arith, add-one, zero-add}
 use Rattle.std.specs.List.{range_with_len}
 use Rattle.std.proofs.lemmas.List.FromFn.{get_or-range_with_len, length-range_with_len}
-use Rattle.std.proofs.lemmas.List.Sums.{position_or_len_is}
+use Rattle.std.proofs.lemmas.List.Sums.{position_or_len_is, prefix_len-le-length}
 use Rattle.beet_field.specs.declared.trio.Trio.{Trio}
 use Rattle.beet_gates.specs.Deals.{deals_of}
 use Rattle.beet_gates.specs.declared.Act.{Act}
@@ -26,12 +27,18 @@ module _ (next : ℕ → List ℕ → Batch) (deals : ℕ → List ℕ) (inputs 
   ]
 
 -- the end comes first where no act before it is one
-pub first-end : (acts : ℕ → Act) (most r : ℕ) → r ≤ most → is_end (acts r) ≡ true → ((k : ℕ) → k < r → is_end (acts k) ≡ false) → first_end acts most ≡ r
+pub first-end : (acts : ℕ → Act) (most r : ℕ) → r ≤ most → is_end (acts r) ≡ true →
+    ((k : ℕ) → k < r → is_end (acts k) ≡ false) → first_end acts most ≡ r
 first-end acts most r le ends goes =
     let at : (k : ℕ) → k < most → get_or (range_with_len 0 most) k 0 ≡ k = λ k l. get_or-range_with_len 0 most k 0 l ∙ zero-add k in
     position_or_len_is (λ t. is_end (acts t)) (range_with_len 0 most) r 0 (rw length-range_with_len le)
     (λ k l. rw (at k (omega arith)) (goes k l))
     (λ l. rw (at r (rw length-range_with_len at l)) ends)
+
+-- no more acts come before it than are looked at
+pub first-few : (acts : ℕ → Act) (most : ℕ) → first_end acts most ≤ most
+first-few acts most =
+    rw length-range_with_len at (prefix_len-le-length (λ t. not (is_end (acts t))) (range_with_len 0 most))
 
 module _ (next : ℕ → List ℕ → Batch) (deals : ℕ → List ℕ) (inputs : List ℕ) where
   -- a run that ends after r batches has r rounds
@@ -58,7 +65,8 @@ module _ (next : ℕ → List ℕ → Batch) (deals : ℕ → List ℕ) (inputs 
         (rest.0, rest.1, omega (arith, rest.2))
 
 -- the rounds of a lawful run are the batches before its end, and no more than the law allows
-pub dealt-ends : (next : ℕ → List ℕ → Batch) (deals : ℕ → List ℕ) (bounds : Standing) (dealers most : ℕ) (inputs : List ℕ) → DealtBy dealers deals →
+pub dealt-ends : (next : ℕ → List ℕ → Batch) (deals : ℕ → List ℕ) (bounds : Standing) (dealers most : ℕ)
+    (inputs : List ℕ) → DealtBy dealers deals →
     LawFrom next bounds most (start_among dealers (length inputs)) [] →
     EndsAfter next deals inputs (rounds_dealt next most inputs deals) × (rounds_dealt next most inputs deals ≤ most)
 dealt-ends next deals bounds dealers most inputs many law =

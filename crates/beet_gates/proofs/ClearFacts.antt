@@ -1,5 +1,6 @@
 -- A lawful script on plain values.
-use Rattle.std.proofs.Common.{◌≡◌, ℕ, suc, ◌+◌, ◌*◌, ◌≤◌, true, false, List, [], ◌∷◌, ◌++◌, map, length, slice_index, refl, sym, ◌∙◌, ap, arith, length-append, append-nil, add-one, inl, inr, ◌<◌}
+use Rattle.std.proofs.Common.{◌≡◌, ℕ, suc, ◌+◌, ◌*◌, ◌≤◌, true, false, List, [], ◌∷◌, ◌++◌, map, length, slice_index}
+use Rattle.std.proofs.Common.{refl, sym, ◌∙◌, ap, arith, length-append, append-nil, add-one, inl, inr, ◌<◌}
 use Rattle.std.specs.Int.{bit_at}
 use Rattle.std.proofs.lemmas.List.{length-map}
 use Rattle.std.proofs.lemmas.Bool.{cases_eq}
@@ -10,7 +11,8 @@ use Rattle.beet_gates.specs.declared.Batch.{Batch}
 use Rattle.beet_gates.specs.declared.Linear.{Linear}
 use Rattle.beet_gates.specs.Each.{each}
 use Rattle.beet_gates.specs.Deals.{dealt_bits, deals_of}
-use Rattle.beet_gates.specs.Clear.{Values, with_lets, let_of, product_of, act_on, batch_on, is_end, start_values, clear_at, clear_act, EndsAfter}
+use Rattle.beet_gates.specs.Clear.{Values, with_lets, let_of, product_of, act_on, batch_on, is_end, start_values}
+use Rattle.beet_gates.specs.Clear.{clear_at, clear_act, EndsAfter}
 use Rattle.beet_gates.specs.Scripts.{Standing, LawFrom, after, acted, deals_in, revealed, start_among}
 use Rattle.beet_gates.proofs.EachFacts.{length-each}
 use Rattle.beet_gates.proofs.Laws.{law-now, law-next, law-last}
@@ -45,7 +47,8 @@ pub record Counts (deals : ℕ → List ℕ) (s : Standing) (v : Values) : Type 
   pub dealers : DealtBy s.dealers deals
 
 -- opened numbers are only appended, as many as the act opens
-pub opens-more : (deals : ℕ → List ℕ) (b : Batch) (v : Values) → (new : List ℕ) × (length new ≡ revealed b.act) × ((batch_on deals b v).opened ≡ v.opened ++ new)
+pub opens-more : (deals : ℕ → List ℕ) (b : Batch) (v : Values) →
+    (new : List ℕ) × (length new ≡ revealed b.act) × ((batch_on deals b v).opened ≡ v.opened ++ new)
 opens-more deals b v = by_act b.act (record v { wires = with_lets v.wires b.lets.items }) where
   by_act : (a : Act) (w : Values) → (new : List ℕ) × (length new ≡ revealed a) × ((act_on deals a w).opened ≡ w.opened ++ new)
   by_act Deal w = ([], refl, sym (append-nil w.opened))
@@ -61,7 +64,12 @@ module _ (deals : ℕ → List ℕ) where
     dealers = f.dealers;
   }
   counts-act (Mul pairs) s v f = record {
-    wires = omega (arith, f.wires, length-append v.wires (map (product_of v.wires) pairs.items), length-map pairs.items (product_of v.wires));
+    wires = omega (
+      arith,
+      f.wires,
+      length-append v.wires (map (product_of v.wires) pairs.items),
+      length-map pairs.items (product_of v.wires),
+    );
     masks = f.masks;
     dealers = f.dealers;
   }
@@ -75,7 +83,8 @@ module _ (deals : ℕ → List ℕ) where
       (record { wires = omega (arith, f.wires, length-with_lets v.wires b.lets.items); masks = f.masks; dealers = f.dealers })
 
 module _ (words : Trio (List ℕ)) where
-  pub opened-more : (b : Batch) (v : Values) → (new : List ℕ) × (length new ≡ revealed b.act) × ((batch_on (deals_of words) b v).opened ≡ v.opened ++ new)
+  pub opened-more : (b : Batch) (v : Values) →
+      (new : List ℕ) × (length new ≡ revealed b.act) × ((batch_on (deals_of words) b v).opened ≡ v.opened ++ new)
   opened-more = opens-more (deals_of words)
 
 -- a batch that is not the end is one more
@@ -97,7 +106,8 @@ end-opens deals b v e = by_act b.act (record v { wires = with_lets v.wires b.let
   by_act End w h = refl
 
 -- a run that has done some batches, none of which was the end, and has at most n before its end
-pub record Underway (next : ℕ → List ℕ → Batch) (deals : ℕ → List ℕ) (bounds : Standing) (inputs : List ℕ) (n done : ℕ) (v : Values) : Type 0 where
+pub record Underway (next : ℕ → List ℕ → Batch) (deals : ℕ → List ℕ) (bounds : Standing) (inputs : List ℕ) (n done : ℕ)
+    (v : Values) : Type 0 where
   pub standing : Standing
   pub at : standing.done ≡ done
   pub counts : Counts deals standing v
@@ -131,7 +141,8 @@ module _ (next : ℕ → List ℕ → Batch) (deals : ℕ → List ℕ) (bounds 
         let now : next u.standing.done v.opened ≡ b = ap (λ k. next k v.opened) u.at ∙ sym e in
         let within = (rw now at (law-now next bounds n u.standing v.opened u.law)).1 in
         by_act b.act within.1 where
-          by_act : (a : Act) → (acted (record u.standing { wires = u.standing.wires + length b.lets.items }) a).masks ≤ bounds.masks → v.dealt + deals_in a ≤ bounds.masks
+          by_act : (a : Act) → (acted (record u.standing { wires = u.standing.wires + length b.lets.items }) a).masks
+              ≤ bounds.masks → v.dealt + deals_in a ≤ bounds.masks
           by_act Deal h = omega (arith, h, u.counts.masks)
           by_act (Mul pairs) h = omega (arith, h, u.counts.masks)
           by_act (Reveal shown) h = omega (arith, h, u.counts.masks)

@@ -1,5 +1,6 @@
 -- A script that follows a plan has ended exactly where the plan has.
-use Rattle.std.proofs.Common.{◌≡◌, ◌≢◌, ◌↔◌, ℕ, zero, suc, ◌+◌, ◌-◌, ◌≤◌, false, List, [], ◌∷◌, ◌++◌, length, Some, None, refl, ap, sym, ◌∙◌, arith, append-nil, append_assoc, add-one}
+use Rattle.std.proofs.Common.{◌≡◌, ◌≢◌, ◌↔◌, ℕ, zero, suc, ◌+◌, ◌-◌, ◌≤◌, false, List, [], ◌∷◌, ◌++◌, length, Some}
+use Rattle.std.proofs.Common.{None, refl, ap, sym, ◌∙◌, arith, append-nil, append_assoc, add-one}
 use Rattle.std.specs.Prelude.{IsSome}
 use Rattle.beet_gates.specs.declared.Act.{Act}
 use Rattle.beet_gates.specs.declared.Act.TheVariants.{Deal, Mul, Reveal, End}
@@ -8,7 +9,8 @@ use Rattle.beet_gates.specs.Batches.{end_batch}
 use Rattle.beet_gates.specs.Clear.{is_end}
 use Rattle.beet_gates.specs.Plans.{Plan, Ended, Block, Quiet, Last, plan_batch, plan_finish, BlockStands, PlanStands, after_all}
 use Rattle.beet_gates.specs.Scripts.{Standing, after, revealed}
-use Rattle.beet_gates.proofs.PlanFacts.{Follows, finish-last, follows-last, opens-some, follows-now, follows-tail, follows-next, follows-quiet, now-block, now-ended, now-quiet, now-last, single}
+use Rattle.beet_gates.proofs.PlanFacts.{Follows, finish-last, follows-last, opens-some, follows-now, follows-tail}
+use Rattle.beet_gates.proofs.PlanFacts.{follows-next, follows-quiet, now-block, now-ended, now-quiet, now-last, single}
 use Rattle.beet_gates.specs.Ends.{ComesTo, TellsEnd}
 use Rattle.std.proofs.lemmas.List.{nil_from_length}
 
@@ -35,10 +37,10 @@ unfolding PlanStands AllOpen
 open-stands bounds n s (Ended f) h = tt
 open-stands bounds n s (Last b k named) h = (h.2, h.3)
 open-stands bounds n s (Quiet b rest) h = (h.2, h.3, h.5, open-stands bounds (n - 1) (after s b) rest h.6)
-open-stands bounds n s (Block bs next) h = (opens-stands s bs h.0, λ x. open-stands bounds (n - length bs) (after_all s bs) (next x) (h.3 x))
+open-stands bounds n s (Block bs next) h =
+    (opens-stands s bs h.0, λ x. open-stands bounds (n - length bs) (after_all s bs) (next x) (h.3 x))
 
 module _ {F : Type 0} (next : ℕ → List ℕ → Batch) (whole : Plan F) where
-  -- the plan that is left
   record Left (done : ℕ) (opened : List ℕ) (plan : Plan F) : Type 0 where
     follows : Follows next done opened plan
     opens : AllOpen plan
@@ -138,13 +140,18 @@ module _ {F : Type 0} (next : ℕ → List ℕ → Batch) (whole : Plan F) where
         by_plan : (q : Plan F) → AllOpen q → IsSome (plan_finish q []) ↔ ((plan_batch q 0 []).act ≡ End)
         by_plan (Ended f) o = (λ h. ap (λ (b : Batch). b.act) (now-ended f), λ h. refl)
         by_plan (Last b zero named) o = absurd (omega (arith, o.1))
-        by_plan (Last b (suc n) named) o =
-            (λ h. cc h, λ h. absurd (not_end b.act (opens-some b.act (omega (arith, o.0))) (ap (λ (b : Batch). b.act) (sym (now-last b (suc n) named)) ∙ h)))
+        by_plan (Last b (suc n) named) o = (
+          λ h. cc h,
+          λ h. absurd (not_end b.act (opens-some b.act (omega (arith, o.0)))
+              (ap (λ (b : Batch). b.act) (sym (now-last b (suc n) named)) ∙ h)),
+        )
         by_plan (Quiet b rest) o =
             (λ h. let k = rw o.2 at h in cc k, λ h. absurd (not_end b.act o.0 (ap (λ (b : Batch). b.act) (sym (now-quiet b rest)) ∙ h)))
         by_plan (Block [] k) o = absurd o.0
-        by_plan (Block (b ∷ []) k) o =
-            (λ h. cc h, λ h. absurd (not_end b.act (opens-some b.act (omega (arith, o.0))) (ap (λ (b : Batch). b.act) (sym (now-block b [] k)) ∙ h)))
+        by_plan (Block (b ∷ []) k) o = (
+          λ h. cc h,
+          λ h. absurd (not_end b.act (opens-some b.act (omega (arith, o.0))) (ap (λ (b : Batch). b.act) (sym (now-block b [] k)) ∙ h)),
+        )
         by_plan (Block (b ∷ c ∷ bs) k) o =
             (λ h. cc h, λ h. absurd (not_end b.act o.0.0 (ap (λ (b : Batch). b.act) (sym (now-block b (c ∷ bs) k)) ∙ h)))
 

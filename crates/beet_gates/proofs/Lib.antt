@@ -1,4 +1,6 @@
 pub mod EachFacts
+pub mod Lists
+pub mod Splices
 pub mod Pairs
 pub mod LevelFacts
 pub mod LevelRuns

@@ -13,5 +13,9 @@ of-pair k = elim (cases_lt (k % 2) 1) [ inl e ↦ inl (omega (arith, e)) | inr e
 pub paired-or-carried : (n k : ℕ) → k < n → IsPaired n k ⊎ IsCarried n k
 paired-or-carried n k h = elim (cases_lt (k / 2) (n / 2)) [
   | inl there ↦ inl (record { pair = k / 2; there = there; stands = of-pair k; only = λ i s. omega (arith, in-pair k i s) })
-  | inr past ↦ inr (record { odd = omega (arith, past); last = omega (arith, past); unpaired = λ i l s. omega (arith, in-pair k i s, past) })
+  | inr past ↦ inr (record {
+    odd = omega (arith, past);
+    last = omega (arith, past);
+    unpaired = λ i l s. omega (arith, in-pair k i s, past);
+  })
 ]

@@ -1,5 +1,7 @@
 -- A script that follows a plan: its law and its run on plain values.
-use Rattle.std.proofs.Common.{◌≡◌, ℕ, zero, suc, ◌+◌, ◌-◌, ◌<◌, ◌≤◌, inl, inr, Bool, true, false, List, [], ◌∷◌, ◌++◌, drop, map, length, slice_index, slice_get, Some, None, refl, ap, sym, ◌∙◌, arith, append_assoc, append-nil, add-one, add-zero, zero-add}
+use Rattle.std.proofs.Common.{◌≡◌, ℕ, zero, suc, ◌+◌, ◌-◌, ◌<◌, ◌≤◌, inl, inr, Bool, true, false, List, [], ◌∷◌, ◌++◌}
+use Rattle.std.proofs.Common.{drop, map, length, slice_index, slice_get, Some, None, refl, ap, sym, ◌∙◌, arith}
+use Rattle.std.proofs.Common.{append_assoc, append-nil, add-one, add-zero, zero-add}
 use Rattle.std.specs.Prelude.{nat_lt, if◌then◌else◌}
 use Rattle.std.proofs.Math.Seq.{drop-append_seam}
 use Rattle.std.proofs.lemmas.Bool.{cases_eq, cases_lt}
@@ -9,11 +11,14 @@ use Rattle.beet_gates.specs.declared.Act.{Act}
 use Rattle.beet_gates.specs.declared.Act.TheVariants.{Deal, Mul, Reveal, End}
 use Rattle.beet_gates.specs.declared.Batch.{Batch}
 use Rattle.beet_gates.specs.Batches.{end_batch}
-use Rattle.beet_gates.specs.Clear.{Values, batch_on, batches_on, act_on, with_lets, is_end, start_values, clear_at, clear_act, rounds_dealt, values_dealt}
+use Rattle.beet_gates.specs.Clear.{Values, batch_on, batches_on, act_on, with_lets, is_end, start_values, clear_at}
+use Rattle.beet_gates.specs.Clear.{clear_act, rounds_dealt, values_dealt}
 use Rattle.beet_gates.proofs.ClearAt.{rounds-are}
 use Rattle.beet_gates.proofs.ClearFacts.{opens-more, done-after}
 use Rattle.beet_gates.specs.Scripts.{Standing, BatchStands, IsWithin, LawFrom, after, acted, revealed}
-use Rattle.beet_gates.specs.Plans.{Plan, Ended, Block, Quiet, Last, all_opened_by, plan_batch, plan_run, plan_rounds, plan_end, opened_by, BlockStands, PlanStands, after_all, plan_length, plan_after, plan_finish, batch_at}
+use Rattle.beet_gates.specs.Plans.{Plan, Ended, Block, Quiet, Last, all_opened_by, plan_batch, plan_run, plan_rounds}
+use Rattle.beet_gates.specs.Plans.{plan_end, opened_by, BlockStands, PlanStands, after_all, plan_length, plan_after}
+use Rattle.beet_gates.specs.Plans.{plan_finish, batch_at}
 
 -- from here on the script is the plan
 pub record Follows {F : Type 0} (next : ℕ → List ℕ → Batch) (done : ℕ) (opened : List ℕ) (plan : Plan F) : Type 0 where
@@ -67,7 +72,8 @@ module _ {F : Type 0} (next : ℕ → List ℕ → Batch) where
       rw (e, t) refl
 
   -- after the last batch of a block
-  last-block : (b : Batch) (k : ℕ → Plan F) (d x : ℕ) (more : List ℕ) → plan_batch (Block (b ∷ []) k) (suc d) (x ∷ more) ≡ plan_batch (k x) d more
+  last-block : (b : Batch) (k : ℕ → Plan F) (d x : ℕ) (more : List ℕ) →
+      plan_batch (Block (b ∷ []) k) (suc d) (x ∷ more) ≡ plan_batch (k x) d more
   unfolding plan_batch
   last-block b k d x more =
       let e : suc d - 1 ≡ d = omega arith in
@@ -95,7 +101,8 @@ module _ {F : Type 0} (next : ℕ → List ℕ → Batch) where
   unfolding plan_batch
   past-quiet b rest d more = refl
 
-  pub follows-quiet : (done : ℕ) (opened : List ℕ) (b : Batch) (rest : Plan F) → Follows next done opened (Quiet b rest) → Follows next (done + 1) opened rest
+  pub follows-quiet : (done : ℕ) (opened : List ℕ) (b : Batch) (rest : Plan F) →
+      Follows next done opened (Quiet b rest) → Follows next (done + 1) opened rest
   follows-quiet done opened b rest f = record {
     batch = λ d more.
         let e : done + 1 + d ≡ done + suc d = omega arith in
@@ -121,7 +128,8 @@ opened-none deals b v h = by_act b.act (record v { wires = with_lets v.wires b.l
     by_list (x ∷ xs) h = absurd (omega arith)
   by_act End w h = refl
 
-opened-one : (deals : ℕ → List ℕ) (b : Batch) (v : Values) → revealed b.act ≡ 1 → (x : ℕ) × ((batch_on deals b v).opened ≡ v.opened ++ x ∷ [])
+opened-one : (deals : ℕ → List ℕ) (b : Batch) (v : Values) → revealed b.act ≡ 1 →
+    (x : ℕ) × ((batch_on deals b v).opened ≡ v.opened ++ x ∷ [])
 opened-one deals b v h = by_act b.act (record v { wires = with_lets v.wires b.lets.items }) h where
   by_act : (a : Act) (w : Values) → revealed a ≡ 1 → (x : ℕ) × ((act_on deals a w).opened ≡ w.opened ++ x ∷ [])
   by_act Deal w h = absurd (omega arith)
@@ -144,7 +152,8 @@ pub opened-last : (xs : List ℕ) (x : ℕ) → slice_index (xs ++ x ∷ []) (le
 opened-last xs x = let e : length xs ≡ length xs + 0 = omega arith in rw e (get_or-append-add xs (x ∷ []) 0 0)
 
 -- the run of a block on the values after `done` batches: none of its batches is the end, and then comes what follows
-record AfterBlock {F : Type 0} (next : ℕ → List ℕ → Batch) (deals : ℕ → List ℕ) (inputs : List ℕ) (bs : List Batch) (k : ℕ → Plan F) (done : ℕ) (v : Values) : Type 0 where
+record AfterBlock {F : Type 0} (next : ℕ → List ℕ → Batch) (deals : ℕ → List ℕ) (inputs : List ℕ) (bs : List Batch)
+    (k : ℕ → Plan F) (done : ℕ) (v : Values) : Type 0 where
   values : batches_on deals bs v ≡ clear_at next deals inputs (done + length bs)
   going : (i : ℕ) → done ≤ i → i < done + length bs → is_end (clear_act next deals inputs i) ≡ false
   follows : Follows next (done + length bs) (batches_on deals bs v).opened (k (opened_by v (batches_on deals bs v)))
@@ -161,7 +170,8 @@ module _ (next : ℕ → List ℕ → Batch) (deals : ℕ → List ℕ) (inputs 
       clear_act next deals inputs done ≡ b.act
   act-is done v b is now = ap (λ (c : Batch). c.act) (ap (λ (w : Values). next done w.opened) (sym is) ∙ now)
 
-  block-clear : {F : Type 0} (bs : List Batch) (k : ℕ → Plan F) (s : Standing) (done : ℕ) (v : Values) → v ≡ clear_at next deals inputs done →
+  block-clear : {F : Type 0} (bs : List Batch) (k : ℕ → Plan F) (s : Standing) (done : ℕ) (v : Values) →
+      v ≡ clear_at next deals inputs done →
       BlockStands s bs → Follows next done v.opened (Block bs k) → AfterBlock next deals inputs bs k done v
   unfolding BlockStands
   block-clear [] k s done v is h f = absurd h
@@ -209,14 +219,17 @@ unfolding PlanStands
 plan-quiet bounds s n b rest h = h
 
 -- the run of a script that follows a plan is that of the plan: none of its batches is the end, and then it comes
-record AfterPlan {F : Type 0} (next : ℕ → List ℕ → Batch) (deals : ℕ → List ℕ) (inputs : List ℕ) (plan : Plan F) (n done : ℕ) (v : Values) : Type 0 where
+record AfterPlan {F : Type 0} (next : ℕ → List ℕ → Batch) (deals : ℕ → List ℕ) (inputs : List ℕ) (plan : Plan F)
+    (n done : ℕ) (v : Values) : Type 0 where
   values : plan_run deals plan v ≡ clear_at next deals inputs (suc (done + plan_rounds deals plan v))
   ends : is_end (clear_act next deals inputs (done + plan_rounds deals plan v)) ≡ true
   going : (i : ℕ) → done ≤ i → i < done + plan_rounds deals plan v → is_end (clear_act next deals inputs i) ≡ false
   few : plan_rounds deals plan v ≤ n
 
-plan-clear : {F : Type 0} (next : ℕ → List ℕ → Batch) (deals : ℕ → List ℕ) (inputs : List ℕ) (bounds : Standing) (plan : Plan F) (s : Standing) (n done : ℕ) (v : Values) →
-    v ≡ clear_at next deals inputs done → PlanStands bounds n s plan → Follows next done v.opened plan → AfterPlan next deals inputs plan n done v
+plan-clear : {F : Type 0} (next : ℕ → List ℕ → Batch) (deals : ℕ → List ℕ) (inputs : List ℕ) (bounds : Standing)
+    (plan : Plan F) (s : Standing) (n done : ℕ) (v : Values) →
+    v ≡ clear_at next deals inputs done → PlanStands bounds n s plan → Follows next done v.opened plan →
+    AfterPlan next deals inputs plan n done v
 unfolding plan_run plan_rounds
 plan-clear next deals inputs bounds (Ended f) s n done v is h g =
     let now : next done v.opened ≡ end_batch = follows-now next done v.opened (Ended f) g ∙ now-ended f in
@@ -234,7 +247,8 @@ plan-clear next deals inputs bounds (Last b k named) s n done v is h g =
     let o = opens-more deals b v in
     let there : w ≡ clear_at next deals inputs (done + 1) = stepped next deals inputs done v b is now in
     let later : Follows next (done + 1) w.opened (Ended (named o.0)) = rw o.2 (follows-last next done v.opened o.0 b k named g) in
-    let end : next (done + 1) w.opened ≡ end_batch = follows-now next (done + 1) w.opened (Ended (named o.0)) later ∙ now-ended (named o.0) in
+    let end : next (done + 1) w.opened ≡ end_batch =
+    follows-now next (done + 1) w.opened (Ended (named o.0)) later ∙ now-ended (named o.0) in
     record {
       values = rw add-one at (stepped next deals inputs (done + 1) w end_batch there end);
       ends = ap is_end (act-is next deals inputs (done + 1) w end_batch there end);
@@ -249,7 +263,8 @@ plan-clear next deals inputs bounds (Quiet b rest) s n done v is h g =
     let w = batch_on deals b v in
     let same : w.opened ≡ v.opened = opened-none deals b v q.3 in
     let there : w ≡ clear_at next deals inputs (done + 1) = stepped next deals inputs done v b is now in
-    let later = plan-clear next deals inputs bounds rest (after s b) (n - 1) (done + 1) w there q.6 (rw same (follows-quiet next done v.opened b rest g)) in
+    let later = plan-clear next deals inputs bounds rest (after s b) (n - 1) (done + 1) w there q.6
+    (rw same (follows-quiet next done v.opened b rest g)) in
     let e : done + suc (plan_rounds deals rest w) ≡ done + 1 + plan_rounds deals rest w = omega arith in
     record {
       values = rw e later.values;
@@ -265,7 +280,8 @@ plan-clear next deals inputs bounds (Block bs k) s n done v is h g =
     let after = batches_on deals bs v in
     let x = opened_by v after in
     let b = block-clear next deals inputs bs k s done v is p.0 g in
-    let rest = plan-clear next deals inputs bounds (k x) (after_all s bs) (n - length bs) (done + length bs) after b.values (p.2 x) b.follows in
+    let rest = plan-clear next deals inputs bounds (k x) (after_all s bs) (n - length bs)
+    (done + length bs) after b.values (p.2 x) b.follows in
     let e : done + (length bs + plan_rounds deals (k x) after) ≡ done + length bs + plan_rounds deals (k x) after = omega arith in
     record {
       values = rw e rest.values;
@@ -278,11 +294,13 @@ plan-clear next deals inputs bounds (Block bs k) s n done v is h g =
     }
 
 -- the run on inputs and deals of a script that follows a plan has the plan's rounds, and ends with its values
-pub record RunsAsPlan {F : Type 0} (next : ℕ → List ℕ → Batch) (most : ℕ) (inputs : List ℕ) (deals : ℕ → List ℕ) (plan : Plan F) : Type 0 where
+pub record RunsAsPlan {F : Type 0} (next : ℕ → List ℕ → Batch) (most : ℕ) (inputs : List ℕ) (deals : ℕ → List ℕ)
+    (plan : Plan F) : Type 0 where
   pub rounds : rounds_dealt next most inputs deals ≡ plan_rounds deals plan (start_values inputs)
   pub values : values_dealt next most inputs deals ≡ plan_run deals plan (start_values inputs)
 
-pub plan-runs : {F : Type 0} (next : ℕ → List ℕ → Batch) (deals : ℕ → List ℕ) (inputs : List ℕ) (bounds : Standing) (plan : Plan F) (s : Standing) (most : ℕ) →
+pub plan-runs : {F : Type 0} (next : ℕ → List ℕ → Batch) (deals : ℕ → List ℕ) (inputs : List ℕ) (bounds : Standing)
+    (plan : Plan F) (s : Standing) (most : ℕ) →
     PlanStands bounds most s plan → Follows next 0 [] plan → RunsAsPlan next most inputs deals plan
 plan-runs next deals inputs bounds plan s most h g =
     let start = start_values inputs in
@@ -309,9 +327,11 @@ within-all bounds s [] h = h
 within-all bounds s (b ∷ bs) h = within-after bounds s b (within-all bounds (after s b) bs h)
 
 -- the law of a block, where what follows keeps it
-block-law : {F : Type 0} (next : ℕ → List ℕ → Batch) (bounds : Standing) (bs : List Batch) (k : ℕ → Plan F) (s : Standing) (n : ℕ) (opened : List ℕ) →
+block-law : {F : Type 0} (next : ℕ → List ℕ → Batch) (bounds : Standing) (bs : List Batch) (k : ℕ → Plan F)
+    (s : Standing) (n : ℕ) (opened : List ℕ) →
     BlockStands s bs → IsWithin bounds (after_all s bs) → Follows next s.done opened (Block bs k) → length bs ≤ n →
-    ((x : ℕ) → Follows next (after_all s bs).done (opened ++ x ∷ []) (k x) → LawFrom next bounds (n - length bs) (after_all s bs) (opened ++ x ∷ [])) →
+    ((x : ℕ) → Follows next (after_all s bs).done (opened ++ x ∷ []) (k x) →
+    LawFrom next bounds (n - length bs) (after_all s bs) (opened ++ x ∷ [])) →
     LawFrom next bounds n s opened
 unfolding BlockStands
 block-law next bounds [] k s n opened h w f l rest = absurd h
@@ -341,7 +361,8 @@ block-law next bounds (b ∷ c ∷ bs) k s (suc n) opened h w f l rest =
     rw now (h.0, within-all bounds (after s b) (c ∷ bs) w, inr (rw h.2 go))
 
 -- a script that has ended keeps the law
-law-ended : (next : ℕ → List ℕ → Batch) (bounds s : Standing) (n : ℕ) (opened : List ℕ) → next s.done opened ≡ end_batch → IsWithin bounds s →
+law-ended : (next : ℕ → List ℕ → Batch) (bounds s : Standing) (n : ℕ) (opened : List ℕ) →
+    next s.done opened ≡ end_batch → IsWithin bounds s →
     LawFrom next bounds n s opened
 law-ended next bounds s zero opened now h =
     rw now ((tt, tt, (omega arith, omega arith)), (omega (arith, h.0), h.1, h.2), refl)
@@ -411,13 +432,15 @@ plan-finish-step (Last b (suc zero) named) x xs = refl
 plan-finish-step (Last b (suc (suc n)) named) x xs = refl
 
 -- the numbers that the last batch opens name the finish, whatever follows them
-pub finish-last : {F : Type 0} (b : Batch) (named : List ℕ → F) (new more : List ℕ) → plan_finish (Last b (length new) named) (new ++ more) ≡ Some (named new)
+pub finish-last : {F : Type 0} (b : Batch) (named : List ℕ → F) (new more : List ℕ) →
+    plan_finish (Last b (length new) named) (new ++ more) ≡ Some (named new)
 unfolding plan_finish
 finish-last b named [] more = refl
 finish-last b named (x ∷ xs) more = finish-last end_batch (λ rest. named (x ∷ rest)) xs more
 
 -- a block opens one number
-pub block-opened : (deals : ℕ → List ℕ) (bs : List Batch) (s : Standing) (v : Values) → BlockStands s bs → (x : ℕ) × ((batches_on deals bs v).opened ≡ v.opened ++ x ∷ [])
+pub block-opened : (deals : ℕ → List ℕ) (bs : List Batch) (s : Standing) (v : Values) → BlockStands s bs →
+    (x : ℕ) × ((batches_on deals bs v).opened ≡ v.opened ++ x ∷ [])
 unfolding BlockStands
 block-opened deals [] s v h = absurd h
 block-opened deals (b ∷ []) s v h = opened-one deals b v h.1
@@ -426,7 +449,8 @@ block-opened deals (b ∷ c ∷ bs) s v h =
     (rest.0, rw (opened-none deals b v h.2) at rest.1)
 
 -- what a run opens leads the plan to its end
-pub plan-ends : {F : Type 0} (deals : ℕ → List ℕ) (bounds : Standing) (plan : Plan F) (s : Standing) (n : ℕ) (v : Values) → PlanStands bounds n s plan →
+pub plan-ends : {F : Type 0} (deals : ℕ → List ℕ) (bounds : Standing) (plan : Plan F) (s : Standing) (n : ℕ)
+    (v : Values) → PlanStands bounds n s plan →
     (xs : List ℕ) × ((plan_run deals plan v).opened ≡ v.opened ++ xs) × (plan_finish plan xs ≡ Some (plan_end deals plan v))
 unfolding plan_run plan_end plan_finish
 plan-ends deals bounds (Ended f) s n v h = ([], sym (append-nil v.opened), refl)
@@ -472,7 +496,8 @@ module _ {F : Type 0} (bounds : Standing) (n : ℕ) (s : Standing) where
   unfolding PlanStands
   stands-block bs next a b c d = (a, b, c, d)
 
-  pub stands-last : (b : Batch) (k : ℕ) (named : List ℕ → F) → BatchStands s b → IsWithin bounds (after s b) → revealed b.act ≡ k → 1 ≤ k → 1 ≤ n →
+  pub stands-last : (b : Batch) (k : ℕ) (named : List ℕ → F) → BatchStands s b → IsWithin bounds (after s b) →
+      revealed b.act ≡ k → 1 ≤ k → 1 ≤ n →
       PlanStands bounds n s (Last b k named)
   unfolding PlanStands
   stands-last b k named h w e some l = (h, w, e, some, l)

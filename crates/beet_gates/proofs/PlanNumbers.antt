@@ -1,9 +1,11 @@
 -- The numbers that the run of a plan opens, and where a plan leads on plain values.
-use Rattle.std.proofs.Common.{◌≡◌, ℕ, ◌+◌, ◌-◌, List, [], ◌∷◌, ◌++◌, drop, length, slice_index, refl, ap, sym, ◌∙◌, arith, append_assoc, append-nil}
+use Rattle.std.proofs.Common.{◌≡◌, ℕ, ◌+◌, ◌-◌, List, [], ◌∷◌, ◌++◌, drop, length, slice_index, refl, ap, sym, ◌∙◌}
+use Rattle.std.proofs.Common.{arith, append_assoc, append-nil}
 use Rattle.std.proofs.Math.Seq.{drop-append_seam}
 use Rattle.beet_gates.specs.declared.Batch.{Batch}
 use Rattle.beet_gates.specs.Clear.{Values, batch_on, batches_on}
-use Rattle.beet_gates.specs.Plans.{Plan, Ended, Block, Quiet, Last, all_opened_by, plan_run, plan_rounds, plan_end, opened_by, PlanStands, after_all}
+use Rattle.beet_gates.specs.Plans.{Plan, Ended, Block, Quiet, Last, all_opened_by, plan_run, plan_rounds, plan_end}
+use Rattle.beet_gates.specs.Plans.{opened_by, PlanStands, after_all}
 use Rattle.beet_gates.specs.Scripts.{Standing, after}
 use Rattle.beet_gates.proofs.ClearFacts.{opens-more}
 use Rattle.beet_gates.proofs.PlanFacts.{block-opened, opened-last, opened-none, plan-next, plan-quiet}
@@ -17,7 +19,8 @@ plan_numbers deals (Quiet b rest) v = plan_numbers deals rest (batch_on deals b 
 plan_numbers deals (Last b n named) v = all_opened_by v (batch_on deals b v)
 
 -- and so the run of the plan does
-pub plan-opened : {F : Type 0} (deals : ℕ → List ℕ) (bounds : Standing) (plan : Plan F) (s : Standing) (n : ℕ) (v : Values) → PlanStands bounds n s plan →
+pub plan-opened : {F : Type 0} (deals : ℕ → List ℕ) (bounds : Standing) (plan : Plan F) (s : Standing) (n : ℕ)
+    (v : Values) → PlanStands bounds n s plan →
     (plan_run deals plan v).opened ≡ v.opened ++ plan_numbers deals plan v
 unfolding plan_run plan_numbers
 plan-opened deals bounds (Ended f) s n v h = sym (append-nil v.opened)
@@ -40,7 +43,8 @@ plan-opened deals bounds (Block bs k) s n v h =
     ∙ append_assoc v.opened (opened_by v after ∷ []) (plan_numbers deals (k (opened_by v after)) after)
 
 -- a plan on some values leads to another on others: it has opened these numbers in so many rounds on the way, and ends alike
-pub record Leads {F : Type 0} (deals : ℕ → List ℕ) (plan : Plan F) (v : Values) (rest : Plan F) (w : Values) (numbers : List ℕ) (rounds : ℕ) : Type 0 where
+pub record Leads {F : Type 0} (deals : ℕ → List ℕ) (plan : Plan F) (v : Values) (rest : Plan F) (w : Values)
+    (numbers : List ℕ) (rounds : ℕ) : Type 0 where
   pub finish : plan_end deals plan v ≡ plan_end deals rest w
   pub count : plan_rounds deals plan v ≡ rounds + plan_rounds deals rest w
   pub shown : plan_numbers deals plan v ≡ numbers ++ plan_numbers deals rest w

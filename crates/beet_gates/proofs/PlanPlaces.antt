@@ -1,5 +1,6 @@
 -- How a run that keeps a place in a plan goes on.
-use Rattle.std.proofs.Common.{◌≡◌, ℕ, ◌+◌, ◌-◌, ◌<◌, ◌≤◌, true, false, List, [], ◌++◌, length, drop, slice_index, get_or, refl, ap, sym, ◌∙◌, arith, length-append, append-nil, append_assoc, le_trans}
+use Rattle.std.proofs.Common.{◌≡◌, ℕ, ◌+◌, ◌-◌, ◌<◌, ◌≤◌, true, false, List, [], ◌++◌, length, drop, slice_index}
+use Rattle.std.proofs.Common.{get_or, refl, ap, sym, ◌∙◌, arith, length-append, append-nil, append_assoc, le_trans}
 use Rattle.std.specs.Prelude.{nat_lt, if◌then◌else◌}
 use Rattle.std.proofs.Math.Nat.{sub-zero}
 use Rattle.std.proofs.lemmas.Bool.Decides.{nat_tests}
@@ -19,7 +20,8 @@ module _ {F : Type 0} (whole : Plan F) where
   begun = record { passed = omega arith; rest = λ later more below. rw (sub-zero later) refl }
 
   -- it may go on so later as well
-  pub goes-later : (done later : ℕ) (opened more : List ℕ) (plan : Plan F) (before read : ℕ) → GoesOnFrom whole done opened plan before read → done ≤ later →
+  pub goes-later : (done later : ℕ) (opened more : List ℕ) (plan : Plan F) (before read : ℕ) →
+      GoesOnFrom whole done opened plan before read → done ≤ later →
       GoesOnFrom whole later (opened ++ more) plan before read
   goes-later done later opened more plan before read here h = record {
     passed = le_trans here.passed h;
@@ -33,10 +35,12 @@ module _ {F : Type 0} (whole : Plan F) where
     stepped : (later : ℕ) (all : List ℕ) → read < length all → plan_batch plan later (drop read all)
         ≡ (if nat_lt later (plan_length plan) then plan_batch plan later []
         else plan_batch (plan_after plan (slice_index all read)) (later - plan_length plan) (drop (read + 1) all))
-    stepped later all h = ap (plan_batch plan later) (drop_more all read 0 h) ∙ plan-step plan later (slice_index all read) (drop (read + 1) all)
+    stepped later all h = ap (plan_batch plan later) (drop_more all read 0 h)
+        ∙ plan-step plan later (slice_index all read) (drop (read + 1) all)
 
     -- the batch is in the next block
-    pub batch-here : read < length opened → done - before < plan_length plan → plan_batch whole done opened ≡ plan_batch plan (done - before) []
+    pub batch-here : read < length opened → done - before < plan_length plan →
+        plan_batch whole done opened ≡ plan_batch plan (done - before) []
     batch-here h l =
         let t : nat_lt (done - before) (plan_length plan) ≡ true = grind (arith, nat_tests) in
         batch-left ∙ stepped (done - before) opened h ∙ rw t refl

@@ -1,11 +1,10 @@
 -- What stands at a segment of the wires, and how batches append segments.
-use Rattle.std.proofs.Common.{◌≡◌, ℕ, zero, suc, ◌+◌, ◌<◌, ◌≤◌, List, [], ◌∷◌, ◌++◌, map, length, slice_index, refl, sym, ◌∙◌, arith, length-append, append_assoc, append-nil, add-one}
+use Rattle.std.proofs.Common.{◌≡◌, ℕ, zero, suc, ◌+◌, ◌<◌, ◌≤◌, List, [], ◌∷◌, ◌++◌, map, length, slice_index, refl}
+use Rattle.std.proofs.Common.{sym, ◌∙◌, arith, length-append, append_assoc, append-nil, add-one}
 use Rattle.std.proofs.lemmas.List.{get_or_append_left, get_or-append-add}
-use Rattle.std.specs.Int.{bit_at}
 use Rattle.beet_gates.specs.declared.Batch.{Batch}
 use Rattle.beet_gates.specs.declared.Linear.{Linear}
 use Rattle.beet_gates.specs.Clear.{Values, with_lets, let_of, product_of, batch_on, batches_on}
-use Rattle.beet_gates.specs.Deals.{dealt_bits}
 use Rattle.beet_gates.specs.Each.{each}
 use Rattle.beet_gates.proofs.EachFacts.{length-each, each-zero, each-more, item-each, map-each, each-same}
 
@@ -13,13 +12,6 @@ use Rattle.beet_gates.proofs.EachFacts.{length-each, each-zero, each-more, item-
 pub record Holds (wires : List ℕ) (start n : ℕ) (f : ℕ → ℕ) : Type 0 where
   pub room : start + n ≤ length wires
   pub at : (k : ℕ) → k < n → slice_index wires (start + k) ≡ f k
-
--- the bits of three words, each 61 from the lowest up
-pub record HoldsDealt (wires : List ℕ) (start a b c : ℕ) : Type 0 where
-  pub len : length wires ≡ start + 183
-  pub first : Holds wires start 61 (bit_at a)
-  pub second : Holds wires (start + 61) 61 (bit_at b)
-  pub third : Holds wires (start + 122) 61 (bit_at c)
 
 -- appended wires leave what stands
 pub index-append : (wires new : List ℕ) (i : ℕ) → i < length wires → slice_index (wires ++ new) i ≡ slice_index wires i
@@ -70,21 +62,3 @@ pub batches_on-append : (deals : ℕ → List ℕ) (xs ys : List Batch) (v : Val
     batches_on deals (xs ++ ys) v ≡ batches_on deals ys (batches_on deals xs v)
 batches_on-append deals [] ys v = refl
 batches_on-append deals (x ∷ xs) ys v = batches_on-append deals xs ys (batch_on deals x v)
-
--- what a deal appends, as three segments
-pub holds-dealt : (wires : List ℕ) (start a b c : ℕ) → length wires ≡ start → HoldsDealt (wires ++ dealt_bits a b c) start a b c
-holds-dealt wires start a b c e =
-    let xs = wires ++ each (bit_at a) 61 in
-    let len : length xs ≡ start + 61 = omega (arith, length-append wires (each (bit_at a) 61), length-each (bit_at a) 61) in
-    let ys = xs ++ each (bit_at b) 61 in
-    let len' : length ys ≡ start + 122 = omega (arith, length-append xs (each (bit_at b) 61), length-each (bit_at b) 61) in
-    let zs = ys ++ each (bit_at c) 61 in
-    let same : wires ++ dealt_bits a b c ≡ zs =
-    sym (append_assoc (wires ++ each (bit_at a) 61) (each (bit_at b) 61) (each (bit_at c) 61)
-    ∙ append_assoc wires (each (bit_at a) 61) (each (bit_at b) 61 ++ each (bit_at c) 61)) in
-    rw same (record {
-      len = omega (arith, length-append ys (each (bit_at c) 61), length-each (bit_at c) 61);
-      first = holds-append ys _ start 61 _ (holds-append xs _ start 61 _ (holds-new wires start 61 (bit_at a) e));
-      second = holds-append ys _ (start + 61) 61 _ (holds-new xs (start + 61) 61 (bit_at b) len);
-      third = holds-new ys (start + 122) 61 (bit_at c) len';
-    })

@@ -1,5 +1,6 @@
 -- Blocks whose batches name only wires that stand.
-use Rattle.std.proofs.Common.{◌≡◌, ℕ, zero, suc, ◌+◌, ◌*◌, ◌<◌, false, List, [], ◌∷◌, ◌++◌, length, refl, ap, sym, ◌∙◌, arith, mul-suc, add-zero, mul-zero}
+use Rattle.std.proofs.Common.{◌≡◌, ℕ, zero, suc, ◌+◌, ◌*◌, ◌<◌, false, List, [], ◌∷◌, ◌++◌, length, refl, ap, sym, ◌∙◌}
+use Rattle.std.proofs.Common.{arith, mul-suc, add-zero, mul-zero}
 use Rattle.beet_gates.specs.declared.Batch.{Batch}
 use Rattle.beet_gates.specs.declared.Linear.{Linear}
 use Rattle.beet_gates.specs.Clear.{is_end}
@@ -9,13 +10,15 @@ use Rattle.beet_gates.specs.Plans.{BlockStands, after_all}
 use Rattle.beet_gates.proofs.EachFacts.{each-zero, each-suc, each-cons}
 
 -- pairs and combinations by a rule
-pub pairs_below-each : (bound : ℕ) (pair : ℕ → ℕ × ℕ) (n : ℕ) → ((k : ℕ) → k < n → ((pair k).0 < bound) × ((pair k).1 < bound)) → PairsBelow bound (each pair n)
+pub pairs_below-each : (bound : ℕ) (pair : ℕ → ℕ × ℕ) (n : ℕ) →
+    ((k : ℕ) → k < n → ((pair k).0 < bound) × ((pair k).1 < bound)) → PairsBelow bound (each pair n)
 pairs_below-each bound pair zero h = rw (each-zero pair) tt
 pairs_below-each bound pair (suc n) h =
     let first = h 0 (omega arith) in
     rw (each-cons pair n) (first.0, first.1, pairs_below-each bound (λ k. pair (suc k)) n (λ k l. h (suc k) (omega arith)))
 
-pub lets_below-each : (start : ℕ) (rule : ℕ → Linear) (n : ℕ) → ((k : ℕ) → k < n → TermsBelow (start + k) (rule k).terms) → LetsBelow start (each rule n)
+pub lets_below-each : (start : ℕ) (rule : ℕ → Linear) (n : ℕ) →
+    ((k : ℕ) → k < n → TermsBelow (start + k) (rule k).terms) → LetsBelow start (each rule n)
 lets_below-each start rule zero h = rw (each-zero rule) tt
 lets_below-each start rule (suc n) h =
     let first = rw add-zero at (h 0 (omega arith)) in
@@ -25,7 +28,8 @@ lets_below-each start rule (suc n) h =
           (λ k l. let e : start + 1 + k ≡ start + suc k = omega arith in rw e (h (suc k) (omega arith))),
     )
 
-pub lets_below-append : (start : ℕ) (xs ys : List Linear) → LetsBelow start xs → LetsBelow (start + length xs) ys → LetsBelow start (xs ++ ys)
+pub lets_below-append : (start : ℕ) (xs ys : List Linear) → LetsBelow start xs → LetsBelow (start + length xs) ys →
+    LetsBelow start (xs ++ ys)
 lets_below-append start [] ys h k = rw add-zero at k
 lets_below-append start (x ∷ xs) ys h k =
     let e : start + suc (length xs) ≡ start + 1 + length xs = omega arith in
@@ -75,7 +79,15 @@ pub quiet-each : (rule : ℕ → Batch) (grow : ℕ) (s : Standing) (n : ℕ) �
     ((k : ℕ) → k < n → (t : Standing) → t.wires ≡ s.wires + grow * k → Quiet t (rule k) × Moved t (after t (rule k)) grow 0 1) →
     AllQuiet s (each rule n) × Moved s (after_all s (each rule n)) (grow * n) 0 n
 quiet-each rule grow s zero h =
-    rw (each-zero rule) (tt, record { more_wires = rw mul-zero (sym (add-zero s.wires)); more_masks = omega arith; more_coefficients = omega arith; dealers = refl })
+    rw (each-zero rule) (
+      tt,
+      record {
+        more_wires = rw mul-zero (sym (add-zero s.wires));
+        more_masks = omega arith;
+        more_coefficients = omega arith;
+        dealers = refl;
+      },
+    )
 quiet-each rule grow s (suc n) h =
     let m = quiet-each rule grow s n (λ k l. h k (omega arith)) in
     let here = after_all s (each rule n) in

@@ -1,5 +1,6 @@
 -- The run of a script on plain values.
-use Rattle.std.specs.Prelude.{◌≡◌, ◌<◌, ℕ, zero, suc, ◌+◌, ◌*◌, ◌%◌, List, [], ◌∷◌, ◌++◌, map, slice_index, Bool, true, false}
+use Rattle.std.specs.Prelude.{◌≡◌, ◌<◌, ℕ, zero, suc, ◌+◌, ◌*◌, ◌%◌, List, [], ◌∷◌, ◌++◌, map, slice_index, Bool, true}
+use Rattle.std.specs.Prelude.{false}
 use Rattle.std.specs.List.{position_or_len, range_with_len}
 use Rattle.beet_field.specs.Field.{p, mul_of}
 use Rattle.beet_field.specs.declared.trio.Trio.{Trio}
@@ -56,7 +57,6 @@ is_end (Mul pairs) = false
 is_end (Reveal shown) = false
 is_end End = true
 
--- the values at the start
 abbrev pub start_values : List ℕ → Values
 start_values inputs = record { wires = inputs; opened = []; dealt = 0 }
 

@@ -1,5 +1,5 @@
--- A list of items that is combined in pairs, level by level: items 0 and 1, items 2 and 3, and so on. The next list has the results in
--- order, and after them an odd last item, which is carried.
+-- A list of items that is combined in pairs, level by level: items 0 and 1, items 2 and 3, and so on. The next list has
+-- the results in order, and after them an odd last item, which is carried.
 use Rattle.std.specs.Prelude.{◌≡◌, ◌<◌, ◌+◌, ◌-◌, ◌*◌, ◌/◌, ◌%◌, ◌⊎◌, ℕ, List, nat_lt, if◌then◌else◌}
 use Rattle.beet_gates.specs.Each.{each}
 use Rattle.beet_gates.specs.declared.levels.LevelItems.{LevelItems}
@@ -20,7 +20,6 @@ next_item n item result k = if nat_lt k (n / 2) then result k else item (n - 1)
 abbrev pub each_pair : {A B : Type 0} → (A → A → B) → (ℕ → A) → ℕ → List B
 each_pair op item n = each (λ i. op (item (places_of_pair i).0) (item (places_of_pair i).1)) (n / 2)
 
--- the wire of an item
 abbrev pub wire_of : LevelItems → ℕ → ℕ
 wire_of items k = if nat_lt k items.results then items.start + items.step * k else items.carried
 

@@ -6,6 +6,7 @@ pub mod Deals
 pub mod Scripts
 pub mod Product
 pub mod Clear
+pub mod Draws
 pub mod Opened
 pub mod Plans
 pub mod Places

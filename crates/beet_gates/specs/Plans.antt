@@ -1,14 +1,15 @@
 -- A script as blocks one after another: each block is a list of batches whose last opens one number, and that number
--- says how it goes on. Batches that open nothing may come before a block. At the end a batch may open several numbers, which name the
--- finish.
-use Rattle.std.specs.Prelude.{◌≡◌, ◌≤◌, ◌+◌, ◌-◌, ℕ, zero, suc, List, [], ◌∷◌, drop, length, Option, Some, None, slice_get, slice_index, unwrap_or, nat_lt, if◌then◌else◌, false}
+-- says how it goes on. Batches that open nothing may come before a block. At the end a batch may open several numbers,
+-- which name the finish.
+use Rattle.std.specs.Prelude.{◌≡◌, ◌≤◌, ◌+◌, ◌-◌, ℕ, zero, suc, List, [], ◌∷◌, drop, length, Option, Some, None}
+use Rattle.std.specs.Prelude.{slice_get, slice_index, unwrap_or, nat_lt, if◌then◌else◌, false}
 use Rattle.beet_gates.specs.declared.Batch.{Batch}
 use Rattle.beet_gates.specs.Batches.{end_batch}
 use Rattle.beet_gates.specs.Clear.{Values, batch_on, batches_on, is_end}
 use Rattle.beet_gates.specs.Scripts.{Standing, BatchStands, IsWithin, after, revealed}
 
--- how a script goes on: it ends with a finish, or a block opens the number that picks the rest, or a batch opens nothing and the rest
--- follows, or one last batch opens so many numbers, which name the finish
+-- how a script goes on: it ends with a finish, or a block opens the number that picks the rest, or a batch opens
+-- nothing and the rest follows, or one last batch opens so many numbers, which name the finish
 pub data Plan (F : Type 0) : Type 0 where
   Ended : F → Plan F
   Block : List Batch → (ℕ → Plan F) → Plan F
@@ -74,15 +75,16 @@ plan_end deals (Last b n named) v = named (all_opened_by v (batch_on deals b v))
 unfoldable pub BlockStands : Standing → List Batch → Type 0
 BlockStands s [] = ⊥
 BlockStands s (b ∷ []) = BatchStands s b × (revealed b.act ≡ 1)
-BlockStands s (b ∷ c ∷ bs) = BatchStands s b × (is_end b.act ≡ false) × (revealed b.act ≡ 0) × BlockStands (after s b) (c ∷ bs)
+BlockStands s (b ∷ c ∷ bs) =
+    BatchStands s b × (is_end b.act ≡ false) × (revealed b.act ≡ 0) × BlockStands (after s b) (c ∷ bs)
 
 -- the standing after a list of batches
 abbrev pub after_all : Standing → List Batch → Standing
 after_all s [] = s
 after_all s (b ∷ bs) = after_all (after s b) bs
 
--- each block stands and stays within the bounds, whatever numbers are opened, and there are at most n batches; after a batch that opens
--- nothing some number is still opened
+-- each block stands and stays within the bounds, whatever numbers are opened, and there are at most n batches; after a
+-- batch that opens nothing some number is still opened
 unfoldable pub PlanStands : {F : Type 0} → Standing → ℕ → Standing → Plan F → Type 0
 PlanStands bounds n s (Ended f) = IsWithin bounds s
 PlanStands bounds n s (Block bs next) =
@@ -91,7 +93,8 @@ PlanStands bounds n s (Block bs next) =
 PlanStands bounds n s (Quiet b rest) =
     BatchStands s b × IsWithin bounds (after s b) × (is_end b.act ≡ false) × (revealed b.act ≡ 0) × (1 ≤ n)
     × (plan_finish rest [] ≡ None) × PlanStands bounds (n - 1) (after s b) rest
-PlanStands bounds n s (Last b k named) = BatchStands s b × IsWithin bounds (after s b) × (revealed b.act ≡ k) × (1 ≤ k) × (1 ≤ n)
+PlanStands bounds n s (Last b k named) =
+    BatchStands s b × IsWithin bounds (after s b) × (revealed b.act ≡ k) × (1 ≤ k) × (1 ≤ n)
 
 -- how many batches come before the next opened number is there
 abbrev pub plan_length : {F : Type 0} → Plan F → ℕ
@@ -100,8 +103,8 @@ plan_length (Block bs next) = length bs
 plan_length (Quiet b rest) = suc (plan_length rest)
 plan_length (Last b n named) = 1
 
--- the plan after the number that the next block opens; where the last batch opens more, its others are still to be read, and the end
--- stands in its place
+-- the plan after the number that the next block opens; where the last batch opens more, its others are still to be
+-- read, and the end stands in its place
 abbrev pub plan_after : {F : Type 0} → Plan F → ℕ → Plan F
 plan_after (Ended f) x = Ended f
 plan_after (Block bs next) x = next x

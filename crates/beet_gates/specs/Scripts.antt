@@ -1,5 +1,5 @@
--- What a script says: its batches, and the law that they keep. The inputs are the first wires; each batch appends its lets in
--- order, and then the results of its act.
+-- What a script says: its batches, and the law that they keep. The inputs are the first wires; each batch appends its
+-- lets in order, and then the results of its act.
 use Rattle.std.specs.Prelude.{◌≡◌, ◌<◌, ◌≤◌, ◌+◌, ◌*◌, ◌⊎◌, ℕ, zero, suc, List, [], ◌∷◌, ◌++◌, length}
 use Rattle.beet_field.specs.declared.trio.Trio.{Trio}
 use Rattle.beet_field.specs.declared.TheConstants.{MOST_NUMBERS}
@@ -47,7 +47,8 @@ size_of End = 0
 abbrev pub IsSmall : Batch → Type 0
 IsSmall b = (length b.lets.items ≤ MOST_LETS) × (size_of b.act ≤ MOST_NUMBERS)
 
--- how many servers deal, and how far a run has come: batches, wires, mask words and coefficients of each server, and opened numbers
+-- how many servers deal, and how far a run has come: batches, wires, mask words and coefficients of each server, and
+-- opened numbers
 pub record Standing : Type 0 where
   pub dealers : ℕ
   pub done : ℕ
@@ -58,8 +59,17 @@ pub record Standing : Type 0 where
 
 -- the standing after an act
 abbrev pub acted : Standing → Act → Standing
-acted s Deal = record s { done = s.done + 1; wires = s.wires + 61 * s.dealers; masks = s.masks + 1; coefficients = s.coefficients + 61 }
-acted s (Mul pairs) = record s { done = s.done + 1; wires = s.wires + length pairs.items; coefficients = s.coefficients + length pairs.items }
+acted s Deal = record s {
+  done = s.done + 1;
+  wires = s.wires + 61 * s.dealers;
+  masks = s.masks + 1;
+  coefficients = s.coefficients + 61;
+}
+acted s (Mul pairs) = record s {
+  done = s.done + 1;
+  wires = s.wires + length pairs.items;
+  coefficients = s.coefficients + length pairs.items;
+}
 acted s (Reveal wires) = record s { done = s.done + 1; opened = s.opened + length wires.items }
 acted s End = s
 
@@ -67,7 +77,6 @@ acted s End = s
 abbrev pub with_lets : Standing → Batch → Standing
 with_lets s b = record s { wires = s.wires + length b.lets.items }
 
--- the standing after a batch
 abbrev pub after : Standing → Batch → Standing
 after s b = acted (with_lets s b) b.act
 
@@ -106,11 +115,13 @@ LawFrom next bounds zero s opened =
 LawFrom next bounds (suc n) s opened =
     let b = next s.done opened in
     BatchStands s b × IsWithin bounds (after s b)
-    × ((b.act ≡ End) ⊎ ((new : List ℕ) → length new ≡ revealed b.act → LawFrom next bounds n (after s b) (opened ++ new)))
+    ×
+    ((b.act ≡ End) ⊎ ((new : List ℕ) → length new ≡ revealed b.act → LawFrom next bounds n (after s b) (opened ++ new)))
 
 -- the standing at the start among so many servers: the inputs are the first wires
 abbrev pub start_among : ℕ → ℕ → Standing
-start_among dealers inputs = record { dealers = dealers; done = 0; wires = inputs; masks = 0; coefficients = 0; opened = 0 }
+start_among dealers inputs =
+    record { dealers = dealers; done = 0; wires = inputs; masks = 0; coefficients = 0; opened = 0 }
 
 -- the same among three
 abbrev pub start_of : ℕ → Standing
@@ -118,4 +129,5 @@ start_of inputs = start_among 3 inputs
 
 -- what a script may use
 abbrev pub bounds_of : ℕ → ℕ → ℕ → Standing
-bounds_of wires masks coefficients = record { dealers = 0; done = 0; wires = wires; masks = masks; coefficients = coefficients; opened = 0 }
+bounds_of wires masks coefficients =
+    record { dealers = 0; done = 0; wires = wires; masks = masks; coefficients = coefficients; opened = 0 }

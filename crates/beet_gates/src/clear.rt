@@ -6,7 +6,8 @@ ghost use Rattle.beet_field.specs.Field.{p};
 ghost use Rattle.beet_gates.specs.Each.{each};
 ghost use Rattle.beet_gates.specs.Deals.{dealt_bits, deals_of};
 ghost use Rattle.beet_gates.specs.Scripts.{TermsBelow, LetsBelow, PairsBelow, WiresBelow, ActBelow, deals_in, HasWords};
-ghost use Rattle.beet_gates.specs.Clear.{weighed, let_of, with_lets, product_of, batch_on, clear_at, start_values, EndsAfter};
+ghost use Rattle.beet_gates.specs.Clear.{weighed, let_of, with_lets, product_of, batch_on, clear_at, start_values};
+ghost use Rattle.beet_gates.specs.Clear.{EndsAfter};
 
 use crate::{Act, Batch, Linear, Script};
 use beet_field::{Fe, Trio};
@@ -195,8 +196,8 @@ impl Run {
     }
 }
 
-/// Runs the script on plain values: the inputs are the first wires, and the n-th `Deal` takes the n-th word of each list.
-/// The run goes to the first end, whose lets are appended too.
+/// Runs the script on plain values: the inputs are the first wires, and the n-th `Deal` takes the n-th word of each
+/// list. The run goes to the first end, whose lets are appended too.
 pub fn clear_run<S: Script>(
     alloc: Global,
     script: &S,

@@ -19,8 +19,8 @@ pub fn level_pairs<const K: usize>() -> [(u32, u32); K]
     pairs
 }
 
-/// The wires of a list that is combined in pairs: so many results from a wire on, each a step from the one before, and after them
-/// one that is carried.
+/// The wires of a list that is combined in pairs: so many results from a wire on, each a step from the one before, and
+/// after them one that is carried.
 #[derive(Clone, Copy, PartialEq, Eq, Debug)]
 pub struct LevelItems {
     pub start: u32,

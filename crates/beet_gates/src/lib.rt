@@ -93,8 +93,8 @@ pub struct Batch {
 
 /// A program of batches, each of which may depend on the numbers opened before it.
 pub trait Script: Copy {
-    /// How far a run has come in the script. It is no part of what the run does: with it a batch reads only the numbers that
-    /// were opened since the one before.
+    /// How far a run has come in the script. It is no part of what the run does: with it a batch reads only the numbers
+    /// that were opened since the one before.
     type Place: Copy;
 
     ghost inputs_of: { Self → ℕ };
@@ -141,8 +141,8 @@ pub trait Script: Copy {
     fn begin(&self) -> Self::Place
         ensures { is_at self.now 0 [] result };
 
-    /// Goes on from a place, and makes a batch what `next` answers. A script that runs for many rounds reads only the numbers
-    /// that were opened since, and fills the batch in place.
+    /// Goes on from a place, and makes a batch what `next` answers. A script that runs for many rounds reads only the
+    /// numbers that were opened since, and fills the batch in place.
     fn refill(&self, done: u32, opened: &[Fe], place: &mut Self::Place, batch: &mut Batch)
         requires { is_at self.now done opened.now place.old }
         ensures batch { batch.new ≡ batch_of self.now done opened.now }
@@ -159,5 +159,6 @@ pub trait Script: Copy {
     /// product or opening is empty, no batch has more than `MOST_LETS` lets or `MOST_NUMBERS` pairs or wires, the end
     /// comes after at most `rounds` batches, and the wires, mask words and numbers drawn stay within their bounds.
     ghost lawful: { (s : Self) →
-        LawFrom (batch_of s) (bounds_of (wires_of s) (masks_of s) (coefficients_of s)) (rounds_of s) (start_of (inputs_of s)) [] };
+        LawFrom (batch_of s) (bounds_of (wires_of s) (masks_of s) (coefficients_of s)) (rounds_of s)
+        (start_of (inputs_of s)) [] };
 }

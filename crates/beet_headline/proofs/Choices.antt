@@ -1,31 +1,60 @@
 -- Choices of words for two books, one by one.
-use Rattle.std.proofs.Common.{◌≡◌, ◌≢◌, ◌<◌, ℕ, zero, suc, List, [], ◌∷◌, length, get_or, slice_get, Some, refl, sym, subst, arith, AllPairs}
+use Rattle.std.proofs.Common.{◌≡◌, ◌≢◌, ◌<◌, ℕ, zero, suc, List, [], ◌∷◌, length, get_or, slice_get, Some, refl, sym}
+use Rattle.std.proofs.Common.{subst, ◌∙◌, arith, AllPairs}
 use Rattle.std.specs.Prelude.{All}
 use Rattle.std.proofs.lemmas.List.Elements.{All-cons, All-head, All-tail}
 use Rattle.std.proofs.lemmas.Option.{same_Some, slice_get-get_or}
 use Rattle.beet_field.specs.declared.point.Point.{Point}
 use Rattle.beet_words.specs.Bundles.{Words}
 use Rattle.beet_bids.specs.Books.{Book}
-use Rattle.beet_worlds.specs.MappedWords.{Mapped}
-use Rattle.beet_headline.specs.Halves.{AreChoices, AreOnePair, ArePairs, AreTwoBooks, CanRun}
+use Rattle.beet_auction_map.specs.MappedWords.{Mapped}
+use Rattle.beet_headline.specs.Statements.{AllShow, AreChoices, AreOnePair, ArePairs, AreTwoBooks, CanRun}
 use Rattle.beet_headline.proofs.Pairing.{first-there, second-there}
 
+-- lists of words, each of which goes with the one at its place
+record Together (Pair : Words → Words → Type 0) (these those : List Words) : Type 0 where
+  as_many : length those ≡ length these
+  each_one : (k : ℕ) (a b : Words) → slice_get these k ≡ Some a → slice_get those k ≡ Some b → Pair a b
+
+pairs-more : (Pair : Words → Words → Type 0) (a b : Words) (these those : List Words) → Pair a b →
+    Together Pair these those → Together Pair (a ∷ these) (b ∷ those)
+pairs-more Pair a b these those p ps = record { as_many = omega (arith, ps.as_many); each_one = each_one } where
+  each_one : (k : ℕ) (words words' : Words) → slice_get (a ∷ these) k ≡ Some words →
+      slice_get (b ∷ those) k ≡ Some words' → Pair words words'
+  each_one zero words words' e f =
+      subst (λ x. Pair x words') (same_Some a words e) (subst (λ y. Pair a y) (same_Some b words' f) p)
+  each_one (suc k) words words' e f = ps.each_one k words words' e f
+
+-- a choice of words for another book, one for each of these
+record Chosen (Pair : Words → Words → Type 0) (Other : Words → Type 0) (these : List Words) : Type 0 where
+  those : List Words
+  pairs : Together Pair these those
+  all : All Other those
+
+choose : (Pair : Words → Words → Type 0) (One Other : Words → Type 0) →
+    ((a : Words) → One a → (b : Words) × Pair a b × Other b) →
+    (these : List Words) → All One these → Chosen Pair Other these
+choose Pair One Other there [] all = record {
+  those = [];
+  pairs = record { as_many = refl; each_one = λ k words words' e f. cc e };
+  all = λ k d lt. absurd (omega arith);
+}
+choose Pair One Other there (a ∷ these) all =
+    let r = choose Pair One Other there these (All-tail One a these all) in
+    let b = there a (All-head One a these all) in
+    record {
+      those = b.0 ∷ r.those;
+      pairs = pairs-more Pair a b.0 these r.those b.1 r.pairs;
+      all = All-cons Other b.0 r.those b.2 r.all;
+    }
+
 module _ (s : Point) (first second : Book) where
-  pairs-more : (a b : Words) (these those : List Words) → AreOnePair s first a second b → ArePairs s first these second those → ArePairs s first (a ∷ these) second (b ∷ those)
-  pairs-more a b these those p ps = record { as_many = omega (arith, ps.as_many); each_one = each_one } where
-    each_one : (k : ℕ) (words words' : Words) → slice_get (a ∷ these) k ≡ Some words → slice_get (b ∷ those) k ≡ Some words' → AreOnePair s first words second words'
-    each_one zero words words' e f =
-        subst (λ x. AreOnePair s first x second words') (same_Some a words e) (subst (λ y. AreOnePair s first a second y) (same_Some b words' f) p)
-    each_one (suc k) words words' e f = ps.each_one k words words' e f
-
-  pairs-none : ArePairs s first [] second []
-  pairs-none = record { as_many = refl; each_one = λ k words words' e f. cc e }
-
   -- the pair at a place
   module _ (these those : List Words) (p : ArePairs s first these second those) where
     pair-at : (k : ℕ) (d : Words) → k < length these → AreOnePair s first (get_or these k d) second (get_or those k d)
     pair-at k d lt =
-        p.each_one k (get_or these k d) (get_or those k d) (slice_get-get_or these k d lt) (slice_get-get_or those k d (omega (arith, lt, p.as_many)))
+        p.each_one k (get_or these k d) (get_or those k d) (slice_get-get_or these k d lt)
+        (slice_get-get_or those k d (omega (arith, lt, p.as_many)))
 
     seconds-once : AllPairs (λ a b. a ≢ b) these → AllPairs (λ a b. a ≢ b) those
     seconds-once once i j d lt within same =
@@ -45,45 +74,49 @@ module _ (s : Point) (first second : Book) where
         subst (λ x. Mapped s first x second (get_or those j d)) (sym same) other.mapped in
         once i j d lt last (sym (one.only_second (get_or those j d) moved))
 
+    -- words that go with each other show one transcript
+    module _ (transcript : List ℕ) where
+      seconds-shown : AllShow s first transcript these → AllShow s second transcript those
+      seconds-shown shown k d lt =
+          let within : k < length these = omega (arith, lt, p.as_many) in
+          (pair-at k d within).transcripts ∙ shown k d within
+
+      firsts-shown : AllShow s second transcript those → AllShow s first transcript these
+      firsts-shown shown k d lt = sym (pair-at k d lt).transcripts ∙ shown k d (omega (arith, lt, p.as_many))
+
   module _ (two : AreTwoBooks s first second) where
-    pub record Seconds (these : List Words) : Type 0 where
-      pub chosen : List Words
-      pub pairs : ArePairs s first these second chosen
-      pub can_run : All (CanRun second) chosen
-
-    seconds : (these : List Words) → All (CanRun first) these → Seconds these
-    seconds [] all = record { chosen = []; pairs = pairs-none; can_run = λ k d lt. absurd (omega arith) }
-    seconds (a ∷ these) all =
-        let r = seconds these (All-tail (CanRun first) a these all) in
-        let b = second-there s first second a two (All-head (CanRun first) a these all) in
-        record {
-          chosen = b.0 ∷ r.chosen;
-          pairs = pairs-more a b.0 these r.chosen b.1 r.pairs;
-          can_run = All-cons (CanRun second) b.0 r.chosen b.1.second_runs r.can_run;
-        }
-
-    pub seconds-there : (these : List Words) → AreChoices first these → (those : List Words) × AreChoices second those × ArePairs s first these second those
+    pub seconds-there : (these : List Words) → AreChoices first these →
+        (those : List Words) × AreChoices second those × ArePairs s first these second those
     seconds-there these c =
-        let r = seconds these c.can_run in
-        (r.chosen, record { can_run = r.can_run; once = seconds-once these r.chosen r.pairs c.once }, r.pairs)
+        let r = choose (λ a b. AreOnePair s first a second b) (CanRun first) (CanRun second)
+        (λ a runs. let b = second-there s first second a two runs in (b.0, b.1, b.1.second_runs)) these c.can_run in
+        let pairs : ArePairs s first these second r.those =
+        record { as_many = r.pairs.as_many; each_one = r.pairs.each_one } in
+        (r.those, record { can_run = r.all; once = seconds-once these r.those pairs c.once }, pairs)
 
-    pub record Firsts (those : List Words) : Type 0 where
-      pub chosen : List Words
-      pub pairs : ArePairs s first chosen second those
-      pub can_run : All (CanRun first) chosen
-
-    firsts : (those : List Words) → All (CanRun second) those → Firsts those
-    firsts [] all = record { chosen = []; pairs = pairs-none; can_run = λ k d lt. absurd (omega arith) }
-    firsts (b ∷ those) all =
-        let r = firsts those (All-tail (CanRun second) b those all) in
-        let a = first-there s first second two b (All-head (CanRun second) b those all) in
-        record {
-          chosen = a.0 ∷ r.chosen;
-          pairs = pairs-more a.0 b r.chosen those a.1 r.pairs;
-          can_run = All-cons (CanRun first) a.0 r.chosen a.1.first_runs r.can_run;
-        }
-
-    pub firsts-there : (those : List Words) → AreChoices second those → (these : List Words) × AreChoices first these × ArePairs s first these second those
+    pub firsts-there : (those : List Words) → AreChoices second those →
+        (these : List Words) × AreChoices first these × ArePairs s first these second those
     firsts-there those c =
-        let r = firsts those c.can_run in
-        (r.chosen, record { can_run = r.can_run; once = firsts-once r.chosen those r.pairs c.once }, r.pairs)
+        let r = choose (λ b a. AreOnePair s first a second b) (CanRun second) (CanRun first)
+        (λ b runs. let a = first-there s first second two b runs in (a.0, a.1, a.1.first_runs)) those c.can_run in
+        let pairs : ArePairs s first r.those second those =
+        record {
+          as_many = sym r.pairs.as_many;
+          each_one = λ k words words' e f. r.pairs.each_one k words' words f e;
+        } in
+        (r.those, record { can_run = r.all; once = firsts-once r.those those pairs c.once }, pairs)
+
+    -- choices that show a transcript go with choices that show it
+    pub seconds-show : (transcript : List ℕ) (these : List Words) → AreChoices first these →
+        AllShow s first transcript these →
+        (those : List Words) × AreChoices second those × AllShow s second transcript those × ArePairs s first these
+        second those
+    seconds-show transcript these c shown =
+        let r = seconds-there these c in (r.0, r.1, seconds-shown these r.0 r.2 transcript shown, r.2)
+
+    pub firsts-show : (transcript : List ℕ) (those : List Words) → AreChoices second those →
+        AllShow s second transcript those →
+        (these : List Words) × AreChoices first these × AllShow s first transcript these × ArePairs s first these
+        second those
+    firsts-show transcript those c shown =
+        let r = firsts-there those c in (r.0, r.1, firsts-shown r.0 those r.2 transcript shown, r.2)

@@ -1,14 +1,15 @@
 -- Words of a second world of those who deal.
-use Rattle.std.proofs.Common.{◌≡◌, ◌≤◌, ◌+◌, ℕ, zero, suc, inl, inr, List, [], ◌∷◌, map, length, slice_index, slice_get, Some, refl, sym, ap, subst, ◌∙◌, arith}
+use Rattle.std.proofs.Common.{◌≡◌, ◌≤◌, ◌+◌, ℕ, zero, suc, inl, inr, List, [], ◌∷◌, map, length, slice_index, slice_get}
+use Rattle.std.proofs.Common.{Some, refl, sym, ap, subst, ◌∙◌, arith}
 use Rattle.std.specs.Prelude.{All}
 use Rattle.std.proofs.lemmas.List.Elements.{All-cons, All-from_get_or, All-head, All-tail}
 use Rattle.std.proofs.lemmas.Option.{same_Some}
 use Rattle.beet_field.specs.declared.point.Point.{Point}
 use Rattle.beet_words.specs.Words.{IsWord, accepted}
+use Rattle.beet_words.proofs.Putting.{PutBack, put-back}
+use Rattle.beet_gates.proofs.Splices.{spliced, spliced-beyond, spliced-elements, spliced-length, spliced-moves}
 use Rattle.beet_map.specs.Mapped.{moved_of}
-use Rattle.beet_map_laws.proofs.Putting.{PutBack, put-back}
 use Rattle.beet_map_laws.proofs.Reaching.{moved-small}
-use Rattle.beet_map_laws.proofs.Splices.{spliced, spliced-beyond, spliced-elements, spliced-length, spliced-moves}
 use Rattle.beet_mapped.specs.Dealers.{Party, Dealer, DealerMapped, DealersMapped, SlopesMoved, dealers_of}
 use Rattle.beet_mapped.proofs.DealerFacts.{known-or}
 use Rattle.beet_mapped.proofs.EachMapped.{dealer}
@@ -39,14 +40,15 @@ module _ (s : Point) (one other : List ℕ) (words : List ℕ) (all : All IsWord
       (spliced-elements rule 0 wanted (accepted words) fits
       (λ k. moved-small s (slice_index (accepted words) k) (slice_index one k) (slice_index other k)) (accepted-small words all))
 
-  moved : Moved
+  pub moved : Moved
   moved = record {
     list = put.back;
     moves = record {
       places = put.places;
       moves = λ n lt.
           let here : n ≡ 0 + n = omega arith in
-          ap (λ l. slice_index l n) put.accepts ∙ ap (λ k. slice_index numbers k) here ∙ spliced-moves rule 0 wanted (accepted words) fits n lt;
+          ap (λ l. slice_index l n) put.accepts ∙ ap (λ k. slice_index numbers k) here
+          ∙ spliced-moves rule 0 wanted (accepted words) fits n lt;
       rest = λ n le. ap (λ l. slice_index l n) put.accepts ∙ spliced-beyond rule 0 wanted (accepted words) n (omega (arith, le));
     };
     are_words = All-from_get_or IsWord put.back 0 (λ i lt. put.are_words i);
@@ -58,7 +60,8 @@ pub record MovedDealer (s : Point) (one other : Party) (words : List ℕ) : Type
   pub mapped : DealerMapped s (dealer one words) (dealer other list)
   pub are_words : All IsWord list
 
-dealer-moved : (s : Point) (one other : Party) (words : List ℕ) → other.known ≡ one.known → length other.quantities ≡ length one.quantities → All IsWord words →
+dealer-moved : (s : Point) (one other : Party) (words : List ℕ) → other.known ≡ one.known →
+    length other.quantities ≡ length one.quantities → All IsWord words →
     length one.quantities ≤ length (accepted words) → MovedDealer s one other words
 dealer-moved s one other words same count all enough = elim (known-or one.known s) [
   | inl known ↦ record {
@@ -80,7 +83,8 @@ module _ (s : Point) where
   mapped-more : (f g : Dealer) (fs gs : List Dealer) → DealerMapped s f g → DealersMapped s fs gs → DealersMapped s (f ∷ fs) (g ∷ gs)
   mapped-more f g fs gs m ms = record { count = omega (arith, ms.count); each_one = each_one } where
     each_one : (k : ℕ) (one other : Dealer) → slice_get (f ∷ fs) k ≡ Some one → slice_get (g ∷ gs) k ≡ Some other → DealerMapped s one other
-    each_one zero one other e h = subst (λ x. DealerMapped s x other) (same_Some f one e) (subst (λ y. DealerMapped s f y) (same_Some g other h) m)
+    each_one zero one other e h = subst (λ x. DealerMapped s x other) (same_Some f one e)
+        (subst (λ y. DealerMapped s f y) (same_Some g other h) m)
     each_one (suc k) one other e h = ms.each_one k one other e h
 
   pub record MovedDealers (parties others : List Party) (words : List (List ℕ)) : Type 0 where
@@ -125,6 +129,7 @@ module _ (s : Point) where
         let many : length b.quantities ≡ wanted = All-head deals b bs d in
         let many' : length o.quantities ≡ wanted = All-head deals o os d' in
         let fits : wanted ≤ length (accepted w) = All-head can_deal w ws enough in
-        moved-more b o w bs os ws (dealer-moved s b o w here (many' ∙ sym many) (All-head (λ list. All IsWord list) w ws all) (omega (arith, many, fits)))
+        moved-more b o w bs os ws (dealer-moved s b o w here (many' ∙ sym many)
+        (All-head (λ list. All IsWord list) w ws all) (omega (arith, many, fits)))
         (dealers-there bs os ws long others (All-tail deals b bs d) (All-tail deals o os d') (All-tail (λ list. All IsWord list) w ws all)
         (All-tail can_deal w ws enough))

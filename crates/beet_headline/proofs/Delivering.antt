@@ -1,5 +1,6 @@
 -- Whatever was delivered, the messages of all rounds in order bring a run to its end.
-use Rattle.std.proofs.Common.{◌≡◌, ◌≤◌, ◌<◌, ℕ, zero, suc, true, inl, inr, List, [], ◌∷◌, ◌++◌, sym, subst, ap, ◌∙◌, refl, arith, append_assoc}
+use Rattle.std.proofs.Common.{◌≡◌, ◌≤◌, ◌<◌, ℕ, zero, suc, true, inl, inr, List, [], ◌∷◌, ◌++◌, sym, subst, ap, ◌∙◌}
+use Rattle.std.proofs.Common.{refl, arith, append_assoc}
 use Rattle.std.specs.Prelude.{All, not}
 use Rattle.std.proofs.lemmas.Bool.{cases_lt}
 use Rattle.std.proofs.lemmas.List.Elements.{All-cons, All-head, All-nil, All-tail}
@@ -8,25 +9,31 @@ use Rattle.beet_field.specs.declared.point.Point.TheVariants.{One, Two, Three}
 use Rattle.beet_round.specs.Sides.{peer}
 use Rattle.beet_round.specs.declared.sides.Side.{Side}
 use Rattle.beet_round.specs.declared.sides.Side.TheVariants.{Low, High}
-use Rattle.beet_delivery.specs.Events.{Delivered, Triple, after, after_from, deliver, has, is_sent, nothing, passed, same, triples_of, undelivered}
-use Rattle.beet_delivery.proofs.NetworkFacts.{Within, after_append, deliver_sent, has_with, passed_most, sent_from, sent_grows, within_after, within_deliver}
+use Rattle.beet_delivery.specs.Events.{Delivered, Triple, after, after_from, deliver, has, is_sent, nothing, passed}
+use Rattle.beet_delivery.specs.Events.{same, triples_of, undelivered}
+use Rattle.beet_delivery.proofs.NetworkFacts.{Within, after_append, deliver_sent, has_with, passed_most, sent_from}
+use Rattle.beet_delivery.proofs.NetworkFacts.{sent_grows, within_after, within_deliver}
 use Rattle.beet_delivery.proofs.ThreeServers.{passed_in, passed_largest, three-is}
 use Rattle.beet_delivery.proofs.Undelivered.{none_undelivered}
 
 module _ (rounds : ℕ) where
-  sent-later : (x y : Delivered) → Within x y → (es : List Triple) → All (λ e. is_sent rounds x e ≡ true) es → All (λ e. is_sent rounds y e ≡ true) es
+  sent-later : (x y : Delivered) → Within x y → (es : List Triple) → All (λ e. is_sent rounds x e ≡ true) es →
+      All (λ e. is_sent rounds y e ≡ true) es
   sent-later x y sub [] all = All-nil (λ e. is_sent rounds y e ≡ true)
   sent-later x y sub (e ∷ es) all =
-      All-cons (λ e. is_sent rounds y e ≡ true) e es (sent_grows three-is rounds x y e sub (All-head (λ e. is_sent rounds x e ≡ true) e es all))
+      All-cons (λ e. is_sent rounds y e ≡ true) e es
+      (sent_grows three-is rounds x y e sub (All-head (λ e. is_sent rounds x e ≡ true) e es all))
       (sent-later x y sub es (All-tail (λ e. is_sent rounds x e ≡ true) e es all))
 
   -- messages that are sent are in, once they are delivered
-  all-in : (es : List Triple) (x : Delivered) → All (λ e. is_sent rounds x e ≡ true) es → All (λ e. has (after_from rounds x es) e ≡ true) es
+  all-in : (es : List Triple) (x : Delivered) → All (λ e. is_sent rounds x e ≡ true) es →
+      All (λ e. has (after_from rounds x es) e ≡ true) es
   all-in [] x all = All-nil (λ e. has x e ≡ true)
   all-in (e ∷ es) x all =
       let y : Delivered = deliver rounds x e in
       let here : has y e ≡ true =
-      subst (λ (z : Delivered). has z e ≡ true) (sym (deliver_sent three-is rounds x e (All-head (λ e. is_sent rounds x e ≡ true) e es all))) (has_with three-is x e) in
+      subst (λ (z : Delivered). has z e ≡ true) (sym (deliver_sent three-is rounds x e
+      (All-head (λ e. is_sent rounds x e ≡ true) e es all))) (has_with three-is x e) in
       All-cons (λ d. has (after_from rounds y es) d ≡ true) e es (within_after three-is rounds es y e.from e.to e.round here)
       (all-in es y (sent-later x y (within_deliver three-is rounds x e) es (All-tail (λ e. is_sent rounds x e ≡ true) e es all)))
 
@@ -92,7 +99,8 @@ module _ (rounds : ℕ) where
       let x : Delivered = after rounds (es ++ r.more) in
       let lt : t < rounds = omega (arith, le) in
       let is : after rounds (es ++ (r.more ++ triples_of t)) ≡ after_from rounds x (triples_of t) =
-      ap (after rounds) (sym (append_assoc es r.more (triples_of t))) ∙ after_append three-is rounds (es ++ r.more) (triples_of t) nothing in
+      ap (after rounds) (sym (append_assoc es r.more (triples_of t)))
+      ∙ after_append three-is rounds (es ++ r.more) (triples_of t) nothing in
       record {
         more = r.more ++ triples_of t;
         all_there = λ s. subst (λ (y : Delivered). suc t ≤ passed rounds y s) (sym is) (passed-more x t lt r.all_there s);

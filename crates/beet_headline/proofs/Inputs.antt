@@ -12,8 +12,8 @@ use Rattle.beet_bids.specs.Books.{Book, IsBook}
 use Rattle.beet_bids.specs.Sums.{demand_at, supply_at, sums_of}
 use Rattle.beet_bids.proofs.BookSums.{sums-elements}
 use Rattle.beet_map.specs.Secrets.{values_of}
-use Rattle.beet_worlds.specs.InputLines.{AreInputLines, summed_slope}
-use Rattle.beet_worlds.proofs.InputFacts.{input-lines}
+use Rattle.beet_auction_map.specs.InputLines.{AreInputLines, summed_slope}
+use Rattle.beet_auction_map.proofs.InputFacts.{input-lines}
 
 module _ (book : Book) (words : List (List ℕ)) where
   abbrev sums : List ℕ
@@ -35,7 +35,8 @@ module _ (book : Book) (words : List (List ℕ)) where
       map-append f (each supply_line n) (each demand_line n) ∙ (λ i. map-each f supply_line n i ++ map-each f demand_line n i)
 
   pub lines-there : IsBook book → length words ≡ length book.bidders → AreInputLines book words lines_of
-  lines-there b count = input-lines book words lines_of sums b count refl (lines-by (λ (l : Line). l.value)) (lines-by (λ (l : Line). l.slope))
+  lines-there b count = input-lines book words lines_of sums b count refl (lines-by (λ (l : Line). l.value))
+      (lines-by (λ (l : Line). l.slope))
 
 items-small : (xs : List ℕ) → All IsElement xs → (k : ℕ) → IsElement (slice_index xs k)
 items-small xs all k = elim (cases_lt k (length xs)) [

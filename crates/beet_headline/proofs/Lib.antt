@@ -8,3 +8,6 @@ pub mod Delivering
 pub mod TwoBooks
 pub mod Telling
 pub mod Zeros
+pub mod Sealed
+pub mod TwoServers
+pub mod UsedTwice

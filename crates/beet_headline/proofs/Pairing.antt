@@ -20,23 +20,23 @@ use Rattle.beet_map.specs.Mapped.{AreWords as AreAllWords}
 use Rattle.beet_map.specs.Secrets.{Secrets}
 use Rattle.beet_map_laws.specs.Pairs.{AreTwoWorlds, CanDraw, GoTogether}
 use Rattle.beet_map_laws.proofs.Images.{image, source, two-back}
-use Rattle.beet_worlds.specs.Enough.{AreEnough}
+use Rattle.beet_auction_map.specs.Enough.{AreEnough}
 use Rattle.beet_mapped.specs.Dealers.{Party}
 use Rattle.beet_mapped.proofs.WorldFacts.{all-words, are-masks}
-use Rattle.beet_worlds.specs.MappedBidders.{BiddersMapped, party_of}
+use Rattle.beet_auction_map.specs.MappedBidders.{BiddersMapped, party_of}
 use Rattle.beet_turned.specs.MappedMasks.{MasksMapped}
 use Rattle.beet_turned.proofs.MasksThere.{masks-there}
-use Rattle.beet_worlds.specs.Losses.{losses_of}
-use Rattle.beet_worlds.specs.MappedWords.{Mapped}
-use Rattle.beet_worlds.specs.Worlds.{WorldsMapped}
-use Rattle.beet_worlds.proofs.BidderFacts.{bidders-back}
-use Rattle.beet_worlds.proofs.Drawn.{all-drawn}
-use Rattle.beet_worlds.proofs.Marks.{as-many}
-use Rattle.beet_worlds.proofs.EnoughFacts.{mapped-enough}
-use Rattle.beet_worlds.proofs.MasksBack.{agree-back, books-back}
+use Rattle.beet_auction_map.specs.Losses.{losses_of}
+use Rattle.beet_auction_map.specs.MappedWords.{Mapped}
+use Rattle.beet_auction_map.specs.Worlds.{WorldsMapped}
+use Rattle.beet_auction_map.proofs.BidderFacts.{bidders-back}
+use Rattle.beet_auction_map.proofs.Drawn.{all-drawn}
+use Rattle.beet_auction_map.proofs.Marks.{as-many}
+use Rattle.beet_auction_map.proofs.EnoughFacts.{mapped-enough}
+use Rattle.beet_auction_map.proofs.MasksBack.{agree-back, books-back}
 use Rattle.beet_turned.proofs.Small.{mapped-masks}
-use Rattle.beet_worlds.proofs.WorldFacts.{Stands, enough-numbers, look-same-in, secrets-first, secrets-second, worlds-mapped}
-use Rattle.beet_headline.specs.Halves.{AreOnePair, AreTwoBooks, CanRun}
+use Rattle.beet_auction_map.proofs.WorldFacts.{Stands, enough-numbers, look-same-in, secrets-first, secrets-second, worlds-mapped}
+use Rattle.beet_headline.specs.Statements.{AreOnePair, AreTwoBooks, CanRun}
 use Rattle.beet_headline.proofs.Dealers.{MovedDealers, dealers-there}
 use Rattle.beet_headline.proofs.Inputs.{lines-there, lines_of, values-small}
 use Rattle.beet_headline.proofs.Lengths.{as-long}
@@ -100,7 +100,8 @@ module _ (s : Point) (first second : Book) (two : AreTwoBooks s first second) (w
     there = lines-there second lists.lists two.second_book many;
   }
 
-  worlds : AreTwoWorlds (auction_batch (auction_over first.grid)) (most_rounds (auction_over first.grid)) (2 * prices) (most_masks (auction_over first.grid)) s here there
+  worlds : AreTwoWorlds (auction_batch (auction_over first.grid)) (most_rounds (auction_over first.grid)) (2 * prices)
+      (most_masks (auction_over first.grid)) s here there
   worlds = record {
     first = secrets-first s first second words lists.lists here there two.agree.grids first.grid refl refl stands;
     second = secrets-second s first second words lists.lists here there two.agree.grids first.grid refl refl stands;
@@ -134,13 +135,16 @@ second-there s first second words two runs =
     let w' : Secrets = there s first second two words runs in
     let masks' = masks s first second two words runs in
     let bidders' = lists s first second two words runs in
-    let found = image (auction_batch a) (most_rounds a) (2 * first.grid.prices) (most_wires a) (most_masks a) (most_coefficients a) (auction-law a) s w w'
+    let found = image (auction_batch a) (most_rounds a) (2 * first.grid.prices) (most_wires a) (most_masks a)
+    (most_coefficients a) (auction-law a) s w w'
     (worlds s first second two words runs) words.coefficients (can-draw first words runs) in
     let words' : Words = record { masks = masks'.0; coefficients = found.0; bidders = bidders'.lists } in
-    let are' : AreWords words' = all-are masks'.0 found.0 bidders'.lists (are-masks-there s first second two words runs) found.1.are_words bidders'.are_words in (
+    let are' : AreWords words' = all-are masks'.0 found.0 bidders'.lists
+    (are-masks-there s first second two words runs) found.1.are_words bidders'.are_words in (
       words',
       one-pair s first words second words' two runs are'
-          (worlds-mapped s first second words bidders'.lists w w' two.agree.grids first.grid refl refl (stands s first second two words runs) found.0
+          (worlds-mapped s first second words bidders'.lists w w' two.agree.grids first.grid refl refl
+          (stands s first second two words runs) found.0
           found.2 are'),
     )
 
@@ -172,7 +176,8 @@ module _ (s : Point) (first second : Book) (two : AreTwoBooks s first second) (w
       × GoTogether (auction_batch (auction_over second.grid)) (most_rounds (auction_over second.grid)) s w w' c words'.coefficients
   drawn =
       let a = auction_over second.grid in
-      source (auction_batch a) (most_rounds a) (2 * second.grid.prices) (most_wires a) (most_masks a) (most_coefficients a) (auction-law a) s w w'
+      source (auction_batch a) (most_rounds a) (2 * second.grid.prices) (most_wires a) (most_masks a)
+      (most_coefficients a) (auction-law a) s w w'
       (two-back (auction_batch a) (most_rounds a) (2 * second.grid.prices) (most_masks a) s w' w (worlds s second first back words' runs))
       words'.coefficients (can-draw second words' runs)
 
@@ -184,12 +189,14 @@ module _ (s : Point) (first second : Book) (two : AreTwoBooks s first second) (w
 
   enough : AreEnough first words
   enough =
-      mapped-enough s second first words' words back.agree masks'.1 (λ j. sym (drawn.2.mapped.places j)) (many s second first back words' runs) bidders'.mapped
+      mapped-enough s second first words' words back.agree masks'.1 (λ j. sym (drawn.2.mapped.places j))
+      (many s second first back words' runs) bidders'.mapped
       runs.enough
 
   bidders-mapped : BiddersMapped s first.bidders bidders'.lists second.bidders words'.bidders
   bidders-mapped =
-      bidders-back s second.bidders first.bidders words'.bidders bidders'.lists two.second_book.curves two.first_book.curves runs.are_words.bidders bidders'.mapped
+      bidders-back s second.bidders first.bidders words'.bidders bidders'.lists two.second_book.curves
+      two.first_book.curves runs.are_words.bidders bidders'.mapped
 
   stands-back : Stands s first second words words'.masks words'.bidders w.inputs w'.inputs
   stands-back = record {
@@ -209,6 +216,7 @@ module _ (s : Point) (first second : Book) (two : AreTwoBooks s first second) (w
   first-there = (
     words,
     one-pair s first words second words' two (record { are_words = are; enough = enough }) runs.are_words
-        (worlds-mapped s first second words words'.bidders w w' two.agree.grids second.grid two.agree.grids refl stands-back words'.coefficients
+        (worlds-mapped s first second words words'.bidders w w' two.agree.grids second.grid two.agree.grids refl
+        stands-back words'.coefficients
         drawn.2 runs.are_words),
   )

@@ -1,5 +1,6 @@
 -- What a server sees tells how the run ends.
-use Rattle.std.proofs.Common.{◌≡◌, ◌≤◌, ◌<◌, ◌+◌, ◌*◌, ◌%◌, ℕ, zero, suc, List, [], ◌∷◌, ◌++◌, map, take, drop, length, get_or, slice_index, Option, refl, sym, ap, subst, ◌∙◌, arith}
+use Rattle.std.proofs.Common.{◌≡◌, ◌≤◌, ◌<◌, ◌+◌, ◌*◌, ◌%◌, ℕ, zero, suc, List, [], ◌∷◌, ◌++◌, map, take, drop, length}
+use Rattle.std.proofs.Common.{get_or, slice_index, Option, refl, sym, ap, subst, ◌∙◌, arith}
 use Rattle.std.specs.Prelude.{sum_by}
 use Rattle.std.proofs.lemmas.List.Sums.{sum_by-cons}
 use Rattle.beet_field.specs.Field.{p}
@@ -15,29 +16,31 @@ use Rattle.beet_gates.specs.Plans.{plan_finish}
 use Rattle.beet_gates.specs.Scripts.{deals_in}
 use Rattle.beet_gates.specs.declared.Batch.{Batch}
 use Rattle.beet_gates.proofs.EachFacts.{each-same, get_or-each, item-each, length-each}
+use Rattle.beet_gates.specs.Draws.{draws_in}
 use Rattle.beet_bids.specs.Books.{Book, IsBook}
 use Rattle.beet_bids.specs.Grids.{Grid}
 use Rattle.beet_bids.specs.declared.book.Bidder.{Bidder}
 use Rattle.beet_plan.specs.Auction.{auction_batch, auction_over, auction_plan, most_rounds}
 use Rattle.beet_plan.specs.declared.Finish.{Finish}
-use Rattle.beet_book.specs.Farmers.{Farmer, book_inputs, farmers_of, point_for, summed_point}
+use Rattle.beet_book.specs.Farmers.{BidderWithWords, book_inputs, farmers_of, point_for, summed_point}
 use Rattle.beet_book.specs.Totals.{supply_first}
 use Rattle.beet_round.specs.Sides.{peer}
 use Rattle.beet_round.specs.declared.sides.Side.{Side}
 use Rattle.beet_round.specs.declared.sides.Side.TheVariants.{Low, High}
-use Rattle.beet_sharing.specs.Runs.{Setup, Shared, coming, draws_in, gained, message, opened_by, rounds_among, shared_at, standing_at}
+use Rattle.beet_sharing.specs.Runs.{Setup, Shared, coming, gained, message, opened_by, rounds_among, shared_at}
+use Rattle.beet_sharing.specs.Runs.{standing_at}
 use Rattle.beet_sharing.specs.Steps.{numbers_for, numbers_opened, points_given}
 use Rattle.beet_sharing.proofs.Lined.{member-each, member-trio}
 use Rattle.beet_sharing.proofs.RunSteps.{gains-run, opens-run, sends-run}
+use Rattle.beet_sharing.specs.Seen.{round_seen, rounds_seen}
 use Rattle.beet_auction.specs.Endings.{book_finish, book_rounds}
 use Rattle.beet_auction.specs.Setups.{setup_for}
 use Rattle.beet_view.specs.BookViews.{seen_at}
-use Rattle.beet_view.specs.RunViews.{round_seen, rounds_seen}
 use Rattle.beet_view.specs.declared.view.Seen.{Seen}
 use Rattle.beet_map.proofs.Alike.{Alike}
-use Rattle.beet_worlds.specs.ViewsWith.{cut_words, view_with}
-use Rattle.beet_worlds.proofs.CutRuns.{rounds-cut, run-cut}
-use Rattle.beet_headline.specs.Halves.{CanRun}
+use Rattle.beet_auction_map.specs.ViewsWith.{cut_words, view_with}
+use Rattle.beet_auction_map.proofs.CutRuns.{rounds-cut, run-cut}
+use Rattle.beet_headline.specs.Statements.{CanRun}
 use Rattle.beet_headline.proofs.Standings.{ends, same-finish}
 
 -- a server, and its two peers
@@ -60,7 +63,8 @@ module _ (next : ℕ → List ℕ → Batch) (me : Point) (inputs masks numbers 
   abbrev there : Setup
   there = record { next = next; inputs = inputs'; masks = masks'; numbers = numbers' }
 
-  module _ (own_inputs : member inputs' me ≡ member inputs me) (own_masks : member masks' me ≡ member masks me) (own_numbers : member numbers' me ≡ member numbers me)
+  module _ (own_inputs : member inputs' me ≡ member inputs me) (own_masks : member masks' me ≡ member masks me)
+      (own_numbers : member numbers' me ≡ member numbers me)
       (messages : (t : ℕ) → t < rounds → (side : Side) → message there (peer me side) me t ≡ message here (peer me side) me t) where
     module _ (t : ℕ) (lt : t < rounds) (alike : Alike me (shared_at here t) (shared_at there t)) where
       abbrev s : Shared
@@ -115,10 +119,10 @@ module _ (next : ℕ → List ℕ → Batch) (me : Point) (inputs masks numbers 
 
 -- the points of bidders as a server sees them are those that it adds up
 module _ (grid : Grid) (s : Point) where
-  abbrev points : List Farmer → List (List ℕ)
+  abbrev points : List BidderWithWords → List (List ℕ)
   points farmers = map (λ (seen : Seen). seen.points) (map (seen_at grid s) farmers)
 
-  sums-seen : (n : ℕ) → n < 2 * grid.prices → (farmers farmers' : List Farmer) → points farmers' ≡ points farmers →
+  sums-seen : (n : ℕ) → n < 2 * grid.prices → (farmers farmers' : List BidderWithWords) → points farmers' ≡ points farmers →
       sum_by (λ farmer. point_for farmer s n) farmers' ≡ sum_by (λ farmer. point_for farmer s n) farmers
   sums-seen n lt [] [] e = refl
   sums-seen n lt [] (g ∷ gs) e = cc e
@@ -132,7 +136,7 @@ module _ (grid : Grid) (s : Point) where
       let rest = sums-seen n lt fs gs tail in
       sum_by-cons (λ farmer. point_for farmer s n) g gs ∙ (λ x. here x + rest x) ∙ sym (sum_by-cons (λ farmer. point_for farmer s n) f fs)
 
-  inputs-seen : (farmers farmers' : List Farmer) → map (seen_at grid s) farmers' ≡ map (seen_at grid s) farmers →
+  inputs-seen : (farmers farmers' : List BidderWithWords) → map (seen_at grid s) farmers' ≡ map (seen_at grid s) farmers →
       member (book_inputs grid.prices farmers') s ≡ member (book_inputs grid.prices farmers) s
   inputs-seen farmers farmers' e =
       let wanted = 2 * grid.prices in
@@ -143,10 +147,11 @@ module _ (grid : Grid) (s : Point) where
       ∙ sym (member-trio (λ i. supply_first grid.prices (each (summed_point farmers i) wanted)) s)
 
 -- two books over one grid
-abbrev over : Grid → List Bidder → Book
+abbrev pub over : Grid → List Bidder → Book
 over grid bidders = record { grid = grid; bidders = bidders }
 
-module _ (s : Point) (grid : Grid) (bidders others : List Bidder) (words words' : Words) (b : IsBook (over grid bidders)) (b' : IsBook (over grid others))
+module _ (s : Point) (grid : Grid) (bidders others : List Bidder) (words words' : Words)
+    (b : IsBook (over grid bidders)) (b' : IsBook (over grid others))
     (runs : CanRun (over grid bidders) words) (runs' : CanRun (over grid others) words')
     (view : view_with (over grid others) words' s ≡ view_with (over grid bidders) words s) where
   abbrev first : Book
@@ -215,7 +220,8 @@ module _ (s : Point) (grid : Grid) (bidders others : List Bidder) (words words' 
       (sym other.finish_named ∙ (λ x. named (sym cut' x).opened) ∙ (λ x. named (shared_at o' (as-many x)).opened) ∙ ap named at-end
       ∙ (λ x. named (cut x).opened) ∙ one.finish_named)
 
-pub equal-ends : (s : Point) (first second : Book) (words words' : Words) → IsBook first → IsBook second → CanRun first words → CanRun second words' →
+pub equal-ends : (s : Point) (first second : Book) (words words' : Words) → IsBook first → IsBook second →
+    CanRun first words → CanRun second words' →
     view_with second words' s ≡ view_with first words s → book_finish second words'.masks ≡ book_finish first words.masks
 equal-ends s first second words words' b b' runs runs' view =
     subst

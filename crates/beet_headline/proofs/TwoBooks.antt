@@ -1,5 +1,6 @@
 -- Two books that clear alike.
-use Rattle.std.proofs.Common.{◌≡◌, ◌≢◌, ◌≤◌, ℕ, zero, suc, [], ◌∷◌, slice_get, slice_index, Option, Some, None, refl, sym, ap, ◌∙◌, arith, AllPairs}
+use Rattle.std.proofs.Common.{◌≡◌, ◌≢◌, ◌≤◌, ℕ, zero, suc, [], ◌∷◌, slice_get, slice_index, Option, Some, None, refl}
+use Rattle.std.proofs.Common.{sym, ap, ◌∙◌, arith, AllPairs}
 use Rattle.std.specs.Prelude.{All}
 use Rattle.std.proofs.lemmas.List.Elements.{All-cons, All-nil}
 use Rattle.std.proofs.lemmas.List.Kept.{AllPairs-cons}
@@ -10,9 +11,9 @@ use Rattle.beet_bids.specs.Curves.{IsCurve, IsOfGrid}
 use Rattle.beet_bids.specs.declared.book.Bidder.{Bidder}
 use Rattle.beet_bids.specs.declared.curve.TheConstants.{LARGEST_QUANTITY}
 use Rattle.beet_bids.specs.declared.outcomes.Outcome.TheVariants.{No, Price}
-use Rattle.beet_worlds.specs.Agreement.{SameKnown}
+use Rattle.beet_auction_map.specs.Agreement.{SameKnown}
 use Rattle.beet_headline.specs.Examples.{book_selling, buyer, seller_of, two_prices}
-use Rattle.beet_headline.specs.Halves.{AreTwoBooks}
+use Rattle.beet_headline.specs.Statements.{AreTwoBooks}
 
 both : (P : ℕ → Type 0) (a b : ℕ) → P a → P b → All P (a ∷ b ∷ [])
 both P a b one other = All-cons P a (b ∷ []) one (All-cons P b [] other (All-nil P))
@@ -47,7 +48,8 @@ is-book amount few = record {
       All-cons (λ (b : Bidder). IsCurve b.curve) buyer (seller_of amount ∷ []) buys
       (All-cons (λ (b : Bidder). IsCurve b.curve) (seller_of amount) [] (sells amount few) (All-nil (λ (b : Bidder). IsCurve b.curve)));
   of_grid =
-      All-cons (λ (b : Bidder). IsOfGrid two_prices b.curve) buyer (seller_of amount ∷ []) (record { buy_length = refl; sell_length = refl })
+      All-cons (λ (b : Bidder). IsOfGrid two_prices b.curve) buyer (seller_of amount ∷ [])
+      (record { buy_length = refl; sell_length = refl })
       (All-cons (λ (b : Bidder). IsOfGrid two_prices b.curve) (seller_of amount) [] (record { buy_length = refl; sell_length = refl })
       (All-nil (λ (b : Bidder). IsOfGrid two_prices b.curve)));
 }

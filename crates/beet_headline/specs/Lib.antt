@@ -1,2 +1,3 @@
-pub mod Halves
+pub mod Statements
+pub mod Envelopes
 pub mod Examples

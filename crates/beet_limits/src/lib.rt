@@ -1,21 +1,24 @@
-//! The numbers of the formats and of the blocks of gates, as laws: functions that do nothing, whose contracts say what each
-//! named number is. The crates below take a limit or a reason by its name, in the code as in the definitions; so no contract
-//! there would notice another value.
+//! The numbers of the formats and of the blocks of gates, as laws: functions that do nothing, whose contracts say what
+//! each named number is. The crates below take a limit or a reason by its name, in the code as in the definitions; so
+//! no contract there would notice another value.
 #![tactic(auto)]
 
 ghost use Rattle.std.specs.Prelude.{◌≡◌, ◌*◌, ◌^◌, ◌+◌, ◌-◌};
 ghost use Rattle.beet_field.specs.declared.TheConstants.{MOST_NUMBERS};
 ghost use Rattle.beet_forms.specs.declared.faults.TheConstants.{BAD_HEADER, BAD_ROW, LONGEST_FILE};
 ghost use Rattle.beet_forms.specs.declared.names.TheConstants.{LONGEST_NAME};
-ghost use Rattle.beet_words.specs.declared.bundle.TheConstants.{BAD_MAGIC, BAD_NUMBER, MOST_BIDDERS, MOST_WORDS, TRAILING, TRUNCATED, WRONG_COUNT};
+ghost use Rattle.beet_words.specs.declared.bundle.TheConstants.{BAD_MAGIC, BAD_NUMBER, MOST_BIDDERS, MOST_WORDS};
+ghost use Rattle.beet_words.specs.declared.bundle.TheConstants.{TRAILING, TRUNCATED, WRONG_COUNT};
 ghost use Rattle.beet_words.specs.declared.tape_file.TheConstants.{BAD_LINE, TAPE_LIMIT, WORD_TOO_LARGE};
 ghost use Rattle.beet_gates.specs.declared.Gates.TheVariants.{Chain, Tree};
 ghost use Rattle.beet_gates.specs.declared.TheConstants.{MOST_LETS, WIRES_BEFORE_BITS};
-ghost use Rattle.beet_bids.specs.declared.auction_file.TheConstants.{AUCTION_LIMIT, BAD_KEY, BAD_VALUE, NOT_ONE_PRICE, WRONG_VERSION};
+ghost use Rattle.beet_bids.specs.declared.auction_file.TheConstants.{AUCTION_LIMIT, BAD_KEY, BAD_VALUE, NOT_ONE_PRICE};
+ghost use Rattle.beet_bids.specs.declared.auction_file.TheConstants.{WRONG_VERSION};
 ghost use Rattle.beet_bids.specs.declared.bid_file.TheConstants.{BID_LIMIT};
 ghost use Rattle.beet_bids.specs.declared.curve.TheConstants.{LARGEST_QUANTITY};
 ghost use Rattle.beet_bids.specs.declared.grid.TheConstants.{LARGEST_BASE, LARGEST_TICK, MOST_COMPARISONS, MOST_PRICES};
-ghost use Rattle.beet_bids.specs.declared.lines.TheConstants.{BUY_RISES, NO_BASE, NOT_ASCENDING, OFF_GRID, QUANTITY_TOO_LARGE, SELL_FALLS};
+ghost use Rattle.beet_bids.specs.declared.lines.TheConstants.{BUY_RISES, NO_BASE, NOT_ASCENDING, OFF_GRID};
+ghost use Rattle.beet_bids.specs.declared.lines.TheConstants.{QUANTITY_TOO_LARGE, SELL_FALLS};
 ghost use Rattle.beet_mask.specs.Mask.{mask_rounds_of, mask_wires_of};
 ghost use Rattle.beet_compare.specs.Compare.{compare_rounds_of, compare_wires_of};
 ghost use Rattle.beet_masking.specs.declared.TheConstants.{MASK_COEFFICIENTS, SPARE_MASKS, SPARE_WORDS};
@@ -24,12 +27,15 @@ ghost use Rattle.beet_book.specs.declared.entries.TheConstants.{BAD_SOURCE};
 ghost use Rattle.beet_book.specs.declared.named_file.TheConstants.{ONE_TOO_MANY, SAME_NAME, TOO_MANY};
 ghost use Rattle.beet_book.specs.declared.server_file.TheConstants.{SERVERS_LIMIT};
 ghost use Rattle.beet_book.specs.declared.summing.TheConstants.{MOST_IN_BLOCK};
-ghost use Rattle.beet_world.specs.declared.schedule.TheConstants.{BAD_DELIVERY, LATEST_ROUND, MOST_DELIVERIES, ONE_DELIVERY_TOO_MANY, SCHEDULE_LIMIT, TOO_MANY_DELIVERIES};
+ghost use Rattle.beet_world.specs.declared.schedule.TheConstants.{BAD_DELIVERY, LATEST_ROUND, MOST_DELIVERIES};
+ghost use Rattle.beet_world.specs.declared.schedule.TheConstants.{ONE_DELIVERY_TOO_MANY, SCHEDULE_LIMIT};
+ghost use Rattle.beet_world.specs.declared.schedule.TheConstants.{TOO_MANY_DELIVERIES};
 ghost use Rattle.beet_view.specs.declared.reading.TheConstants.{MOST_ROUNDS};
-ghost use Rattle.beet_farmer.specs.declared.envelope.TheConstants.{AFTER_POINTS, BAD_POINT, ENVELOPE_LIMIT, TRUNCATED_ENVELOPE, WRONG_GRID, WRONG_SERVER};
+ghost use Rattle.beet_farmer.specs.declared.envelope.TheConstants.{AFTER_POINTS, BAD_POINT, ENVELOPE_LIMIT};
+ghost use Rattle.beet_farmer.specs.declared.envelope.TheConstants.{TRUNCATED_ENVELOPE, WRONG_GRID, WRONG_SERVER};
 ghost use Rattle.beet_farmer.specs.declared.list_file.TheConstants.{LIST_LIMIT};
 ghost use Rattle.beet_errand.specs.declared.fetching.TheConstants.{TOO_LONG};
-ghost use Rattle.beet_trial.specs.declared.rules.TheConstants.{BASE, FIRST_SEED, TICK};
+ghost use Rattle.beet_job_trial.specs.declared.rules.TheConstants.{BASE, FIRST_SEED, TICK};
 
 /// The limits of files in bytes.
 pub fn files_have_these_limits()

@@ -1,7 +1,7 @@
 //! The jobs of the program over real files: each line of the file `lines` is one command, and what it says and its
-//! status are printed below it. A line `same ONE OTHER` compares two files, and its status is 0 where they hold the same
-//! bytes. A line `size FILE` says how many bytes a file holds. A line `splice FILE AT COUNT DIGITS OUT` puts a file in
-//! which so many bytes from a place on give way to those of hexadecimal digits, or to none where these are `-`.
+//! status are printed below it. A line `same ONE OTHER` compares two files, and its status is 0 where they hold the
+//! same bytes. A line `size FILE` says how many bytes a file holds. A line `splice FILE AT COUNT DIGITS OUT` puts a
+//! file in which so many bytes from a place on give way to those of hexadecimal digits, or to none where these are `-`.
 #![tactic(auto)]
 
 use beet_link::FreeGate;

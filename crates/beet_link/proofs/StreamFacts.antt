@@ -15,7 +15,8 @@ pub length-stream : (o : Setup) (rounds : ℕ) (from to : Point) → length (str
 length-stream o rounds from to = length-each (message_of o from to) rounds
 
 -- at each round there is its message
-pub stream-at : (o : Setup) (rounds : ℕ) (from to : Point) (t : ℕ) → t < rounds → slice_get (stream o rounds from to) t ≡ Some (message_of o from to t)
+pub stream-at : (o : Setup) (rounds : ℕ) (from to : Point) (t : ℕ) → t < rounds →
+    slice_get (stream o rounds from to) t ≡ Some (message_of o from to t)
 stream-at o rounds from to t lt = get-each (message_of o from to) rounds t lt
 
 -- and nothing else
@@ -32,13 +33,15 @@ pub length-few : (o : Setup) (bounds : Standing) (most inputs : ℕ) (from to : 
 length-few o bounds most inputs from to law = rw (length-stream o (rounds_among o most) from to) (lawful-rounds o bounds most inputs law).1
 
 -- an end that has moved the messages of all rounds before a round of the run moves that of the round next
-pub next-is : {room : ℕ} (o : Setup) (rounds : ℕ) (from to : Point) (t : ℕ) (e : LinkEnd) (m : RoundMessage) → e ≡ end_at room (stream o rounds from to) t →
+pub next-is : {room : ℕ} (o : Setup) (rounds : ℕ) (from to : Point) (t : ℕ) (e : LinkEnd) (m : RoundMessage) →
+    e ≡ end_at room (stream o rounds from to) t →
     t < rounds → m ≡ message_of o from to t → IsNext e m
 next-is o rounds from to t e m tie lt is =
     subst (λ (e : LinkEnd). IsNext e m) (sym tie) (stream-at o rounds from to t lt ∙ ap Some (sym is))
 
 -- and what it moves next is that message
-pub next-only : {room : ℕ} (o : Setup) (rounds : ℕ) (from to : Point) (t : ℕ) (e : LinkEnd) (m : RoundMessage) → e ≡ end_at room (stream o rounds from to) t →
+pub next-only : {room : ℕ} (o : Setup) (rounds : ℕ) (from to : Point) (t : ℕ) (e : LinkEnd) (m : RoundMessage) →
+    e ≡ end_at room (stream o rounds from to) t →
     IsNext e m → m ≡ message_of o from to t
 next-only o rounds from to t e m tie next =
     (stream-only o rounds from to t m (subst (λ (e : LinkEnd). IsNext e m) tie next)).1

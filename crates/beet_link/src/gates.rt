@@ -4,7 +4,7 @@ use beet_field::Point;
 
 /// Which server meets a gate, and in which round.
 #[derive(Clone, Copy, PartialEq, Eq, Debug)]
-pub struct Note {
+pub struct GateNote {
     /// The server that meets the gate.
     pub server: Point,
     /// Its round, from 0.
@@ -22,7 +22,7 @@ pub trait Gate: Sync {
     fn seat(&self, server: Point) -> Self::Seat;
 
     /// Meets the server of this seat.
-    fn meet(&self, seat: &mut Self::Seat, note: Note);
+    fn meet(&self, seat: &mut Self::Seat, note: GateNote);
 }
 
 /// The gate that does nothing.
@@ -33,5 +33,5 @@ impl Gate for FreeGate {
 
     fn seat(&self, _server: Point) {}
 
-    fn meet(&self, _seat: &mut (), _note: Note) {}
+    fn meet(&self, _seat: &mut (), _note: GateNote) {}
 }

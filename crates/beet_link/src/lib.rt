@@ -9,5 +9,5 @@ mod parcel;
 mod sleeper;
 
 pub use ends::{LinkRx, LinkTx};
-pub use gates::{FreeGate, Gate, Note};
+pub use gates::{FreeGate, Gate, GateNote};
 pub use making::link;

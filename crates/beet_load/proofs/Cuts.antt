@@ -15,7 +15,8 @@ take-few (suc n) [] = omega arith
 take-few (suc n) (x ∷ xs) = omega (arith, take-few n xs)
 
 -- the words of a seed
-pub seed_cut : (tape : Tape) (seed : List ℕ) (stream kept : ℕ) → tape ≡ record { words = seed_words seed stream kept; passed = 0 } → length tape.words ≤ kept
+pub seed_cut : (tape : Tape) (seed : List ℕ) (stream kept : ℕ) →
+    tape ≡ record { words = seed_words seed stream kept; passed = 0 } → length tape.words ≤ kept
 seed_cut tape seed stream kept e =
     let long = ap (λ (t : Tape). length t.words) e in
     omega (arith, long, length-map-range_with_len (seed_word seed stream) 0 kept)
@@ -27,7 +28,11 @@ seeded_cut wanted seed words e =
     let coefficients = ap (λ (w : ServerWords). length w.coefficients) e in
     record {
       masks = omega (arith, masks, length-map-range_with_len (seed_word seed (first_stream wanted.lot + 1)) 0 wanted.counts.masks);
-      coefficients = omega (arith, coefficients, length-map-range_with_len (seed_word seed (first_stream wanted.lot)) 0 (with_spare wanted.counts.coefficients));
+      coefficients = omega (
+        arith,
+        coefficients,
+        length-map-range_with_len (seed_word seed (first_stream wanted.lot)) 0 (with_spare wanted.counts.coefficients),
+      );
     }
 
 server_cut : (counts : Counts) (masks coefficients : List ℕ) → IsCut counts (cut_server counts masks coefficients)

@@ -16,11 +16,14 @@ pub lt_true : (m n : ℕ) → m < n → nat_lt m n ≡ true
 lt_true m n h = grind (arith, common_steps)
 
 -- words that are enough pass the test
-pub words_pass : (lot : Option ℕ) (number wanted : ℕ) (words : List ℕ) → wanted ≤ length (accepted words) → Tests (enough_words lot number wanted words) (Ok tt)
-words_pass lot number wanted words h = record { passes = λ next. rw (lt_false (length (accepted words)) wanted h) refl; cause = λ before now. tt }
+pub words_pass : (lot : Option ℕ) (number wanted : ℕ) (words : List ℕ) → wanted ≤ length (accepted words) →
+    Tests (enough_words lot number wanted words) (Ok tt)
+words_pass lot number wanted words h =
+    record { passes = λ next. rw (lt_false (length (accepted words)) wanted h) refl; cause = λ count. refl }
 
 -- words that are too few do not
 pub words_short : (lot : Option ℕ) (number wanted : ℕ) (words : List ℕ) (stop : Stop) → length (accepted words) < wanted →
-    Refuses TooFewWords (too_few_text lot number (length (accepted words)) wanted) stop → Tests (enough_words lot number wanted words) (Err stop)
+    Refuses TooFewWords (too_few_text lot number (length (accepted words)) wanted) stop →
+    Tests (enough_words lot number wanted words) (Err stop)
 words_short lot number wanted words stop h r =
-    test_refused TooFewWords _ stop (λ next. rw (lt_true (length (accepted words)) wanted h) refl) r (λ before now. tt)
+    test_refused TooFewWords _ stop (λ next. rw (lt_true (length (accepted words)) wanted h) refl) r (λ count. refl)

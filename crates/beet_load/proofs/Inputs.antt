@@ -23,7 +23,7 @@ use Rattle.beet_bids.proofs.BookSums.{length-sums, sums-supply, sums-demand}
 use Rattle.beet_load.specs.Collecting.{curves_of, AreCollected}
 use Rattle.beet_load.specs.Farmers.{bidders_of}
 use Rattle.beet_load.specs.Loading.{IsKeptOf}
-use Rattle.beet_book.specs.Farmers.{Farmer, book_with}
+use Rattle.beet_book.specs.Farmers.{BidderWithWords, book_with}
 use Rattle.beet_load.specs.Servers.{ServerWords}
 use Rattle.beet_load.proofs.Summing.{sum_of_bidders, map_length}
 use Rattle.beet_words.specs.declared.bundle.TheConstants.{MOST_BIDDERS}
@@ -59,7 +59,7 @@ points-first prices v s at h i =
     ])
 
 -- the sums of a book are the summed quantities, with supply first
-sums-first : (grid : Grid) (farmers : List Farmer) → All (IsOfGrid grid) (curves_of farmers) →
+sums-first : (grid : Grid) (farmers : List BidderWithWords) → All (IsOfGrid grid) (curves_of farmers) →
     supply_first grid.prices (summed_quantities grid.prices (curves_of farmers)) ≡ sums_of (book_with grid farmers)
 sums-first grid farmers all =
     let prices = grid.prices in
@@ -97,11 +97,15 @@ shares-first totals v h x =
       slopes = supply_first prices x.slopes;
       paired = length-first prices x.slopes i ∙ sym (length-first prices v h);
       shares = ap (λ points. wires_of (record { prices = prices; points = points })) x.shares
-          ∙ rw (← points-first prices v x.slopes One h i, ← points-first prices v x.slopes Two h i, ← points-first prices v x.slopes Three h i) refl;
+          ∙ rw (
+            ← points-first prices v x.slopes One h i,
+            ← points-first prices v x.slopes Two h i,
+            ← points-first prices v x.slopes Three h i,
+          ) refl;
     }
 
 -- the points of all bidders are added up: the inputs are shares of the sums of their book
-pub inputs-shares : (grid : Grid) (totals : Totals) (farmers : List Farmer) (wires : Trio (List ℕ)) →
+pub inputs-shares : (grid : Grid) (totals : Totals) (farmers : List BidderWithWords) (wires : Trio (List ℕ)) →
     AreShares (summed_quantities grid.prices (curves_of farmers)) totals.points → totals.prices ≡ grid.prices →
     All (IsOfGrid grid) (curves_of farmers) → wires ≡ wires_of totals → AreShares (sums_of (book_with grid farmers)) wires
 inputs-shares grid totals farmers wires shares prices of_grid e =
@@ -110,13 +114,14 @@ inputs-shares grid totals farmers wires shares prices of_grid e =
     rw (e, ← sums-first grid farmers of_grid) (subst (λ n. AreShares (supply_first n v) (wires_of totals)) prices x)
 
 -- what holds of each curve holds of each bidder's
-each-bidder : (P : Curve → Type 0) (farmers : List Farmer) → All P (curves_of farmers) → All (λ bidder. P bidder.curve) (bidders_of farmers)
+each-bidder : (P : Curve → Type 0) (farmers : List BidderWithWords) → All P (curves_of farmers) →
+    All (λ bidder. P bidder.curve) (bidders_of farmers)
 each-bidder P farmers all = All-map (λ bidder. P bidder.curve) (λ farmer. farmer.bidder) farmers
     (λ i d h. subst P (get_or-map (λ farmer. farmer.bidder.curve) farmers i d d.bidder.curve h)
     (all i d.bidder.curve (rw (map_length (λ farmer. farmer.bidder.curve) farmers) h)))
 
 -- bidders with curves of a grid make a book
-pub is-book : (grid : Grid) (farmers : List Farmer) → All IsCurve (curves_of farmers) → All (IsOfGrid grid) (curves_of farmers) →
+pub is-book : (grid : Grid) (farmers : List BidderWithWords) → All IsCurve (curves_of farmers) → All (IsOfGrid grid) (curves_of farmers) →
     length farmers ≤ MOST_BIDDERS → IsBook (book_with grid farmers)
 is-book grid farmers curves of_grid few = record {
   few = rw (map_length (λ farmer. farmer.bidder) farmers) few;
@@ -125,7 +130,8 @@ is-book grid farmers curves of_grid few = record {
 }
 
 -- what is kept of an auction whose bidders are added up
-pub kept_of_all : (grid : Grid) (entries : List Entry) (servers : Trio ServerWords) (totals : Totals) (farmers : List Farmer) (wires : Trio (List ℕ)) →
+pub kept_of_all : (grid : Grid) (entries : List Entry) (servers : Trio ServerWords) (totals : Totals)
+    (farmers : List BidderWithWords) (wires : Trio (List ℕ)) →
     length entries ≤ MOST_BIDDERS → AreCollected grid entries totals farmers → wires ≡ wires_of totals →
     IsKeptOf (record { grid = grid; servers = servers; inputs = wires }) (record { grid = grid; servers = servers; farmers = farmers })
 kept_of_all grid entries servers totals farmers wires few c e =

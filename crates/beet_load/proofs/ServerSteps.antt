@@ -12,8 +12,11 @@ use Rattle.beet_load.proofs.Farming.{lt_false}
 pub counts_pass : (wanted : Wanted) (server : ℕ) (words : ServerWords) → wanted.counts.coefficients ≤ length (accepted words.coefficients) →
     wanted.counts.masks ≤ length words.masks → Tests (enough_of wanted server words) (Ok tt)
 counts_pass wanted server words c m = record {
-  passes = λ next. rw (lt_false (length (accepted words.coefficients)) wanted.counts.coefficients c, lt_false (length words.masks) wanted.counts.masks m) refl;
-  cause = λ before now. tt;
+  passes = λ next. rw (
+    lt_false (length (accepted words.coefficients)) wanted.counts.coefficients c,
+    lt_false (length words.masks) wanted.counts.masks m,
+  ) refl;
+  cause = λ count. refl;
 }
 
 -- the words that are tested are those that were cut, and what the test tells is handed on

@@ -1,5 +1,6 @@
 -- The points of all bidders, added up; those at an auction of one price, opened.
-use Rattle.std.proofs.Common.{◌≡◌, ◌≤◌, ◌<◌, ℕ, ◌+◌, ◌*◌, ◌%◌, List, [], ◌∷◌, ◌++◌, length, map, drop, get_or, Option, All, Ok, Err, arith, refl, sym, ap, ◌∙◌, length-append}
+use Rattle.std.proofs.Common.{◌≡◌, ◌≤◌, ◌<◌, ℕ, ◌+◌, ◌*◌, ◌%◌, List, [], ◌∷◌, ◌++◌, length, map, drop, get_or, Option}
+use Rattle.std.proofs.Common.{All, Ok, Err, arith, refl, sym, ap, ◌∙◌, length-append}
 use Rattle.std.proofs.lemmas.List.{map-append, drop_more}
 use Rattle.std.proofs.lemmas.Grind.{common_steps}
 use Rattle.std.proofs.lemmas.List.Elements.{All-append}
@@ -20,7 +21,7 @@ use Rattle.beet_book.proofs.Summed.{shares-none, summed-more, supply-recombined,
 use Rattle.beet_load.specs.Collecting.{curves_of, AddsFarmer, AddsFarmers, AreCollected, Collects}
 use Rattle.beet_load.specs.declared.wanted.Wanted.{Wanted}
 use Rattle.beet_load.specs.Farmers.{list_at, farmer_errand, farmers_errand, bidders_of}
-use Rattle.beet_book.specs.Farmers.{Farmer}
+use Rattle.beet_book.specs.Farmers.{BidderWithWords}
 use Rattle.beet_errand.specs.Fetches.{ReadsFor}
 use Rattle.beet_errand.specs.declared.answer.Stop.{Stop}
 use Rattle.beet_errand.proofs.Frame.{reached_none, reached_more, reached_last, stopped}
@@ -45,11 +46,13 @@ collects_none grid lists entries seen = record {
 one_curve : (P : Curve → Type 0) (curve : Curve) → P curve → All P (curve ∷ [])
 one_curve P curve h = λ i d lt. let zero_only : i ≡ 0 = omega (arith, lt) in rw zero_only h
 
-curves_more : (farmers : List Farmer) (farmer : Farmer) → curves_of (farmers ++ farmer ∷ []) ≡ curves_of farmers ++ farmer.bidder.curve ∷ []
+curves_more : (farmers : List BidderWithWords) (farmer : BidderWithWords) →
+    curves_of (farmers ++ farmer ∷ []) ≡ curves_of farmers ++ farmer.bidder.curve ∷ []
 curves_more farmers farmer = map-append (λ f. f.bidder.curve) farmers (farmer ∷ [])
 
 -- one more bidder is dealt and added
-adds_more : (grid : Grid) (before after : Totals) (farmers : List Farmer) (farmer : Farmer) → AddsFarmers grid before farmers → AddsFarmer grid before after farmer →
+adds_more : (grid : Grid) (before after : Totals) (farmers : List BidderWithWords) (farmer : BidderWithWords) →
+    AddsFarmers grid before farmers → AddsFarmer grid before after farmer →
     AddsFarmers grid after (farmers ++ farmer ∷ [])
 adds_more grid before after farmers farmer c a =
     let c' = farmer.bidder.curve in
@@ -72,7 +75,8 @@ pub next_entry : (entries : List Entry) (i : ℕ) (entry : Entry) → i < length
     drop i entries ≡ entry ∷ drop (i + 1) entries
 next_entry entries i entry h e = drop_more entries i entry h ∙ ap (λ x. x ∷ drop (i + 1) entries) (sym e)
 
-module _ {wanted : Wanted} (grid : Grid) (lists : Option (List (List ℕ))) (entries : List Entry) (i : ℕ) (entry : Entry) (given : Option (List ℕ)) (old middle now : Seen)
+module _ {wanted : Wanted} (grid : Grid) (lists : Option (List (List ℕ))) (entries : List Entry) (i : ℕ) (entry : Entry)
+    (given : Option (List ℕ)) (old middle now : Seen)
     (before : Totals) (lt : i < length entries) (e : entry ≡ get_or entries i entry) (same : given ≡ list_at lists i)
     (h : Collects wanted grid lists entries (drop i entries) old middle before i) where
   collects_here : Collects wanted grid lists entries (entry ∷ drop (i + 1) entries) old middle before i
@@ -80,13 +84,14 @@ module _ {wanted : Wanted} (grid : Grid) (lists : Option (List (List ℕ))) (ent
 
   -- the bidder at a place is read and added
   pub collected_at : (after : Totals) →
-      ReadsFor (λ (done : Unit {0}) farmer. AddsFarmer grid before after farmer) middle now (farmer_errand wanted grid given (i + 1) entry) (Ok tt) →
+      ReadsFor (λ (done : Unit {0}) farmer. AddsFarmer grid before after farmer) middle now
+      (farmer_errand wanted grid given (i + 1) entry) (Ok tt) →
       Collects wanted grid lists entries (drop (i + 1) entries) old now after (i + 1)
   collected_at after r =
       let here = collects_here in
       let r' = rw (sym here.many) at (rw same at r) in
       let farmer = r'.gives.0 in
-      let rest = λ (f : Farmer). farmers_errand wanted grid lists (here.farmers ++ f ∷ []) (drop (i + 1) entries) in
+      let rest = λ (f : BidderWithWords). farmers_errand wanted grid lists (here.farmers ++ f ∷ []) (drop (i + 1) entries) in
       record {
         farmers = here.farmers ++ farmer ∷ [];
         read = reached_more rest here.read r';
@@ -95,22 +100,27 @@ module _ {wanted : Wanted} (grid : Grid) (lists : Option (List (List ℕ))) (ent
       }
 
   -- the bidder at a place stops the job
-  pub stopped_at : {T U : Type 0} {shows : T → Farmer → Type 0} {last : U → List Farmer → Type 0} (stop : Stop) →
+  pub stopped_at : {T U : Type 0} {shows : T → BidderWithWords → Type 0} {last : U → List BidderWithWords → Type 0} (stop : Stop) →
       ReadsFor shows middle now (farmer_errand wanted grid given (i + 1) entry) (Err stop) →
       ReadsFor last old now (farmers_errand wanted grid lists [] entries) (Err stop)
   stopped_at stop r =
       let here = collects_here in
-      let rest = λ (f : Farmer). farmers_errand wanted grid lists (here.farmers ++ f ∷ []) (drop (i + 1) entries) in
+      let rest = λ (f : BidderWithWords). farmers_errand wanted grid lists (here.farmers ++ f ∷ []) (drop (i + 1) entries) in
       reached_last here.read (stopped {rest = rest} (rw (sym here.many) at (rw same at r)))
 
 -- all bidders are read and added
-pub all_collected : {wanted : Wanted} {grid : Grid} {lists : Option (List (List ℕ))} {entries : List Entry} {old now : Seen} {totals : Totals} (i : ℕ) →
+pub all_collected : {wanted : Wanted} {grid : Grid} {
+    lists : Option (List (List ℕ))} {entries : List Entry} {old now : Seen} {totals : Totals} (i : ℕ) →
     i ≤ length entries → length entries ≤ i → Collects wanted grid lists entries (drop i entries) old now totals i →
     ReadsFor (AreCollected grid entries) old now (farmers_errand wanted grid lists [] entries) (Ok totals)
 all_collected {entries = entries} i le ge c =
     let h = rw (none_left entries i ge) at c in
     let many = h.many in
-    record { gives = (h.farmers, record { many = omega arith; adds = h.adds }, h.read.went); cause = tt; later = h.read.later }
+    record {
+      gives = (h.farmers, record { many = omega arith; adds = h.adds }, h.read.went);
+      cause = h.read.kept;
+      later = omega (arith, h.read.kept);
+    }
 
 -- a sum over what a function gives
 pub sum_map : {A B : Type 0} (f : B → ℕ) (g : A → B) (xs : List A) → sum_by f (map g xs) ≡ sum_by (λ x. f (g x)) xs
@@ -121,7 +131,8 @@ sum_map f g (x ∷ xs) =
     ∙ sym (sum_by-append (λ y. f (g y)) (x ∷ []) xs)
 
 -- a sum of one quantity of each curve is that of each bidder
-pub sum_of_bidders : (f : Curve → ℕ) (farmers : List Farmer) → sum_by f (curves_of farmers) ≡ sum_by (λ bidder. f bidder.curve) (bidders_of farmers)
+pub sum_of_bidders : (f : Curve → ℕ) (farmers : List BidderWithWords) →
+    sum_by f (curves_of farmers) ≡ sum_by (λ bidder. f bidder.curve) (bidders_of farmers)
 sum_of_bidders f farmers =
     sum_map f (λ farmer. farmer.bidder.curve) farmers ∙ sym (sum_map (λ bidder. f bidder.curve) (λ farmer. farmer.bidder) farmers)
 
@@ -129,7 +140,8 @@ pub map_length : {A B : Type 0} (f : A → B) (xs : List A) → length (map f xs
 map_length f [] = refl
 map_length f (x ∷ xs) = omega (arith, map_length f xs)
 
-few_below : (f : Curve → ℕ) (farmers : List Farmer) → All (λ curve. f curve ≤ LARGEST_QUANTITY) (curves_of farmers) → length farmers ≤ MOST_BIDDERS →
+few_below : (f : Curve → ℕ) (farmers : List BidderWithWords) →
+    All (λ curve. f curve ≤ LARGEST_QUANTITY) (curves_of farmers) → length farmers ≤ MOST_BIDDERS →
     sum_by f (curves_of farmers) % p ≡ sum_by f (curves_of farmers)
 few_below f farmers h few =
     let below = sum_by-le f LARGEST_QUANTITY (curves_of farmers) h in
@@ -139,22 +151,26 @@ few_below f farmers h few =
       below_p n count h k = omega arith
 
 -- the sum of supply is opened at the first wire
-pub opens_supply : (grid : Grid) (totals : Totals) (farmers : List Farmer) (wires : Trio (List ℕ)) → grid.prices ≡ 1 → AddsFarmers grid totals farmers → length farmers ≤ MOST_BIDDERS → CarriesValues totals wires →
+pub opens_supply : (grid : Grid) (totals : Totals) (farmers : List BidderWithWords) (wires : Trio (List ℕ)) →
+    grid.prices ≡ 1 → AddsFarmers grid totals farmers → length farmers ≤ MOST_BIDDERS → CarriesValues totals wires →
     recombined (points_on wires 0) ≡ supply_at (bidders_of farmers) 0
 opens_supply grid totals farmers wires one c few carries =
     let prices = c.prices in
     supply-recombined totals wires 0 (curves_of farmers) carries (rw (← prices) at c.shares) (omega (arith, prices, one))
     (λ i d h. (c.of_grid i d h).buy_length ∙ sym prices)
-    ∙ few_below (λ curve. slice_index curve.sell 0) farmers (λ i d h. (c.curves i d h).sell_limit 0 0 (let long = (c.of_grid i d h).sell_length in omega (arith, long, one))) few
+    ∙ few_below (λ curve. slice_index curve.sell 0) farmers (λ i d h. (c.curves i d h).sell_limit 0 0
+    (let long = (c.of_grid i d h).sell_length in omega (arith, long, one))) few
     ∙ sum_of_bidders (λ curve. slice_index curve.sell 0) farmers
 
 -- and that of demand at the second
-pub opens_demand : (grid : Grid) (totals : Totals) (farmers : List Farmer) (wires : Trio (List ℕ)) → grid.prices ≡ 1 → AddsFarmers grid totals farmers → length farmers ≤ MOST_BIDDERS → CarriesValues totals wires →
+pub opens_demand : (grid : Grid) (totals : Totals) (farmers : List BidderWithWords) (wires : Trio (List ℕ)) →
+    grid.prices ≡ 1 → AddsFarmers grid totals farmers → length farmers ≤ MOST_BIDDERS → CarriesValues totals wires →
     recombined (points_on wires 1) ≡ demand_at (bidders_of farmers) 0
 opens_demand grid totals farmers wires one c few carries =
     let prices = c.prices in
     ap (λ n. recombined (points_on wires n)) (omega (arith, prices, one))
     ∙ demand-recombined totals wires 0 (curves_of farmers) carries (rw (← prices) at c.shares) (omega (arith, prices, one))
     (λ i d h. (c.of_grid i d h).buy_length ∙ sym prices)
-    ∙ few_below (λ curve. slice_index curve.buy 0) farmers (λ i d h. (c.curves i d h).buy_limit 0 0 (let long = (c.of_grid i d h).buy_length in omega (arith, long, one))) few
+    ∙ few_below (λ curve. slice_index curve.buy 0) farmers
+    (λ i d h. (c.curves i d h).buy_limit 0 0 (let long = (c.of_grid i d h).buy_length in omega (arith, long, one))) few
     ∙ sum_of_bidders (λ curve. slice_index curve.buy 0) farmers

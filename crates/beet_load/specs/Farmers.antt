@@ -1,12 +1,13 @@
 -- What is read of the bidders of a book: of each its bid, and then its words, of which there have to be enough.
-use Rattle.std.specs.Prelude.{ℕ, ◌+◌, List, [], ◌∷◌, ◌++◌, length, map, take, slice_get, nat_lt, if◌then◌else◌, Option, Some, None, option_and_then}
+use Rattle.std.specs.Prelude.{ℕ, ◌+◌, List, [], ◌∷◌, ◌++◌, length, map, take, slice_get, nat_lt, if◌then◌else◌, Option}
+use Rattle.std.specs.Prelude.{Some, None, option_and_then}
 use Rattle.beet_words.specs.Words.{accepted}
 use Rattle.beet_words.specs.Seeds.{seed_words}
 use Rattle.beet_words.specs.TapeFiles.{tape_of}
 use Rattle.beet_bids.specs.Grids.{Grid}
 use Rattle.beet_bids.specs.BidFiles.{bid_of}
 use Rattle.beet_bids.specs.declared.book.Bidder.{Bidder}
-use Rattle.beet_book.specs.Farmers.{Farmer}
+use Rattle.beet_book.specs.Farmers.{BidderWithWords}
 use Rattle.beet_book.specs.declared.entries.Entry.{Entry}
 use Rattle.beet_book.specs.declared.entries.BidderSource.{BidderSource}
 use Rattle.beet_book.specs.declared.entries.BidderSource.TheVariants.{Seed, Tape}
@@ -43,19 +44,21 @@ bidder_errand wanted given number source = do
   gives words
 
 -- the bidder of an entry, with this number: first its bid, then its words, unless they are given
-abbrev pub farmer_errand : Wanted → Grid → Option (List ℕ) → ℕ → Entry → Step Farmer
+abbrev pub farmer_errand : Wanted → Grid → Option (List ℕ) → ℕ → Entry → Step BidderWithWords
 farmer_errand wanted grid given number entry = do
   curve ← reads entry.bid BID_LIMIT (bid_of grid)
   words ← bidder_errand wanted given number entry.source
   gives (record { bidder = record { known = entry.known; curve = curve }; words = words })
 
--- the bidders of a book in order, after those that are read, with the lists of words that are given; they are numbered from 1
-abbrev pub farmers_errand : Wanted → Grid → Option (List (List ℕ)) → List Farmer → List Entry → Step (List Farmer)
+-- the bidders of a book in order, after those that are read, with the lists of words that are given; they are numbered
+-- from 1
+abbrev pub farmers_errand : Wanted → Grid → Option (List (List ℕ)) → List BidderWithWords → List Entry →
+    Step (List BidderWithWords)
 farmers_errand wanted grid lists read [] = gives read
 farmers_errand wanted grid lists read (entry ∷ entries) = do
   farmer ← farmer_errand wanted grid (list_at lists (length read)) (length read + 1) entry
   farmers_errand wanted grid lists (read ++ farmer ∷ []) entries
 
 -- the bidders alone
-abbrev pub bidders_of : List Farmer → List Bidder
+abbrev pub bidders_of : List BidderWithWords → List Bidder
 bidders_of farmers = map (λ farmer. farmer.bidder) farmers

@@ -11,4 +11,5 @@ over_product = at_row 0 OVER_PRODUCT
 
 -- a book of so many bidders is within the limit, of which the lots before have this much, or it is refused
 abbrev pub within_product : ℕ → List ℕ → Grid → ℕ → Errand → Errand
-within_product before book grid count next = if nat_lt MOST_PRODUCT (before + count * grid.prices) then bad_file book over_product else next
+within_product before book grid count next =
+    if nat_lt MOST_PRODUCT (before + count * grid.prices) then bad_file book over_product else next

@@ -7,6 +7,6 @@ first_stream None = 0
 first_stream (Some lot) = 2 * lot
 
 -- how a line of too few words names the lot, counted from 1
-abbrev pub lot_words : Option ℕ → List ℕ
-lot_words None = []
-lot_words (Some lot) = codes "lot " ++ decimal (lot + 1) ++ codes " "
+abbrev pub lot_text : Option ℕ → List ℕ
+lot_text None = []
+lot_text (Some lot) = codes "lot " ++ decimal (lot + 1) ++ codes " "

@@ -1,8 +1,9 @@
 -- The words of the servers: how many each wants, and where they are read.
-use Rattle.std.specs.Prelude.{ℕ, ◌+◌, ◌≤◌, ◌==◌, List, length, take, nat_lt, if◌then◌else◌, Option, Some, None, Ok, Err, codes}
+use Rattle.std.specs.Prelude.{ℕ, ◌+◌, ◌≤◌, ◌==◌, List, length, take, nat_lt, if◌then◌else◌, Option, Some, None, Ok, Err}
+use Rattle.std.specs.Prelude.{codes}
 use Rattle.beet_field.specs.declared.trio.Trio.{Trio}
 use Rattle.beet_forms.specs.Faults.{Fault, Reading}
-use Rattle.beet_forms.specs.declared.faults.Place.TheVariants.{At}
+use Rattle.beet_forms.specs.declared.faults.FaultPlace.TheVariants.{At}
 use Rattle.beet_words.specs.Words.{accepted}
 use Rattle.beet_words.specs.Seeds.{seed_words}
 use Rattle.beet_words.specs.TapeFiles.{tape_of}
@@ -85,10 +86,12 @@ abbrev pub enough_held : Option ℕ → ℕ → List ℕ → ℕ → ℕ → Err
 enough_held lot server kind held wanted next =
     if nat_lt held wanted then refuses TooFewWords (server_short_text lot server kind held wanted) else next
 
--- the server with this number has enough words, of which those for numbers are counted first, without the words that are passed over
+-- the server with this number has enough words, of which those for numbers are counted first, without the words that
+-- are passed over
 abbrev pub enough_of : Wanted → ℕ → ServerWords → Errand → Errand
 enough_of wanted server words next =
-    enough_held wanted.lot server (codes "coefficients") (length (accepted words.coefficients)) wanted.counts.coefficients
+    enough_held wanted.lot server (codes "coefficients")
+    (length (accepted words.coefficients)) wanted.counts.coefficients
     (enough_held wanted.lot server (codes "masks") (length words.masks) wanted.counts.masks next)
 
 -- the words of the server with this number

@@ -11,13 +11,13 @@ use Rattle.beet_bids.specs.Curves.{IsCurve, IsOfGrid}
 use Rattle.beet_bids.specs.declared.book.Bidder.{Bidder}
 use Rattle.beet_book.specs.BookFiles.{book_of}
 use Rattle.beet_book.specs.declared.entries.Entry.{Entry}
-use Rattle.beet_book.specs.Farmers.{Farmer}
+use Rattle.beet_book.specs.Farmers.{BidderWithWords}
 use Rattle.beet_errand.specs.Errands.{Step, ◌>>=◌, ◌>>◌, gives, reads}
 use Rattle.beet_errand.specs.Fetches.{Reached}
 use Rattle.beet_load.specs.Counts.{Counts, counts_of, with_spare}
 use Rattle.beet_load.specs.Farmers.{farmers_errand}
 use Rattle.beet_load.specs.Limits.{within_product}
-use Rattle.beet_load.specs.Loading.{Loaded, rest_errand}
+use Rattle.beet_load.specs.Loading.{AuctionWithBidders, rest_errand}
 use Rattle.beet_load.specs.Servers.{ServerWords, HaveEnough, AreCut, masks_of, coefficients_of}
 use Rattle.beet_load.specs.Settings.{Setting, setting_errand}
 use Rattle.beet_load.specs.declared.wanted.Wanted.{Wanted}
@@ -25,11 +25,12 @@ use Rattle.beet_book.specs.declared.book_file.TheConstants.{BOOK_LIMIT}
 use Rattle.beet_bids.specs.declared.bid_file.TheConstants.{BID_LIMIT}
 
 -- what is read after the setting, of which the limit is tested first, with what the lots before have of it
-abbrev pub limited_rest : Option ℕ → ℕ → List ℕ → Setting → Step Loaded
-limited_rest lot before book setting = within_product before book setting.grid (length setting.entries) >> rest_errand lot setting
+abbrev pub limited_rest : Option ℕ → ℕ → List ℕ → Setting → Step AuctionWithBidders
+limited_rest lot before book setting =
+    within_product before book setting.grid (length setting.entries) >> rest_errand lot setting
 
 -- an auction, its servers and its book, of which the limit is tested right after it is read
-unfoldable pub limited_errand : List ℕ → List ℕ → List ℕ → Step Loaded
+unfoldable pub limited_errand : List ℕ → List ℕ → List ℕ → Step AuctionWithBidders
 limited_errand auction servers book = do
   setting ← setting_errand auction servers book
   limited_rest None 0 book setting
@@ -73,26 +74,29 @@ pub record CanStart (book : Book) (words : Words) : Type 0 where
   pub bidders : All (CanDeal (counts_of book.grid)) words.bidders
 
 -- a bidder that is read with its words
-pub record IsFarmer (counts : Counts) (grid : Grid) (farmer : Farmer) : Type 0 where
+pub record IsFarmer (counts : Counts) (grid : Grid) (farmer : BidderWithWords) : Type 0 where
   pub curve : IsCurve farmer.bidder.curve
   pub of_grid : IsOfGrid grid farmer.bidder.curve
   pub words : CanDeal counts farmer.words
 
 -- these bidders are read and kept, and the others of the entries are left
-pub record Keeps (wanted : Wanted) (grid : Grid) (lists : Option (List (List ℕ))) (entries rest : List Entry)
-    (old now : Seen) (farmers : List Farmer) : Type 0 where
-  pub read : Reached old now (farmers_errand wanted grid lists [] entries) (farmers_errand wanted grid lists farmers rest)
+pub record KeepsBidders (wanted : Wanted) (grid : Grid) (lists : Option (List (List ℕ))) (entries rest : List Entry)
+    (old now : Seen) (farmers : List BidderWithWords) : Type 0 where
+  pub read : Reached old now (farmers_errand wanted grid lists [] entries)
+      (farmers_errand wanted grid lists farmers rest)
   pub count : length farmers + length rest ≡ length entries
   pub each : All (IsFarmer wanted.counts grid) farmers
 
 -- what is kept of all bidders of the entries
-pub record AreKept (counts : Counts) (grid : Grid) (entries : List Entry) (kept farmers : List Farmer) : Type 0 where
+pub record AreKept (counts : Counts) (grid : Grid) (entries : List Entry)
+    (kept farmers : List BidderWithWords) : Type 0 where
   pub same : farmers ≡ kept
   pub count : length kept ≡ length entries
   pub each : All (IsFarmer counts grid) kept
 
 -- one bidder is kept after the others
-pub record KeepsFarmer (counts : Counts) (grid : Grid) (before after : List Farmer) (farmer : Farmer) : Type 0 where
+pub record KeepsFarmer (counts : Counts) (grid : Grid) (before after : List BidderWithWords)
+    (farmer : BidderWithWords) : Type 0 where
   pub is_farmer : IsFarmer counts grid farmer
   pub kept : after ≡ before ++ farmer ∷ []
 

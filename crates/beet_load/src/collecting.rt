@@ -26,8 +26,8 @@ pub(crate) fn list_of<'a>(lists: Option<&'a [WordList]>, i: usize) -> Option<&'a
     }
 }
 
-/// Reads each bidder of an auction alone or of a lot in order, with the words that are given or those of its source, and
-/// deals its quantities straight into the sums.
+/// Reads each bidder of an auction alone or of a lot in order, with the words that are given or those of its source,
+/// and deals its quantities straight into the sums.
 pub fn add_farmers<S: Shelf>(
     alloc: Global,
     shelf: &mut S,
@@ -38,7 +38,8 @@ pub fn add_farmers<S: Shelf>(
 ) -> Result<Totals, Stop>
     requires few { length entries.now ≤ MOST_BIDDERS }
     ensures { ReadsFor (AreCollected grid.now entries.now) (S.seen shelf.old) (S.seen shelf.new)
-        (farmers_errand (wanted_of lot grid.now) grid.now (option_map (λ all. all.now) lists.entry) [] entries.now) result }
+        (farmers_errand (wanted_of lot grid.now) grid.now (option_map (λ all. all.now) lists.entry) [] entries.now)
+        result }
 {
     let wanted = auction_wants(lot, grid);
     let mut totals = Totals::new(alloc, grid)?;

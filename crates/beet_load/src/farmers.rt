@@ -17,7 +17,7 @@ ghost use Rattle.beet_bids.specs.declared.bid_file.TheConstants.{BID_LIMIT};
 ghost use Rattle.beet_forms.specs.declared.faults.TheConstants.{LONGEST_FILE};
 ghost use Rattle.beet_words.specs.declared.tape_file.TheConstants.{TAPE_LIMIT};
 
-use crate::lots::lot_words;
+use crate::lots::lot_text;
 use crate::wanted::Wanted;
 use beet_bids::{BID_LIMIT, Curve, Grid, read_bid};
 use beet_book::{BidderSource, Entry};
@@ -27,8 +27,8 @@ use beet_store::Shelf;
 use beet_words::{TAPE_LIMIT, Tape, WordList, read_tape};
 use std::alloc::{AllocError, Global};
 
-/// The curve of a bid file of at most 1,048,576 bytes, over the places of the grid. A file that cannot be fetched, is too
-/// long or breaks the format is refused with its line.
+/// The curve of a bid file of at most 1,048,576 bytes, over the places of the grid. A file that cannot be fetched, is
+/// too long or breaks the format is refused with its line.
 pub fn read_curve<S: Shelf>(
     alloc: Global,
     shelf: &mut S,
@@ -126,7 +126,7 @@ fn too_few_line(
 ) -> Result<Vec<u8>, AllocError>
     ensures { IfOk result (λ line. line.items ≡ too_few_text lot number held wanted) }
 {
-    let of = lot_words(alloc, lot)?;
+    let of = lot_text(alloc, lot)?;
     let line = format!(in alloc; "too few words: {of}bidder {number} {held} of {wanted}\n")?;
     Ok(line.into_bytes())
 }
@@ -145,8 +145,8 @@ pub(crate) fn too_few_words(
     Stop::of_line(Refusal::TooFewWords, line)
 }
 
-/// Refuses the bidder of this number where its tape, at its first word, has fewer accepted words than it wants, with the
-/// line `too few words: bidder N H of W`. Want of memory is the only other error.
+/// Refuses the bidder of this number where its tape, at its first word, has fewer accepted words than it wants, with
+/// the line `too few words: bidder N H of W`. Want of memory is the only other error.
 pub fn check_words(alloc: Global, wanted: &Wanted, number: u32, tape: &Tape) -> Result<(), Stop>
     requires { tape.now.passed ≡ 0 }
     ensures tests { Tests (enough_words wanted.now.lot number wanted.now.counts.words tape.now.words) result }
@@ -160,9 +160,9 @@ pub fn check_words(alloc: Global, wanted: &Wanted, number: u32, tape: &Tape) -> 
     Ok(())
 }
 
-/// The tape of the bidder of this number, at its first word: the words that are given or those of its source, cut to those
-/// that are kept. Where they are fewer than are wanted, it is refused as by `check_words`; a tape file that cannot be
-/// fetched, is too long or breaks the format is refused with its line.
+/// The tape of the bidder of this number, at its first word: the words that are given or those of its source, cut to
+/// those that are kept. Where they are fewer than are wanted, it is refused as by `check_words`; a tape file that
+/// cannot be fetched, is too long or breaks the format is refused with its line.
 pub fn read_bidder<S: Shelf>(
     alloc: Global,
     shelf: &mut S,
@@ -184,7 +184,7 @@ pub fn read_bidder<S: Shelf>(
 
 /// A bidder's curve, and the tape that it deals its quantities with.
 #[derive(Drop)]
-pub struct Farmer {
+pub struct BidderWithTape {
     pub curve: Curve,
     pub tape: Tape,
 }
@@ -198,7 +198,7 @@ pub(crate) fn read_farmer<S: Shelf>(
     given: Option<&WordList>,
     number: u32,
     entry: &Entry,
-) -> Result<Farmer, Stop>
+) -> Result<BidderWithTape, Stop>
     ensures of_grid { IfOk result (λ farmer. IsOfGrid grid.now farmer.curve) }
     ensures curve { IfOk result (λ farmer. IsCurve farmer.curve) }
     ensures fresh { IfOk result (λ farmer. farmer.tape.passed ≡ 0) }
@@ -209,5 +209,5 @@ pub(crate) fn read_farmer<S: Shelf>(
 {
     let curve = read_curve(alloc, shelf, grid, entry.bid.as_str())?;
     let tape = read_bidder(alloc, shelf, wanted, given, number, &entry.source)?;
-    Ok(Farmer { curve, tape })
+    Ok(BidderWithTape { curve, tape })
 }

@@ -7,7 +7,7 @@ ghost use Rattle.beet_load.specs.Wholes.{AreKept};
 ghost use Rattle.beet_words.specs.declared.bundle.TheConstants.{MOST_BIDDERS};
 
 use crate::collecting::list_of;
-use crate::farmers::{Farmer, read_farmer};
+use crate::farmers::{BidderWithTape, read_farmer};
 use crate::wanted::Wanted;
 use beet_bids::{Bidder, Grid};
 use beet_book::Entry;
@@ -27,9 +27,9 @@ pub(crate) struct Farmers {
 
 impl Model for Farmers {
     ghost use Rattle.std.specs.Prelude.{◌≡◌, List, length};
-    ghost use Rattle.beet_book.specs.Farmers.{Farmer as Shown, farmers_of};
+    ghost use Rattle.beet_book.specs.Farmers.{BidderWithWords, farmers_of};
 
-    ghost Value = { List Shown };
+    ghost Value = { List BidderWithWords };
 
     ghost view = { λ a. farmers_of a.bidders.items a.words.items };
 
@@ -50,7 +50,7 @@ impl Farmers {
     }
 
     /// Keeps one bidder more, with the server that knows it.
-    fn push(&mut self, known: Option<Point>, farmer: Farmer) -> Result<(), AllocError>
+    fn push(&mut self, known: Option<Point>, farmer: BidderWithTape) -> Result<(), AllocError>
         ensures { OnOk result (self.new ≡ self.old
             ++ record { bidder = record { known = known; curve = farmer.curve }; words = farmer.tape.words } ∷ []) }
     {

@@ -1,4 +1,5 @@
-//! Reading what a job begins with: an auction, the words of its servers, its book, and the bids and words of its bidders.
+//! Reading what a job begins with: an auction, the words of its servers, its book, and the bids and words of its
+//! bidders.
 #![tactic(auto)]
 
 mod books;
@@ -18,7 +19,7 @@ mod whole_loading;
 pub use books::{read_entries, read_grid};
 pub use collecting::add_farmers;
 pub use curves::load_curves;
-pub use farmers::{Farmer, check_words, front, read_bidder, read_curve, read_tape_file};
+pub use farmers::{BidderWithTape, check_words, front, read_bidder, read_curve, read_tape_file};
 pub use limits::check_product;
 pub use loading::{Loaded, load, load_rest};
 pub use servers::{

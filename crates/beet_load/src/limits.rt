@@ -9,7 +9,7 @@ ghost use Rattle.beet_book.specs.declared.book_file.TheConstants.{MOST_PRODUCT};
 use beet_bids::Grid;
 use beet_book::{MOST_PRODUCT, OVER_PRODUCT};
 use beet_errand::{Stop, refuse};
-use beet_forms::Place;
+use beet_forms::FaultPlace;
 use std::alloc::Global;
 
 /// Refuses the book of this name at row 0 for the reason 6 where its bidders, at most 2,000, each counted once for each
@@ -28,7 +28,7 @@ pub fn check_product(
 {
     let product = before + count as u64 * grid.prices() as u64;
     if product > MOST_PRODUCT {
-        return Err(refuse(alloc, book, Place::Row(0), OVER_PRODUCT));
+        return Err(refuse(alloc, book, FaultPlace::Row(0), OVER_PRODUCT));
     }
     Ok(())
 }

@@ -29,10 +29,10 @@ pub struct Loaded {
 
 impl Model for Loaded {
     ghost use Rattle.beet_load.specs.Counts.{counts_of};
-    ghost use Rattle.beet_load.specs.Loading.{Kept};
+    ghost use Rattle.beet_load.specs.Loading.{AuctionWithInputs};
     ghost use Rattle.beet_load.specs.Servers.{HaveEnough};
 
-    ghost Value = { Kept };
+    ghost Value = { AuctionWithInputs };
 
     ghost view = { λ a. record { grid = a.grid; servers = a.servers; inputs = a.inputs } };
 
@@ -49,7 +49,8 @@ pub(crate) fn lists_in(words: &AllWords) -> Option<&[WordList]>
     }
 }
 
-/// Reads what stands after the setting, of an auction alone or of a lot: the words of the servers, and the bidders, whose points are added up.
+/// Reads what stands after the setting, of an auction alone or of a lot: the words of the servers, and the bidders,
+/// whose points are added up.
 pub fn load_rest<S: Shelf>(
     alloc: Global,
     shelf: &mut S,

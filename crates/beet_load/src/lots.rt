@@ -1,7 +1,7 @@
 //! What differs between an auction alone and a lot of a session.
 
 ghost use Rattle.std.specs.Prelude.{◌≡◌, ◌≤◌, ◌^◌, ◌*◌, IfOk, string_bytes};
-ghost use Rattle.beet_load.specs.Lots.{first_stream as stream_of, lot_words as words_of};
+ghost use Rattle.beet_load.specs.Lots.{first_stream as stream_of, lot_text as text_of};
 
 use std::alloc::{AllocError, Global};
 
@@ -17,8 +17,8 @@ pub(crate) fn first_stream(lot: Option<u32>) -> u64
 }
 
 /// How a line of too few words names the lot.
-pub(crate) fn lot_words(alloc: Global, lot: Option<u32>) -> Result<String, AllocError>
-    ensures { IfOk result (λ words. string_bytes words ≡ words_of lot) }
+pub(crate) fn lot_text(alloc: Global, lot: Option<u32>) -> Result<String, AllocError>
+    ensures { IfOk result (λ text. string_bytes text ≡ text_of lot) }
 {
     match lot {
         None => Ok(String::new(alloc)),

@@ -6,13 +6,15 @@ ghost use Rattle.beet_words.specs.Bundles.{bundle_of};
 ghost use Rattle.beet_book.specs.ServerFiles.{servers_of};
 ghost use Rattle.beet_errand.specs.Errands.{reads};
 ghost use Rattle.beet_errand.specs.Fetches.{Reads, Refuses, Tests};
-ghost use Rattle.beet_load.specs.Servers.{seeded, source_errand, enough_of, enough_of_all, HasEnough, HaveEnough, IsCut, AreCut, server_errand, three_errand, counted, cut_server, cut_servers, all_words_errand};
+ghost use Rattle.beet_load.specs.Servers.{seeded, source_errand, enough_of, enough_of_all, HasEnough, HaveEnough};
+ghost use Rattle.beet_load.specs.Servers.{IsCut, AreCut, server_errand, three_errand, counted, cut_server, cut_servers};
+ghost use Rattle.beet_load.specs.Servers.{all_words_errand};
 ghost use Rattle.beet_load.specs.WordTexts.{server_short_text};
 ghost use Rattle.beet_forms.specs.declared.faults.TheConstants.{LONGEST_FILE};
 ghost use Rattle.beet_book.specs.declared.server_file.TheConstants.{SERVERS_LIMIT};
 
 use crate::farmers::{front, read_tape_file};
-use crate::lots::{first_stream, lot_words};
+use crate::lots::{first_stream, lot_text};
 use crate::wanted::{Counts, Wanted};
 use beet_book::{SERVERS_LIMIT, ServerSource, Servers, read_servers};
 use beet_errand::{Refusal, Stop, fetch_file, judge};
@@ -150,7 +152,7 @@ fn too_few_line(
 ) -> Result<Vec<u8>, AllocError>
     ensures { IfOk result (λ line. line.items ≡ server_short_text lot server kind.now held wanted) }
 {
-    let of = lot_words(alloc, lot)?;
+    let of = lot_text(alloc, lot)?;
     let line = format!(in alloc; "too few words: {of}server {server} {kind} {held} of {wanted}\n")?;
     Ok(line.into_bytes())
 }
@@ -194,10 +196,10 @@ fn check_counts(
     Ok(())
 }
 
-/// The words of the server of this number, cut to those that are kept. Where they are fewer than are wanted, the server is
-/// refused with the line `too few words: server S coefficients H of W` or `too few words: server S masks H of W`, which
-/// names a lot before the server; a tape file that cannot be fetched, is too long or breaks the format is refused with its
-/// line.
+/// The words of the server of this number, cut to those that are kept. Where they are fewer than are wanted, the server
+/// is refused with the line `too few words: server S coefficients H of W` or `too few words: server S masks H of W`,
+/// which names a lot before the server; a tape file that cannot be fetched, is too long or breaks the format is refused
+/// with its line.
 pub fn read_server<S: Shelf>(
     alloc: Global,
     shelf: &mut S,

@@ -10,8 +10,8 @@ use beet_masking::SPARE_WORDS;
 use beet_plan::{most_coefficients, most_masks};
 use std::marker::Model;
 
-/// How many words are wanted, each count at most 16,384: mask words of each server, words of it that are not all ones, for
-/// the numbers that it draws, and such words of each bidder.
+/// How many words are wanted, each count at most 16,384: mask words of each server, words of it that are not all ones,
+/// for the numbers that it draws, and such words of each bidder.
 #[derive(Clone, Copy)]
 pub struct Counts {
     masks: u32,

@@ -74,8 +74,8 @@ fn whole_of(grid: &Grid, servers: Trio<ServerWords>, farmers: Farmers) -> Whole
     }
 }
 
-/// Reads what stands after the setting, of an auction alone or of a lot: the words of the servers, and the bidders, which
-/// are kept.
+/// Reads what stands after the setting, of an auction alone or of a lot: the words of the servers, and the bidders,
+/// which are kept.
 pub fn load_whole_rest<S: Shelf>(
     alloc: Global,
     shelf: &mut S,
@@ -96,8 +96,8 @@ pub fn load_whole_rest<S: Shelf>(
     Ok(whole_of(grid, words.into_servers(), farmers))
 }
 
-/// Reads an auction, its servers and its book, which is kept whole. Right after it was read, the book is refused at row 0
-/// for the reason 6 where its bidders, each counted once for each price, are more than 500,000.
+/// Reads an auction, its servers and its book, which is kept whole. Right after it was read, the book is refused at row
+/// 0 for the reason 6 where its bidders, each counted once for each price, are more than 500,000.
 pub fn load_whole<S: Shelf>(
     alloc: Global,
     shelf: &mut S,

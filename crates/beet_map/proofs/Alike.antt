@@ -1,5 +1,6 @@
 -- Two runs that look alike to one server.
-use Rattle.std.proofs.Common.{◌≡◌, ◌≢◌, ◌≤◌, ◌<◌, ◌+◌, ℕ, zero, suc, List, [], ◌∷◌, ◌++◌, length, slice_index, map, sym, refl, ap, subst, ◌∙◌, ⊎_elim, arith, append-nil}
+use Rattle.std.proofs.Common.{◌≡◌, ◌≢◌, ◌≤◌, ◌<◌, ◌+◌, ℕ, zero, suc, List, [], ◌∷◌, ◌++◌, length, slice_index, map, sym}
+use Rattle.std.proofs.Common.{refl, ap, subst, ◌∙◌, ⊎_elim, arith, append-nil}
 use Rattle.std.specs.Int.{bit_at}
 use Rattle.std.proofs.lemmas.List.{append_cancel_left}
 use Rattle.beet_field.specs.Trio.{member, of_each, trio_of}
@@ -15,9 +16,11 @@ use Rattle.beet_gates.specs.declared.Act.{Act}
 use Rattle.beet_gates.specs.declared.Act.TheVariants.{Deal, Mul, Reveal, End}
 use Rattle.beet_gates.specs.declared.Batch.{Batch}
 use Rattle.beet_gates.proofs.EachFacts.{each-same}
+use Rattle.beet_gates.specs.Draws.{draws_in, pair_at}
 use Rattle.beet_sharing.proofs.LinesLaw.{at-one}
 use Rattle.beet_sharing.specs.Lines.{OnLines, IsAtOne, slopes_at}
-use Rattle.beet_sharing.specs.Runs.{Setup, Shared, act_among, coming, draws_in, gained, hidden_at, message, number_drawn, pair_at, product_at, secret_hidden, sent_for, shared_at, standing_at, with_batch_lets}
+use Rattle.beet_sharing.specs.Runs.{Setup, Shared, act_among, coming, gained, hidden_at, message, number_drawn}
+use Rattle.beet_sharing.specs.Runs.{product_at, secret_hidden, sent_for, shared_at, standing_at, with_batch_lets}
 use Rattle.beet_map.specs.Secrets.{Secrets, begin_in, shares_of, slopes_of, values_of}
 use Rattle.beet_map.specs.Mapped.{GateMapped, moved_of, number_at, secret_at}
 use Rattle.beet_map.proofs.Moves.{moved_same, reshared_point, same_or, secret_small, slope_same}
@@ -50,7 +53,8 @@ alike_lets me b r r' g = record {
 }
 
 -- lists that are read at the same wires
-over_wires : (wires : List ℕ) (f f' g g' : ℕ → ℕ) → ((w : ℕ) → f' w ≡ f w → g' w ≡ g w) → map f' wires ≡ map f wires → map g' wires ≡ map g wires
+over_wires : (wires : List ℕ) (f f' g g' : ℕ → ℕ) → ((w : ℕ) → f' w ≡ f w → g' w ≡ g w) → map f' wires ≡ map f wires →
+    map g' wires ≡ map g wires
 over_wires [] f f' g g' step e = refl
 over_wires (w ∷ ws) f f' g g' step e =
     let here : f' w ≡ f w = cc in
@@ -161,7 +165,8 @@ module _ (me : Point) (o o' : Setup) (s s' : Shared) (alike : Alike me s s') (ow
       (same_or j me)
 
 -- the whole run
-module _ (next : ℕ → List ℕ → Batch) (me : Point) (w w' : Secrets) (numbers numbers' : Trio (List ℕ)) (rounds : ℕ) (may : MayMap next me rounds w w')
+module _ (next : ℕ → List ℕ → Batch) (me : Point) (w w' : Secrets) (numbers numbers' : Trio (List ℕ)) (rounds : ℕ)
+    (may : MayMap next me rounds w w')
     (mapped : GateMapped me rounds (begin_in next w numbers) (begin_in next w' numbers')) where
   abbrev first : Setup
   first = begin_in next w numbers
@@ -196,14 +201,17 @@ module _ (next : ℕ → List ℕ → Batch) (me : Point) (w w' : Secrets) (numb
           ∙ may.words t lt (subst (λ l. 0 < deals_in (next t l).act) (at_one t).opened some)
           ∙ ap (λ n. slice_index (member w.masks me) n) (sym (at_one t).dealt))
           (λ j ne k below. mapped.moves j ne t k lt below
-          ∙ (λ i. moved_of me (number_at first t j k) (secret_at first t j k) (secret_hidden second (standing_at second t) (same_batch i).act j k)))
+          ∙ (λ i. moved_of me (number_at first t j k) (secret_at first t j k)
+          (secret_hidden second (standing_at second t) (same_batch i).act j k)))
 
-      opened_now : (act_among second (coming first t).act (standing_at second t)).opened ≡ (act_among first (coming first t).act (standing_at first t)).opened
+      opened_now : (act_among second (coming first t).act (standing_at second t)).opened
+          ≡ (act_among first (coming first t).act (standing_at first t)).opened
       opened_now = (λ i. (act_among second (sym same_batch i).act (standing_at second t)).opened) ∙ opened_same (suc t) (omega arith)
 
       pub alike_after : Alike me (shared_at first (suc t)) (shared_at second (suc t))
       alike_after =
-          let gains = gained_same me first second (standing_at first t) (standing_at second t) standing_alike (coming first t).act hidden_now in
+          let gains = gained_same me first second (standing_at first t) (standing_at second t) standing_alike
+          (coming first t).act hidden_now in
           subst (λ b. Alike me (shared_at first (suc t)) (act_among second b.act (standing_at second t))) (sym same_batch)
           (alike_act me first second (standing_at first t) (standing_at second t) standing_alike (coming first t).act gains opened_now)
 
@@ -213,7 +221,8 @@ module _ (next : ℕ → List ℕ → Batch) (me : Point) (w w' : Secrets) (numb
           let is : (next t (clear_of next w t).opened).act ≡ (coming first t).act = λ i. (next t (sym (at_one t).opened i)).act in
           record {
             slopes = slopes_at first (slopes_of w.inputs) (suc t);
-            lines = subst (λ a. OnLines (act_on (deals_of w.masks) a (standing_of next w t)).wires (slopes_at first (slopes_of w.inputs) (suc t)) (shared_at first (suc t)).wires) is g.lines;
+            lines = subst (λ a. OnLines (act_on (deals_of w.masks) a (standing_of next w t)).wires
+                (slopes_at first (slopes_of w.inputs) (suc t)) (shared_at first (suc t)).wires) is g.lines;
           }
 
       stands' : Stands second (standing_at second t) (coming first t).act (standing_of next w' t)
@@ -223,7 +232,8 @@ module _ (next : ℕ → List ℕ → Batch) (me : Point) (w w' : Secrets) (numb
           subst (λ b. Stands second (standing_at second t) b.act (standing_of next w' t)) same_batch
           (record {
             slopes = slopes_at second (slopes_of w'.inputs) (suc t);
-            lines = subst (λ a. OnLines (act_on (deals_of w'.masks) a (standing_of next w' t)).wires (slopes_at second (slopes_of w'.inputs) (suc t)) (shared_at second (suc t)).wires) is g.lines;
+            lines = subst (λ a. OnLines (act_on (deals_of w'.masks) a (standing_of next w' t)).wires
+                (slopes_at second (slopes_of w'.inputs) (suc t)) (shared_at second (suc t)).wires) is g.lines;
           })
 
       pub messages_now : (from : Point) → message second from me t ≡ message first from me t
@@ -231,11 +241,13 @@ module _ (next : ℕ → List ℕ → Batch) (me : Point) (w w' : Secrets) (numb
           let is : (next t (clear_of next w t).opened).act ≡ (coming first t).act = λ i. (next t (sym (at_one t).opened i)).act in
           let is' : (next t (clear_of next w' t).opened).act ≡ (coming first t).act =
           (λ i. (next t (sym (at_one' t).opened i)).act) ∙ (λ i. (same_batch i).act) in
-          let opens : (act_on (deals_of w'.masks) (coming first t).act (standing_of next w' t)).opened ≡ (act_on (deals_of w.masks) (coming first t).act (standing_of next w t)).opened =
+          let opens : (act_on (deals_of w'.masks) (coming first t).act (standing_of next w' t)).opened
+          ≡ (act_on (deals_of w.masks) (coming first t).act (standing_of next w t)).opened =
           (λ i. (act_on (deals_of w'.masks) (sym is' i) (standing_of next w' t)).opened) ∙ may.opens (suc t) (omega arith)
           ∙ (λ i. (act_on (deals_of w.masks) (is i) (standing_of next w t)).opened) in
           (λ i. sent_for second (standing_at second t) (same_batch i).act from me)
-          ∙ sent_same me first second (standing_at first t) (standing_at second t) standing_alike (standing_of next w t) (standing_of next w' t)
+          ∙ sent_same me first second (standing_at first t) (standing_at second t) standing_alike (standing_of next w t)
+          (standing_of next w' t)
           (coming first t).act hidden_now stands stands' (may.opens t (omega arith)) opens from
 
   pub alike_at : (t : ℕ) → t ≤ rounds → Alike me (shared_at first t) (shared_at second t)

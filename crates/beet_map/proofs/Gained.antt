@@ -12,7 +12,8 @@ use Rattle.beet_gates.specs.Scripts.{deals_in}
 use Rattle.beet_gates.specs.declared.Act.{Act}
 use Rattle.beet_gates.specs.declared.Act.TheVariants.{Deal, Mul, Reveal, End}
 use Rattle.beet_gates.proofs.EachFacts.{map-each}
-use Rattle.beet_sharing.specs.Runs.{Shared, act_among, draws_in, gained, opened_by}
+use Rattle.beet_gates.specs.Draws.{draws_in}
+use Rattle.beet_sharing.specs.Runs.{Shared, act_among, gained, opened_by}
 use Rattle.beet_map.specs.Steps.{dealing, hidden_line, lines_gained, product_line}
 use Rattle.beet_map.specs.Secrets.{shares_of}
 
@@ -38,7 +39,8 @@ pub acted : (a : Act) (masks numbers : Trio (List ℕ)) (s : Shared) (lines : Li
       dealt = s.dealt + deals_in a;
     } ≡ act_among (dealing masks numbers) a s
 acted a masks numbers s lines e =
-    let g : (i : Point) → shares_of lines i ≡ gained (dealing masks numbers) s a i = λ i. (λ x. shares_of (e x) i) ∙ shares_gained a masks numbers s i in
+    let g : (i : Point) → shares_of lines i ≡ gained (dealing masks numbers) s a i =
+    λ i. (λ x. shares_of (e x) i) ∙ shares_gained a masks numbers s i in
     λ x. record {
       wires = record { one = s.wires.one ++ g One x; two = s.wires.two ++ g Two x; three = s.wires.three ++ g Three x };
       opened = s.opened ++ opened_by s a;

@@ -1,6 +1,7 @@
 -- The premise of the walk, from what is tested before it.
-use Rattle.std.proofs.Common.{◌≡◌, ◌≤◌, ◌<◌, ◌+◌, ℕ, zero, suc, List, [], ◌∷◌, length, slice_index, take, sym, refl, ap, subst, ◌∙◌, arith}
-use Rattle.std.proofs.lemmas.List.{length-map}
+use Rattle.std.proofs.Common.{◌≡◌, ◌≤◌, ◌<◌, ◌+◌, ℕ, zero, suc, List, [], ◌∷◌, length, slice_index, sym, refl, ap}
+use Rattle.std.proofs.Common.{subst, ◌∙◌, arith}
+use Rattle.std.proofs.lemmas.List.{get_or-take, length-map}
 use Rattle.beet_field.specs.Field.{IsElement}
 use Rattle.beet_field.specs.Trio.{member, trio_of}
 use Rattle.beet_field.specs.declared.point.Point.{Point}
@@ -12,19 +13,21 @@ use Rattle.beet_gates.specs.Clear.{EndsAfter, rounds_run}
 use Rattle.beet_gates.specs.Deals.{deals_of}
 use Rattle.beet_gates.specs.Scripts.{HasWords, LawFrom, bounds_of, deals_in, start_of}
 use Rattle.beet_gates.specs.declared.Batch.{Batch}
+use Rattle.beet_gates.proofs.AllAlong.{opened-to-ends}
 use Rattle.beet_gates.proofs.ClearAt.{ends-once, run-ends}
+use Rattle.beet_gates.proofs.ClearFacts.{end-opens}
 use Rattle.beet_sharing.specs.Lines.{OnLines}
 use Rattle.beet_sharing.specs.Runs.{HasRounds, Setup, coming, shared_at}
 use Rattle.beet_sharing.proofs.LinesLaw.{at-one, same-act, same-rounds}
 use Rattle.beet_sharing.proofs.Walk.{Walks, deals-fit, draws-fit, walks}
 use Rattle.beet_map.specs.Secrets.{Secrets, begin_in, shares_of, slopes_of, values_of}
-use Rattle.beet_map.specs.Premise.{HasRoom, clear_of, standing_of}
+use Rattle.beet_map.specs.Premise.{HasRoom, clear_of}
 use Rattle.beet_map.specs.Refused.{HasSecrets, LookSame, opened_in}
 use Rattle.beet_map.proofs.Alike.{member_trio}
-use Rattle.beet_map.proofs.Openings.{opened_all_along, opened_at_end}
 use Rattle.beet_map.proofs.Whole.{AreAlike}
 
-point_at : (lines : List Line) (i : Point) (k : ℕ) → slice_index (shares_of lines i) k ≡ point_of (slice_index (values_of lines) k) (slice_index (slopes_of lines) k) i
+point_at : (lines : List Line) (i : Point) (k : ℕ) →
+    slice_index (shares_of lines i) k ≡ point_of (slice_index (values_of lines) k) (slice_index (slopes_of lines) k) i
 point_at [] One k = refl
 point_at [] Two k = refl
 point_at [] Three k = refl
@@ -34,7 +37,8 @@ point_at (l ∷ ls) i (suc k) = point_at ls i k
 length_shares : (lines : List Line) (i : Point) → length (shares_of lines i) ≡ length lines
 length_shares lines i = length-map lines (λ (l : Line). point_of l.value l.slope i)
 
-pub on_lines : (lines : List Line) → ((k : ℕ) → IsElement (slice_index (values_of lines) k)) → OnLines (values_of lines) (slopes_of lines) (trio_of (shares_of lines))
+pub on_lines : (lines : List Line) → ((k : ℕ) → IsElement (slice_index (values_of lines) k)) →
+    OnLines (values_of lines) (slopes_of lines) (trio_of (shares_of lines))
 on_lines lines few = record {
   paired = length-map lines (λ (l : Line). l.slope) ∙ sym (length-map lines (λ (l : Line). l.value));
   lengths = λ i. ap length (member_trio (shares_of lines) i) ∙ length_shares lines i ∙ sym (length-map lines (λ (l : Line). l.value));
@@ -42,19 +46,13 @@ on_lines lines few = record {
   elements = few;
 }
 
-index_take : (xs : List ℕ) (n k : ℕ) → k < n → slice_index (take n xs) k ≡ slice_index xs k
-index_take [] zero k lt = refl
-index_take [] (suc n) k lt = refl
-index_take (x ∷ xs) zero k lt = absurd (omega arith)
-index_take (x ∷ xs) (suc n) zero lt = refl
-index_take (x ∷ xs) (suc n) (suc k) lt = index_take xs n k (omega arith)
-
 each_enough : {n : ℕ} → (numbers : Trio (List ℕ)) → HasWords n numbers → (j : Point) → n ≤ length (member numbers j)
 each_enough numbers h One = h.0
 each_enough numbers h Two = h.1
 each_enough numbers h Three = h.2
 
-module _ (next : ℕ → List ℕ → Batch) (most inputs masks wires coefficients : ℕ) (law : LawFrom next (bounds_of wires masks coefficients) most (start_of inputs) []) where
+module _ (next : ℕ → List ℕ → Batch) (most inputs masks wires coefficients : ℕ)
+    (law : LawFrom next (bounds_of wires masks coefficients) most (start_of inputs) []) where
   -- the numbers that are opened at the end
   module _ (w : Secrets) (has : HasSecrets inputs masks w) where
     law_here : LawFrom next (bounds_of wires masks coefficients) most (start_of (length (values_of w.inputs))) []
@@ -74,13 +72,16 @@ module _ (next : ℕ → List ℕ → Batch) (most inputs masks wires coefficien
     pub opened_is : opened_in next most w ≡ (clear_of next w (rounds_run next most (values_of w.inputs) w.masks)).opened
     opened_is =
         let r : ℕ = rounds_run next most (values_of w.inputs) w.masks in
-        opened_at_end (deals_of w.masks) (next r (clear_of next w r).opened).act (standing_of next w r) ends_there.0
+        end-opens (deals_of w.masks) (next r (clear_of next w r).opened) (clear_of next w r) ends_there.0
 
     -- a run that ends after so many batches has these rounds
-    pub rounds_are : (r : ℕ) → EndsAfter next (deals_of w.masks) (values_of w.inputs) r → r ≡ rounds_run next most (values_of w.inputs) w.masks
-    rounds_are r h = ends-once next (deals_of w.masks) (values_of w.inputs) r (rounds_run next most (values_of w.inputs) w.masks) h ends_there
+    pub rounds_are : (r : ℕ) → EndsAfter next (deals_of w.masks) (values_of w.inputs) r →
+        r ≡ rounds_run next most (values_of w.inputs) w.masks
+    rounds_are r h = ends-once next (deals_of w.masks) (values_of w.inputs) r
+        (rounds_run next most (values_of w.inputs) w.masks) h ends_there
 
-  module _ (me : Point) (w w' : Secrets) (has : HasSecrets inputs masks w) (has' : HasSecrets inputs masks w') (few : (k : ℕ) → IsElement (slice_index (values_of w.inputs) k))
+  module _ (me : Point) (w w' : Secrets) (has : HasSecrets inputs masks w) (has' : HasSecrets inputs masks w')
+      (few : (k : ℕ) → IsElement (slice_index (values_of w.inputs) k))
       (few' : (k : ℕ) → IsElement (slice_index (values_of w'.inputs) k)) (same : LookSame next most masks me w w')
       (rounds : ℕ) (run : rounds ≡ rounds_run next most (values_of w.inputs) w.masks) where
     ends : EndsAfter next (deals_of w.masks) (values_of w.inputs) rounds
@@ -89,7 +90,7 @@ module _ (next : ℕ → List ℕ → Batch) (most inputs masks wires coefficien
     opens : (t : ℕ) → t ≤ rounds → (clear_of next w' t).opened ≡ (clear_of next w t).opened
     opens t le =
         let r' : ℕ = rounds_run next most (values_of w'.inputs) w'.masks in
-        opened_all_along next w w' rounds r'
+        opened-to-ends next (deals_of w.masks) (deals_of w'.masks) (values_of w.inputs) (values_of w'.inputs) rounds r'
         (sym (opened_is w' has') ∙ sym same.opened ∙ opened_is w has ∙ (λ i. (clear_of next w (sym run i)).opened))
         ends (ends_there w' has') t le
 
@@ -100,9 +101,11 @@ module _ (next : ℕ → List ℕ → Batch) (most inputs masks wires coefficien
       pub stands : (t : ℕ) → t ≤ rounds → Walks (begin_in next w numbers) (bounds_of wires masks coefficients) most t
       stands t le =
           let lines = on_lines w.inputs few in
-          let runs : HasRounds (begin_in next w numbers) rounds = (same-rounds (begin_in next w numbers) (values_of w.inputs) (slopes_of w.inputs) lines rounds).1 ends in
+          let runs : HasRounds (begin_in next w numbers) rounds =
+          (same-rounds (begin_in next w numbers) (values_of w.inputs) (slopes_of w.inputs) lines rounds).1 ends in
           walks (begin_in next w numbers) (bounds_of wires masks coefficients) most inputs law
-          (λ i. ap length (member_trio (shares_of w.inputs) i) ∙ length_shares w.inputs i ∙ has.inputs) t (λ k lt. runs.goes k (omega arith))
+          (λ i. ap length (member_trio (shares_of w.inputs) i) ∙ length_shares w.inputs i ∙ has.inputs) t
+          (λ k lt. runs.goes k (omega arith))
 
     no_numbers : Trio (List ℕ)
     no_numbers = record { one = []; two = []; three = [] }
@@ -112,14 +115,17 @@ module _ (next : ℕ → List ℕ → Batch) (most inputs masks wires coefficien
     words_same t lt some =
         let first : Setup = begin_in next w no_numbers in
         let lines = on_lines w.inputs few in
-        let dealt : (shared_at first t).dealt ≡ (clear_of next w t).dealt = (at-one first (values_of w.inputs) (slopes_of w.inputs) lines t).dealt in
-        let act : (coming first t).act ≡ (next t (clear_of next w t).opened).act = same-act first (values_of w.inputs) (slopes_of w.inputs) lines t in
+        let dealt : (shared_at first t).dealt ≡ (clear_of next w t).dealt =
+        (at-one first (values_of w.inputs) (slopes_of w.inputs) lines t).dealt in
+        let act : (coming first t).act ≡ (next t (clear_of next w t).opened).act =
+        same-act first (values_of w.inputs) (slopes_of w.inputs) lines t in
         let fit : (clear_of next w t).dealt + deals_in (next t (clear_of next w t).opened).act ≤ masks =
         subst (λ n. n ≤ masks) (λ i. dealt i + deals_in (act i))
         (deals-fit first (bounds_of wires masks coefficients) most t (stands no_numbers t (omega arith))) in
         let n : ℕ = (clear_of next w t).dealt in
         let low : n < masks = omega arith in
-        sym (index_take (member w'.masks me) masks n low) ∙ ap (λ l. slice_index l n) (sym same.words) ∙ index_take (member w.masks me) masks n low
+        sym (get_or-take masks (member w'.masks me) n 0 low)
+        ∙ ap (λ l. slice_index l n) (sym same.words) ∙ get_or-take masks (member w.masks me) n 0 low
 
     pub are_alike : AreAlike next most me rounds w w'
     are_alike = record {

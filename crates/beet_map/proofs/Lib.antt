@@ -3,10 +3,8 @@ pub mod Alike
 pub mod Unique
 pub mod Extending
 pub mod Symmetry
-pub mod Openings
 pub mod Gained
 pub mod Turning
 pub mod Places
-pub mod WordLists
 pub mod Whole
 pub mod Grounds

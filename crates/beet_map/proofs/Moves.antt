@@ -6,7 +6,8 @@ use Rattle.beet_field.specs.declared.point.Point.TheVariants.{One, Two, Three}
 use Rattle.beet_shamir.specs.Line.{point_of, reshared}
 use Rattle.beet_gates.specs.declared.Act.{Act}
 use Rattle.beet_gates.specs.declared.Act.TheVariants.{Deal, Mul, Reveal, End}
-use Rattle.beet_sharing.specs.Runs.{Shared, secret_of}
+use Rattle.beet_gates.specs.Draws.{secret_of}
+use Rattle.beet_sharing.specs.Runs.{Shared}
 use Rattle.beet_field.specs.Trio.{member, trio_of}
 use Rattle.beet_field.specs.declared.trio.Trio.{Trio}
 use Rattle.beet_map.specs.Mapped.{moved_of}
@@ -73,7 +74,8 @@ module _ (me : Point) (a : Act) (first : Secrets) (here : Shared) (second : Secr
 
   pub list_moved : (j : Point) (list : List ℕ) → list ≡ member old j → (j ≡ me → member new j ≡ list) →
       (j ≢ me → MovesAt me a first here second there j list (member new j)) → ListMoved j
-  list_moved j list is own other = (λ e. own e ∙ is, λ ne. subst (λ l. MovesAt me a first here second there j l (member new j)) is (other ne))
+  list_moved j list is own other =
+      (λ e. own e ∙ is, λ ne. subst (λ l. MovesAt me a first here second there j l (member new j)) is (other ne))
 
   each_moved : ListMoved One → ListMoved Two → ListMoved Three → (j : Point) → ListMoved j
   each_moved one two three One = one

@@ -1,8 +1,9 @@
 -- Lists that are the same at each place.
-use Rattle.std.proofs.Common.{◌≡◌, ◌<◌, ◌≤◌, ℕ, zero, suc, List, [], ◌∷◌, ◌++◌, length, take, slice_get, slice_index, get_or, Some, None, sym, refl, ◌∙◌, ⊎_elim, arith}
+use Rattle.std.proofs.Common.{◌≡◌, ◌<◌, ◌≤◌, ℕ, zero, suc, List, [], ◌∷◌, ◌++◌, length, take, slice_get, slice_index}
+use Rattle.std.proofs.Common.{get_or, Some, None, sym, refl, ◌∙◌, ⊎_elim, arith}
+use Rattle.std.proofs.lemmas.Bool.{cases_lt}
 use Rattle.beet_field.specs.Field.{IsElement}
 use Rattle.beet_gates.proofs.EachFacts.{get-past}
-use Rattle.beet_map.proofs.Unique.{split_at}
 
 get_ext : (xs ys : List ℕ) → ((k : ℕ) → slice_get xs k ≡ slice_get ys k) → xs ≡ ys
 get_ext [] [] f = refl
@@ -17,7 +18,7 @@ pub same_all : (xs ys : List ℕ) (n : ℕ) → length xs ≤ n → length ys �
 same_all xs ys n a b f = get_ext xs ys (λ k. ⊎_elim
     (λ (lt : k < n). f k lt)
     (λ (ge : n ≤ k). get-past xs k (omega arith) ∙ sym (get-past ys k (omega arith)))
-    (split_at k n))
+    (cases_lt k n))
 
 pub get_take : (xs : List ℕ) (n k : ℕ) → k < n → k < length xs → slice_get (take n xs) k ≡ Some (get_or xs k 0)
 get_take [] n k lt h = absurd (omega arith)
@@ -26,7 +27,8 @@ get_take (x ∷ xs) (suc n) zero lt h = refl
 get_take (x ∷ xs) (suc n) (suc k) lt h = get_take xs n k (omega arith) (omega arith)
 
 -- one number more
-pub elements_more : (xs : List ℕ) (x : ℕ) → ((k : ℕ) → IsElement (slice_index xs k)) → IsElement x → (k : ℕ) → IsElement (slice_index (xs ++ x ∷ []) k)
+pub elements_more : (xs : List ℕ) (x : ℕ) → ((k : ℕ) → IsElement (slice_index xs k)) → IsElement x → (k : ℕ) →
+    IsElement (slice_index (xs ++ x ∷ []) k)
 elements_more [] x few h zero = h
 elements_more [] x few h (suc k) = omega arith
 elements_more (y ∷ xs) x few h zero = few 0

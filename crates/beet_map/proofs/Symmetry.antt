@@ -10,7 +10,8 @@ use Rattle.beet_gates.specs.Scripts.{deals_in}
 use Rattle.beet_gates.specs.declared.Act.{Act}
 use Rattle.beet_gates.specs.declared.Act.TheVariants.{Deal, Mul, Reveal, End}
 use Rattle.beet_gates.specs.declared.Batch.{Batch}
-use Rattle.beet_sharing.specs.Runs.{Setup, coming, draws_in, shared_at, standing_at}
+use Rattle.beet_gates.specs.Draws.{draws_in}
+use Rattle.beet_sharing.specs.Runs.{Setup, coming, shared_at, standing_at}
 use Rattle.beet_map.specs.Secrets.{Secrets, begin_in}
 use Rattle.beet_map.specs.Mapped.{GateMapped, moved_of, number_at, secret_at}
 use Rattle.beet_map.proofs.Moves.{moved_back, secret_small}
@@ -18,7 +19,8 @@ use Rattle.beet_map.specs.Premise.{MayMap, clear_of, standing_of}
 use Rattle.beet_map.proofs.Alike.{alike_at, same_batch}
 use Rattle.beet_map.proofs.Unique.{only_one}
 
-level_act : (deals deals' : ℕ → List ℕ) (a : Act) (v v' : Values) → v'.dealt ≡ v.dealt → (act_on deals' a v').dealt ≡ (act_on deals a v).dealt
+level_act : (deals deals' : ℕ → List ℕ) (a : Act) (v v' : Values) → v'.dealt ≡ v.dealt →
+    (act_on deals' a v').dealt ≡ (act_on deals a v).dealt
 level_act deals deals' Deal v v' e = ap (λ n. n + 1) e
 level_act deals deals' (Mul pairs) v v' e = e
 level_act deals deals' (Reveal shown) v v' e = e
@@ -29,14 +31,18 @@ pub level_next : (next : ℕ → List ℕ → Batch) (w w' : Secrets) (t : ℕ) 
     (clear_of next w' t).dealt ≡ (clear_of next w t).dealt → (clear_of next w' (suc t)).dealt ≡ (clear_of next w (suc t)).dealt
 level_next next w w' t opens e =
     (λ i. (act_on (deals_of w'.masks) (next t (opens i)).act (standing_of next w' t)).dealt)
-    ∙ level_act (deals_of w.masks) (deals_of w'.masks) (next t (clear_of next w t).opened).act (standing_of next w t) (standing_of next w' t) e
+    ∙ level_act (deals_of w.masks) (deals_of w'.masks) (next t (clear_of next w t).opened).act (standing_of next w t)
+    (standing_of next w' t) e
 
-level_at : (next : ℕ → List ℕ → Batch) (rounds : ℕ) (w w' : Secrets) → ((t : ℕ) → t ≤ rounds → (clear_of next w' t).opened ≡ (clear_of next w t).opened) →
+level_at : (next : ℕ → List ℕ → Batch) (rounds : ℕ) (w w' : Secrets) →
+    ((t : ℕ) → t ≤ rounds → (clear_of next w' t).opened ≡ (clear_of next w t).opened) →
     (t : ℕ) → t ≤ rounds → (clear_of next w' t).dealt ≡ (clear_of next w t).dealt
 level_at next rounds w w' opens zero le = refl
-level_at next rounds w w' opens (suc t) le = level_next next w w' t (opens t (omega arith)) (level_at next rounds w w' opens t (omega arith))
+level_at next rounds w w' opens (suc t) le =
+    level_next next w w' t (opens t (omega arith)) (level_at next rounds w w' opens t (omega arith))
 
-pub may_back : (next : ℕ → List ℕ → Batch) (me : Point) (rounds : ℕ) (w w' : Secrets) → MayMap next me rounds w w' → MayMap next me rounds w' w
+pub may_back : (next : ℕ → List ℕ → Batch) (me : Point) (rounds : ℕ) (w w' : Secrets) → MayMap next me rounds w w' →
+    MayMap next me rounds w' w
 may_back next me rounds w w' m = record {
   lines = m.lines';
   lines' = m.lines;
@@ -53,7 +59,8 @@ may_back next me rounds w w' m = record {
 abbrev pub AreElements : Trio (List ℕ) → Type 0
 AreElements numbers = (j : Point) (n : ℕ) → IsElement (slice_index (member numbers j) n)
 
-pub map_back : (next : ℕ → List ℕ → Batch) (me : Point) (rounds : ℕ) (w w' : Secrets) → MayMap next me rounds w w' → (d d' : Trio (List ℕ)) → AreElements d →
+pub map_back : (next : ℕ → List ℕ → Batch) (me : Point) (rounds : ℕ) (w w' : Secrets) → MayMap next me rounds w w' →
+    (d d' : Trio (List ℕ)) → AreElements d →
     GateMapped me rounds (begin_in next w d) (begin_in next w' d') → GateMapped me rounds (begin_in next w' d') (begin_in next w d)
 map_back next me rounds w w' may d d' small m =
     let first : Setup = begin_in next w d in
@@ -62,19 +69,24 @@ map_back next me rounds w w' may d d' small m =
       own = sym m.own;
       lengths = λ j. sym (m.lengths j);
       moves = λ j ne t k lt below.
-          let is : coming second t ≡ coming first t = same_batch next me w w' d d' rounds may m t (alike_at next me w w' d d' rounds may m t (omega arith)) in
+          let is : coming second t ≡ coming first t =
+          same_batch next me w w' d d' rounds may m t (alike_at next me w w' d d' rounds may m t (omega arith)) in
           moved_back me (number_at first t j k) (secret_at first t j k) (secret_at second t j k)
-          (secret_small (coming first t).act (member (standing_at first t).wires j) (slice_index (member w.masks j) (standing_at first t).dealt) k)
-          (secret_small (coming second t).act (member (standing_at second t).wires j) (slice_index (member w'.masks j) (standing_at second t).dealt) k)
+          (secret_small (coming first t).act (member (standing_at first t).wires j)
+          (slice_index (member w.masks j) (standing_at first t).dealt) k)
+          (secret_small (coming second t).act (member (standing_at second t).wires j)
+          (slice_index (member w'.masks j) (standing_at second t).dealt) k)
           (small j ((shared_at first t).drawn + k))
-          ∙ ap (λ z. moved_of me z (secret_at second t j k) (secret_at first t j k)) (sym (m.moves j ne t k lt (subst (λ b. k < draws_in b.act) is below)));
+          ∙ ap (λ z. moved_of me z (secret_at second t j k) (secret_at first t j k))
+          (sym (m.moves j ne t k lt (subst (λ b. k < draws_in b.act) is below)));
       rest = λ j ne n le.
           let g = alike_at next me w w' d d' rounds may m rounds (omega arith) in
           sym (m.rest j ne n (subst (λ u. u ≤ n) g.drawn le));
     }
 
 -- the numbers of the first world are the only ones that lead to those of the second
-pub only_one_back : (next : ℕ → List ℕ → Batch) (me : Point) (rounds : ℕ) (w w' : Secrets) → MayMap next me rounds w w' → (d e d' : Trio (List ℕ)) →
+pub only_one_back : (next : ℕ → List ℕ → Batch) (me : Point) (rounds : ℕ) (w w' : Secrets) →
+    MayMap next me rounds w w' → (d e d' : Trio (List ℕ)) →
     AreElements d → AreElements e → GateMapped me rounds (begin_in next w d) (begin_in next w' d') →
     GateMapped me rounds (begin_in next w e) (begin_in next w' d') → e ≡ d
 only_one_back next me rounds w w' may d e d' small small' m m' =

@@ -6,7 +6,8 @@ use Rattle.beet_field.specs.declared.point.Point.TheVariants.{One, Two, Three}
 use Rattle.beet_field.specs.declared.trio.Trio.{Trio}
 use Rattle.beet_gates.specs.Scripts.{deals_in}
 use Rattle.beet_gates.specs.declared.Batch.{Batch}
-use Rattle.beet_sharing.specs.Runs.{Setup, Shared, act_among, coming, draws_in, secret_of, shared_at, standing_at, with_batch_lets}
+use Rattle.beet_gates.specs.Draws.{draws_in, secret_of}
+use Rattle.beet_sharing.specs.Runs.{Setup, Shared, act_among, coming, shared_at, standing_at, with_batch_lets}
 use Rattle.beet_map.specs.Secrets.{Secrets, begin_in}
 use Rattle.beet_map.specs.Mapped.{GateMapped, moved_of}
 use Rattle.beet_map.specs.Premise.{MayMap, HasRoom}
@@ -15,9 +16,12 @@ use Rattle.beet_map.proofs.Moves.{same_or}
 use Rattle.beet_map.proofs.Alike.{Alike}
 use Rattle.beet_map.proofs.Extending.{Extends, stands_alike, stays_at, extended}
 
-module _ (next : ℕ → List ℕ → Batch) (me : Point) (rounds : ℕ) (w w' : Secrets) (may : MayMap next me rounds w w') (drawn numbers : Trio (List ℕ)) (t : ℕ) (lt : t < rounds)
-    (room : HasRoom rounds (begin_in next w drawn) w') (mapped : GateMapped me t (begin_in next w drawn) (begin_in next w' numbers)) (here there : Shared)
-    (first : here ≡ shared_at (begin_in next w drawn) t) (second : there ≡ shared_at (begin_in next w' numbers) t) (b : Batch) (is : b ≡ next t here.opened) where
+module _ (next : ℕ → List ℕ → Batch) (me : Point) (rounds : ℕ) (w w' : Secrets) (may : MayMap next me rounds w w')
+    (drawn numbers : Trio (List ℕ)) (t : ℕ) (lt : t < rounds)
+    (room : HasRoom rounds (begin_in next w drawn) w')
+    (mapped : GateMapped me t (begin_in next w drawn) (begin_in next w' numbers)) (here there : Shared)
+    (first : here ≡ shared_at (begin_in next w drawn) t) (second : there ≡ shared_at (begin_in next w' numbers) t)
+    (b : Batch) (is : b ≡ next t here.opened) where
   abbrev o : Setup
   o = begin_in next w drawn
 
@@ -95,7 +99,8 @@ module _ (next : ℕ → List ℕ → Batch) (me : Point) (rounds : ℕ) (w w' :
     unmoved : (j : Point) (n : ℕ) → (j ≢ me → slice_index (member e j) n ≡ slice_index (member numbers j) n) →
         slice_index (member e j) n ≡ slice_index (member numbers j) n
     unmoved j n other = ⊎_elim
-        (λ (x : j ≡ me). subst (λ p. slice_index (member e p) n ≡ slice_index (member numbers p) n) (sym x) (ap (λ l. slice_index l n) moves.own))
+        (λ (x : j ≡ me). subst (λ p. slice_index (member e p) n ≡ slice_index (member numbers p) n) (sym x)
+        (ap (λ l. slice_index l n) moves.own))
         other
         (same_or j me)
 
@@ -127,4 +132,5 @@ module _ (next : ℕ → List ℕ → Batch) (me : Point) (rounds : ℕ) (w w' :
         let same = stays_at next me rounds w w' may drawn numbers t lt mapped e extends t (omega arith) in
         subst (λ n. act_among (dealing w'.masks e) b.act stand' ≡ shared_at (begin_in next w' e) n) (sym s)
         ((λ i. act_among (begin_in next w' e) (batch_is' i).act (stands' i))
-        ∙ (λ i. act_among (begin_in next w' e) (next t (sym same i).opened).act (with_batch_lets (next t (sym same i).opened) (sym same i))))
+        ∙ (λ i. act_among (begin_in next w' e) (next t (sym same i).opened).act
+        (with_batch_lets (next t (sym same i).opened) (sym same i))))

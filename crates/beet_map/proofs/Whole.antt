@@ -5,7 +5,8 @@ use Rattle.beet_field.specs.Trio.{member}
 use Rattle.beet_field.specs.declared.point.Point.{Point}
 use Rattle.beet_field.specs.declared.point.Point.TheVariants.{One, Two, Three}
 use Rattle.beet_field.specs.declared.trio.Trio.{Trio}
-use Rattle.beet_words.specs.Words.{accepted}
+use Rattle.beet_words.specs.Words.{accepted, ones_in}
+use Rattle.beet_words.proofs.WordLists.{accepted_small, words_same}
 use Rattle.beet_gates.specs.Clear.{EndsAfter, is_end}
 use Rattle.beet_gates.specs.Deals.{deals_of}
 use Rattle.beet_gates.specs.declared.Batch.{Batch}
@@ -13,12 +14,12 @@ use Rattle.beet_sharing.specs.Runs.{HasRounds, Setup, coming, numbers_of, rounds
 use Rattle.beet_sharing.proofs.LinesLaw.{same-rounds}
 use Rattle.beet_sharing.proofs.Rounds.{among-rounds}
 use Rattle.beet_map.specs.Secrets.{Secrets, begin_in, slopes_of, values_of}
-use Rattle.beet_map.specs.Mapped.{AreWords, GateMapped, IsOnlyImage, IsOnlySource, LooksAlike, WordsLookAlike, WordsMapped, ones_in}
+use Rattle.beet_map.specs.Mapped.{AreWords, GateMapped, IsOnlyImage, IsOnlySource, LooksAlike, WordsLookAlike}
+use Rattle.beet_map.specs.Mapped.{WordsMapped}
 use Rattle.beet_map.specs.Premise.{FitBack, MayMap, SamePlaces}
 use Rattle.beet_map.proofs.Alike.{alike_at, messages_at, same_batch, standing_alike_at}
 use Rattle.beet_map.proofs.Symmetry.{AreElements, only_one_back}
 use Rattle.beet_map.proofs.Unique.{only_one}
-use Rattle.beet_map.proofs.WordLists.{accepted_small, words_same}
 
 member_numbers : (c : Trio (List ℕ)) (j : Point) → member (numbers_of c) j ≡ accepted (member c j)
 member_numbers c One = refl
@@ -56,10 +57,13 @@ module _ (next : ℕ → List ℕ → Batch) (most : ℕ) (me : Point) (rounds :
   rounds_of : (numbers : Trio (List ℕ)) → rounds_among (begin_in next w numbers) most ≡ rounds
   rounds_of numbers = among-rounds (begin_in next w numbers) rounds most (has_rounds numbers) a.few
 
-  mapped_over : (c d : Trio (List ℕ)) → WordsMapped next most me w w' c d → GateMapped me rounds (begin_in next w (numbers_of c)) (begin_in next w' (numbers_of d))
-  mapped_over c d m = subst (λ r. GateMapped me r (begin_in next w (numbers_of c)) (begin_in next w' (numbers_of d))) (rounds_of (numbers_of c)) m.numbers
+  mapped_over : (c d : Trio (List ℕ)) → WordsMapped next most me w w' c d →
+      GateMapped me rounds (begin_in next w (numbers_of c)) (begin_in next w' (numbers_of d))
+  mapped_over c d m = subst (λ r. GateMapped me r (begin_in next w (numbers_of c)) (begin_in next w' (numbers_of d)))
+      (rounds_of (numbers_of c)) m.numbers
 
-  looks : (n m : Trio (List ℕ)) → GateMapped me rounds (begin_in next w n) (begin_in next w' m) → LooksAlike me rounds (begin_in next w n) (begin_in next w' m)
+  looks : (n m : Trio (List ℕ)) → GateMapped me rounds (begin_in next w n) (begin_in next w' m) →
+      LooksAlike me rounds (begin_in next w n) (begin_in next w' m)
   looks n m g =
       let first : Setup = begin_in next w n in
       let second : Setup = begin_in next w' m in
@@ -94,7 +98,8 @@ module _ (next : ℕ → List ℕ → Batch) (most : ℕ) (me : Point) (rounds :
     pub only_image : IsOnlyImage next most me w w' c d
     pub only_source : IsOnlySource next most me w w' c d
 
-  pub whole_words : (c d n m : Trio (List ℕ)) → AreWords c → n ≡ numbers_of c → GateMapped me rounds (begin_in next w n) (begin_in next w' m) →
+  pub whole_words : (c d n m : Trio (List ℕ)) → AreWords c → n ≡ numbers_of c →
+      GateMapped me rounds (begin_in next w n) (begin_in next w' m) →
       numbers_of d ≡ m → SamePlaces d c → WholeWords c d
   whole_words c d n m few from g to places =
       let h : GateMapped me rounds (begin_in next w (numbers_of c)) (begin_in next w' (numbers_of d)) =
@@ -104,11 +109,13 @@ module _ (next : ℕ → List ℕ → Batch) (most : ℕ) (me : Point) (rounds :
       let whole : WordsMapped next most me w w' c d = record {
         places = at;
         own = words_same (member d me) (member c me) (at me) (sym (member_numbers d me) ∙ h.own ∙ member_numbers c me);
-        numbers = subst (λ r. GateMapped me r (begin_in next w (numbers_of c)) (begin_in next w' (numbers_of d))) (sym (rounds_of (numbers_of c))) h;
+        numbers = subst (λ r. GateMapped me r (begin_in next w (numbers_of c)) (begin_in next w' (numbers_of d)))
+            (sym (rounds_of (numbers_of c))) h;
       } in
       record {
         mapped = whole;
-        looks_alike = subst (λ r. LooksAlike me r (begin_in next w (numbers_of c)) (begin_in next w' (numbers_of d))) (sym (rounds_of (numbers_of c)))
+        looks_alike = subst (λ r. LooksAlike me r (begin_in next w (numbers_of c)) (begin_in next w' (numbers_of d)))
+            (sym (rounds_of (numbers_of c)))
             (looks (numbers_of c) (numbers_of d) h);
         only_image = λ e k. only c d e whole k;
         only_source = λ e few' k. back c d e few few' whole k;

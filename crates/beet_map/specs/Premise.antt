@@ -3,14 +3,14 @@ use Rattle.std.specs.Prelude.{◌≡◌, ◌<◌, ◌≤◌, ◌+◌, ℕ, List,
 use Rattle.beet_field.specs.Trio.{member, trio_of}
 use Rattle.beet_field.specs.declared.point.Point.{Point}
 use Rattle.beet_field.specs.declared.trio.Trio.{Trio}
-use Rattle.beet_words.specs.Words.{accepted}
+use Rattle.beet_words.specs.Words.{accepted, ones_in}
 use Rattle.beet_gates.specs.Clear.{Values, clear_at, with_lets}
 use Rattle.beet_gates.specs.Deals.{deals_of}
 use Rattle.beet_gates.specs.Scripts.{deals_in}
 use Rattle.beet_gates.specs.declared.Batch.{Batch}
+use Rattle.beet_gates.specs.Draws.{draws_in}
 use Rattle.beet_sharing.specs.Lines.{OnLines}
-use Rattle.beet_sharing.specs.Runs.{Setup, coming, draws_in, shared_at}
-use Rattle.beet_map.specs.Mapped.{ones_in}
+use Rattle.beet_sharing.specs.Runs.{Setup, coming, shared_at}
 use Rattle.beet_map.specs.Secrets.{Secrets, shares_of, slopes_of, values_of}
 
 -- the run on the values of a world
@@ -28,11 +28,13 @@ pub record MayMap (next : ℕ → List ℕ → Batch) (me : Point) (rounds : ℕ
   pub inputs : shares_of w'.inputs me ≡ shares_of w.inputs me
   pub opens : (t : ℕ) → t ≤ rounds → (clear_of next w' t).opened ≡ (clear_of next w t).opened
   pub words : (t : ℕ) → t < rounds → 0 < deals_in (next t (clear_of next w t).opened).act →
-      slice_index (member w'.masks me) (clear_of next w t).dealt ≡ slice_index (member w.masks me) (clear_of next w t).dealt
+      slice_index (member w'.masks me) (clear_of next w t).dealt
+      ≡ slice_index (member w.masks me) (clear_of next w t).dealt
 
 -- there are numbers and words for each batch of a run, and words for it in the second world
 pub record HasRoom (rounds : ℕ) (o : Setup) (w' : Secrets) : Type 0 where
-  pub numbers : (t : ℕ) (j : Point) → t < rounds → (shared_at o t).drawn + draws_in (coming o t).act ≤ length (member o.numbers j)
+  pub numbers : (t : ℕ) (j : Point) → t < rounds →
+      (shared_at o t).drawn + draws_in (coming o t).act ≤ length (member o.numbers j)
   pub words : (t : ℕ) → t < rounds → (shared_at o t).dealt + deals_in (coming o t).act ≤ length o.masks.one
   pub words' : (t : ℕ) → t < rounds → (shared_at o t).dealt + deals_in (coming o t).act ≤ length w'.masks.one
 

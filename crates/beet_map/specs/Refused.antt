@@ -6,7 +6,8 @@ use Rattle.beet_gates.specs.Clear.{clear_values}
 use Rattle.beet_gates.specs.Scripts.{HasWords}
 use Rattle.beet_gates.specs.declared.Batch.{Batch}
 use Rattle.beet_map.specs.declared.refusals.GateFault.{GateFault}
-use Rattle.beet_map.specs.declared.refusals.GateFault.TheVariants.{InputsDiffer, OwnMaskDiffers, RevealDiffers, OutOfMemory}
+use Rattle.beet_map.specs.declared.refusals.GateFault.TheVariants.{InputsDiffer, OwnMaskDiffers, RevealDiffers}
+use Rattle.beet_map.specs.declared.refusals.GateFault.TheVariants.{OutOfMemory}
 use Rattle.beet_map.specs.Secrets.{Secrets, shares_of, values_of}
 
 -- the numbers that the script opens on the values of a world

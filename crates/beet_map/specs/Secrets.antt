@@ -27,4 +27,5 @@ shares_of lines i = map (λ l. point_of l.value l.slope i) lines
 
 -- three servers that begin with these secrets, and with these numbers to draw
 abbrev pub begin_in : (ℕ → List ℕ → Batch) → Secrets → Trio (List ℕ) → Setup
-begin_in next w numbers = record { next = next; inputs = trio_of (shares_of w.inputs); masks = w.masks; numbers = numbers }
+begin_in next w numbers =
+    record { next = next; inputs = trio_of (shares_of w.inputs); masks = w.masks; numbers = numbers }

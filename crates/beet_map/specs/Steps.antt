@@ -11,13 +11,15 @@ use Rattle.beet_gates.specs.Each.{each}
 use Rattle.beet_gates.specs.Scripts.{deals_in}
 use Rattle.beet_gates.specs.declared.Act.{Act}
 use Rattle.beet_gates.specs.declared.Act.TheVariants.{Deal, Mul, Reveal, End}
-use Rattle.beet_sharing.specs.Runs.{Setup, Shared, draws_in, pair_at, secret_of}
+use Rattle.beet_gates.specs.Draws.{draws_in, pair_at, secret_of}
+use Rattle.beet_sharing.specs.Runs.{Setup, Shared}
 use Rattle.beet_map.specs.Mapped.{moved_of}
 use Rattle.beet_map.specs.Secrets.{Secrets}
 
 -- a setup with these words and numbers: an act looks at no more of it
 abbrev pub dealing : Trio (List ℕ) → Trio (List ℕ) → Setup
-dealing masks numbers = record { next = λ done opened. end_batch; inputs = trio_of (λ i. []); masks = masks; numbers = numbers }
+dealing masks numbers =
+    record { next = λ done opened. end_batch; inputs = trio_of (λ i. []); masks = masks; numbers = numbers }
 
 -- a run that has no wires yet
 abbrev pub nothing_shared : Shared
@@ -25,7 +27,8 @@ nothing_shared = record { wires = trio_of (λ i. []); opened = []; drawn = 0; de
 
 -- the line with the k-th secret of a server as its value and the number that hides it as its slope
 abbrev pub hidden_line : Act → List ℕ → ℕ → List ℕ → ℕ → ℕ → Line
-hidden_line a points word numbers drawn k = record { value = secret_of a points word k; slope = slice_index numbers (drawn + k) }
+hidden_line a points word numbers drawn k =
+    record { value = secret_of a points word k; slope = slice_index numbers (drawn + k) }
 
 -- the line of the k-th product
 abbrev pub product_line : List (ℕ × ℕ) → Trio (List ℕ) → Trio (List ℕ) → ℕ → ℕ → Line
@@ -52,9 +55,11 @@ pub record HasEnough (a : Act) (masks numbers : Trio (List ℕ)) (s : Shared) : 
   pub three : s.drawn + draws_in a ≤ length numbers.three
 
 -- the numbers of one server, of which those that are drawn for an act are moved
-pub record MovesList (me : Point) (a : Act) (first : List ℕ) (word : ℕ) (second : List ℕ) (other drawn : ℕ) (old new : List ℕ) : Type 0 where
+pub record MovesList (me : Point) (a : Act) (first : List ℕ) (word : ℕ) (second : List ℕ) (other drawn : ℕ)
+    (old new : List ℕ) : Type 0 where
   pub moves : (k : ℕ) → k < draws_in a →
-      slice_index new (drawn + k) ≡ moved_of me (slice_index old (drawn + k)) (secret_of a first word k) (secret_of a second other k)
+      slice_index new (drawn + k)
+      ≡ moved_of me (slice_index old (drawn + k)) (secret_of a first word k) (secret_of a second other k)
   pub below : (n : ℕ) → n < drawn → slice_index new n ≡ slice_index old n
   pub beyond : (n : ℕ) → drawn + draws_in a ≤ n → slice_index new n ≡ slice_index old n
   pub same_length : length new ≡ length old
@@ -66,6 +71,7 @@ MovesAt me a first here second there j old new =
     (slice_index (member second.masks j) there.dealt) here.drawn old new
 
 -- the same of all servers but me
-pub record MovesBatch (me : Point) (a : Act) (first : Secrets) (here : Shared) (second : Secrets) (there : Shared) (old new : Trio (List ℕ)) : Type 0 where
+pub record MovesBatch (me : Point) (a : Act) (first : Secrets) (here : Shared) (second : Secrets) (there : Shared)
+    (old new : Trio (List ℕ)) : Type 0 where
   pub own : member new me ≡ member old me
   pub others : (j : Point) → j ≢ me → MovesAt me a first here second there j (member old j) (member new j)

@@ -20,4 +20,3 @@ pub use moving::moved;
 pub use numbers::number_at;
 pub use refusals::GateFault;
 pub use secrets::Secrets;
-pub use words::{numbers_in, word_of};

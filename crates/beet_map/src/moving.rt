@@ -3,7 +3,7 @@
 ghost use Rattle.std.specs.Prelude.{◌≡◌, ◌<◌, ◌≤◌, ◌+◌, length, slice_index};
 ghost use Rattle.std.specs.Int.{bit_at};
 ghost use Rattle.beet_gates.specs.Clear.{product_of};
-ghost use Rattle.beet_sharing.specs.Runs.{draws_in, secret_of};
+ghost use Rattle.beet_gates.specs.Draws.{draws_in, secret_of};
 ghost use Rattle.beet_map.specs.Mapped.{moved_of};
 ghost use Rattle.beet_map.specs.Steps.{MovesList};
 

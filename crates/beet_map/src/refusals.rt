@@ -1,12 +1,13 @@
 //! Where two worlds do not look alike to a server.
 
-ghost use Rattle.std.specs.Prelude.{◌≡◌, ◌≤◌, ◌<◌, ℕ, IfErr, IfNone, IfOk, IfSome, OnOk, length, max, slice_get, slice_index, take};
+ghost use Rattle.std.specs.Prelude.{◌≡◌, ◌≤◌, ◌<◌, ℕ, IfErr, IfNone, IfOk, IfSome, OnOk, length, max, slice_get};
+ghost use Rattle.std.specs.Prelude.{slice_index, take};
 ghost use Rattle.beet_field.specs.Field.{IsElement};
 ghost use Rattle.beet_field.specs.Trio.{member};
-ghost use Rattle.beet_field.specs.declared.point.Point.{Point as Server};
 ghost use Rattle.beet_gates.specs.Clear.{rounds_run};
 ghost use Rattle.beet_gates.specs.Scripts.{HasWords};
-ghost use Rattle.beet_map.specs.Refused.{DifferFirst, HasSecrets, LookSame, Refuses, SameMasks, SameOpened, SameShares, opened_in};
+ghost use Rattle.beet_map.specs.Refused.{DifferFirst, HasSecrets, LookSame, Refuses, SameMasks, SameOpened, SameShares};
+ghost use Rattle.beet_map.specs.Refused.{opened_in};
 ghost use Rattle.beet_map.specs.Secrets.{shares_of, values_of};
 ghost use Rattle.beet_map.specs.declared.refusals.GateFault.TheVariants.{OutOfMemory, RevealDiffers};
 
@@ -190,7 +191,7 @@ fn rounds_opening_the_same<S: Script>(
         ((k : ℕ) → IsElement (slice_index (values_of first.now.inputs) k)) }
     ensures second_elements { OnOk result
         ((k : ℕ) → IsElement (slice_index (values_of second.now.inputs) k)) }
-    ensures refused { (me : Server) → SameShares me first.now second.now →
+    ensures refused { (me : Point) → SameShares me first.now second.now →
         SameMasks (S.masks_of script.now) me first.now second.now →
         IfErr result (Refuses (S.batch_of script.now) (S.rounds_of script.now)
         (S.masks_of script.now) me first.now second.now) }

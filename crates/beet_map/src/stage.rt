@@ -4,7 +4,8 @@ ghost use Rattle.std.specs.Prelude.{◌≡◌, ◌≤◌, ◌<◌, ◌+◌, ◌+
 ghost use Rattle.beet_field.specs.Trio.{member, trio_of};
 ghost use Rattle.beet_gates.specs.Each.{each};
 ghost use Rattle.beet_gates.specs.Scripts.{deals_in};
-ghost use Rattle.beet_sharing.specs.Runs.{act_among, draws_in, opened_at, opened_by, with_batch_lets};
+ghost use Rattle.beet_gates.specs.Draws.{draws_in};
+ghost use Rattle.beet_sharing.specs.Runs.{act_among, opened_at, opened_by, with_batch_lets};
 ghost use Rattle.beet_map.specs.Steps.{HasEnough, dealing, hidden_line, lines_gained, nothing_shared};
 ghost use Rattle.beet_map.specs.Secrets.{shares_of};
 

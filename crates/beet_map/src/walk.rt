@@ -1,7 +1,8 @@
 //! The walk through both worlds, batch by batch.
 
 ghost use Rattle.std.specs.Prelude.{◌≡◌, ◌≢◌, ◌≤◌, ◌+◌, OnOk, length};
-ghost use Rattle.beet_sharing.specs.Runs.{act_among, draws_in, with_batch_lets};
+ghost use Rattle.beet_gates.specs.Draws.{draws_in};
+ghost use Rattle.beet_sharing.specs.Runs.{act_among, with_batch_lets};
 ghost use Rattle.beet_map.specs.Mapped.{GateMapped};
 ghost use Rattle.beet_map.specs.Premise.{MayMap, HasRoom};
 ghost use Rattle.beet_map.specs.Steps.{HasEnough, MovesAt, MovesBatch, dealing, nothing_shared};

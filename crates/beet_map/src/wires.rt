@@ -4,7 +4,7 @@ ghost use Rattle.std.specs.Prelude.{◌≡◌, ◌≤◌, ◌<◌, ◌+◌, ◌%
 ghost use Rattle.beet_field.specs.Field.{p};
 ghost use Rattle.beet_gates.specs.Clear.{let_of, weighed, with_lets};
 ghost use Rattle.beet_gates.specs.Each.{each};
-ghost use Rattle.beet_sharing.specs.Runs.{draws_in, pair_at};
+ghost use Rattle.beet_gates.specs.Draws.{draws_in, pair_at};
 ghost use Rattle.beet_map.specs.Steps.{hidden_line, product_line};
 ghost use Rattle.beet_map.specs.Secrets.{shares_of};
 

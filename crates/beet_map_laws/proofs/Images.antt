@@ -5,20 +5,21 @@ use Rattle.beet_field.specs.declared.point.Point.{Point}
 use Rattle.beet_field.specs.declared.point.Point.TheVariants.{One, Two, Three}
 use Rattle.beet_field.specs.declared.trio.Trio.{Trio}
 use Rattle.beet_words.specs.Words.{IsWord, accepted}
+use Rattle.beet_words.proofs.Putting.{PutBack, put-back}
 use Rattle.beet_gates.specs.Clear.{rounds_run}
 use Rattle.beet_gates.specs.Scripts.{HasWords, LawFrom, bounds_of, start_of}
 use Rattle.beet_gates.specs.declared.Batch.{Batch}
+use Rattle.beet_gates.specs.Draws.{draws_in}
 use Rattle.beet_sharing.proofs.LinesLaw.{same-rounds}
 use Rattle.beet_sharing.proofs.Lined.{member-each}
 use Rattle.beet_sharing.proofs.Rounds.{among-rounds, lawful-rounds}
-use Rattle.beet_sharing.specs.Runs.{coming, draws_in, numbers_of, rounds_among, shared_at}
+use Rattle.beet_sharing.specs.Runs.{coming, numbers_of, rounds_among, shared_at}
 use Rattle.beet_map.specs.Mapped.{AreWords, GateMapped, run_with}
 use Rattle.beet_map.specs.Secrets.{Secrets, begin_in, slopes_of, values_of}
 use Rattle.beet_map.proofs.Grounds.{are_alike, has_room}
 use Rattle.beet_map.proofs.Symmetry.{map_back, may_back}
 use Rattle.beet_map.proofs.Whole.{AreAlike, WholeWords, all_small, whole_words}
 use Rattle.beet_map_laws.specs.Pairs.{AreTwoWorlds, CanDraw, GoTogether}
-use Rattle.beet_map_laws.proofs.Putting.{PutBack, put-back}
 use Rattle.beet_map_laws.proofs.Reaching.{Reached, reach}
 
 pub two-back : (next : ℕ → List ℕ → Batch) (most inputs deals : ℕ) (me : Point) (w w' : Secrets) →
@@ -31,7 +32,8 @@ two-back next most inputs deals me w w' two = record {
   same = record { shares = sym two.same.shares; words = sym two.same.words; opened = sym two.same.opened };
 }
 
-module _ (next : ℕ → List ℕ → Batch) (most inputs wires deals wanted : ℕ) (law : LawFrom next (bounds_of wires deals wanted) most (start_of inputs) []) (me : Point) where
+module _ (next : ℕ → List ℕ → Batch) (most inputs wires deals wanted : ℕ)
+    (law : LawFrom next (bounds_of wires deals wanted) most (start_of inputs) []) (me : Point) where
   module _ (w w' : Secrets) (two : AreTwoWorlds next most inputs deals me w w') where
     abbrev rounds : ℕ
     rounds = rounds_run next most (values_of w.inputs) w.masks
@@ -45,7 +47,8 @@ module _ (next : ℕ → List ℕ → Batch) (most inputs wires deals wanted : �
         among-rounds (begin_in next w numbers) rounds most
         ((same-rounds (begin_in next w numbers) (values_of w.inputs) (slopes_of w.inputs) alike.may.lines rounds).1 alike.ends) alike.few
 
-    pair-of : (words words' : Trio (List ℕ)) → WholeWords next most me rounds w w' alike words words' → GoTogether next most me w w' words words'
+    pair-of : (words words' : Trio (List ℕ)) → WholeWords next most me rounds w w' alike words words' →
+        GoTogether next most me w w' words words'
     pair-of words words' whole = record {
       mapped = whole.mapped;
       looks = whole.looks_alike;
@@ -61,14 +64,16 @@ module _ (next : ℕ → List ℕ → Batch) (most inputs wires deals wanted : �
       fits : (t : ℕ) (j : Point) → t < rounds →
           (shared_at (begin_in next w numbers) t).drawn + draws_in (coming (begin_in next w numbers) t).act ≤ length (member numbers j)
       fits =
-          (has_room next most inputs deals wires wanted law me w w' two.first two.second two.elements two.elements' two.same rounds refl numbers
+          (has_room next most inputs deals wires wanted law me w w' two.first two.second two.elements two.elements'
+          two.same rounds refl numbers
           enough.numbers).numbers
 
       image-of : Reached next me rounds w w' alike.may numbers fits rounds →
           (words' : Trio (List ℕ)) × CanDraw wanted words' × GoTogether next most me w w' words words'
       image-of r =
           let put : (j : Point) → PutBack (member words j) (member r.reached j) =
-          λ j. put-back (member words j) (member r.reached j) (r.mapped.lengths j ∙ ap length (member-each accepted words j)) (r.are_elements j) in
+          λ j. put-back (member words j) (member r.reached j)
+          (r.mapped.lengths j ∙ ap length (member-each accepted words j)) (r.are_elements j) in
           let words' : Trio (List ℕ) = record { one = (put One).back; two = (put Two).back; three = (put Three).back } in
           let accepts : numbers_of words' ≡ r.reached =
           λ i. record { one = (put One).accepts i; two = (put Two).accepts i; three = (put Three).accepts i } in
@@ -87,7 +92,8 @@ module _ (next : ℕ → List ℕ → Batch) (most inputs wires deals wanted : �
             pair-of words words' whole,
           )
         where
-          each-word : (words' : Trio (List ℕ)) → ((n : ℕ) → IsWord (slice_index words'.one n)) → ((n : ℕ) → IsWord (slice_index words'.two n)) →
+          each-word : (words' : Trio (List ℕ)) → ((n : ℕ) → IsWord (slice_index words'.one n)) →
+              ((n : ℕ) → IsWord (slice_index words'.two n)) →
               ((n : ℕ) → IsWord (slice_index words'.three n)) → AreWords words'
           each-word words' one two three One n = one n
           each-word words' one two three Two n = two n

@@ -1,4 +1,3 @@
-pub mod Splices
-pub mod Putting
+pub mod AllBut
 pub mod Reaching
 pub mod Images

@@ -5,13 +5,16 @@ use Rattle.beet_field.specs.Trio.{member}
 use Rattle.beet_field.specs.declared.point.Point.{Point}
 use Rattle.beet_field.specs.declared.trio.Trio.{Trio}
 use Rattle.beet_gates.specs.declared.Batch.{Batch}
-use Rattle.beet_sharing.specs.Runs.{Setup, coming, draws_in, shared_at}
+use Rattle.beet_gates.specs.Draws.{draws_in}
+use Rattle.beet_gates.proofs.Splices.{spliced, spliced-below, spliced-beyond, spliced-elements, spliced-length}
+use Rattle.beet_gates.proofs.Splices.{spliced-moves}
+use Rattle.beet_sharing.specs.Runs.{Setup, coming, shared_at}
 use Rattle.beet_map.specs.Mapped.{GateMapped, moved_of, number_at, secret_at}
 use Rattle.beet_map.specs.Premise.{MayMap}
 use Rattle.beet_map.specs.Secrets.{Secrets, begin_in}
 use Rattle.beet_map.proofs.Extending.{Extends, extended}
 use Rattle.beet_map.proofs.Symmetry.{AreElements}
-use Rattle.beet_map_laws.proofs.Splices.{all_but, all_but-each, all_but-own, spliced, spliced-below, spliced-beyond, spliced-elements, spliced-length, spliced-moves}
+use Rattle.beet_map_laws.proofs.AllBut.{all_but, all_but-each, all_but-own}
 
 pub moved-small : (s : Point) (number x y : ℕ) → IsElement (moved_of s number x y)
 moved-small s number x y = omega arith
@@ -48,7 +51,8 @@ module _ (next : ℕ → List ℕ → Batch) (me : Point) (rounds : ℕ) (w w' :
     extends : Extends me first (second d) t extension
     extends = record {
       own = all_but-own me list d;
-      lengths = all_but-each (λ j l. length l ≡ length (member d j)) me list d refl (λ j ne. spliced-length (rule j) drawn count (member d j));
+      lengths = all_but-each (λ j l. length l ≡ length (member d j)) me list d refl
+          (λ j ne. spliced-length (rule j) drawn count (member d j));
       moves = λ j ne k below.
           all_but-each (λ i l. i ≢ me → slice_index l (drawn + k) ≡ rule i k) me list d (λ other. absurd (other refl))
           (λ i other same. spliced-moves (rule i) drawn count (member d i) (fit i) k below) j ne;
@@ -87,6 +91,7 @@ module _ (next : ℕ → List ℕ → Batch) (me : Point) (rounds : ℕ) (w w' :
       let lt : t < rounds = omega arith in
       record {
         reached = extension t lt r.reached r.mapped;
-        mapped = extended next me rounds w w' may numbers r.reached t lt r.mapped (extension t lt r.reached r.mapped) (extends t lt r.reached r.mapped);
+        mapped = extended next me rounds w w' may numbers r.reached t lt r.mapped (extension t lt r.reached r.mapped)
+            (extends t lt r.reached r.mapped);
         are_elements = elements t lt r.reached r.mapped r.are_elements;
       }

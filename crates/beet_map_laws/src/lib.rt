@@ -11,9 +11,9 @@ ghost use Rattle.beet_gates.specs.declared.Batch.{Batch};
 ghost use Rattle.beet_map.specs.Secrets.{Secrets};
 ghost use Rattle.beet_map_laws.specs.Pairs.{AreTwoWorlds, CanDraw, GoTogether};
 
-/// In two worlds of a lawful script that a server cannot tell apart, all coefficient words of the first that are enough go with
-/// exactly one choice of those of the second, which shows the server the same and is enough too; and all of the second that are
-/// enough go with exactly one choice of the first.
+/// In two worlds of a lawful script that a server cannot tell apart, all coefficient words of the first that are enough
+/// go with exactly one choice of those of the second, which shows the server the same and is enough too; and all of the
+/// second that are enough go with exactly one choice of the first.
 pub fn words_are_mapped_one_to_one()
     ensures image { (next : ℕ → List ℕ → Batch) (most inputs wires deals wanted : ℕ) (me : Point)
         (w w' : Secrets) (words : Trio (List ℕ)) →

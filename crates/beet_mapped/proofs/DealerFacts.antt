@@ -1,5 +1,6 @@
 -- Mapped words of parties: the server holds the same points, the words are mapped back, and in one way.
-use Rattle.std.proofs.Common.{◌≡◌, ◌≢◌, ◌⊎◌, ℕ, suc, ◌<◌, inl, inr, List, [], ◌∷◌, map, length, slice_index, Option, Some, None, refl, sym, ap, ◌∙◌, arith}
+use Rattle.std.proofs.Common.{◌≡◌, ◌≢◌, ◌⊎◌, ℕ, suc, ◌<◌, inl, inr, List, [], ◌∷◌, map, length, slice_index, Option}
+use Rattle.std.proofs.Common.{Some, None, refl, sym, ap, ◌∙◌, arith}
 use Rattle.std.specs.Prelude.{All}
 use Rattle.std.proofs.lemmas.Bool.{cases_lt}
 use Rattle.std.proofs.lemmas.List.{ext_get_or, get_or_past}
@@ -9,10 +10,10 @@ use Rattle.beet_field.specs.Field.{IsElement}
 use Rattle.beet_field.specs.declared.point.Point.{Point}
 use Rattle.beet_field.specs.declared.point.Point.TheVariants.{One, Two, Three}
 use Rattle.beet_shamir.specs.Line.{point_of}
-use Rattle.beet_words.specs.Words.{IsWord, accepted}
-use Rattle.beet_map.specs.Mapped.{moved_of, ones_in}
+use Rattle.beet_words.specs.Words.{IsWord, accepted, ones_in}
+use Rattle.beet_words.proofs.WordLists.{ones-long, words_same}
+use Rattle.beet_map.specs.Mapped.{moved_of}
 use Rattle.beet_map.proofs.Moves.{moved_back, moved_same}
-use Rattle.beet_map.proofs.WordLists.{ones-long, words_same}
 use Rattle.beet_mapped.specs.Dealers.{Party, Dealer, DealerMapped, DealersMapped, dealers_of, point_for, slope_for}
 use Rattle.beet_turned.proofs.MasksBack.{all-at}
 use Rattle.beet_mapped.proofs.WordPlaces.{accepted-length, accepted-small}
@@ -42,16 +43,19 @@ element-at quantities all n = elim (cases_lt n (length quantities)) [
 
 -- one party
 module _ (s : Point) (one other : Dealer) where
-  pub point-same : AreElements other.party.quantities → (one.party.known ≡ Some s → other.party.quantities ≡ one.party.quantities) → DealerMapped s one other →
+  pub point-same : AreElements other.party.quantities →
+      (one.party.known ≡ Some s → other.party.quantities ≡ one.party.quantities) → DealerMapped s one other →
       (n : ℕ) → n < length one.party.quantities → point_for other s n ≡ point_for one s n
   point-same c own m n h = elim (known-or one.party.known s) [
     | inl known ↦ λ j. point_of (slice_index (own known j) n) (slice_index (accepted (m.own known j)) n) s
     | inr unknown ↦
         ap (λ a. point_of (slice_index other.party.quantities n) a s) ((m.moved unknown).moves n h)
-        ∙ moved_same s (slope_for one n) (slice_index one.party.quantities n) (slice_index other.party.quantities n) (element-at other.party.quantities c n)
+        ∙ moved_same s (slope_for one n) (slice_index one.party.quantities n) (slice_index other.party.quantities n)
+        (element-at other.party.quantities c n)
   ]
 
-  dealer-back : AreElements one.party.quantities → AreElements other.party.quantities → All IsWord one.words → DealerMapped s one other → DealerMapped s other one
+  dealer-back : AreElements one.party.quantities → AreElements other.party.quantities → All IsWord one.words →
+      DealerMapped s one other → DealerMapped s other one
   dealer-back c d words m = record {
     known = sym m.known;
     count = sym m.count;
@@ -61,9 +65,11 @@ module _ (s : Point) (one other : Dealer) where
         record {
           places = sym v.places;
           moves = λ n h.
-              moved_back s (slope_for one n) (slice_index one.party.quantities n) (slice_index other.party.quantities n) (element-at one.party.quantities c n) (element-at other.party.quantities d n)
+              moved_back s (slope_for one n) (slice_index one.party.quantities n) (slice_index other.party.quantities n)
+              (element-at one.party.quantities c n) (element-at other.party.quantities d n)
               (accepted-small one.words words n)
-              ∙ sym (ap (λ a. moved_of s a (slice_index other.party.quantities n) (slice_index one.party.quantities n)) (v.moves n (omega (arith, h, m.count))));
+              ∙ sym (ap (λ a. moved_of s a (slice_index other.party.quantities n) (slice_index one.party.quantities n))
+              (v.moves n (omega (arith, h, m.count))));
           rest = λ n h. sym (v.rest n (omega (arith, h, m.count)));
         };
   }
@@ -81,7 +87,8 @@ module _ (s : Point) (one u v : Dealer) where
             (ext_get_or 0 (accepted u.words) (accepted v.words) (accepted-length u.words v.words places)
             (λ n lt. elim (cases_lt n (length one.party.quantities)) [
               | inl h ↦
-                  x.moves n h ∙ ap (λ (d : Party). moved_of s (slope_for one n) (slice_index one.party.quantities n) (slice_index d.quantities n)) same
+                  x.moves n h ∙ ap (λ (d : Party). moved_of s (slope_for one n) (slice_index one.party.quantities n)
+                  (slice_index d.quantities n)) same
                   ∙ sym (y.moves n h)
               | inr past ↦ x.rest n past ∙ sym (y.rest n past)
             ]))
@@ -94,9 +101,13 @@ module _ (s : Point) where
   first-mapped f g fs gs m = m.each_one 0 f g refl refl
 
   pub rest-mapped : (f g : Dealer) (fs gs : List Dealer) → DealersMapped s (f ∷ fs) (g ∷ gs) → DealersMapped s fs gs
-  rest-mapped f g fs gs m = record { count = (let e : length gs ≡ length fs = omega (arith, m.count) in e); each_one = λ k one other e h. m.each_one (suc k) one other e h }
+  rest-mapped f g fs gs m = record {
+    count = (let e : length gs ≡ length fs = omega (arith, m.count) in e);
+    each_one = λ k one other e h. m.each_one (suc k) one other e h;
+  }
 
-  pub dealers-only : (dealers u v : List Dealer) → map (λ (d : Dealer). d.party) u ≡ map (λ (d : Dealer). d.party) v → DealersMapped s dealers u → DealersMapped s dealers v → u ≡ v
+  pub dealers-only : (dealers u v : List Dealer) → map (λ (d : Dealer). d.party) u ≡ map (λ (d : Dealer). d.party) v →
+      DealersMapped s dealers u → DealersMapped s dealers v → u ≡ v
   dealers-only [] [] [] e a b = refl
   dealers-only [] (g ∷ gs) v e a b = absurd (omega (arith, a.count))
   dealers-only [] [] (h ∷ hs) e a b = absurd (omega (arith, b.count))
@@ -109,18 +120,21 @@ module _ (s : Point) where
       let rest = dealers-only fs gs hs tail (rest-mapped f g fs gs a) (rest-mapped f h fs hs b) in
       λ j. one j ∷ rest j
 
-  pub dealers-back : (dealers dealers' : List Dealer) → All (λ (d : Dealer). AreElements d.party.quantities) dealers → All (λ (d : Dealer). AreElements d.party.quantities) dealers' →
+  pub dealers-back : (dealers dealers' : List Dealer) → All (λ (d : Dealer). AreElements d.party.quantities) dealers →
+      All (λ (d : Dealer). AreElements d.party.quantities) dealers' →
       All (λ (d : Dealer). All IsWord d.words) dealers → DealersMapped s dealers dealers' → DealersMapped s dealers' dealers
   dealers-back dealers dealers' c d words m = record {
     count = sym m.count;
     each_one = λ k one other e f.
         dealer-back s other one (all-at (λ (d : Dealer). AreElements d.party.quantities) dealers k other c f)
-        (all-at (λ (d : Dealer). AreElements d.party.quantities) dealers' k one d e) (all-at (λ (d : Dealer). All IsWord d.words) dealers k other words f)
+        (all-at (λ (d : Dealer). AreElements d.party.quantities) dealers' k one d e)
+        (all-at (λ (d : Dealer). All IsWord d.words) dealers k other words f)
         (m.each_one k other one f e);
   }
 
 -- parties with their words tell both
-pub told-words : (parties : List Party) (words : List (List ℕ)) → length words ≡ length parties → words ≡ map (λ (d : Dealer). d.words) (dealers_of parties words)
+pub told-words : (parties : List Party) (words : List (List ℕ)) → length words ≡ length parties →
+    words ≡ map (λ (d : Dealer). d.words) (dealers_of parties words)
 told-words [] [] e = refl
 told-words [] (w ∷ ws) e = absurd (omega arith)
 told-words (b ∷ bs) [] e = absurd (omega arith)
@@ -130,12 +144,14 @@ pub words-told : (parties : List Party) (u v : List (List ℕ)) → length u ≡
     dealers_of parties u ≡ dealers_of parties v → u ≡ v
 words-told parties u v a b e = told-words parties u a ∙ ap (map (λ (d : Dealer). d.words)) e ∙ sym (told-words parties v b)
 
-pub told-parties : (parties : List Party) (words : List (List ℕ)) → length words ≡ length parties → map (λ (d : Dealer). d.party) (dealers_of parties words) ≡ parties
+pub told-parties : (parties : List Party) (words : List (List ℕ)) → length words ≡ length parties →
+    map (λ (d : Dealer). d.party) (dealers_of parties words) ≡ parties
 told-parties [] words e = refl
 told-parties (b ∷ bs) [] e = absurd (omega arith)
 told-parties (b ∷ bs) (w ∷ ws) e = ap (λ l. b ∷ l) (told-parties bs ws (omega arith))
 
-pub dealers-words : (parties : List Party) (words : List (List ℕ)) → All (All IsWord) words → All (λ (d : Dealer). All IsWord d.words) (dealers_of parties words)
+pub dealers-words : (parties : List Party) (words : List (List ℕ)) → All (All IsWord) words →
+    All (λ (d : Dealer). All IsWord d.words) (dealers_of parties words)
 dealers-words [] words all = λ k d lt. absurd (omega arith)
 dealers-words (b ∷ bs) [] all = λ k d lt. absurd (omega arith)
 dealers-words (b ∷ bs) (w ∷ ws) all =
@@ -147,7 +163,8 @@ pub dealers-elements : (parties : List Party) (words : List (List ℕ)) → All 
 dealers-elements [] words all = λ k d lt. absurd (omega arith)
 dealers-elements (b ∷ bs) [] all = λ k d lt. absurd (omega arith)
 dealers-elements (b ∷ bs) (w ∷ ws) all =
-    All-cons (λ (d : Dealer). AreElements d.party.quantities) (record { party = b; words = w }) (dealers_of bs ws) (All-head (λ (b : Party). AreElements b.quantities) b bs all)
+    All-cons (λ (d : Dealer). AreElements d.party.quantities) (record { party = b; words = w }) (dealers_of bs ws)
+    (All-head (λ (b : Party). AreElements b.quantities) b bs all)
     (dealers-elements bs ws (All-tail (λ (b : Party). AreElements b.quantities) b bs all))
 
 -- the words that are all ones stand at the same places
@@ -168,15 +185,18 @@ module _ (s : Point) where
       let rest = all-ones fs gs (rest-mapped s f g fs gs m) in
       λ i. here i ∷ rest i
 
-  pub lists-alike : (parties others : List Party) (words words' : List (List ℕ)) → length words ≡ length parties → length words' ≡ length others →
+  pub lists-alike : (parties others : List Party) (words words' : List (List ℕ)) → length words ≡ length parties →
+      length words' ≡ length others →
       DealersMapped s (dealers_of parties words) (dealers_of others words') → map ones_in words' ≡ map ones_in words
   lists-alike parties others words words' a b m =
       let of_words = λ (d : Dealer). d.words in
-      ap (map ones_in) (told-words others words' b) ∙ map-map ones_in of_words (dealers_of others words') ∙ all-ones (dealers_of parties words) (dealers_of others words') m
+      ap (map ones_in) (told-words others words' b) ∙ map-map ones_in of_words (dealers_of others words')
+      ∙ all-ones (dealers_of parties words) (dealers_of others words') m
       ∙ sym (ap (map ones_in) (told-words parties words a) ∙ map-map ones_in of_words (dealers_of parties words))
 
 -- and so the lists are as long
-pub lists-long : (words words' : List (List ℕ)) → map ones_in words' ≡ map ones_in words → map (λ list. length list) words' ≡ map (λ list. length list) words
+pub lists-long : (words words' : List (List ℕ)) → map ones_in words' ≡ map ones_in words →
+    map (λ list. length list) words' ≡ map (λ list. length list) words
 lists-long [] [] e = refl
 lists-long [] (v ∷ vs) e = cc e
 lists-long (w ∷ ws) [] e = cc e

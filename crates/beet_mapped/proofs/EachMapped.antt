@@ -1,5 +1,6 @@
 -- The words of all parties, one after another.
-use Rattle.std.proofs.Common.{◌≡◌, ◌<◌, ◌+◌, ℕ, zero, suc, inl, inr, List, [], ◌∷◌, ◌++◌, length, slice_get, Some, refl, sym, ap, ◌∙◌, arith, length-append}
+use Rattle.std.proofs.Common.{◌≡◌, ◌<◌, ◌+◌, ℕ, zero, suc, inl, inr, List, [], ◌∷◌, ◌++◌, length, slice_get, Some, refl}
+use Rattle.std.proofs.Common.{sym, ap, ◌∙◌, arith, length-append}
 use Rattle.std.proofs.lemmas.Bool.{cases_lt}
 use Rattle.std.proofs.lemmas.Option.{same_Some, slice_get_within}
 use Rattle.beet_field.specs.declared.point.Point.{Point}
@@ -16,7 +17,8 @@ EachMapped s parties others words mapped =
     slice_get words k ≡ Some list → slice_get mapped k ≡ Some moved → DealerMapped s (dealer one list) (dealer other moved)
 
 module _ (s : Point) (parties others : List Party) (words : List (List ℕ)) where
-  pub each-mapped-more : (mapped : List (List ℕ)) (i : ℕ) (one other : Party) (list moved : List ℕ) → EachMapped s parties others words mapped →
+  pub each-mapped-more : (mapped : List (List ℕ)) (i : ℕ) (one other : Party) (list moved : List ℕ) →
+      EachMapped s parties others words mapped →
       length mapped ≡ i → slice_get parties i ≡ Some one → slice_get others i ≡ Some other → slice_get words i ≡ Some list →
       DealerMapped s (dealer one list) (dealer other moved) → EachMapped s parties others words (mapped ++ moved ∷ [])
   each-mapped-more mapped i one other list moved each count a b c m k one' other' list' moved' e f g h =
@@ -44,7 +46,8 @@ dealer-at (b ∷ bs) (w ∷ ws) zero one e =
     (ap (λ (d : Dealer). Some d.party) is, ap (λ (d : Dealer). Some d.words) is)
 dealer-at (b ∷ bs) (w ∷ ws) (suc k) one e = dealer-at bs ws k one e
 
-length-dealers : (parties : List Party) (words : List (List ℕ)) → length words ≡ length parties → length (dealers_of parties words) ≡ length words
+length-dealers : (parties : List Party) (words : List (List ℕ)) → length words ≡ length parties →
+    length (dealers_of parties words) ≡ length words
 length-dealers [] [] e = refl
 length-dealers [] (w ∷ ws) e = absurd (omega arith)
 length-dealers (b ∷ bs) [] e = refl

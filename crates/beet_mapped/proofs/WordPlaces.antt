@@ -1,11 +1,11 @@
 -- Words by the places of those that are all ones, and by those that are accepted.
-use Rattle.std.proofs.Common.{◌≡◌, ◌≢◌, ℕ, zero, suc, ◌^◌, ◌<◌, Bool, true, false, inl, inr, List, [], ◌∷◌, length, slice_index, refl, sym, ap, ◌∙◌, arith, eq-eqb, ne_eqb}
+use Rattle.std.proofs.Common.{◌≡◌, ◌≢◌, ℕ, zero, suc, ◌^◌, ◌<◌, Bool, true, false, inl, inr, List, [], ◌∷◌, length}
+use Rattle.std.proofs.Common.{slice_index, refl, sym, ap, ◌∙◌, arith, eq-eqb, ne_eqb}
 use Rattle.std.specs.Prelude.{All, ◌==◌}
 use Rattle.std.proofs.lemmas.Bool.{cases_Bool, cases_eq}
 use Rattle.std.proofs.lemmas.List.Elements.{All-head, All-tail}
 use Rattle.beet_field.specs.Field.{p}
-use Rattle.beet_words.specs.Words.{IsWord, ones, accepted}
-use Rattle.beet_map.specs.Mapped.{ones_in}
+use Rattle.beet_words.specs.Words.{IsWord, ones, accepted, ones_in}
 
 head-same : (b c : Bool) (bs cs : List Bool) → b ∷ bs ≡ c ∷ cs → b ≡ c
 head-same b c bs cs e = cc e
@@ -57,6 +57,7 @@ accepted-some (w ∷ ws) n h = elim (cases_eq w ones) [
       let a = accepted-more w ws (ne_eqb w ones e) in
       rw a (by w (accepted ws) e (accepted-some ws) n (omega (arith, ap length a)))
 ] where
-  by : (w : ℕ) (ws : List ℕ) → w ≢ ones → ((k : ℕ) → k < length ws → slice_index ws k ≢ ones) → (n : ℕ) → n < suc (length ws) → slice_index (w ∷ ws) n ≢ ones
+  by : (w : ℕ) (ws : List ℕ) → w ≢ ones → ((k : ℕ) → k < length ws → slice_index ws k ≢ ones) → (n : ℕ) →
+      n < suc (length ws) → slice_index (w ∷ ws) n ≢ ones
   by w ws e rest zero l = e
   by w ws e rest (suc k) l = rest k (omega arith)

@@ -1,9 +1,11 @@
--- Those who deal quantities among three servers, and their words in two worlds in which one server holds the same points.
-use Rattle.std.specs.Prelude.{◌≡◌, ◌≢◌, ◌<◌, ◌≤◌, ◌==◌, ℕ, List, [], ◌∷◌, length, slice_index, slice_get, Option, Some, nat_lt, if◌then◌else◌}
+-- Those who deal quantities among three servers, and their words in two worlds in which one server holds the same
+-- points.
+use Rattle.std.specs.Prelude.{◌≡◌, ◌≢◌, ◌<◌, ◌≤◌, ◌==◌, ℕ, List, [], ◌∷◌, length, slice_index, slice_get, Option, Some}
+use Rattle.std.specs.Prelude.{nat_lt, if◌then◌else◌}
 use Rattle.beet_field.specs.declared.point.Point.{Point}
 use Rattle.beet_shamir.specs.Line.{point_of}
-use Rattle.beet_words.specs.Words.{accepted, ones}
-use Rattle.beet_map.specs.Mapped.{moved_of, ones_in}
+use Rattle.beet_words.specs.Words.{accepted, ones, ones_in}
+use Rattle.beet_map.specs.Mapped.{moved_of}
 
 -- the server that knows it, if there is one, and the quantities that it deals, in order
 pub record Party : Type 0 where
@@ -34,12 +36,13 @@ slope_mapped s one other n word =
     if word == ones then word else
     (if nat_lt n (length one) then moved_of s word (slice_index one n) (slice_index other n) else word)
 
--- the words that deal two lists of quantities: with those that are all ones at the same places, the accepted word for each
--- quantity is moved by what the quantity is more than in the second list, and all other words are the same
+-- the words that deal two lists of quantities: with those that are all ones at the same places, the accepted word for
+-- each quantity is moved by what the quantity is more than in the second list, and all other words are the same
 pub record SlopesMoved (s : Point) (one other words words' : List ℕ) : Type 0 where
   pub places : ones_in words' ≡ ones_in words
   pub moves : (n : ℕ) → n < length one →
-      slice_index (accepted words') n ≡ moved_of s (slice_index (accepted words) n) (slice_index one n) (slice_index other n)
+      slice_index (accepted words') n
+      ≡ moved_of s (slice_index (accepted words) n) (slice_index one n) (slice_index other n)
   pub rest : (n : ℕ) → length one ≤ n → slice_index (accepted words') n ≡ slice_index (accepted words) n
 
 -- a party and its words in two worlds: the words of one that is known to the server stay
@@ -52,4 +55,5 @@ pub record DealerMapped (s : Point) (one other : Dealer) : Type 0 where
 -- all of them
 pub record DealersMapped (s : Point) (dealers dealers' : List Dealer) : Type 0 where
   pub count : length dealers' ≡ length dealers
-  pub each_one : (k : ℕ) (one other : Dealer) → slice_get dealers k ≡ Some one → slice_get dealers' k ≡ Some other → DealerMapped s one other
+  pub each_one : (k : ℕ) (one other : Dealer) → slice_get dealers k ≡ Some one → slice_get dealers' k ≡ Some other →
+      DealerMapped s one other

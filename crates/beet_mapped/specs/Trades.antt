@@ -4,10 +4,12 @@ use Rattle.beet_field.specs.Trio.{member}
 use Rattle.beet_field.specs.declared.point.Point.{Point}
 use Rattle.beet_field.specs.declared.trio.Trio.{Trio}
 use Rattle.beet_words.specs.Bundles.{Words, AreWords}
+use Rattle.beet_words.specs.Words.{ones_in}
 use Rattle.beet_gates.specs.declared.Batch.{Batch}
 use Rattle.beet_shamir.specs.declared.Line.{Line}
 use Rattle.beet_sharing.specs.Runs.{Setup, numbers_of, rounds_among}
-use Rattle.beet_map.specs.Mapped.{GateMapped, ones_in}
+use Rattle.beet_sharing.specs.Seen.{SeenRun, run_seen}
+use Rattle.beet_map.specs.Mapped.{GateMapped}
 use Rattle.beet_map.specs.Secrets.{shares_of}
 use Rattle.beet_mapped.specs.Dealers.{Party, Dealer, DealersMapped, dealers_of}
 use Rattle.beet_turned.specs.MappedMasks.{MasksMapped}
@@ -31,12 +33,17 @@ setup_in trade words = record {
 abbrev pub rounds_in : Trade → Words → ℕ
 rounds_in trade words = rounds_among (setup_in trade words) trade.most
 
+-- what a server sees of the run
+abbrev pub seen_in : Trade → Words → Point → SeenRun
+seen_in trade words s =
+    run_seen (setup_in trade words) s (rounds_in trade words) (member words.masks s) (member words.coefficients s)
+
 abbrev pub dealers_in : Trade → Words → List Dealer
 dealers_in trade words = dealers_of trade.parties words.bidders
 
--- the words of two worlds, mapped for server s, where the numbers that are compared lose so much. There are as many lists,
--- and all numbers are words. Of the coefficient words those that are all ones stand at the same places, those of s are the
--- same, and the numbers drawn in the first run are mapped
+-- the words of two worlds, mapped for server s, where the numbers that are compared lose so much. There are as many
+-- lists, and all numbers are words. Of the coefficient words those that are all ones stand at the same places, those of
+-- s are the same, and the numbers drawn in the first run are mapped
 pub record TradesMapped (s : Point) (losses : List ℕ) (first : Trade) (words : Words) (second : Trade) (words' : Words)
     : Type 0 where
   pub lists : length words'.bidders ≡ length words.bidders

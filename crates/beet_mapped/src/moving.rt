@@ -5,8 +5,8 @@ ghost use Rattle.beet_words.specs.Words.{IsWord, accepted, ones};
 ghost use Rattle.beet_mapped.specs.Dealers.{DealerMapped, SlopesMoved, slope_mapped};
 
 use beet_field::{Fe, Point};
-use beet_map::{moved, number_at, word_of};
-use beet_words::{Word, WordList};
+use beet_map::{moved, number_at};
+use beet_words::{Word, WordList, word_of};
 use std::alloc::{AllocError, Global};
 
 /// A word in the second world, after so many accepted ones.
@@ -56,8 +56,8 @@ fn move_words(
     Ok(moved)
 }
 
-/// The words with which a party deals the second quantities, so that the points of server `me` are those of the first with
-/// these words. The words of a party that the server knows stay.
+/// The words with which a party deals the second quantities, so that the points of server `me` are those of the first
+/// with these words. The words of a party that the server knows stay.
 pub fn move_dealer(
     alloc: Global,
     me: Point,

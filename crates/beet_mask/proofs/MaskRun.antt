@@ -1,5 +1,6 @@
 -- What the block of a mask does in a clear run.
-use Rattle.std.proofs.Common.{◌≡◌, ℕ, zero, suc, ◌+◌, ◌-◌, ◌*◌, ◌%◌, ◌^◌, ◌<◌, List, [], ◌∷◌, ◌++◌, map, length, slice_index, refl, ap, sym, ◌∙◌, arith, length-append, append_assoc}
+use Rattle.std.proofs.Common.{◌≡◌, ℕ, zero, suc, ◌+◌, ◌-◌, ◌*◌, ◌%◌, ◌^◌, ◌<◌, List, [], ◌∷◌, ◌++◌, map, length}
+use Rattle.std.proofs.Common.{slice_index, refl, ap, sym, ◌∙◌, arith, length-append, append_assoc}
 use Rattle.std.specs.Prelude.{bit_xor, if◌then◌else◌, ◌==◌}
 use Rattle.beet_field.specs.Field.{p}
 use Rattle.std.specs.Int.{bit_at}
@@ -14,7 +15,8 @@ use Rattle.beet_gates.proofs.Sums.{value-three_terms}
 use Rattle.beet_gates.proofs.Bits.{mul_of-bits, xor_sum}
 use Rattle.beet_gates.specs.declared.Gates.{Gates}
 use Rattle.beet_gates.specs.declared.Linear.{Linear}
-use Rattle.beet_mask.specs.Mask.{AfterMask, bits_of, bits_wire_of, mask_batches, product_batches, word_lets, xor_batches, xor_let, xor_of, xor_with}
+use Rattle.beet_mask.specs.Mask.{AfterMask, bits_of, bits_wire_of, mask_batches, product_batches, word_lets}
+use Rattle.beet_mask.specs.Mask.{xor_batches, xor_let, xor_of, xor_with}
 use Rattle.beet_mask.proofs.ProductRun.{BeforeBits, product-run}
 
 -- a combination x + y - 2xy of wires that hold bits
@@ -70,7 +72,8 @@ words-first wires start w ws h = let e : start + 61 * 0 ≡ start = omega arith 
 pub length-bits_of : (ws : List ℕ) → length (bits_of ws) ≡ 61 * length ws
 length-bits_of [] = omega arith
 length-bits_of (w ∷ []) = length-each (bit_at w) 61
-length-bits_of (w ∷ x ∷ ws) = omega (arith, length-append (each (bit_at w) 61) (bits_of (x ∷ ws)), length-each (bit_at w) 61, length-bits_of (x ∷ ws))
+length-bits_of (w ∷ x ∷ ws) = omega
+    (arith, length-append (each (bit_at w) 61) (bits_of (x ∷ ws)), length-each (bit_at w) 61, length-bits_of (x ∷ ws))
 
 -- what a deal appends
 pub holds-words : (wires : List ℕ) (start : ℕ) (ws : List ℕ) → length wires ≡ start → HoldsWords (wires ++ bits_of ws) start ws
@@ -98,7 +101,8 @@ pub record AfterXor (left r : ℕ) (ws : List ℕ) (v after : Values) : Type 0 w
   pub dealt : after.dealt ≡ v.dealt
 
 -- the products with a word, and the exclusive or
-products-xor : (wires : List ℕ) (left right free r w : ℕ) → Holds wires left 61 (bit_at r) → Holds wires right 61 (bit_at w) → length wires ≡ free →
+products-xor : (wires : List ℕ) (left right free r w : ℕ) → Holds wires left 61 (bit_at r) →
+    Holds wires right 61 (bit_at w) → length wires ≡ free →
     (let now = wires ++ each (λ k. bit_at r k * bit_at w k) 61 in
     (map (product_of wires) (each (λ k. (left + k, right + k)) 61) ≡ each (λ k. bit_at r k * bit_at w k) 61)
     × (with_lets now (word_lets left right free) ≡ now ++ each (bit_at (bit_xor r w)) 61))
@@ -122,8 +126,14 @@ xor-run deals gates [] lets left right free r v h place few words =
     record {
       more = each (bit_at r) 61 ++ m.more;
       wires = m.wires;
-      len = rw wires (omega (arith, length-append (v.wires ++ each (bit_at r) 61) m.more, len-segment v.wires (bit_at r) left 61 h.len, m.len));
-      bits = rw (wires, zero_more) (holds-append (v.wires ++ each (bit_at r) 61) m.more left 61 (bit_at r) (holds-new v.wires left 61 (bit_at r) h.len)).at;
+      len = rw wires (omega (
+        arith,
+        length-append (v.wires ++ each (bit_at r) 61) m.more,
+        len-segment v.wires (bit_at r) left 61 h.len,
+        m.len,
+      ));
+      bits = rw (wires, zero_more) (holds-append (v.wires ++ each (bit_at r) 61) m.more left 61 (bit_at r)
+          (holds-new v.wires left 61 (bit_at r) h.len)).at;
       opened = m.opened;
       dealt = m.dealt;
     }
@@ -141,7 +151,8 @@ xor-run deals gates (w ∷ ws) lets left right free r v h place few words =
     let n = xor-run deals gates ws (word_lets left right free) (free + 61) (right + 61) (free + 122) (bit_xor r w) now
     (record { len = len_two; forms = m.1; small = xor_lt 61 r w h.small (few 0) }) (omega arith) (λ i. few (suc i))
     (words-rest two right w ws (words-append one (each U 61) right (w ∷ ws) there)) in
-    let e : batches_on deals (xor_batches gates (length (w ∷ ws)) lets left right free) v ≡ batches_on deals rest now = ap (batches_on deals rest) begun in
+    let e : batches_on deals (xor_batches gates (length (w ∷ ws)) lets left right free) v ≡ batches_on deals rest now =
+    ap (batches_on deals rest) begun in
     let from : free + 61 + 122 * length ws ≡ left + 122 * length (w ∷ ws) = omega (arith, place) in
     rw e (record {
       more = each (bit_at r) 61 ++ (each U 61 ++ n.more);
@@ -155,7 +166,8 @@ xor-run deals gates (w ∷ ws) lets left right free r v h place few words =
     joined : (w a b c : List ℕ) → w ++ a ++ b ++ c ≡ w ++ (a ++ (b ++ c))
     joined w a b c = simp append_assoc
 
-pub mask-run : (deals : ℕ → List ℕ) (gates : Gates) (first a b : ℕ) (ws : List ℕ) (v : Values) → ((i : ℕ) → slice_index (a ∷ b ∷ ws) i < 2 ^ 61) → length v.wires ≡ first →
+pub mask-run : (deals : ℕ → List ℕ) (gates : Gates) (first a b : ℕ) (ws : List ℕ) (v : Values) →
+    ((i : ℕ) → slice_index (a ∷ b ∷ ws) i < 2 ^ 61) → length v.wires ≡ first →
     deals v.dealt ≡ bits_of (a ∷ b ∷ ws) →
     AfterMask (2 + length ws) first (xor_of (a ∷ b ∷ ws)) v (batches_on deals (mask_batches gates (2 + length ws) first) v)
 mask-run deals gates first a b ws v few len dealt =
@@ -174,7 +186,8 @@ mask-run deals gates first a b ws v few len dealt =
     let start : batches_on deals front v ≡ now = rw (dealt, m.0) refl in
     let rest = xor_batches gates (length ws) (word_lets first (first + 61) free) (free + 61) (first + 61 + 61) (free + 122) in
     let n = xor-run deals gates ws (word_lets first (first + 61) free) (free + 61) (first + 61 + 61) (free + 122) (bit_xor a b) now
-    (record { len = len-segment one U free 61 len_one; forms = m.1; small = xor_lt 61 a b (few 0) (few 1) }) (omega arith) (λ i. few (suc (suc i)))
+    (record { len = len-segment one U free 61 len_one; forms = m.1; small = xor_lt 61 a b (few 0) (few 1) })
+    (omega arith) (λ i. few (suc (suc i)))
     (words-rest two (first + 61) b ws (words-rest two first a (b ∷ ws) (words-append one (each U 61) first all there))) in
     let count : words - 1 ≡ suc (length ws) = omega arith in
     let e : batches_on deals (mask_batches gates words first) v ≡ batches_on deals rest now =

@@ -10,13 +10,17 @@ use Rattle.beet_gates.specs.declared.Gates.TheVariants.{Chain, Tree}
 use Rattle.beet_gates.specs.declared.Linear.{Linear}
 use Rattle.beet_gates.proofs.EachFacts.{length-each}
 use Rattle.beet_gates.proofs.LevelRuns.{next_item-has}
-use Rattle.beet_gates.proofs.Standings.{Moved, pairs_below-each, lets_below-each, block-cons, block-last, block-append, quiet-each, after_all-append, Quiet}
-use Rattle.beet_mask.specs.Mask.{chain_batches, mask_batches, mask_draws_of, mask_wires_of, product_batches, tree_batches, word_lets, xor_batches, xor_let}
+use Rattle.beet_gates.proofs.Standings.{Moved, pairs_below-each, lets_below-each, block-cons, block-last, block-append}
+use Rattle.beet_gates.proofs.Standings.{quiet-each, after_all-append, Quiet}
+use Rattle.beet_mask.specs.Mask.{chain_batches, mask_batches, mask_draws_of, mask_wires_of, product_batches}
+use Rattle.beet_mask.specs.Mask.{tree_batches, word_lets, xor_batches, xor_let}
 
 -- the levels of a tree
-tree-stands : (levels n : ℕ) (lets : List Linear) (item : ℕ → ℕ) (free : ℕ) (s : Standing) → free ≡ s.wires + length lets → LetsBelow s.wires lets → length lets ≤ 128 →
+tree-stands : (levels n : ℕ) (lets : List Linear) (item : ℕ → ℕ) (free : ℕ) (s : Standing) →
+    free ≡ s.wires + length lets → LetsBelow s.wires lets → length lets ≤ 128 →
     n ≤ 2 ^ levels → 2 ^ levels < 2 * n → n ≤ 129 → ((k : ℕ) → k < n → item k < free) →
-    BlockStands s (tree_batches levels lets n item free) × Moved s (after_all s (tree_batches levels lets n item free)) (length lets + (n - 1)) 0 (n - 1)
+    BlockStands s (tree_batches levels lets n item free)
+    × Moved s (after_all s (tree_batches levels lets n item free)) (length lets + (n - 1)) 0 (n - 1)
 tree-stands zero n lets item free s e below few most least small h =
     let one : n ≡ 1 = omega (arith, most, least) in
     let last = reveal_batch lets (item 0 ∷ []) in
@@ -39,7 +43,11 @@ tree-stands (suc levels) n lets item free s e below few most least small h =
     (next_item-has (λ (x : ℕ). x < free + half) n item (λ (i : ℕ). free + i) (λ k l. omega (arith, h k l)) (λ k l. omega (arith, l))) in
     let pairs = pairs_below-each (s.wires + length lets) pair half
     (λ k l. (omega (arith, e, h (2 * k) (omega (arith, l))), omega (arith, e, h (2 * k + 1) (omega (arith, l))))) in (
-      block-cons s batch _ (record { stands = (below, (omega (arith, len, some), pairs), (few, omega (arith, len, small))); going = refl; silent = refl }) m.0,
+      block-cons s batch _ (record {
+        stands = (below, (omega (arith, len, some), pairs), (few, omega (arith, len, small)));
+        going = refl;
+        silent = refl;
+      }) m.0,
       record {
         more_wires = omega (arith, m.1.more_wires, len, some);
         more_masks = omega (arith, m.1.more_masks);
@@ -73,7 +81,11 @@ chain-stands lets bits s f =
     let then_last = after_all now (each rule 59) in
     let end : after_all s (chain_batches lets bits) ≡ after then_last last = after_all-append now (each rule 59) (last ∷ []) in (
       block-cons s batch _ (record {
-        stands = (f.below, (omega arith, (omega (arith, f.at, f.count), omega (arith, f.at, f.count), tt)), (omega (arith, f.count), omega arith));
+        stands = (
+          f.below,
+          (omega arith, (omega (arith, f.at, f.count), omega (arith, f.at, f.count), tt)),
+          (omega (arith, f.count), omega arith),
+        );
         going = refl;
         silent = refl;
       })
@@ -93,11 +105,19 @@ product-stands : (gates : Gates) (lets : List Linear) (bits : ℕ) (s : Standing
 product-stands Chain lets bits s f = chain-stands lets bits s f
 product-stands Tree lets bits s f =
     let m = tree-stands 6 61 lets (λ k. bits + k) (bits + 61) s (omega (arith, f.at, f.count)) f.below (omega (arith, f.count))
-    (omega arith) (omega arith) (omega arith) (λ k l. omega (arith, l)) in
-    (m.0, record { more_wires = omega (arith, m.1.more_wires, f.count); more_masks = m.1.more_masks; more_coefficients = m.1.more_coefficients; dealers = m.1.dealers })
+    (omega arith) (omega arith) (omega arith) (λ k l. omega (arith, l)) in (
+      m.0,
+      record {
+        more_wires = omega (arith, m.1.more_wires, f.count);
+        more_masks = m.1.more_masks;
+        more_coefficients = m.1.more_coefficients;
+        dealers = m.1.dealers;
+      },
+    )
 
 -- the products with a word, after lets
-words-quiet : (lets : List Linear) (left right : ℕ) (s : Standing) → LetsBelow s.wires lets → length lets ≤ 61 → left + 61 ≤ s.wires + length lets →
+words-quiet : (lets : List Linear) (left right : ℕ) (s : Standing) → LetsBelow s.wires lets → length lets ≤ 61 →
+    left + 61 ≤ s.wires + length lets →
     right + 61 ≤ s.wires + length lets → Quiet s (mul_batch lets (each (λ k. (left + k, right + k)) 61))
 words-quiet lets left right s below few one two =
     let pair : ℕ → ℕ × ℕ = λ k. (left + k, right + k) in
@@ -112,13 +132,15 @@ words-quiet lets left right s below few one two =
       silent = refl;
     }
 
-word_lets-below : (left right product wires : ℕ) → left + 61 ≤ wires → right + 61 ≤ wires → product + 61 ≤ wires → LetsBelow wires (word_lets left right product)
+word_lets-below : (left right product wires : ℕ) → left + 61 ≤ wires → right + 61 ≤ wires → product + 61 ≤ wires →
+    LetsBelow wires (word_lets left right product)
 word_lets-below left right product wires one two three =
     lets_below-each wires (λ (k : ℕ). xor_let (left + k) (right + k) (product + k)) 61
     (λ k l. (omega (arith, one, l), (omega (arith, two, l), (omega (arith, three, l), tt))))
 
 -- the batches where n words are left
-pub xor-stands : (gates : Gates) (n : ℕ) (lets : List Linear) (left right free : ℕ) (s : Standing) → FormsBits s lets left → free ≡ left + 61 →
+pub xor-stands : (gates : Gates) (n : ℕ) (lets : List Linear) (left right free : ℕ) (s : Standing) →
+    FormsBits s lets left → free ≡ left + 61 →
     right + 61 * n ≤ left → BlockStands s (xor_batches gates n lets left right free)
     × Moved s (after_all s (xor_batches gates n lets left right free)) (122 * n + 121) 0 (61 * n + 60)
 xor-stands gates zero lets left right free s f place room = product-stands gates lets left s f
@@ -133,8 +155,10 @@ xor-stands gates (suc n) lets left right free s f place room =
       below = word_lets-below left right free now.wires (omega (arith, w, place)) (omega (arith, w, place, room)) (omega (arith, w));
       count = length-each (λ (k : ℕ). xor_let (left + k) (right + k) (free + k)) 61;
     } in
-    let m = xor-stands gates n (word_lets left right free) (free + 61) (right + 61) (free + 122) now forms (omega arith) (omega (arith, room, place)) in (
-      block-cons s batch _ (words-quiet lets left right s f.below (omega (arith, f.count)) (omega (arith, f.at, f.count)) (omega (arith, f.at, room))) m.0,
+    let m = xor-stands gates n (word_lets left right free) (free + 61) (right + 61) (free + 122) now forms (omega arith)
+    (omega (arith, room, place)) in (
+      block-cons s batch _ (words-quiet lets left right s f.below (omega (arith, f.count))
+          (omega (arith, f.at, f.count)) (omega (arith, f.at, room))) m.0,
       record {
         more_wires = omega (arith, m.1.more_wires, f.count, count);
         more_masks = omega (arith, m.1.more_masks);
@@ -162,10 +186,12 @@ mask-stands gates words first s some e dealers =
       below = word_lets-below first (first + 61) free s2.wires (omega (arith, w2, some)) (omega (arith, w2, some)) (omega (arith, w2));
       count = length-each (λ (k : ℕ). xor_let (first + k) (first + 61 + k) (free + k)) 61;
     } in
-    let m = xor-stands gates n (word_lets first (first + 61) free) (free + 61) (first + 61 + 61) (free + 122) s2 forms (omega arith) (omega (arith, some)) in
+    let m = xor-stands gates n (word_lets first (first + 61) free) (free + 61) (first + 61 + 61) (free + 122) s2 forms
+    (omega arith) (omega (arith, some)) in
     rw is (
       block-cons s deal_batch _ (record { stands = (tt, tt, (omega arith, omega arith)); going = refl; silent = refl })
-          (block-cons s1 batch _ (words-quiet [] first (first + 61) s1 tt (omega arith) (omega (arith, w1, some)) (omega (arith, w1, some))) m.0),
+          (block-cons s1 batch _ (words-quiet [] first (first + 61) s1 tt (omega arith) (omega (arith, w1, some))
+          (omega (arith, w1, some))) m.0),
       record {
         more_wires = omega (arith, m.1.more_wires, w2, e, some);
         more_masks = omega (arith, m.1.more_masks);

@@ -1,5 +1,6 @@
 -- The batch at each step of the block of a mask.
-use Rattle.std.proofs.Common.{◌≡◌, ℕ, zero, suc, sym, List, ◌+◌, ◌-◌, ◌*◌, ◌/◌, ◌<◌, ◌≤◌, [], ◌∷◌, length, slice_get, true, Some, None, refl, ap, ◌∙◌, arith, length-append}
+use Rattle.std.proofs.Common.{◌≡◌, ℕ, zero, suc, sym, List, ◌+◌, ◌-◌, ◌*◌, ◌/◌, ◌<◌, ◌≤◌, [], ◌∷◌, length, slice_get}
+use Rattle.std.proofs.Common.{true, Some, None, refl, ap, ◌∙◌, arith, length-append}
 use Rattle.std.specs.Prelude.{nat_lt, unwrap_or}
 use Rattle.std.proofs.lemmas.Bool.Decides.{nat_tests}
 use Rattle.beet_gates.specs.Batches.{end_batch, mul_batch, reveal_batch}
@@ -13,7 +14,8 @@ use Rattle.beet_gates.specs.Plans.{batch_at}
 use Rattle.beet_gates.proofs.PlanFacts.{batch-there}
 use Rattle.beet_gates.specs.declared.Linear.{Linear}
 use Rattle.beet_mask.specs.declared.TheConstants.{CHAIN_ROUNDS}
-use Rattle.beet_mask.specs.Mask.{chain_batches, left_after, lets_after, level_wire, mask_batches, mask_rounds_of, product_batches, word_lets, xor_batches}
+use Rattle.beet_mask.specs.Mask.{chain_batches, left_after, lets_after, level_wire, mask_batches, mask_rounds_of}
+use Rattle.beet_mask.specs.Mask.{product_batches, word_lets, xor_batches}
 
 length-chain_batches : (lets : List Linear) (bits : ℕ) → length (chain_batches lets bits) ≡ CHAIN_ROUNDS
 length-chain_batches lets bits =
@@ -29,10 +31,12 @@ length-xor_batches Chain (suc n) lets left right free =
 length-xor_batches Tree (suc n) lets left right free =
     omega (arith, length-xor_batches Tree n (word_lets left right free) (free + 61) (right + 61) (free + 122))
 
-pub length-mask_batches : (gates : Gates) (words first : ℕ) → 1 ≤ words → length (mask_batches gates words first) ≡ mask_rounds_of gates words
+pub length-mask_batches : (gates : Gates) (words first : ℕ) → 1 ≤ words →
+    length (mask_batches gates words first) ≡ mask_rounds_of gates words
 length-mask_batches gates words first some =
     let e : words ≡ suc (words - 1) = omega arith in
-    let m = length-xor_batches gates (words - 1) [] first (first + 61) (first + 61 * words) ∙ (λ i. mask_rounds_of gates (sym e i)) in omega (arith, m)
+    let m = length-xor_batches gates (words - 1) [] first (first + 61) (first + 61 * words)
+    ∙ (λ i. mask_rounds_of gates (sym e i)) in omega (arith, m)
 
 -- the products with a word, and what comes after them
 left-next : (left free n : ℕ) → left_after (free + 61) (free + 122) n ≡ left_after left free (suc n)
@@ -48,7 +52,8 @@ lets-next lets left right free (suc n) =
     let e1 : right + 61 + 61 * n ≡ right + 61 * suc n = omega arith in
     let e2 : free + 122 + 122 * n ≡ free + 122 * suc n = omega arith in λ i. word_lets (left-next left free n i) (e1 i) (e2 i)
 
-pub xor-at : (gates : Gates) (n : ℕ) (lets : List Linear) (left right free j : ℕ) → j < n → slice_get (xor_batches gates n lets left right free) j
+pub xor-at : (gates : Gates) (n : ℕ) (lets : List Linear) (left right free j : ℕ) → j < n →
+    slice_get (xor_batches gates n lets left right free) j
     ≡ Some (mul_batch (lets_after lets left right free j) (each (λ k. (left_after left free j + k, right + 61 * j + k)) 61))
 xor-at gates zero lets left right free j h = absurd (omega arith)
 xor-at gates (suc n) lets left right free zero h =
@@ -59,7 +64,8 @@ xor-at gates (suc n) lets left right free (suc j) h =
     xor-at gates n (word_lets left right free) (free + 61) (right + 61) (free + 122) j (omega arith)
     ∙ (λ i. Some (mul_batch (lets-next lets left right free j i) (each (λ (k : ℕ). (left-next left free j i + k, e i + k)) 61)))
 
-pub xor-then : (gates : Gates) (n : ℕ) (lets : List Linear) (left right free j : ℕ) → slice_get (xor_batches gates n lets left right free) (n + j)
+pub xor-then : (gates : Gates) (n : ℕ) (lets : List Linear) (left right free j : ℕ) →
+    slice_get (xor_batches gates n lets left right free) (n + j)
     ≡ slice_get (product_batches gates (lets_after lets left right free n) (left_after left free n)) j
 xor-then gates zero lets left right free j = let e : 0 + j ≡ j = omega arith in λ i. slice_get (product_batches gates lets left) (e i)
 xor-then gates (suc n) lets left right free j =
@@ -68,7 +74,8 @@ xor-then gates (suc n) lets left right free j =
     ∙ xor-then gates n (word_lets left right free) (free + 61) (right + 61) (free + 122) j
     ∙ (λ i. slice_get (product_batches gates (lets-next lets left right free n i) (left-next left free n i)) j)
 
-pub chain-next : (lets : List Linear) (bits step : ℕ) → 1 ≤ step → step ≤ 59 → slice_get (chain_batches lets bits) step ≡ Some (mul_batch [] ((bits + 60 + step, bits + (step + 1)) ∷ []))
+pub chain-next : (lets : List Linear) (bits step : ℕ) → 1 ≤ step → step ≤ 59 →
+    slice_get (chain_batches lets bits) step ≡ Some (mul_batch [] ((bits + 60 + step, bits + (step + 1)) ∷ []))
 chain-next lets bits step low high =
     let rule = λ (j : ℕ). mul_batch [] ((bits + 61 + j, bits + 2 + j) ∷ []) in
     let k = step - 1 in
@@ -100,7 +107,8 @@ module _ (gates : Gates) (words first step : ℕ) (some : 1 ≤ words) where
   pub mask-past : mask_rounds_of gates words ≤ step → slice_get (mask_batches gates words first) step ≡ None
   mask-past h = get-past (mask_batches gates words first) step (omega (arith, h, length-mask_batches gates words first some))
 
-  pub mask-there : step < mask_rounds_of gates words → Some (batch_at (mask_batches gates words first) step) ≡ slice_get (mask_batches gates words first) step
+  pub mask-there : step < mask_rounds_of gates words →
+      Some (batch_at (mask_batches gates words first) step) ≡ slice_get (mask_batches gates words first) step
   mask-there h = batch-there (mask_batches gates words first) step (omega (arith, h, length-mask_batches gates words first some))
 
 -- the batches of a block by their steps, past the deal
@@ -109,14 +117,16 @@ module _ (gates : Gates) (words first step : ℕ) where
   free = first + 61 * words
 
   pub mask-products : 1 ≤ step → step < words → batch_at (mask_batches gates words first) step
-      ≡ mul_batch (lets_after [] first (first + 61) free (step - 1)) (each (λ k. (left_after first free (step - 1) + k, first + 61 + 61 * (step - 1) + k)) 61)
+      ≡ mul_batch (lets_after [] first (first + 61) free (step - 1))
+      (each (λ k. (left_after first free (step - 1) + k, first + 61 + 61 * (step - 1) + k)) 61)
   mask-products some few =
       let e : step ≡ suc (step - 1) = omega arith in
       ap (batch_at (mask_batches gates words first)) e
       ∙ (λ i. unwrap_or (xor-at gates (words - 1) [] first (first + 61) free (step - 1) (omega arith) i) end_batch)
 
   pub mask-bits : 1 ≤ words → words ≤ step → batch_at (mask_batches gates words first) step
-      ≡ batch_at (product_batches gates (lets_after [] first (first + 61) free (words - 1)) (left_after first free (words - 1))) (step - words)
+      ≡ batch_at (product_batches gates (lets_after [] first (first + 61) free (words - 1))
+      (left_after first free (words - 1))) (step - words)
   mask-bits some past =
       let e : step ≡ suc (words - 1 + (step - words)) = omega arith in
       ap (batch_at (mask_batches gates words first)) e

@@ -1,5 +1,6 @@
 -- What the batches after the products of words do in a clear run: the bits of the mask are formed, and their product is opened.
-use Rattle.std.proofs.Common.{◌≡◌, ℕ, zero, suc, ◌+◌, ◌*◌, ◌^◌, ◌<◌, List, [], ◌∷◌, ◌++◌, length, slice_index, refl, ap, sym, ◌∙◌, arith, length-append, append_assoc, add-zero, add_assoc, add-one}
+use Rattle.std.proofs.Common.{◌≡◌, ℕ, zero, suc, ◌+◌, ◌*◌, ◌^◌, ◌<◌, List, [], ◌∷◌, ◌++◌, length, slice_index, refl, ap}
+use Rattle.std.proofs.Common.{sym, ◌∙◌, arith, length-append, append_assoc, add-zero, add_assoc, add-one}
 use Rattle.std.specs.Prelude.{◌==◌, if◌then◌else◌, min}
 use Rattle.std.specs.Int.{bit_at}
 use Rattle.std.proofs.lemmas.Nat.Bits.{bit_at-lt}
@@ -41,12 +42,14 @@ chain r i = same_between r p 0 (suc (suc i))
 -- one bit more
 chain-more : (r k : ℕ) → k < 61 → same_between r p 0 k * bit_at r k ≡ same_between r p 0 (suc k)
 chain-more r k h =
-    let e : same_between r p 0 k * same_between r p k (k + 1) ≡ same_between r p 0 (k + 1) = same-splits r p 0 k (k + 1) (omega arith) (omega arith) in
+    let e : same_between r p 0 k * same_between r p k (k + 1) ≡ same_between r p 0 (k + 1) =
+    same-splits r p 0 k (k + 1) (omega arith) (omega arith) in
     rw (ones-bit r k h, add-one) at e
 
 chain-run : (deals : ℕ → List ℕ) (bits r : ℕ) (v : Values) (wires : List ℕ) → length wires ≡ bits + 61 →
     Holds wires bits 61 (bit_at r) → v.wires ≡ wires ++ each (chain r) 1 → (n : ℕ) → n < 60 →
-    batches_on deals (each (λ j. mul_batch [] ((bits + 61 + j, bits + 2 + j) ∷ [])) n) v ≡ record v { wires = wires ++ each (chain r) (suc n) }
+    batches_on deals (each (λ j. mul_batch [] ((bits + 61 + j, bits + 2 + j) ∷ [])) n) v
+    ≡ record v { wires = wires ++ each (chain r) (suc n) }
 chain-run deals bits r v wires len holds now zero h =
     rw (each-zero (λ (j : ℕ). mul_batch [] ((bits + 61 + j, bits + 2 + j) ∷ []))) (ap (λ (l : List ℕ). record v { wires = l }) now)
 chain-run deals bits r v wires len holds now (suc n) h =
@@ -59,10 +62,12 @@ chain-run deals bits r v wires len holds now (suc n) h =
     let b : slice_index before (bits + 2 + n) ≡ bit_at r (suc (suc n)) =
     rw place ((holds-append wires _ bits 61 _ holds).at (suc (suc n)) (omega arith)) in
     let product : product_of before (bits + 61 + n, bits + 2 + n) ≡ chain r (suc n) =
-    rw (t, b) (mul_of-bits (chain r n) (bit_at r (suc (suc n))) (same-bit r p 0 (suc (suc n))) (bit_at-lt r (suc (suc n)))) ∙ chain-more r (suc (suc n)) (omega arith) in
+    rw (t, b) (mul_of-bits (chain r n) (bit_at r (suc (suc n))) (same-bit r p 0 (suc (suc n)))
+    (bit_at-lt r (suc (suc n)))) ∙ chain-more r (suc (suc n)) (omega arith) in
     rw (each-suc rule n, batches_on-append deals (each rule n) (rule n ∷ []) v, m, product)
     (ap (λ (l : List ℕ). record v { wires = l })
-    (append_assoc wires (each (chain r) (suc n)) (chain r (suc n) ∷ []) ∙ ap (λ (l : List ℕ). wires ++ l) (sym (each-suc (chain r) (suc n)))))
+    (append_assoc wires (each (chain r) (suc n)) (chain r (suc n) ∷ [])
+    ∙ ap (λ (l : List ℕ). wires ++ l) (sym (each-suc (chain r) (suc n)))))
 
 chain-product : (deals : ℕ → List ℕ) (lets : List Linear) (bits r : ℕ) (v : Values) → BeforeBits lets bits r v →
     AfterProduct r v (batches_on deals (chain_batches lets bits) v)
@@ -83,7 +88,8 @@ chain-product deals lets bits r v h =
     chain-run deals bits r six five len holds (ap (λ (l : List ℕ). five ++ l) (sym (each-one (chain r)))) 59 (omega arith) in
     let z : slice_index (five ++ each (chain r) 60) (bits + 120) ≡ (if r == p then 1 else 0) =
     rw add_assoc at ((holds-new five (bits + 61) 60 (chain r) len).at 59 (omega arith)) ∙ ones-all r h.small in
-    let e : batches_on deals (chain_batches lets bits) v ≡ record v { wires = five ++ each (chain r) 60; opened = v.opened ++ (if r == p then 1 else 0) ∷ [] } =
+    let e : batches_on deals (chain_batches lets bits) v
+    ≡ record v { wires = five ++ each (chain r) 60; opened = v.opened ++ (if r == p then 1 else 0) ∷ [] } =
     ap (batches_on deals (each rule 59 ++ last)) begun
     ∙ batches_on-append deals (each rule 59) last six
     ∙ ap (batches_on deals last) y

@@ -1,5 +1,6 @@
 -- What the levels of a tree do in a clear run: the product of all bits is opened.
-use Rattle.std.proofs.Common.{◌≡◌, ℕ, zero, suc, ◌+◌, ◌*◌, ◌/◌, ◌^◌, ◌<◌, ◌≤◌, List, [], ◌∷◌, ◌++◌, map, length, refl, ap, sym, ◌∙◌, arith, length-append, append_assoc, append-nil, pow-suc}
+use Rattle.std.proofs.Common.{◌≡◌, ℕ, zero, suc, ◌+◌, ◌*◌, ◌/◌, ◌^◌, ◌<◌, ◌≤◌, List, [], ◌∷◌, ◌++◌, map, length, refl}
+use Rattle.std.proofs.Common.{ap, sym, ◌∙◌, arith, length-append, append_assoc, append-nil, pow-suc}
 use Rattle.beet_field.specs.Field.{p}
 use Rattle.beet_gates.specs.Clear.{Values, product_of, batches_on}
 use Rattle.beet_gates.specs.Each.{each}
@@ -20,8 +21,10 @@ pub record AfterTree (n r : ℕ) (v after : Values) : Type 0 where
   pub opened : after.opened ≡ v.opened ++ same_between r p 0 61 ∷ []
   pub dealt : after.dealt ≡ v.dealt
 
-pub tree-run : (deals : ℕ → List ℕ) (r levels wide n : ℕ) (item value : ℕ → ℕ) (free : ℕ) (v : Values) → length v.wires ≡ free → 1 ≤ n → n ≤ 2 ^ levels →
-    Listed v.wires n item value → Covers (same_between r p) 61 wide n value → AfterTree n r v (batches_on deals (tree_batches levels [] n item free) v)
+pub tree-run : (deals : ℕ → List ℕ) (r levels wide n : ℕ) (item value : ℕ → ℕ) (free : ℕ) (v : Values) →
+    length v.wires ≡ free → 1 ≤ n → n ≤ 2 ^ levels →
+    Listed v.wires n item value → Covers (same_between r p) 61 wide n value →
+    AfterTree n r v (batches_on deals (tree_batches levels [] n item free) v)
 tree-run deals r zero wide n item value free v len some few h covers =
     let one : n ≡ 1 = omega (arith, few) in
     let whole : value 0 ≡ same_between r p 0 61 = covers-one (same_between r p) 61 wide value (rw one at covers) in
@@ -51,7 +54,8 @@ tree-run deals r (suc levels) wide n item value free v len some few h covers =
     (record { below = λ k l. omega (arith, len_now, l); at = new.at }) in
     let next = next-covers (λ low high. low * high) (same_between r p) (same-splits r p) 61 wide n value result covers (λ k l. refl) in
     let rest = tree_batches levels [] (next_length n) (next_item n item place) (free + half) in
-    let m = tree-run deals r levels (2 * wide) (next_length n) (next_item n item place) (next_item n value result) (free + half) (record v { wires = now })
+    let m = tree-run deals r levels (2 * wide) (next_length n) (next_item n item place) (next_item n value result)
+    (free + half) (record v { wires = now })
     len_now (omega (arith, some)) (omega (arith, some, few, power)) listed next in
     let e : batches_on deals (tree_batches (suc levels) [] n item free) v ≡ batches_on deals rest (record v { wires = now }) =
     ap (λ (l : List ℕ). batches_on deals rest (record v { wires = v.wires ++ l })) products in

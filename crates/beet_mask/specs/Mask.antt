@@ -1,5 +1,7 @@
--- The block of a mask: three words are dealt, their exclusive or is formed bit by bit, and the product of its bits is opened.
-use Rattle.std.specs.Prelude.{◌≡◌, ◌<◌, ◌+◌, ◌-◌, ◌*◌, ◌/◌, ◌==◌, ℕ, zero, suc, List, [], ◌∷◌, ◌++◌, length, slice_index, bit_xor, nat_lt, if◌then◌else◌}
+-- The block of a mask: three words are dealt, their exclusive or is formed bit by bit, and the product of its bits is
+-- opened.
+use Rattle.std.specs.Prelude.{◌≡◌, ◌<◌, ◌+◌, ◌-◌, ◌*◌, ◌/◌, ◌==◌, ℕ, zero, suc, List, [], ◌∷◌, ◌++◌, length}
+use Rattle.std.specs.Prelude.{slice_index, bit_xor, nat_lt, if◌then◌else◌}
 use Rattle.std.specs.Int.{bit_at}
 use Rattle.beet_field.specs.Field.{p}
 use Rattle.beet_gates.specs.declared.TheConstants.{WIRES_BEFORE_BITS}
@@ -19,8 +21,8 @@ abbrev pub mask_rounds_of : Gates → ℕ → ℕ
 mask_rounds_of Chain words = words + CHAIN_ROUNDS
 mask_rounds_of Tree words = words + TREE_ROUNDS
 
--- how many wires it appends: the bits of the words, for each word but the first the products with it and their exclusive or, and the
--- products of the bits of the mask
+-- how many wires it appends: the bits of the words, for each word but the first the products with it and their
+-- exclusive or, and the products of the bits of the mask
 abbrev pub mask_wires_of : ℕ → ℕ
 mask_wires_of words = 61 * words + 122 * (words - 1) + 60
 
@@ -36,13 +38,14 @@ bits_wire_of words first = first + 183 * (words - 1)
 abbrev pub bit_wire_of : ℕ → ℕ → ℕ
 bit_wire_of first k = first + WIRES_BEFORE_BITS + k
 
--- the wire of an item of a list that has so many results from a wire on, and past them the last bit of the mask, whose bits begin at a wire
+-- the wire of an item of a list that has so many results from a wire on, and past them the last bit of the mask, whose
+-- bits begin at a wire
 abbrev pub level_wire : ℕ → ℕ → ℕ → ℕ → ℕ
 level_wire bits start results k = if nat_lt k results then start + k else bits + 60
 
--- The wires of a block, from its first one: the 61 bits of each word, in order; for each word but the first the products of its bits and
--- those of the exclusive or of the words before it, and then the exclusive or with it, of which the last has the bits of the mask; and the
--- products of the first bits, or of a tree's levels.
+-- The wires of a block, from its first one: the 61 bits of each word, in order; for each word but the first the
+-- products of its bits and those of the exclusive or of the words before it, and then the exclusive or with it, of
+-- which the last has the bits of the mask; and the products of the first bits, or of a tree's levels.
 
 -- x + y - 2u, where u is the product of x and y
 abbrev pub xor_let : ℕ → ℕ → ℕ → Linear
@@ -58,8 +61,8 @@ chain_batches lets bits =
     mul_batch lets ((bits, bits + 1) ∷ [])
     ∷ (each (λ j. mul_batch [] ((bits + 61 + j, bits + 2 + j) ∷ [])) 59 ++ reveal_batch [] ((bits + 120) ∷ []) ∷ [])
 
--- the product of a list of n wires, by so many levels, is opened: after the lets the items are multiplied in pairs, whose products begin
--- at the first free wire
+-- the product of a list of n wires, by so many levels, is opened: after the lets the items are multiplied in pairs,
+-- whose products begin at the first free wire
 abbrev pub tree_batches : ℕ → List Linear → ℕ → (ℕ → ℕ) → ℕ → List Batch
 tree_batches zero lets n item free = reveal_batch lets (item 0 ∷ []) ∷ []
 tree_batches (suc levels) lets n item free =
@@ -71,8 +74,8 @@ abbrev pub product_batches : Gates → List Linear → ℕ → List Batch
 product_batches Chain lets bits = chain_batches lets bits
 product_batches Tree lets bits = tree_batches 6 lets 61 (λ k. bits + k) (bits + 61)
 
--- the batches where n words are left, of which the first has its bits from `right` on: the exclusive or of those before it, which the lets
--- form, has its bits from `left` on, and the products begin at the first free wire
+-- the batches where n words are left, of which the first has its bits from `right` on: the exclusive or of those before
+-- it, which the lets form, has its bits from `left` on, and the products begin at the first free wire
 abbrev pub xor_batches : Gates → ℕ → List Linear → ℕ → ℕ → ℕ → List Batch
 xor_batches gates zero lets left right free = product_batches gates lets left
 xor_batches gates (suc n) lets left right free =
@@ -111,8 +114,9 @@ xor_of (w ∷ ws) = xor_with w ws
 abbrev pub mask_of : ℕ → ℕ → ℕ → ℕ
 mask_of a b c = xor_of (a ∷ b ∷ c ∷ [])
 
--- what a block of so many words leaves on plain values, where r is the mask: the wires before it stand, the bits of r have their place, one
--- number is opened, which is 1 where all 61 bits are 1 and else 0, and one word of each server is dealt
+-- what a block of so many words leaves on plain values, where r is the mask: the wires before it stand, the bits of r
+-- have their place, one number is opened, which is 1 where all 61 bits are 1 and else 0, and one word of each server is
+-- dealt
 pub record AfterMask (words first r : ℕ) (before after : Values) : Type 0 where
   pub more : List ℕ
   pub wires : after.wires ≡ before.wires ++ more

@@ -1,9 +1,11 @@
-//! The block of a mask: each of three servers deals the bits of one word, and the mask is the exclusive or of the words.
+//! The block of a mask: each of three servers deals the bits of one word, and the mask is the exclusive or of the
+//! words.
 //!
 //! The product of the bits of the mask is opened. Where it is 1, all bits are 1 and the mask is to be rejected.
 #![tactic(auto)]
 
-ghost use Rattle.std.specs.Prelude.{◌≡◌, ◌<◌, ◌≤◌, ◌+◌, ◌-◌, ◌*◌, ◌^◌, ◌↔◌, ℕ, List, [], ◌∷◌, length, slice_get, slice_index, IsNone};
+ghost use Rattle.std.specs.Prelude.{◌≡◌, ◌<◌, ◌≤◌, ◌+◌, ◌-◌, ◌*◌, ◌^◌, ◌↔◌, ℕ, List, [], ◌∷◌, length, slice_get};
+ghost use Rattle.std.specs.Prelude.{slice_index, IsNone};
 ghost use Rattle.beet_field.specs.Field.{p};
 ghost use Rattle.beet_field.specs.declared.TheConstants.{MOST_NUMBERS};
 ghost use Rattle.beet_gates.specs.Batches.{mul_batch};
@@ -11,7 +13,9 @@ ghost use Rattle.beet_gates.specs.Plans.{batch_at};
 ghost use Rattle.beet_gates.specs.Clear.{Values, batches_on};
 ghost use Rattle.beet_gates.specs.Each.{each};
 ghost use Rattle.beet_gates.specs.Levels.{places_of_pair, wire_of};
-ghost use Rattle.beet_mask.specs.Mask.{AfterMask, bit_wire_of, bits_of, chain_batches, left_after, lets_after, level_wire, mask_batches, mask_rounds_of, mask_wires_of, product_batches, xor_let, xor_of};
+ghost use Rattle.beet_mask.specs.Mask.{AfterMask, bit_wire_of, bits_of, chain_batches, left_after, lets_after};
+ghost use Rattle.beet_mask.specs.Mask.{level_wire, mask_batches, mask_rounds_of, mask_wires_of, product_batches};
+ghost use Rattle.beet_mask.specs.Mask.{xor_let, xor_of};
 
 use arrayvec::ArrayVec;
 use beet_field::{Fe, MINUS_TWO, MOST_NUMBERS};
@@ -28,7 +32,8 @@ const TREE_ROUNDS: u32 = 7;
 /// The most words of a mask.
 pub const MOST_WORDS: u32 = 5;
 
-/// How many rounds a block of so many words takes: the deal, a product with each word but the first, and the product of the bits.
+/// How many rounds a block of so many words takes: the deal, a product with each word but the first, and the product of
+/// the bits.
 pub fn mask_rounds(gates: Gates, words: u32) -> u32
     requires { words ≤ MOST_WORDS }
     ensures { result ≡ mask_rounds_of gates words }
@@ -48,7 +53,8 @@ pub fn mask_wires(words: u32) -> u32
     61 * words + 122 * (words - 1) + 60
 }
 
-/// Where the exclusive or of the words so far has its bits after so many products with a word, in a block whose first wire is `first`.
+/// Where the exclusive or of the words so far has its bits after so many products with a word, in a block whose first
+/// wire is `first`.
 fn left_wire(words: u32, products: u32, first: u32) -> u32
     requires few { words ≤ MOST_WORDS }
     requires within { products < words }
@@ -160,7 +166,8 @@ fn refill_words(words: u32, products: u32, first: u32, batch: &mut Batch)
     );
 }
 
-/// Makes a batch the one at this step of the product of bits, with chain gates, or the end past it; it has the lets of the first step.
+/// Makes a batch the one at this step of the product of bits, with chain gates, or the end past it; it has the lets of
+/// the first step.
 fn refill_chain(step: u32, bits: u32, batch: &mut Batch)
     requires none { 0 < step → batch.old.lets.items ≡ [] }
     requires bits { bits + 121 < 2 ^ 32 }
@@ -188,13 +195,15 @@ fn products_in_pairs<const K: usize>(items: LevelItems) -> ArrayVec<(u32, u32), 
     pairs
 }
 
-/// Multiplies a level of a tree, whose list has so many results from a wire on, after the same lets. What is carried is the last bit.
+/// Multiplies a level of a tree, whose list has so many results from a wire on, after the same lets. What is carried is
+/// the last bit.
 fn set_level<const K: usize>(batch: &mut Batch, bits: u32, start: u32, results: u32)
     requires few { K ≤ MOST_NUMBERS }
     requires bits { bits + 121 < 2 ^ 32 }
     requires start { start + results ≤ bits + 121 }
     ensures { batch.new ≡ mul_batch batch.old.lets.items
-        (each (λ i. (level_wire bits start results (places_of_pair i).0, level_wire bits start results (places_of_pair i).1)) K) }
+        (each (λ i.
+        (level_wire bits start results (places_of_pair i).0, level_wire bits start results (places_of_pair i).1)) K) }
 {
     batch.act = Act::Mul(products_in_pairs::<K>(LevelItems {
         start,
@@ -204,7 +213,8 @@ fn set_level<const K: usize>(batch: &mut Batch, bits: u32, start: u32, results: 
     }));
 }
 
-/// Makes a batch the one at this step of the product of bits, with tree gates, or the end past it; it has the lets of the first step.
+/// Makes a batch the one at this step of the product of bits, with tree gates, or the end past it; it has the lets of
+/// the first step.
 fn refill_tree(step: u32, bits: u32, batch: &mut Batch)
     requires none { 0 < step → batch.old.lets.items ≡ [] }
     requires bits { bits + 121 < 2 ^ 32 }
@@ -241,7 +251,8 @@ fn refill_bits(gates: Gates, step: u32, words: u32, first: u32, batch: &mut Batc
     requires few { words ≤ MOST_WORDS }
     requires first { first + mask_wires_of words < 2 ^ 32 }
     ensures { batch.new ≡ batch_at (product_batches gates
-        (lets_after [] first (first + 61) (first + 61 * words) (words - 1)) (left_after first (first + 61 * words) (words - 1))) step }
+        (lets_after [] first (first + 61) (first + 61 * words) (words - 1))
+        (left_after first (first + 61 * words) (words - 1))) step }
 {
     if step == 0 {
         add_sums(words, words - 1, first, &mut batch.lets);
@@ -282,11 +293,13 @@ pub fn mask_batch(gates: Gates, words: u32, step: u32, first: u32) -> Option<Bat
     Some(batch)
 }
 
-/// What a block does on plain values, wherever it stands and whatever was opened before it: where two words or more are dealt, the
-/// wires of the mask are the bits of their exclusive or, and the opened number is 1 exactly where all 61 are 1.
+/// What a block does on plain values, wherever it stands and whatever was opened before it: where two words or more are
+/// dealt, the wires of the mask are the bits of their exclusive or, and the opened number is 1 exactly where all 61 are
+/// 1.
 pub fn mask_law()
     ensures { (deals : ℕ → List ℕ) (gates : Gates) (first a b : ℕ) (ws : List ℕ) (before : Values) →
-        ((i : ℕ) → slice_index (a ∷ b ∷ ws) i < 2 ^ 61) → length before.wires ≡ first → deals before.dealt ≡ bits_of (a ∷ b ∷ ws) →
+        ((i : ℕ) → slice_index (a ∷ b ∷ ws) i < 2 ^ 61) → length before.wires ≡ first →
+        deals before.dealt ≡ bits_of (a ∷ b ∷ ws) →
         AfterMask (2 + length ws) first (xor_of (a ∷ b ∷ ws)) before
         (batches_on deals (mask_batches gates (2 + length ws) first) before) }
 {}

@@ -19,7 +19,8 @@ module _ (masks masks' : ℕ → ℕ) (a : Alike masks masks') where
   rejected-same n = filter-same (λ i. masks i == p) (λ i. masks' i == p) (range_with_len 0 n) a.same
 
   pub accepted-same : (n : ℕ) → accepted_among masks' n ≡ accepted_among masks n
-  accepted-same n = filter-same (λ i. is_accepted (masks i)) (λ i. is_accepted (masks' i)) (range_with_len 0 n) (λ i. ap (λ b. if b then false else true) (a.same i))
+  accepted-same n = filter-same (λ i. is_accepted (masks i)) (λ i. is_accepted (masks' i)) (range_with_len 0 n)
+      (λ i. ap (λ b. if b then false else true) (a.same i))
 
   pub spent-same : (c : ℕ) → is_spent masks' c ≡ is_spent masks c
   spent-same c = ap (λ l. nat_le 3 (length l)) (rejected-same (c + 2))
@@ -32,8 +33,10 @@ module _ (masks masks' : ℕ → ℕ) (a : Alike masks masks') where
   dealt-for-same (suc k) = ap (λ l. slice_index l k + 1) (accepted-same (suc k + 2))
 
 -- the same masks are compared for the same items
-pub compared-same : {A : Type 0} (items : List A) (masks masks' : ℕ → ℕ) (i : ℕ) → Alike masks masks' → item_compared items masks' i ≡ item_compared items masks i
+pub compared-same : {A : Type 0} (items : List A) (masks masks' : ℕ → ℕ) (i : ℕ) → Alike masks masks' →
+    item_compared items masks' i ≡ item_compared items masks i
 compared-same items masks masks' i a =
     λ j. if (if a.same i j then false else true) then
-    (if nat_le (length (rejected-same masks masks' a i j)) SPARE_MASKS then slice_get items (length (accepted-same masks masks' a i j)) else None)
+    (if nat_le (length (rejected-same masks masks' a i j)) SPARE_MASKS then
+    slice_get items (length (accepted-same masks masks' a i j)) else None)
     else None

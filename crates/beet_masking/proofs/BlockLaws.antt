@@ -1,5 +1,6 @@
 -- What is asked of the blocks of a kind of gates, and that both kinds keep it.
-use Rattle.std.proofs.Common.{◌≡◌, ℕ, ◌+◌, ◌^◌, ◌<◌, ◌≤◌, List, [], ◌∷◌, ◌++◌, length, slice_index, refl, sym, ap, subst, ◌∙◌, arith, append_assoc}
+use Rattle.std.proofs.Common.{◌≡◌, ℕ, ◌+◌, ◌^◌, ◌<◌, ◌≤◌, List, [], ◌∷◌, ◌++◌, length, slice_index, refl, sym, ap}
+use Rattle.std.proofs.Common.{subst, ◌∙◌, arith, append_assoc}
 use Rattle.std.specs.Prelude.{if◌then◌else◌, ◌==◌}
 use Rattle.std.specs.Int.{bit_at}
 use Rattle.beet_field.specs.Field.{p, IsElement, add_of}
@@ -35,7 +36,6 @@ pub record MaskLeft (g : Blocks) (first r : ℕ) (before after : Values) : Type 
 abbrev pub AreSmall : List ℕ → Type 0
 AreSmall words = (k : ℕ) → slice_index words k < 2 ^ 61
 
--- the law of masks
 pub record MaskLaw (g : Blocks) : Type 0 where
   pub rounds : (first : ℕ) → length (g.mask first) ≡ g.mask_rounds
   pub stands : (s : Standing) → s.dealers ≡ g.words → BlockStands s (g.mask s.wires)
@@ -74,8 +74,10 @@ pub record CompareLaw (g : Blocks) : Type 0 where
   pub answer_stands : (mask supply demand c : ℕ) (s : Standing) → mask + g.mask_wires ≤ s.wires → supply < s.wires → demand < s.wires →
       BlockStands (after_all s (g.masked s.wires mask supply demand ∷ [])) (g.answer s.wires mask c)
   pub moves : (mask supply demand c : ℕ) (s : Standing) → mask + g.mask_wires ≤ s.wires → supply < s.wires → demand < s.wires →
-      Moved s (after_all (after_all s (g.masked s.wires mask supply demand ∷ [])) (g.answer s.wires mask c)) g.compare_wires 0 g.compare_draws
-  pub runs : (deals : ℕ → List ℕ) (first mask supply demand r s d : ℕ) (before : Values) → MayCompare g first mask supply demand r s d before →
+      Moved s (after_all (after_all s (g.masked s.wires mask supply demand ∷ [])) (g.answer s.wires mask c))
+      g.compare_wires 0 g.compare_draws
+  pub runs : (deals : ℕ → List ℕ) (first mask supply demand r s d : ℕ) (before : Values) →
+      MayCompare g first mask supply demand r s d before →
       (let middle = batches_on deals (g.masked first mask supply demand ∷ []) before in
       CompareLeft g first r s d before middle (batches_on deals (g.answer first mask (add_of (doubled s d) r)) middle))
 
@@ -87,7 +89,8 @@ pub record AreBlocks (g : Blocks) : Type 0 where
   pub few_draws : g.mask_draws + g.compare_draws ≤ MASK_COEFFICIENTS
 
 -- what a block of so many words does
-runs-words : (gates : Gates) (n : ℕ) (deals : ℕ → List ℕ) (first : ℕ) (words : List ℕ) (before : Values) → 2 ≤ n → length words ≡ n → AreSmall words →
+runs-words : (gates : Gates) (n : ℕ) (deals : ℕ → List ℕ) (first : ℕ) (words : List ℕ) (before : Values) → 2 ≤ n →
+    length words ≡ n → AreSmall words →
     length before.wires ≡ first → deals before.dealt ≡ bits_of words →
     AfterMask n first (xor_of words) before (batches_on deals (mask_batches gates n first) before)
 runs-words gates n deals first [] before some count small len dealt = absurd (omega arith)
@@ -118,7 +121,8 @@ five-masks = record {
         more = a.more;
         wires = a.wires;
         len = a.len;
-        bits = λ k l. let e : first + 366 + 366 + k ≡ first + 732 + k = omega arith in ap (slice_index (batches_on deals (mask_batches Chain 5 first) before).wires) e ∙ a.bits k l;
+        bits = λ k l. let e : first + 366 + 366 + k ≡ first + 732 + k = omega arith in
+            ap (slice_index (batches_on deals (mask_batches Chain 5 first) before).wires) e ∙ a.bits k l;
         opened = a.opened;
         dealt = a.dealt;
       };
@@ -167,7 +171,8 @@ compare-laws gates = record {
         wires = w.wires;
         len = w.len;
         masked = m.opened;
-        opened = w.opened ∙ sym (ap (λ (l : List ℕ). l ++ answer ∷ []) m.opened ∙ append_assoc before.opened (add_of (doubled s d) r ∷ []) (answer ∷ []));
+        opened = w.opened ∙ sym (ap (λ (l : List ℕ). l ++ answer ∷ []) m.opened
+            ∙ append_assoc before.opened (add_of (doubled s d) r ∷ []) (answer ∷ []));
         dealt = w.dealt;
       };
 }
@@ -209,4 +214,9 @@ few-draws Chain = omega arith
 few-draws Tree = omega arith
 
 pub are-blocks : (gates : Gates) → AreBlocks (blocks_of gates)
-are-blocks gates = record { masks = mask-laws gates; comparisons = compare-laws gates; few_wires = few-wires gates; few_draws = few-draws gates }
+are-blocks gates = record {
+  masks = mask-laws gates;
+  comparisons = compare-laws gates;
+  few_wires = few-wires gates;
+  few_draws = few-draws gates;
+}

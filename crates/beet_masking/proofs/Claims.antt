@@ -1,6 +1,7 @@
 -- What is claimed of a plan with comparisons in two runs side by side: how the first ends, after how many rounds, and that both open the
 -- same numbers.
-use Rattle.std.proofs.Common.{◌≡◌, ◌≢◌, ℕ, zero, suc, ◌+◌, ◌-◌, ◌<◌, ◌≤◌, inl, inr, Bool, true, false, List, [], ◌∷◌, ◌++◌, length, slice_index, refl, ap, sym, ◌∙◌, arith, eq-eqb, ne_eqb, append_assoc}
+use Rattle.std.proofs.Common.{◌≡◌, ◌≢◌, ℕ, zero, suc, ◌+◌, ◌-◌, ◌<◌, ◌≤◌, inl, inr, Bool, true, false, List, [], ◌∷◌}
+use Rattle.std.proofs.Common.{◌++◌, length, slice_index, refl, ap, sym, ◌∙◌, arith, eq-eqb, ne_eqb, append_assoc}
 use Rattle.std.specs.Prelude.{if◌then◌else◌, ◌==◌}
 use Rattle.std.specs.Int.{bit_at}
 use Rattle.std.proofs.lemmas.Bool.{cases_eq}
@@ -45,7 +46,8 @@ pub record Accepted (g : Blocks) (mask r : ℕ) (v w : Values) : Type 0 where
 accepted-now : (g : Blocks) (mask r : ℕ) (v w : Values) → MaskLeft g mask r v w → Accepted g mask r v w
 accepted-now g mask r v w m = record { more = m.more; wires = m.wires; len = m.len; bits = m.bits }
 
-accepted-later : (g : Blocks) (first mask r r' : ℕ) (v after w : Values) → MaskLeft g first r' v after → Accepted g mask r after w → Accepted g mask r v w
+accepted-later : (g : Blocks) (first mask r r' : ℕ) (v after w : Values) → MaskLeft g first r' v after →
+    Accepted g mask r after w → Accepted g mask r v w
 accepted-later g first mask r r' v after w m a = record {
   more = m.more ++ a.more;
   wires = a.wires ∙ ap (λ (l : List ℕ). l ++ a.more) m.wires ∙ append_assoc v.wires m.more a.more;
@@ -54,14 +56,15 @@ accepted-later g first mask r r' v after w m a = record {
 }
 
 module _ (g : Blocks) (are : AreBlocks g) (deals : ℕ → List ℕ) (masks : ℕ → ℕ) (d : Deals g.words deals masks) where
-  -- a mask is dealt
-  deal-mask : (first i : ℕ) (v : Values) → length v.wires ≡ first → v.dealt ≡ i → MaskLeft g first (masks i) v (batches_on deals (g.mask first) v)
+  deal-mask : (first i : ℕ) (v : Values) → length v.wires ≡ first → v.dealt ≡ i →
+      MaskLeft g first (masks i) v (batches_on deals (g.mask first) v)
   deal-mask first i v len dealt =
       let e : deals v.dealt ≡ bits_of (d.words i) = rw dealt (d.bits i) in
       rw (d.mask i) (are.masks.runs deals first (d.words i) v (d.count i) (d.small_words i) len e)
 
   -- and the number that its block opens
-  product-opened : (first i : ℕ) (v : Values) (b : Bool) → (masks i == p) ≡ b → MaskLeft g first (masks i) v (batches_on deals (g.mask first) v) →
+  product-opened : (first i : ℕ) (v : Values) (b : Bool) → (masks i == p) ≡ b →
+      MaskLeft g first (masks i) v (batches_on deals (g.mask first) v) →
       opened_by v (batches_on deals (g.mask first) v) ≡ (if b then 1 else 0)
   product-opened first i v b t m = opened-new v (batches_on deals (g.mask first) v) _ m.opened ∙ ap (λ (c : Bool). if c then 1 else 0) t
 
@@ -74,31 +77,39 @@ pub alike-accepted : (masks masks' : ℕ → ℕ) → Alike masks masks' → (i 
 alike-accepted masks masks' alike i some = λ e. let f = ne_eqb (masks i) p some in cc (alike.same i ∙ f, eq-eqb (masks' i) p e)
 
 module _ {F : Type 0} {A : Type 0} (g : Blocks) (are : AreBlocks g) (deals deals' : ℕ → List ℕ) (masks masks' : ℕ → ℕ)
-    (d : Deals g.words deals masks) (d' : Deals g.words deals' masks') (alike : Alike masks masks') (items : List A) (spent f : F) (last : ℕ) where
+    (d : Deals g.words deals masks) (d' : Deals g.words deals' masks') (alike : Alike masks masks') (items : List A)
+    (spent f : F) (last : ℕ) where
   -- a block of a mask in both runs, which goes on with a plan
   record BothLead (first : ℕ) (v v' : Values) (cont : ℕ → Plan F) (x : ℕ) : Type 0 where
     one : Leads deals (Block (g.mask first) cont) v (cont x) (batches_on deals (g.mask first) v) (x ∷ []) (length (g.mask first))
     two : Leads deals' (Block (g.mask first) cont) v' (cont x) (batches_on deals' (g.mask first) v') (x ∷ []) (length (g.mask first))
 
   both-lead : (first i : ℕ) (v v' : Values) (cont : ℕ → Plan F) (b : Bool) → (masks i == p) ≡ b →
-      MaskLeft g first (masks i) v (batches_on deals (g.mask first) v) → MaskLeft g first (masks' i) v' (batches_on deals' (g.mask first) v') →
+      MaskLeft g first (masks i) v (batches_on deals (g.mask first) v) →
+      MaskLeft g first (masks' i) v' (batches_on deals' (g.mask first) v') →
       BothLead first v v' cont (if b then 1 else 0)
   both-lead first i v v' cont b t m m' = record {
     one = leads-block deals (g.mask first) cont v (if b then 1 else 0) (product-opened g are deals masks d first i v b t m);
-    two = leads-block deals' (g.mask first) cont v' (if b then 1 else 0) (product-opened g are deals' masks' d' first i v' b (alike.same i ∙ t) m');
+    two = leads-block deals' (g.mask first) cont v' (if b then 1 else 0)
+        (product-opened g are deals' masks' d' first i v' b (alike.same i ∙ t) m');
   }
 
   -- after a mask that is accepted
   kept-claim : (n first i c : ℕ) (v v' : Values) (rest : Plan F) (cont : ℕ → Plan F) → cont 0 ≡ rest → n ≤ 2 → masks i ≢ p →
-      MaskLeft g first (masks i) v (batches_on deals (g.mask first) v) → MaskLeft g first (masks' i) v' (batches_on deals' (g.mask first) v') →
-      Compared g masks i (2 - n) c spent f last deals deals' rest (batches_on deals (g.mask first) v) (batches_on deals' (g.mask first) v') →
+      MaskLeft g first (masks i) v (batches_on deals (g.mask first) v) →
+      MaskLeft g first (masks' i) v' (batches_on deals' (g.mask first) v') →
+      Compared g masks i (2 - n) c spent f last deals deals' rest (batches_on deals (g.mask first) v)
+      (batches_on deals' (g.mask first) v') →
       Claim g masks i (2 - n) (suc c) spent f last deals deals' (Block (g.mask first) cont) v v'
   kept-claim n first i c v v' rest cont is hn some m m' k =
       let t : (masks i == p) ≡ false = ne_eqb (masks i) p some in
       let l : BothLead first v v' cont 0 = both-lead first i v v' cont false t m m' in
-      let one : Leads deals (Block (g.mask first) cont) v rest (batches_on deals (g.mask first) v) (0 ∷ []) (length (g.mask first)) = rw is at l.one in
-      let two : Leads deals' (Block (g.mask first) cont) v' rest (batches_on deals' (g.mask first) v') (0 ∷ []) (length (g.mask first)) = rw is at l.two in
-      let count : plan_rounds deals (Block (g.mask first) cont) v ≡ g.mask_rounds + g.compare_rounds + k.more = omega (arith, one.count, k.count, are.masks.rounds first) in
+      let one : Leads deals (Block (g.mask first) cont) v rest (batches_on deals (g.mask first) v) (0 ∷ [])
+      (length (g.mask first)) = rw is at l.one in
+      let two : Leads deals' (Block (g.mask first) cont) v' rest (batches_on deals' (g.mask first) v') (0 ∷ [])
+      (length (g.mask first)) = rw is at l.two in
+      let count : plan_rounds deals (Block (g.mask first) cont) v ≡ g.mask_rounds + g.compare_rounds + k.more =
+      omega (arith, one.count, k.count, are.masks.rounds first) in
       record {
         finish = one.finish ∙ k.finish ∙ ap (λ (b : Bool). if b then spent else f) (sym (spent-kept masks i (2 - n) c some (omega arith)));
         rounds = rw count (rounds-kept g masks i (2 - n) c last k.more some (omega arith) k.rounds);
@@ -106,10 +117,13 @@ module _ {F : Type 0} {A : Type 0} (g : Blocks) (are : AreBlocks g) (deals deals
       }
 
   -- masks until one is accepted, from what is claimed after each that may be
-  pub until-claim : (n first i c : ℕ) (v v' : Values) (rest : List A) (next : ℕ → ℕ → Plan F) → n ≤ 2 → length v.wires ≡ first → length v'.wires ≡ first →
+  pub until-claim : (n first i c : ℕ) (v v' : Values) (rest : List A) (next : ℕ → ℕ → Plan F) → n ≤ 2 →
+      length v.wires ≡ first → length v'.wires ≡ first →
       v.dealt ≡ i → v'.dealt ≡ i → Along masks items i (2 - n) rest →
-      ((left mask j : ℕ) (w w' : Values) → left ≤ 2 → masks j ≢ p → Along masks items j (2 - left) rest → w.dealt ≡ j + 1 → w'.dealt ≡ j + 1 →
-      Accepted g mask (masks j) v w → Accepted g mask (masks' j) v' w' → Compared g masks j (2 - left) c spent f last deals deals' (next left mask) w w') →
+      ((left mask j : ℕ) (w w' : Values) → left ≤ 2 → masks j ≢ p → Along masks items j (2 - left) rest →
+      w.dealt ≡ j + 1 → w'.dealt ≡ j + 1 →
+      Accepted g mask (masks j) v w → Accepted g mask (masks' j) v' w' →
+      Compared g masks j (2 - left) c spent f last deals deals' (next left mask) w w') →
       Claim g masks i (2 - n) (suc c) spent f last deals deals' (until_accepted g spent n first next) v v'
   unfolding until_accepted
   until-claim zero first i c v v' rest next hn len len' dealt dealt' along go =
@@ -127,7 +141,8 @@ module _ {F : Type 0} {A : Type 0} (g : Blocks) (are : AreBlocks g) (deals deals
             let l : BothLead first v v' cont 1 = both-lead first i v v' cont true (eq-eqb (masks i) p all) m m' in
             let e = ended-on deals spent after in
             let e' = ended-on deals' spent after' in
-            let count : plan_rounds deals (Block (g.mask first) cont) v ≡ g.mask_rounds = omega (arith, l.one.count, e.count, are.masks.rounds first) in
+            let count : plan_rounds deals (Block (g.mask first) cont) v ≡ g.mask_rounds =
+            omega (arith, l.one.count, e.count, are.masks.rounds first) in
             record {
               finish = l.one.finish ∙ e.finish ∙ ap (λ (b : Bool). if b then spent else f) (sym (spent-last masks i 2 c all refl));
               rounds = rw count (rounds-last g masks i 2 c last all refl);
@@ -146,7 +161,8 @@ module _ {F : Type 0} {A : Type 0} (g : Blocks) (are : AreBlocks g) (deals deals
       elim (cases_eq (masks i) p) [
         | inr some ↦
             kept-claim (suc n) first i c v v' (next (suc n) first) cont refl hn some m m'
-            (go (suc n) first i after after' hn some along dealt1 dealt2 (accepted-now g first (masks i) v after m) (accepted-now g first (masks' i) v' after' m'))
+            (go (suc n) first i after after' hn some along dealt1 dealt2 (accepted-now g first (masks i) v after m)
+            (accepted-now g first (masks' i) v' after' m'))
         | inl all ↦
             let l : BothLead first v v' cont 1 = both-lead first i v v' cont true (eq-eqb (masks i) p all) m m' in
             let rej = 2 - suc n in
@@ -154,10 +170,13 @@ module _ {F : Type 0} {A : Type 0} (g : Blocks) (are : AreBlocks g) (deals deals
             let along' : Along masks items (i + 1) (2 - n) rest = rw more (along-rejected masks items i rej rest all along) in
             let k = until-claim n (after_mask g first) (i + 1) c after after' rest next (omega arith) m.len m'.len dealt1 dealt2 along'
             (λ left mask j w w' hl some a dw dw' acc acc'. go left mask j w w' hl some a dw dw'
-            (accepted-later g first mask (masks j) (masks i) v after w m acc) (accepted-later g first mask (masks' j) (masks' i) v' after' w' m' acc')) in
-            let count : plan_rounds deals (Block (g.mask first) cont) v ≡ g.mask_rounds + plan_rounds deals later after = omega (arith, l.one.count, are.masks.rounds first) in
+            (accepted-later g first mask (masks j) (masks i) v after w m acc)
+            (accepted-later g first mask (masks' j) (masks' i) v' after' w' m' acc')) in
+            let count : plan_rounds deals (Block (g.mask first) cont) v
+            ≡ g.mask_rounds + plan_rounds deals later after = omega (arith, l.one.count, are.masks.rounds first) in
             record {
-              finish = l.one.finish ∙ rw more at k.finish ∙ ap (λ (b : Bool). if b then spent else f) (sym (spent-more masks i rej c all (omega arith)));
+              finish = l.one.finish ∙ rw more at k.finish
+                  ∙ ap (λ (b : Bool). if b then spent else f) (sym (spent-more masks i rej c all (omega arith)));
               rounds = rw count (rounds-more g masks i rej c last (plan_rounds deals later after) all (omega arith) (rw more at k.rounds));
               numbers = l.two.shown ∙ ap (λ (xs : List ℕ). 1 ∷ xs) k.numbers ∙ sym l.one.shown;
             }

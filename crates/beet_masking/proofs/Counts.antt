@@ -1,5 +1,6 @@
 -- How the masks count, one after another.
-use Rattle.std.proofs.Common.{◌≡◌, ◌≢◌, ℕ, zero, suc, ◌+◌, ◌-◌, ◌<◌, ◌≤◌, inl, inr, Bool, true, false, List, length, slice_index, refl, arith, eq-eqb, ne_eqb}
+use Rattle.std.proofs.Common.{◌≡◌, ◌≢◌, ℕ, zero, suc, ◌+◌, ◌-◌, ◌<◌, ◌≤◌, inl, inr, Bool, true, false, List, length}
+use Rattle.std.proofs.Common.{slice_index, refl, arith, eq-eqb, ne_eqb}
 use Rattle.std.specs.Prelude.{nat_le, filter, if◌then◌else◌, ◌==◌}
 use Rattle.std.specs.List.{range_with_len}
 use Rattle.std.proofs.lemmas.Bool.{cases_eq}
@@ -159,7 +160,8 @@ module _ (masks : ℕ → ℕ) (i rej c : ℕ) where
   spent-more e f =
       let n : suc c + 2 - rej ≡ suc (suc c + 2 - (rej + 1)) = omega arith in
       let t : (masks i == p) ≡ true = eq-eqb (masks i) p e in
-      let m : rej + (1 + all_ones_among masks (i + 1) (suc c + 2 - (rej + 1))) ≡ rej + 1 + all_ones_among masks (i + 1) (suc c + 2 - (rej + 1)) = omega arith in
+      let m : rej + (1 + all_ones_among masks (i + 1) (suc c + 2 - (rej + 1)))
+      ≡ rej + 1 + all_ones_among masks (i + 1) (suc c + 2 - (rej + 1)) = omega arith in
       rw (n, t, m) refl
 
   pub spent-kept : masks i ≢ p → rej < 3 → spent_from masks i rej (suc c) ≡ spent_from masks (i + 1) rej c

@@ -17,7 +17,8 @@ until-open g spent (suc n) first next =
     let some : (suc n == 0) ≡ false = ne_eqb (suc n) 0 (λ e. cc e) in
     let less : suc n - 1 ≡ n = omega arith in
     λ i. Block (g.mask first)
-    (λ product. if product == 1 then (if sym some i then Ended spent else until_accepted g spent (sym less i) (after_mask g first) next) else next (suc n) first)
+    (λ product. if product == 1 then (if sym some i then Ended spent
+    else until_accepted g spent (sym less i) (after_mask g first) next) else next (suc n) first)
 
 -- what a comparison uses after its mask, with what comes with it: wires, numbers that are drawn, and rounds
 pub record Uses : Type 0 where
@@ -39,8 +40,10 @@ pub record Room (g : Blocks) (each now : Uses) (bounds s : Standing) (n l spare 
   pub room_coefficients : s.coefficients + now.draws + (g.mask_draws + each.draws) * l + g.mask_draws * spare ≤ bounds.coefficients
   pub room_rounds : now.rounds + (g.mask_rounds + each.rounds) * l + g.mask_rounds * spare + 1 ≤ n
 
-pub room-within : (g : Blocks) (each now : Uses) (bounds s : Standing) (n l spare last : ℕ) → Room g each now bounds s n l spare last → IsWithin bounds s
-room-within g each now bounds s n l spare last r = (omega (arith, r.room_wires), omega (arith, r.room_masks), omega (arith, r.room_coefficients))
+pub room-within : (g : Blocks) (each now : Uses) (bounds s : Standing) (n l spare last : ℕ) →
+    Room g each now bounds s n l spare last → IsWithin bounds s
+room-within g each now bounds s n l spare last r =
+    (omega (arith, r.room_wires), omega (arith, r.room_masks), omega (arith, r.room_coefficients))
 
 module _ (g : Blocks) (are : AreBlocks g) (each : Uses) (bounds : Standing) where
   -- after a mask that is accepted, and after one that is rejected
@@ -83,7 +86,8 @@ module _ (g : Blocks) (are : AreBlocks g) (each : Uses) (bounds : Standing) wher
         let rest = n - length (g.mask s.wires) in
         let next_room = room-accepted s n l zero last room in
         let within = room-within g each each bounds t rest l zero last next_room in
-        stands-block bounds n s (g.mask s.wires) _ (are.masks.stands s room.dealers) within (omega (arith, len, room.room_rounds, mul-suc (g.mask_rounds + each.rounds) l))
+        stands-block bounds n s (g.mask s.wires) _ (are.masks.stands s room.dealers) within
+        (omega (arith, len, room.room_rounds, mul-suc (g.mask_rounds + each.rounds) l))
         (λ x. stands-if bounds rest t (x == 1) (Ended spent) (next zero s.wires) (stands-ended bounds rest t spent within)
         (go zero s.wires rest t (omega arith) m.more_wires next_room))
     until-stands (suc spare) n l last s next room go =
@@ -94,7 +98,9 @@ module _ (g : Blocks) (are : AreBlocks g) (each : Uses) (bounds : Standing) wher
         let next_room = room-accepted s n l (suc spare) last room in
         let again = room-rejected s n (suc l) spare last room in
         let within = room-within g each each bounds t rest l (suc spare) last next_room in
-        stands-block bounds n s (g.mask s.wires) _ (are.masks.stands s room.dealers) within (omega (arith, len, room.room_rounds, mul-suc (g.mask_rounds + each.rounds) l))
+        stands-block bounds n s (g.mask s.wires) _ (are.masks.stands s room.dealers) within
+        (omega (arith, len, room.room_rounds, mul-suc (g.mask_rounds + each.rounds) l))
         (λ x. stands-if bounds rest t (x == 1) (until_accepted g spent spare (after_mask g s.wires) next) (next (suc spare) s.wires)
-        (rw m.more_wires at (until-stands spare rest l last t next again (λ left mask k u below. go left mask k u (omega (arith, below, m.more_wires)))))
+        (rw m.more_wires at (until-stands spare rest l last t next again
+        (λ left mask k u below. go left mask k u (omega (arith, below, m.more_wires)))))
         (go (suc spare) s.wires rest t (omega arith) m.more_wires next_room))

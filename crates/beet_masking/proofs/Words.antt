@@ -29,7 +29,8 @@ word-small words all i = elim (cases_lt i (length words)) [
 ]
 
 pub mask-small : (words : Trio (List ℕ)) → AreMasks words → (i : ℕ) → mask_at words i < 2 ^ 61
-mask-small words m i = xor_lt 61 _ _ (xor_lt 61 _ _ (word-small words.one m.one i) (word-small words.two m.two i)) (word-small words.three m.three i)
+mask-small words m i = xor_lt 61 _ _ (xor_lt 61 _ _ (word-small words.one m.one i) (word-small words.two m.two i))
+    (word-small words.three m.three i)
 
 -- each deal hands out the bits of three words
 pub deals-words : (words : Trio (List ℕ)) → AreMasks words → Deals 3 (deals_of words) (mask_at words)
@@ -56,7 +57,8 @@ xor_of-small : (ws : List ℕ) → AreSmall ws → xor_of ws < 2 ^ 61
 xor_of-small [] few = omega arith
 xor_of-small (w ∷ ws) few = xor_with-small w ws (few 0) (λ k. few (suc k))
 
-words_at-small : (words : List (List ℕ)) → ((k i : ℕ) → slice_index (slice_index_or words k []) i < 2 ^ 61) → (i : ℕ) → AreSmall (words_at words i)
+words_at-small : (words : List (List ℕ)) → ((k i : ℕ) → slice_index (slice_index_or words k []) i < 2 ^ 61) → (i : ℕ) →
+    AreSmall (words_at words i)
 words_at-small [] few i k = omega arith
 words_at-small (w ∷ ws) few i zero = few 0 i
 words_at-small (w ∷ ws) few i (suc k) = words_at-small ws (λ n. few (suc n)) i k

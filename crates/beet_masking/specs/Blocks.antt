@@ -4,12 +4,14 @@ use Rattle.beet_gates.specs.declared.Batch.{Batch}
 use Rattle.beet_gates.specs.declared.Gates.{Gates}
 use Rattle.beet_gates.specs.declared.Gates.TheVariants.{Chain}
 use Rattle.beet_mask.specs.Mask.{bit_wire_of, mask_batches, mask_draws_of, mask_rounds_of, mask_wires_of}
-use Rattle.beet_compare.specs.Compare.{borrow_batches, compare_draws_of, compare_rounds_of, compare_wires_of, masked_batch}
+use Rattle.beet_compare.specs.Compare.{borrow_batches, compare_draws_of, compare_rounds_of, compare_wires_of}
+use Rattle.beet_compare.specs.Compare.{masked_batch}
 
--- How many words a mask has, one of each server. The batches of a mask, from its first wire on, and the wire of bit k of the mask whose
--- block begins at a wire; the batch that opens a masked difference, from its first wire, the first wire of the mask and the two wires that
--- are compared, and the batches after it, which open the answer, from the same first wires and the opened number. Then the rounds and wires
--- of each block, and the numbers that each server draws in it.
+-- How many words a mask has, one of each server. The batches of a mask, from its first wire on, and the wire of bit k
+-- of the mask whose block begins at a wire; the batch that opens a masked difference, from its first wire, the first
+-- wire of the mask and the two wires that are compared, and the batches after it, which open the answer, from the same
+-- first wires and the opened number. Then the rounds and wires of each block, and the numbers that each server draws in
+-- it.
 pub record Blocks : Type 0 where
   pub words : ℕ
   pub mask : ℕ → List Batch
@@ -39,7 +41,8 @@ blocks_of gates = record {
   compare_draws = compare_draws_of gates;
 }
 
--- the blocks of five servers, with chain gates: a mask's bits stand as much later as in a block of three words that begins 366 wires on
+-- the blocks of five servers, with chain gates: a mask's bits stand as much later as in a block of three words that
+-- begins 366 wires on
 abbrev pub five_blocks : Blocks
 five_blocks = record {
   words = 5;

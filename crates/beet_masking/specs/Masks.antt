@@ -1,5 +1,6 @@
 -- The masks of a run, and what they decide.
-use Rattle.std.specs.Prelude.{◌+◌, ◌==◌, ℕ, zero, suc, List, length, filter, map, slice_index, nat_le, if◌then◌else◌, All, Bool, true, false}
+use Rattle.std.specs.Prelude.{◌+◌, ◌==◌, ℕ, zero, suc, List, length, filter, map, slice_index, nat_le, if◌then◌else◌}
+use Rattle.std.specs.Prelude.{All, Bool, true, false}
 use Rattle.std.specs.List.{range_with_len}
 use Rattle.beet_field.specs.Field.{p}
 use Rattle.beet_field.specs.declared.trio.Trio.{Trio}

@@ -63,8 +63,10 @@ plan-run g are policy prices inputs deals masks len all d =
     let run = plan-runs (plan_batch plan) deals inputs bounds plan (start_among g.words (2 * prices)) most stands follows in
     let places = tested test l 0 prices in
     let alike : Alike masks masks = record { same = λ i. refl } in
-    let c = search-claim g are policy deals deals masks masks prices places supply demand supply demand test d d alike elements elements (λ k h. refl) (λ k h. refl)
-    (λ i m h k. refl) l 0 prices 2 (2 * prices) 0 start start s s (omega arith) (omega arith) (omega arith) few (along-start masks places) refl in
+    let c = search-claim g are policy deals deals masks masks prices places supply demand supply demand test d d alike
+    elements elements (λ k h. refl) (λ k h. refl)
+    (λ i m h k. refl) l 0 prices 2 (2 * prices) 0 start start s s (omega arith) (omega arith) (omega arith) few
+    (along-start masks places) refl in
     let spent : spent_from masks 0 0 (length (tested test l 0 prices)) ≡ is_spent masks (length (path prices z)) =
     ap (λ (t : List ℕ). spent_from masks 0 0 (length t)) same ∙ spent-start masks (length (path prices z)) in
     record {
@@ -74,14 +76,18 @@ plan-run g are policy prices inputs deals masks len all d =
       rounds = run.rounds ∙ rounds-whole g masks (length (path prices z)) (rounds_opening policy prices z) _ (rw same at c.rounds);
     }
 
-pub auction-run : (a : Auction) (inputs : List ℕ) (words : Trio (List ℕ)) → length inputs ≡ 2 * a.prices → All IsElement inputs → AreMasks words →
-    RunEnds a inputs words (place_of_inputs a inputs) (found a.policy a.prices (slice_index inputs) (λ k. slice_index inputs (a.prices + k)) (place_of_inputs a inputs))
+pub auction-run : (a : Auction) (inputs : List ℕ) (words : Trio (List ℕ)) → length inputs ≡ 2 * a.prices →
+    All IsElement inputs → AreMasks words →
+    RunEnds a inputs words (place_of_inputs a inputs)
+    (found a.policy a.prices (slice_index inputs) (λ k. slice_index inputs (a.prices + k)) (place_of_inputs a inputs))
 auction-run a inputs words len all m =
-    let run = plan-run (blocks_of a.gates) (are-blocks a.gates) a.policy a.prices inputs (deals_of words) (mask_at words) len all (deals-words words m) in
+    let run = plan-run (blocks_of a.gates) (are-blocks a.gates) a.policy a.prices inputs (deals_of words)
+    (mask_at words) len all (deals-words words m) in
     record { ends = run.ends; rounds = run.rounds }
 
 -- five servers deal words, whose exclusive or is a mask
-pub five-run : (policy : Policy) (prices : ℕ) (inputs : List ℕ) (deals : ℕ → List ℕ) (masks : ℕ → ℕ) → length inputs ≡ 2 * prices → All IsElement inputs →
+pub five-run : (policy : Policy) (prices : ℕ) (inputs : List ℕ) (deals : ℕ → List ℕ) (masks : ℕ → ℕ) →
+    length inputs ≡ 2 * prices → All IsElement inputs →
     Deals 5 deals masks → EndsWith five_blocks policy prices inputs deals masks (place_over prices inputs)
     (found policy prices (slice_index inputs) (λ k. slice_index inputs (prices + k)) (place_over prices inputs))
 five-run policy prices inputs deals masks len all d = plan-run five_blocks are-five_blocks policy prices inputs deals masks len all d

@@ -1,5 +1,6 @@
 -- The auction's script names only wires that stand, and stays within its bounds, whatever numbers are opened.
-use Rattle.std.proofs.Common.{◌≡◌, ℕ, zero, suc, ◌+◌, ◌-◌, ◌*◌, ◌/◌, ◌<◌, ◌≤◌, inl, inr, true, false, [], ◌∷◌, length, refl, subst, ◌∙◌, arith}
+use Rattle.std.proofs.Common.{◌≡◌, ℕ, zero, suc, ◌+◌, ◌-◌, ◌*◌, ◌/◌, ◌<◌, ◌≤◌, inl, inr, true, false, [], ◌∷◌, length}
+use Rattle.std.proofs.Common.{refl, subst, ◌∙◌, arith}
 use Rattle.std.specs.Prelude.{nat_lt, ◌==◌}
 use Rattle.std.proofs.lemmas.Bool.{cases_lt}
 use Rattle.std.proofs.lemmas.Bool.Decides.{nat_tests}
@@ -25,11 +26,13 @@ module _ (bounds : Standing) where
   shown-stands Volume prices place n s below h w l =
       let b = reveal_batch [] ((prices + place) ∷ []) in
       let within : IsWithin bounds (after s b) = (omega (arith, w.0), w.1, w.2) in
-      stands-last bounds n s b 1 (price_with place) (tt, (omega arith, (omega arith, tt)), (omega arith, omega arith)) within refl (omega arith) l
+      stands-last bounds n s b 1 (price_with place)
+      (tt, (omega arith, (omega arith, tt)), (omega arith, omega arith)) within refl (omega arith) l
   shown-stands Full prices place n s below h w l =
       let b = reveal_batch [] ((prices + place) ∷ place ∷ []) in
       let within : IsWithin bounds (after s b) = (omega (arith, w.0), w.1, w.2) in
-      stands-last bounds n s b 2 (price_with place) (tt, (omega arith, (omega arith, (omega arith, tt))), (omega arith, omega arith)) within refl (omega arith) l
+      stands-last bounds n s b 2 (price_with place)
+      (tt, (omega arith, (omega arith, (omega arith, tt))), (omega arith, omega arith)) within refl (omega arith) l
 
   end-stands : (policy : Policy) (prices place n : ℕ) (s : Standing) → 2 * prices ≤ s.wires → IsWithin bounds s → 1 ≤ n →
       PlanStands bounds n s (end_plan policy prices place)
@@ -44,9 +47,11 @@ module _ (bounds : Standing) where
 
   module _ (g : Blocks) (are : AreBlocks g) (policy : Policy) (prices : ℕ) where
     -- the comparison at a place, and what follows it
-    compare-stands : (place l left mask n : ℕ) (s : Standing) (next : ℕ → Plan Finish) → place < prices → mask + g.mask_wires ≤ s.wires → 2 * prices ≤ s.wires →
+    compare-stands : (place l left mask n : ℕ) (s : Standing) (next : ℕ → Plan Finish) → place < prices →
+        mask + g.mask_wires ≤ s.wires → 2 * prices ≤ s.wires →
         Room g (compared g) (compared g) bounds s n l left 0 →
-        ((t : Standing) (m answer : ℕ) → t.wires ≡ s.wires + g.compare_wires → Room g (compared g) nothing bounds t m l left 0 → PlanStands bounds m t (next answer)) →
+        ((t : Standing) (m answer : ℕ) → t.wires ≡ s.wires + g.compare_wires →
+        Room g (compared g) nothing bounds t m l left 0 → PlanStands bounds m t (next answer)) →
         PlanStands bounds n s (compare_plan g prices s.wires mask place next)
     compare-stands place l left mask n s next below stands wide room go =
         let demand = prices + place in
@@ -57,7 +62,8 @@ module _ (bounds : Standing) where
         let u = λ (c : ℕ). after_all t (g.answer s.wires mask c) in
         let m = λ (c : ℕ). n - 1 - length (g.answer s.wires mask c) in
         let count = λ (c : ℕ). are.comparisons.rounds s.wires mask c in
-        let moves : (c : ℕ) → Moved s (u c) g.compare_wires 0 g.compare_draws = λ c. are.comparisons.moves mask place demand c s stands supply_there demand_there in
+        let moves : (c : ℕ) → Moved s (u c) g.compare_wires 0 g.compare_draws =
+        λ c. are.comparisons.moves mask place demand c s stands supply_there demand_there in
         let left_room : (c : ℕ) → Room g (compared g) nothing bounds (u c) (m c) l left 0 = λ c. record {
           dealers = (moves c).dealers ∙ room.dealers;
           room_wires = omega (arith, (moves c).more_wires, room.room_wires);
@@ -68,18 +74,22 @@ module _ (bounds : Standing) where
         let within : (c : ℕ) → IsWithin bounds (u c) = λ c. room-within g (compared g) nothing bounds (u c) (m c) l left 0 (left_room c) in
         stands-block bounds n s masked _ (are.comparisons.masked_stands mask place demand s stands supply_there demand_there)
         (within-all bounds t (g.answer s.wires mask 0) (within 0)) (omega (arith, room.room_rounds, count 0))
-        (λ c. stands-block bounds (n - 1) t (g.answer s.wires mask c) next (are.comparisons.answer_stands mask place demand c s stands supply_there demand_there)
+        (λ c. stands-block bounds (n - 1) t (g.answer s.wires mask c) next
+        (are.comparisons.answer_stands mask place demand c s stands supply_there demand_there)
         (within c) (omega (arith, room.room_rounds, count c)) (λ answer. go (u c) (m c) answer (moves c).more_wires (left_room c)))
 
-    pub search-stands : (l lo hi spare n : ℕ) (s : Standing) → 2 * prices ≤ s.wires → hi ≤ prices → Room g (compared g) nothing bounds s n l spare 0 →
+    pub search-stands : (l lo hi spare n : ℕ) (s : Standing) → 2 * prices ≤ s.wires → hi ≤ prices →
+        Room g (compared g) nothing bounds s n l spare 0 →
         PlanStands bounds n s (search_plan g policy prices l lo hi spare s.wires)
     unfolding search_plan
     search-stands zero lo hi spare n s wide inside room =
-        end-stands policy prices lo n s wide (room-within g (compared g) nothing bounds s n zero spare 0 room) (omega (arith, room.room_rounds))
+        end-stands policy prices lo n s wide (room-within g (compared g) nothing bounds s n zero spare 0 room)
+        (omega (arith, room.room_rounds))
     search-stands (suc l) lo hi spare n s wide inside room = elim (cases_lt lo hi) [
       | inr h ↦
           let t : nat_lt lo hi ≡ false = grind (arith, nat_tests) in
-          rw t (end-stands policy prices lo n s wide (room-within g (compared g) nothing bounds s n (suc l) spare 0 room) (omega (arith, room.room_rounds)))
+          rw t (end-stands policy prices lo n s wide
+          (room-within g (compared g) nothing bounds s n (suc l) spare 0 room) (omega (arith, room.room_rounds)))
       | inl h ↦
           let t : nat_lt lo hi ≡ true = grind (arith, nat_tests) in
           let mid = (lo + hi) / 2 in
@@ -95,6 +105,7 @@ module _ (bounds : Standing) where
           let wider : 2 * prices ≤ u.wires = omega (arith, both, above) in
           stands-if bounds k u (answer == 1) _ _
           (subst (λ w. PlanStands bounds k u (search lo mid left w)) both (search-stands l lo mid left k u wider (omega arith) free))
-          (subst (λ w. PlanStands bounds k u (search (mid + 1) hi left w)) both (search-stands l (mid + 1) hi left k u wider inside free))) in
+          (subst (λ w. PlanStands bounds k u (search (mid + 1) hi left w)) both
+          (search-stands l (mid + 1) hi left k u wider inside free))) in
           subst (λ w. PlanStands bounds m t (compare_plan g prices w mask mid (after_answer g search lo hi left mask))) at there))
     ]

@@ -42,7 +42,8 @@ pub record CompareStep (g : Blocks) (prices : ℕ) (supply demand : ℕ → ℕ)
 abbrev pub after_masked : Blocks → (ℕ → List ℕ) → ℕ → ℕ → ℕ → ℕ → Values → Values
 after_masked g deals first mask supply demand v = batches_on deals (g.masked first mask supply demand ∷ []) v
 
-pub compare-step : (g : Blocks) → AreBlocks g → (deals : ℕ → List ℕ) (prices : ℕ) (supply demand : ℕ → ℕ) (first mask r i place : ℕ) (v : Values) →
+pub compare-step : (g : Blocks) → AreBlocks g →
+    (deals : ℕ → List ℕ) (prices : ℕ) (supply demand : ℕ → ℕ) (first mask r i place : ℕ) (v : Values) →
     AreElements prices supply demand → Stands prices supply demand first i v → mask + g.mask_wires ≤ first →
     ((k : ℕ) → k < 61 → slice_index v.wires (g.bit mask k) ≡ bit_at r k) → IsElement r → place < prices →
     (let middle = after_masked g deals first mask place (prices + place) v in

@@ -28,12 +28,15 @@ book-run book words b m =
     let test = λ (k : ℕ). is_doubled_even (slice_index inputs k) (demand k) in
     let turns : (k : ℕ) → k < prices → test k ≡ nat_le (clearing_place book) k = λ k h.
     let s = small book b k h in
-    let means = doubled_even-≤ (supply_at book.bidders k) (demand_at book.bidders k) (omega (arith, s.0)) (omega (arith, s.1)) (omega (arith, s.0)) (omega (arith, s.1)) in
+    let means = doubled_even-≤ (supply_at book.bidders k) (demand_at book.bidders k) (omega (arith, s.0))
+    (omega (arith, s.1)) (omega (arith, s.0)) (omega (arith, s.1)) in
     rw (sums-supply book k h, sums-demand book k h)
-    (same_test (is_doubled_even (supply_at book.bidders k) (demand_at book.bidders k)) (supply_at book.bidders k) (demand_at book.bidders k) means)
+    (same_test (is_doubled_even (supply_at book.bidders k) (demand_at book.bidders k)) (supply_at book.bidders k)
+    (demand_at book.bidders k) means)
     ∙ book-turn book b k h in
     let place : place_found prices test ≡ clearing_place book =
-    place-turn test (comparisons_of prices) 0 prices (clearing_place book) (omega arith) (clearing-within book) (omega (arith, below_comparisons prices)) turns in
+    place-turn test (comparisons_of prices) 0 prices (clearing_place book) (omega arith) (clearing-within book)
+    (omega (arith, below_comparisons prices)) turns in
     let run = auction-run a inputs words (length-sums book) (sums-elements book b) m in
     let finish : found book.grid.policy prices (slice_index inputs) demand (clearing_place book) ≡ finish_of (outcome_of book) =
     found-outcome book (slice_index inputs) demand (sums-supply book) (sums-demand book) in

@@ -9,7 +9,8 @@ use Rattle.beet_masking.proofs.Words.{among-five}
 use Rattle.beet_plan.specs.Runs.{EndsWith, found, place_over}
 use Rattle.beet_plan.proofs.AuctionRuns.{five-run}
 
-pub five-ends : (policy : Policy) (prices : ℕ) (inputs : List ℕ) (words : List (List ℕ)) → length inputs ≡ 2 * prices → All IsElement inputs →
+pub five-ends : (policy : Policy) (prices : ℕ) (inputs : List ℕ) (words : List (List ℕ)) → length inputs ≡ 2 * prices →
+    All IsElement inputs →
     length words ≡ 5 → ((k i : ℕ) → slice_index (slice_index_or words k []) i < 2 ^ 61) →
     EndsWith five_blocks policy prices inputs (dealt_at words) (mask_among words) (place_over prices inputs)
     (found policy prices (slice_index inputs) (λ k. slice_index inputs (prices + k)) (place_over prices inputs))

@@ -1,5 +1,6 @@
 -- The search in two runs side by side: how the first ends, after how many rounds, and that both open the same numbers.
-use Rattle.std.proofs.Common.{◌≡◌, ℕ, zero, suc, ◌+◌, ◌-◌, ◌*◌, ◌/◌, ◌^◌, ◌<◌, ◌≤◌, inl, inr, Bool, true, false, List, [], ◌∷◌, length, slice_index, Some, refl, ap, sym, ◌∙◌, arith, pow-suc, zero-add}
+use Rattle.std.proofs.Common.{◌≡◌, ℕ, zero, suc, ◌+◌, ◌-◌, ◌*◌, ◌/◌, ◌^◌, ◌<◌, ◌≤◌, inl, inr, Bool, true, false, List}
+use Rattle.std.proofs.Common.{[], ◌∷◌, length, slice_index, Some, refl, ap, sym, ◌∙◌, arith, pow-suc, zero-add}
 use Rattle.std.specs.Prelude.{nat_lt, if◌then◌else◌}
 use Rattle.std.proofs.Math.Seq.{drop-append_seam}
 use Rattle.std.proofs.lemmas.Bool.{cases_lt, cases_Bool}
@@ -39,7 +40,8 @@ rounds_opening policy prices z = if nat_lt z prices then opening_rounds policy e
 abbrev pub shown_at_end : Policy → ℕ → (ℕ → ℕ) → (ℕ → ℕ) → ℕ → List ℕ
 shown_at_end policy prices supply demand z = if nat_lt z prices then shown_by policy (demand z) (supply z) else []
 
-module _ (deals : ℕ → List ℕ) (prices : ℕ) (supply demand : ℕ → ℕ) (first i z : ℕ) (v : Values) (s : Stands prices supply demand first i v) where
+module _ (deals : ℕ → List ℕ) (prices : ℕ) (supply demand : ℕ → ℕ) (first i z : ℕ) (v : Values)
+    (s : Stands prices supply demand first i v) where
   -- the supply at a place of the grid has its wire
   supply-at : z < prices → slice_index v.wires z ≡ supply z
   supply-at h = ap (slice_index v.wires) (sym (zero-add z)) ∙ s.supplies.at z h
@@ -50,7 +52,8 @@ module _ (deals : ℕ → List ℕ) (prices : ℕ) (supply demand : ℕ → ℕ)
   shown-opened PriceAlone h = drop-append_seam v.opened []
   shown-opened Volume h = drop-append_seam v.opened (slice_index v.wires (prices + z) ∷ []) ∙ ap (λ n. n ∷ []) (s.demands.at z h)
   shown-opened Full h =
-      drop-append_seam v.opened (slice_index v.wires (prices + z) ∷ slice_index v.wires z ∷ []) ∙ (λ j. s.demands.at z h j ∷ supply-at h j ∷ [])
+      drop-append_seam v.opened (slice_index v.wires (prices + z) ∷ slice_index v.wires z ∷ [])
+      ∙ (λ j. s.demands.at z h j ∷ supply-at h j ∷ [])
 
 module _ (deals : ℕ → List ℕ) (v : Values) where
   opening-finish : (wires : List ℕ) (named : List ℕ → Finish) →
@@ -78,7 +81,8 @@ record EndSays (policy : Policy) (deals : ℕ → List ℕ) (prices : ℕ) (supp
   count : plan_rounds deals (end_plan policy prices z) v ≡ rounds_opening policy prices z
   numbers : plan_numbers deals (end_plan policy prices z) v ≡ shown_at_end policy prices supply demand z
 
-end-says : (policy : Policy) (deals : ℕ → List ℕ) (prices : ℕ) (supply demand : ℕ → ℕ) (first i z : ℕ) (v : Values) → Stands prices supply demand first i v →
+end-says : (policy : Policy) (deals : ℕ → List ℕ) (prices : ℕ) (supply demand : ℕ → ℕ) (first i z : ℕ) (v : Values) →
+    Stands prices supply demand first i v →
     EndSays policy deals prices supply demand z v
 end-says policy deals prices supply demand first i z v s = elim (cases_lt z prices) [
   | inl h ↦
@@ -89,9 +93,11 @@ end-says policy deals prices supply demand first i z v s = elim (cases_lt z pric
       let c : rounds_opening policy prices z ≡ opening_rounds policy = rw t refl in
       let n : shown_at_end policy prices supply demand z ≡ shown_by policy (demand z) (supply z) = rw t refl in
       record {
-        finish = ap (λ (q : Plan Finish). plan_end deals q v) here ∙ opening-finish deals v (shown_by policy (prices + z) z) (price_with z) ∙ ap (price_with z) shown ∙ sym f;
+        finish = ap (λ (q : Plan Finish). plan_end deals q v) here
+            ∙ opening-finish deals v (shown_by policy (prices + z) z) (price_with z) ∙ ap (price_with z) shown ∙ sym f;
         count = ap (λ (q : Plan Finish). plan_rounds deals q v) here ∙ opening-count deals v policy prices z ∙ sym c;
-        numbers = ap (λ (q : Plan Finish). plan_numbers deals q v) here ∙ opening-numbers deals v (shown_by policy (prices + z) z) (price_with z) ∙ shown ∙ sym n;
+        numbers = ap (λ (q : Plan Finish). plan_numbers deals q v) here
+            ∙ opening-numbers deals v (shown_by policy (prices + z) z) (price_with z) ∙ shown ∙ sym n;
       }
   | inr h ↦
       let t : nat_lt z prices ≡ false = grind (arith, nat_tests) in
@@ -107,32 +113,39 @@ end-says policy deals prices supply demand first i z v s = elim (cases_lt z pric
       }
 ]
 
-module _ (g : Blocks) (are : AreBlocks g) (policy : Policy) (deals deals' : ℕ → List ℕ) (masks masks' : ℕ → ℕ) (prices : ℕ) (places : List ℕ)
-    (supply demand supply' demand' : ℕ → ℕ) (test : ℕ → Bool) (d : Deals g.words deals masks) (d' : Deals g.words deals' masks') (alike : Alike masks masks')
+module _ (g : Blocks) (are : AreBlocks g) (policy : Policy) (deals deals' : ℕ → List ℕ) (masks masks' : ℕ → ℕ)
+    (prices : ℕ) (places : List ℕ)
+    (supply demand supply' demand' : ℕ → ℕ) (test : ℕ → Bool) (d : Deals g.words deals masks)
+    (d' : Deals g.words deals' masks') (alike : Alike masks masks')
     (elements : AreElements prices supply demand) (elements' : AreElements prices supply' demand')
     (reached : (k : ℕ) → k < prices → is_doubled_even (supply k) (demand k) ≡ test k)
     (reached' : (k : ℕ) → k < prices → is_doubled_even (supply' k) (demand' k) ≡ test k)
     (opens : (i m : ℕ) → m < prices → item_compared places masks i ≡ Some m →
     add_of (doubled (supply' m) (demand' m)) (masks' i) ≡ add_of (doubled (supply m) (demand m)) (masks i)) where
   -- where the search ends
-  over : (m lo hi spare first i : ℕ) (v v' : Values) → Stands prices supply demand first i v → Stands prices supply' demand' first i v' → spare ≤ 2 → hi ≤ lo →
+  over : (m lo hi spare first i : ℕ) (v v' : Values) → Stands prices supply demand first i v →
+      Stands prices supply' demand' first i v' → spare ≤ 2 → hi ≤ lo →
       (shown_at_end policy prices supply' demand' lo ≡ shown_at_end policy prices supply demand lo) →
-      Claim g masks i (2 - spare) (length (tested test m lo hi)) MasksSpent (found policy prices supply demand (place_between test m lo hi)) (rounds_opening policy prices (place_between test m lo hi))
+      Claim g masks i (2 - spare) (length (tested test m lo hi)) MasksSpent (found policy prices supply demand
+      (place_between test m lo hi)) (rounds_opening policy prices (place_between test m lo hi))
       deals deals' (end_plan policy prices lo) v v'
   over m lo hi spare first i v v' s s' hs past shown =
       let e = end-says policy deals prices supply demand first i lo v s in
       let e' = end-says policy deals' prices supply' demand' first i lo v' s' in
       rw (tested-none test m lo hi past, place-none test m lo hi past) (record {
-        finish = e.finish ∙ ap (λ (b : Bool). if b then MasksSpent else found policy prices supply demand lo) (sym (spent-none masks i (2 - spare) (omega arith)));
+        finish = e.finish ∙ ap (λ (b : Bool). if b then MasksSpent else found policy prices supply demand lo)
+            (sym (spent-none masks i (2 - spare) (omega arith)));
         rounds = rw e.count (rounds-none g masks i (2 - spare) (rounds_opening policy prices lo) (omega arith));
         numbers = e'.numbers ∙ shown ∙ sym e.numbers;
       })
 
-  pub search-claim : (m lo hi spare first i : ℕ) (v v' : Values) → Stands prices supply demand first i v → Stands prices supply' demand' first i v' → spare ≤ 2 →
+  pub search-claim : (m lo hi spare first i : ℕ) (v v' : Values) → Stands prices supply demand first i v →
+      Stands prices supply' demand' first i v' → spare ≤ 2 →
       lo ≤ hi → hi ≤ prices → hi < lo + 2 ^ m → Along masks places i (2 - spare) (tested test m lo hi) →
       (let z = place_between test m lo hi in
       (shown_at_end policy prices supply' demand' z ≡ shown_at_end policy prices supply demand z) →
-      Claim g masks i (2 - spare) (length (tested test m lo hi)) MasksSpent (found policy prices supply demand z) (rounds_opening policy prices z) deals deals' (search_plan g policy prices m lo hi spare first) v v')
+      Claim g masks i (2 - spare) (length (tested test m lo hi)) MasksSpent (found policy prices supply demand z)
+      (rounds_opening policy prices z) deals deals' (search_plan g policy prices m lo hi spare first) v v')
   unfolding search_plan
   search-claim zero lo hi spare first i v v' s s' hs hl hp hm along shown =
       over zero lo hi spare first i v v' s s' hs (omega arith) (rw (place-none test zero lo hi (omega arith)) at shown)
@@ -152,9 +165,11 @@ module _ (g : Blocks) (are : AreBlocks g) (policy : Policy) (deals deals' : ℕ 
         let z = if test mid then place_between test m lo mid else place_between test m (mid + 1) hi in
         let along' : Along masks places i (2 - spare) (mid ∷ rest) = rw opened at along in
         let shown' : shown_at_end policy prices supply' demand' z ≡ shown_at_end policy prices supply demand z = rw place at shown in
-        let whole : Claim g masks i (2 - spare) (suc (length rest)) MasksSpent (found policy prices supply demand z) (rounds_opening policy prices z) deals deals'
+        let whole : Claim g masks i (2 - spare) (suc (length rest)) MasksSpent (found policy prices supply demand z)
+        (rounds_opening policy prices z) deals deals'
         (until_accepted g MasksSpent spare first (with_mask g prices search lo hi)) v v' =
-        until-claim g are deals deals' masks masks' d d' alike places MasksSpent (found policy prices supply demand z) (rounds_opening policy prices z) spare first i (length rest) v v'
+        until-claim g are deals deals' masks masks' d d' alike places MasksSpent (found policy prices supply demand z)
+        (rounds_opening policy prices z) spare first i (length rest) v v'
         (mid ∷ rest) (with_mask g prices search lo hi) hs s.len s'.len s.dealt s'.dealt along'
         (λ left mask j w w' hl some a dw dw' acc acc'.
         let free = after_mask g mask in
@@ -163,10 +178,13 @@ module _ (g : Blocks) (are : AreBlocks g) (policy : Policy) (deals deals' : ℕ 
         let s2 = stands-append prices supply' demand' first free i (j + 1) v' w' acc'.more s' acc'.wires acc'.len dw' in
         let small : IsElement (masks j) = accepted-element g.words deals masks d j some in
         let small' : IsElement (masks' j) = accepted-element g.words deals' masks' d' j (alike-accepted masks masks' alike j some) in
-        let b = compare-step g are deals prices supply demand free mask (masks j) (j + 1) mid w elements s1 (omega arith) acc.bits small below in
-        let b' = compare-step g are deals' prices supply' demand' free mask (masks' j) (j + 1) mid w' elements' s2 (omega arith) acc'.bits small' below in
+        let b = compare-step g are deals prices supply demand free mask (masks j) (j + 1) mid w elements s1
+        (omega arith) acc.bits small below in
+        let b' = compare-step g are deals' prices supply' demand' free mask (masks' j) (j + 1) mid w' elements' s2
+        (omega arith) acc'.bits small' below in
         let x = add_of (doubled (supply mid) (demand mid)) (masks j) in
-        let same : add_of (doubled (supply' mid) (demand' mid)) (masks' j) ≡ x = opens j mid below (along-compared masks places j (2 - left) mid rest some (omega arith) a) in
+        let same : add_of (doubled (supply' mid) (demand' mid)) (masks' j) ≡ x =
+        opens j mid below (along-compared masks places j (2 - left) mid rest some (omega arith) a) in
         let middle = after_masked g deals free mask mid (prices + mid) w in
         let middle' = after_masked g deals' free mask mid (prices + mid) w' in
         let c = opened_by w middle in
@@ -181,18 +199,22 @@ module _ (g : Blocks) (are : AreBlocks g) (policy : Policy) (deals deals' : ℕ 
         let cont : ℕ → Plan Finish = λ c. Block (g.answer free mask c) next in
         let l = leads-then deals (Block masked cont) (cont c) (next y) w middle late (c ∷ []) (y ∷ []) 1 (length (g.answer free mask c))
         (leads-block deals masked cont w c refl) (leads-block deals (g.answer free mask c) next middle y ey) in
-        let l' = leads-then deals' (Block masked cont) (cont c') (next y) w' middle' late' (c' ∷ []) (y ∷ []) 1 (length (g.answer free mask c'))
+        let l' = leads-then deals' (Block masked cont) (cont c') (next y) w' middle' late' (c' ∷ []) (y ∷ []) 1
+        (length (g.answer free mask c'))
         (leads-block deals' masked cont w' c' refl) (leads-block deals' (g.answer free mask c') next middle' y ey') in
         let wide : free + g.compare_wires ≡ after_both g mask = omega arith in
         let t1 : Stands prices supply demand (after_both g mask) (j + 1) late = rw wide at b.stands in
         let t2 : Stands prices supply' demand' (after_both g mask) (j + 1) late' = rw wide at b'.stands in
         let on : Along masks places (j + 1) (2 - left) rest = along-accepted masks places j (2 - left) mid rest some a in
-        let k : Claim g masks (j + 1) (2 - left) (length rest) MasksSpent (found policy prices supply demand z) (rounds_opening policy prices z) deals deals' (next y) late late' =
+        let k : Claim g masks (j + 1) (2 - left) (length rest) MasksSpent (found policy prices supply demand z)
+        (rounds_opening policy prices z) deals deals' (next y) late late' =
         elim (cases_Bool (test mid)) [
           | inl met ↦
-              rw met (search-claim m lo mid left (after_both g mask) (j + 1) late late' t1 t2 hl (omega arith) (omega arith) (omega arith) (rw met at on) (rw met at shown'))
+              rw met (search-claim m lo mid left (after_both g mask) (j + 1) late late' t1 t2 hl (omega arith)
+              (omega arith) (omega arith) (rw met at on) (rw met at shown'))
           | inr unmet ↦
-              rw unmet (search-claim m (mid + 1) hi left (after_both g mask) (j + 1) late late' t1 t2 hl (omega arith) hp (omega arith) (rw unmet at on) (rw unmet at shown'))
+              rw unmet (search-claim m (mid + 1) hi left (after_both g mask) (j + 1) late late' t1 t2 hl
+              (omega arith) hp (omega arith) (rw unmet at on) (rw unmet at shown'))
         ] in
         record {
           finish = l.finish ∙ k.finish;

@@ -1,4 +1,5 @@
--- How many words of each tape are kept for an auction: as many as are wanted, and where words may be passed over, a few more.
+-- How many words of each tape are kept for an auction: as many as are wanted, and where words may be passed over, a few
+-- more.
 use Rattle.std.specs.Prelude.{ℕ, ◌+◌, ◌*◌}
 use Rattle.beet_bids.specs.Grids.{Grid}
 use Rattle.beet_plan.specs.Auction.{auction_over, most_coefficients, most_masks}

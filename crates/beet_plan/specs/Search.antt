@@ -2,12 +2,14 @@
 use Rattle.std.specs.Prelude.{◌+◌, ◌/◌, ℕ, zero, suc, List, [], ◌∷◌, nat_lt, nat_le, if◌then◌else◌, Bool}
 use Rattle.beet_bids.specs.Grids.{comparisons_of}
 
--- the places that a search between two places tests, at most n, where `test` answers whether supply reaches demand at a place
+-- the places that a search between two places tests, at most n, where `test` answers whether supply reaches demand at a
+-- place
 unfoldable pub tested : (ℕ → Bool) → ℕ → ℕ → ℕ → List ℕ
 tested test zero lo hi = []
 tested test (suc n) lo hi =
     if nat_lt lo hi then
-    (lo + hi) / 2 ∷ (if test ((lo + hi) / 2) then tested test n lo ((lo + hi) / 2) else tested test n ((lo + hi) / 2 + 1) hi)
+    (lo + hi) / 2
+    ∷ (if test ((lo + hi) / 2) then tested test n lo ((lo + hi) / 2) else tested test n ((lo + hi) / 2 + 1) hi)
     else []
 
 -- the place at which it ends
@@ -15,7 +17,8 @@ unfoldable pub place_between : (ℕ → Bool) → ℕ → ℕ → ℕ → ℕ
 place_between test zero lo hi = lo
 place_between test (suc n) lo hi =
     if nat_lt lo hi then
-    (if test ((lo + hi) / 2) then place_between test n lo ((lo + hi) / 2) else place_between test n ((lo + hi) / 2 + 1) hi)
+    (if test ((lo + hi) / 2) then place_between test n lo ((lo + hi) / 2)
+    else place_between test n ((lo + hi) / 2 + 1) hi)
     else lo
 
 -- the place at which the search among all places ends

@@ -52,7 +52,8 @@ pub fn coefficients_kept(grid: &Grid) -> u32
 /// How a run ends.
 #[derive(Clone, Copy, PartialEq, Eq, Debug)]
 pub enum Finish {
-    /// The first place where supply reaches demand. What was opened there, by the policy: the demand, as the volume, and the supply.
+    /// The first place where supply reaches demand. What was opened there, by the policy: the demand, as the volume,
+    /// and the supply.
     Price {
         place: u32,
         volume: Option<Fe>,

@@ -1,5 +1,7 @@
 -- An audit accepts what a recorded run has put.
-use Rattle.std.proofs.Common.{◌≡◌, ◌≢◌, ◌⊎◌, inl, inr, ◌≤◌, ◌+◌, ◌*◌, ◌++◌, ℕ, List, [], ◌∷◌, length, get_or, not, Bool, true, false, Option, Some, None, decimal, if◌then◌else◌, refl, sym, ap, subst, ◌∙◌, arith}
+use Rattle.std.proofs.Common.{◌≡◌, ◌≢◌, ◌⊎◌, inl, inr, ◌≤◌, ◌+◌, ◌*◌, ◌++◌, ℕ, List, [], ◌∷◌, length, get_or, not, Bool}
+use Rattle.std.proofs.Common.{true, false, Option, Some, None, Ok, decimal, if◌then◌else◌, refl, sym, ap, subst, ◌∙◌}
+use Rattle.std.proofs.Common.{arith}
 use Rattle.std.specs.Prelude.{MatchOption, codes}
 use Rattle.std.proofs.lemmas.Fmt.{decimal_digit}
 use Rattle.std.proofs.lemmas.List.{append_cancel_left, length-map}
@@ -8,7 +10,7 @@ use Rattle.beet_field.specs.Trio.{trio_of}
 use Rattle.beet_field.specs.declared.point.Point.{Point}
 use Rattle.beet_field.specs.declared.point.Point.TheVariants.{One, Two, Three}
 use Rattle.beet_store.specs.Files.{File, Told, bytes_of}
-use Rattle.beet_store.specs.Desks.{Given}
+use Rattle.beet_store.specs.Desks.{DeskTold, Given}
 use Rattle.beet_forms.specs.Names.{is_name_of}
 use Rattle.beet_forms.specs.declared.faults.TheConstants.{LONGEST_FILE}
 use Rattle.beet_words.specs.Bundles.{AreWords, Words}
@@ -16,7 +18,7 @@ use Rattle.beet_bids.specs.AuctionFiles.{auction_of}
 use Rattle.beet_bids.specs.Books.{Book, IsBook}
 use Rattle.beet_bids.specs.Grids.{Grid, IsGrid}
 use Rattle.beet_bids.specs.declared.auction_file.TheConstants.{AUCTION_LIMIT}
-use Rattle.beet_book.specs.Farmers.{Farmer}
+use Rattle.beet_book.specs.Farmers.{BidderWithWords}
 use Rattle.beet_book.specs.declared.book_file.TheConstants.{MOST_PRODUCT}
 use Rattle.beet_auction.specs.Endings.{book_finish, book_rounds}
 use Rattle.beet_view.specs.BookViews.{transcript_of_book, view_for}
@@ -27,21 +29,23 @@ use Rattle.beet_errand.specs.Statuses.{IsDoneCode, code_of}
 use Rattle.beet_errand.specs.declared.answer.Status.{Status}
 use Rattle.beet_errand.specs.Runs.{Said}
 use Rattle.beet_errand.specs.declared.answer.OwnRefusal.TheVariants.{OfAudit}
-use Rattle.beet_load.specs.Loading.{Loaded}
+use Rattle.beet_load.specs.Loading.{AuctionWithBidders}
 use Rattle.beet_load.specs.Servers.{coefficients_of, masks_of}
 use Rattle.beet_load.specs.Wholes.{CanStart, limited_errand}
 use Rattle.beet_run.specs.Outcomes.{outcome_answer}
-use Rattle.beet_record.specs.Records.{record_errand, recorded_answer, transcript_file}
-use Rattle.beet_kept.proofs.FittingViews.{view-again, view-short}
+use Rattle.beet_job_record.specs.Records.{record_errand, recorded_answer, transcript_file}
+use Rattle.beet_transcripts.proofs.FittingViews.{view-again, view-short}
 use Rattle.beet_audit.specs.OneRuns.{OneRun}
 use Rattle.beet_audit.specs.declared.fault.AuditFault.{AuditFault}
 use Rattle.beet_audit.proofs.BookRunFacts.{one-run, same-book}
-use Rattle.beet_auditor.specs.Ending.{ShowsAudit, audit_answer, run_answer}
-use Rattle.beet_auditor.specs.Reading.{read_errand}
-use Rattle.beet_auditor.specs.declared.reading.ReadViews.{ReadViews}
+use Rattle.beet_job_audit.specs.Ending.{ShowsAudit, audit_answer, run_answer}
+use Rattle.beet_job_audit.specs.Reading.{read_errand}
+use Rattle.beet_job_audit.specs.declared.reading.ReadViews.{ReadViews}
 use Rattle.beet_app.specs.Jobs.{Job, Answering, Auditing, are_names, job_of}
 use Rattle.beet_app.proofs.Showing.{Hold, three_stand}
-use Rattle.beet_app_laws.specs.Dues.{EndsAsDue, IsDue, IsDueOfAudit, IsDueOfViews, ReadsTo}
+use Rattle.beet_errand.specs.Overs.{FromFiles, ReadsTo}
+use Rattle.beet_errand.proofs.Putting.{leaves_all}
+use Rattle.beet_app_laws.specs.Dues.{EndsAsDue, IsDue, IsDueOfAudit, IsDueOfViews}
 use Rattle.beet_app_laws.specs.Held.{IsHeld}
 use Rattle.beet_app_laws.proofs.Led.{led, read-to}
 use Rattle.beet_app_laws.proofs.Reading.{reads-to}
@@ -50,7 +54,8 @@ use Rattle.beet_program_laws.specs.Accepted.{HoldsRun, IsAccepted, audit_words}
 use Rattle.beet_program_laws.proofs.Audits.{undone}
 use Rattle.beet_program_laws.proofs.Ends.{Found, Ran, WentOut, found, named, shown-ends}
 use Rattle.beet_program_laws.proofs.Grids.{grid-is}
-use Rattle.beet_program_laws.proofs.Read.{IsLimited, can-run, can-run-cut, farmers-back, is-book, limited, the_book, the_words}
+use Rattle.beet_program_laws.proofs.Read.{IsLimited, can-run, can-run-cut, farmers-back, is-book, limited, the_book}
+use Rattle.beet_program_laws.proofs.Read.{the_words}
 
 -- ---- the files of the transcripts
 
@@ -61,14 +66,16 @@ number-digit Two = ap (λ (ds : List ℕ). get_or ds 0 0) (decimal_digit 2 (omeg
 number-digit Three = ap (λ (ds : List ℕ). get_or ds 0 0) (decimal_digit 3 (omega arith))
 
 -- the files of two servers have two names
-files-apart : (out : List ℕ) (s other : Point) → number_at_point s ≢ number_at_point other → file_for out s ≢ file_for out other
+files-apart : (out : List ℕ) (s other : Point) → number_at_point s ≢ number_at_point other →
+    file_for out s ≢ file_for out other
 files-apart out s other ne e =
-    let same = append_cancel_left (out ++ codes ".") (decimal (number_at_point s)) (decimal (number_at_point other)) e in
+    let same =
+    append_cancel_left (out ++ codes ".") (decimal (number_at_point s)) (decimal (number_at_point other)) e in
     ne (omega (arith, number-digit s, number-digit other, ap (λ (ds : List ℕ). get_or ds 0 0) same))
 
 -- ---- what was put is read as the views of one run
 
-module _ (files : List File) (auction out : List ℕ) (loaded : Loaded) (h : IsLimited files auction loaded) where
+module _ (files : List File) (auction out : List ℕ) (loaded : AuctionWithBidders) (h : IsLimited files auction loaded) where
   abbrev book : Book
   book = the_book loaded.grid loaded.servers loaded.farmers
 
@@ -94,7 +101,8 @@ module _ (files : List File) (auction out : List ℕ) (loaded : Loaded) (h : IsL
   are-words = (can-run loaded.grid loaded.servers loaded.farmers h.right.few h.right.farmers h.right.servers).are_words
 
   few : length book.bidders * book.grid.prices ≤ MOST_PRODUCT
-  few = subst (λ (k : ℕ). k * loaded.grid.prices ≤ MOST_PRODUCT) (sym (length-map loaded.farmers (λ (f : Farmer). f.bidder))) h.product
+  few = subst (λ (k : ℕ). k * loaded.grid.prices ≤ MOST_PRODUCT)
+      (sym (length-map loaded.farmers (λ (f : BidderWithWords). f.bidder))) h.product
 
   -- they are of one run
   of-one-run : OneRun loaded.grid (trio_of view)
@@ -102,16 +110,20 @@ module _ (files : List File) (auction out : List ℕ) (loaded : Loaded) (h : IsL
 
   -- which ended as it was told
   same-end : run_answer views ≡ outcome_answer loaded.grid (book_finish book words.masks) (book_rounds book words.masks)
-  same-end = ap (λ (b : Book). outcome_answer loaded.grid (book_finish b words.masks) (book_rounds b words.masks)) (same-book book words right-book runs)
+  same-end = ap (λ (b : Book). outcome_answer loaded.grid (book_finish b words.masks) (book_rounds b words.masks))
+      (same-book book words right-book runs)
 
   -- what was put is what each server saw
-  same-transcript : (s : Point) → transcript_of_book loaded.grid loaded.farmers (masks_of loaded.servers) (coefficients_of loaded.servers) s ≡ view_bytes (view s)
+  same-transcript : (s : Point) → transcript_of_book loaded.grid loaded.farmers (masks_of loaded.servers)
+      (coefficients_of loaded.servers) s ≡ view_bytes (view s)
   same-transcript s =
-      ap (λ (l : List Farmer). transcript_of_book loaded.grid l (masks_of loaded.servers) (coefficients_of loaded.servers) s) (sym (farmers-back loaded.farmers))
+      ap (λ (l : List BidderWithWords). transcript_of_book loaded.grid l (masks_of loaded.servers)
+      (coefficients_of loaded.servers) s) (sym (farmers-back loaded.farmers))
 
   -- a file with these bytes reads to the view
   transcript-held : (held : List File) (name : List ℕ) (s : Point) →
-      bytes_of held name ≡ Some (transcript_of_book loaded.grid loaded.farmers (masks_of loaded.servers) (coefficients_of loaded.servers) s) →
+      bytes_of held name ≡ Some
+      (transcript_of_book loaded.grid loaded.farmers (masks_of loaded.servers) (coefficients_of loaded.servers) s) →
       IsHeld held name LONGEST_FILE view_in (view s)
   transcript-held held name s e = record {
     bytes = view_bytes (view s);
@@ -121,35 +133,42 @@ module _ (files : List File) (auction out : List ℕ) (loaded : Loaded) (h : IsL
   }
 
   module _ (before after : Given)
-      (hold : Hold (transcript_file out loaded One) (transcript_file out loaded Two) (transcript_file out loaded Three) (recorded_answer out loaded).text before after) where
+      (hold : Hold (transcript_file out loaded One) (transcript_file out loaded Two) (transcript_file out loaded Three)
+      (recorded_answer out loaded).text before after) where
     -- whoever holds what was put reads these views
-    put-reads : (held : List File) (name one two three : List ℕ) → HoldsRun files after.files held auction out name one two three →
+    put-reads : (held : List File) (name one two three : List ℕ) →
+        HoldsRun files after.files held auction out name one two three →
         ReadsTo held (read_errand name one two three) views
     unfolding read_errand
     put-reads held name one two three r next =
-        let all : Grid → Viewed → Viewed → Viewed → Errand = λ grid first second third. next (record { grid = grid; views = record { one = first; two = second; three = third } }) in
+        let all : Grid → Viewed → Viewed → Viewed → Errand = λ grid first second third. next
+        (record { grid = grid; views = record { one = first; two = second; three = third } }) in
         reads-to held name AUCTION_LIMIT auction_of loaded.grid
         (record { bytes = h.grid.bytes; held = r.auction_file ∙ h.grid.held; short = h.grid.short; is = h.grid.is })
-        (λ grid. reads one LONGEST_FILE view_in (λ first. reads two LONGEST_FILE view_in (λ second. reads three LONGEST_FILE view_in (λ third. all grid first second third))))
+        (λ grid. reads one LONGEST_FILE view_in (λ first. reads two LONGEST_FILE view_in
+        (λ second. reads three LONGEST_FILE view_in (λ third. all grid first second third))))
         ∙ reads-to held one LONGEST_FILE view_in (view One) (transcript-held held one One (r.first ∙ hold.one))
-        (λ first. reads two LONGEST_FILE view_in (λ second. reads three LONGEST_FILE view_in (λ third. all loaded.grid first second third)))
+        (λ first. reads two LONGEST_FILE view_in
+        (λ second. reads three LONGEST_FILE view_in (λ third. all loaded.grid first second third)))
         ∙ reads-to held two LONGEST_FILE view_in (view Two) (transcript-held held two Two (r.second ∙ hold.two))
         (λ second. reads three LONGEST_FILE view_in (λ third. all loaded.grid (view One) second third))
-        ∙ reads-to held three LONGEST_FILE view_in (view Three) (transcript-held held three Three (r.third ∙ hold.three))
+        ∙ reads-to held three LONGEST_FILE view_in (view Three)
+        (transcript-held held three Three (r.third ∙ hold.three))
         (λ third. all loaded.grid (view One) (view Two) third)
 
 -- ---- how an audit of views of one run ends
 
-module _ (told : Told) (told_now : Option Told) (given now : Option Given) (end : ℕ) (name one two three : List ℕ) (views : ReadViews)
-    (read : ReadsTo told.files (read_errand name one two three) views) (one_run : OneRun views.grid views.views) where
+module _ (files : List File) (told told_now : Told) (from : FromFiles files told told_now) (given now : DeskTold)
+    (end : ℕ) (name one two three : List ℕ) (views : ReadViews)
+    (read : ReadsTo files (read_errand name one two three) views) (one_run : OneRun views.grid views.views) where
   abbrev due : Status
   due = (run_answer views).status
 
   -- nothing else is read
-  only : (other : ReadViews) → ReadsTo told.files (read_errand name one two three) other → other ≡ views
-  only other r = one-value told.files (read_errand name one two three) other views r read told-views
+  only : (other : ReadViews) → ReadsTo files (read_errand name one two three) other → other ≡ views
+  only other r = one-value files (read_errand name one two three) other views r read told-views
 
-  is-due : IsDueOfAudit told.files name one two three due
+  is-due : IsDueOfAudit files name one two three due
   is-due = record {
     read = ap (λ (x : Answer). x.status) (sym (read (λ views. answers due [])));
     views = λ other r. subst (λ v. IsDueOfViews v due) (sym (only other r)) (inl (one_run, refl));
@@ -157,69 +176,91 @@ module _ (told : Told) (told_now : Option Told) (given now : Option Given) (end 
 
   -- what is found is that nothing is wrong, and so the end of the run was said
   finding : (other : ReadViews) → other ≡ views → (fault : Option AuditFault) →
-      MatchOption fault (OneRun other.grid other.views) (λ fault. OneRun other.grid other.views → ⊥) → WentOut (audit_answer other fault) given now end →
+      MatchOption fault (OneRun other.grid other.views) (λ fault. OneRun other.grid other.views → ⊥) →
+      WentOut (audit_answer other fault) given now end →
       Said given now (run_answer views).text
   finding other same None is put = subst (λ (v : ReadViews). Said given now (run_answer v).text) same put.calls
-  finding other same (Some fault) not put = absurd (not (subst (λ (v : ReadViews). OneRun v.grid v.views) (sym same) one_run))
+  finding other same (Some fault) not put =
+      absurd (not (subst (λ (v : ReadViews). OneRun v.grid v.views) (sym same) one_run))
 
   -- an audit that is done says how the run ended
-  says-it : (w : IsDoneCode end) → Ran told told_now given now end w (Some (Auditing name one two three)) → Said given now (run_answer views).text
+  says-it : (w : IsDoneCode end) → Ran files told told_now from given now end w (Some (Auditing name one two three)) →
+      Said given now (run_answer views).text
   says-it w r =
-      shown-ends told told_now given now end w {C = Said given now (run_answer views).text} OfAudit
+      shown-ends files told told_now from given now end w {C = Said given now (run_answer views).text} OfAudit
       (read_errand name one two three) (ShowsAudit name one two three)
-      (undone told.files name one two three) (λ answer shows put.
-      finding shows.value (only shows.value (read-to told told_now (read_errand name one two three) shows.value shows.read))
+      (undone files name one two three) (λ answer shows put.
+      finding shows.value
+      (only shows.value (read-to files told told_now from (read_errand name one two three) shows.value shows.read))
       shows.shown.found shows.shown.one_run
       (subst (λ (x : Answer). WentOut x given now end) shows.shown.is put)) r
 
 -- words that name a job, which pass two tests, name this one
-is-job : (b c : Bool) (job : Option Job) → (if b then if c then job else None else None) ≢ None → (if b then if c then job else None else None) ≡ job
+is-job : (b c : Bool) (job : Option Job) → (if b then if c then job else None else None) ≢ None →
+    (if b then if c then job else None else None) ≡ job
 is-job true true job not = refl
 is-job true false job not = absurd (not refl)
 is-job false c job not = absurd (not refl)
 
 -- a status that is due is that of the run
-like : (ended : Status) (status end : ℕ) → code_of ended ≡ status → EndsAsDue ended end → (end ≡ status) ⊎ (end ≡ 1) ⊎ (end ≡ 3) ⊎ (end ≡ 4)
+like : (ended : Status) (status end : ℕ) → code_of ended ≡ status → EndsAsDue ended end →
+    (end ≡ status) ⊎ (end ≡ 1) ⊎ (end ≡ 3) ⊎ (end ≡ 4)
 like ended status end is (inl e) = inl (e ∙ is)
 like ended status end is (inr other) = inr other
 
 -- ---- the whole
 
-module _ (told : Told) (told_now : Option Told) (before after : Given) (status : ℕ) (w : IsDoneCode status) (auction servers list out : List ℕ) where
+module _ (files : List File) (told told_now : Told) (from : FromFiles files told told_now) (desk desk_now : DeskTold)
+    (before after : Given) (was : desk.given ≡ Some before) (is : desk_now.given ≡ Some after) (status : ℕ)
+    (w : IsDoneCode status) (auction servers list out : List ℕ) where
   abbrev Recorded : Type 0
-  Recorded = Found told told_now (Some before) (Some after) status w (limited_errand auction servers list) (recorded_answer out) (IsLimited told.files auction)
+  Recorded = Found files told told_now from desk desk_now status w (limited_errand auction servers list)
+      (recorded_answer out) (IsLimited files auction)
 
   -- what was read and put is accepted
-  accepted-by : Recorded → IsAccepted told.files auction out before after status
+  accepted-by : Recorded → IsAccepted files auction out before after status
   accepted-by f =
       let loaded = f.value in
-      let hold : Hold (transcript_file out loaded One) (transcript_file out loaded Two) (transcript_file out loaded Three) (recorded_answer out loaded).text before after =
-      three_stand (transcript_file out loaded One) (transcript_file out loaded Two) (transcript_file out loaded Three) (recorded_answer out loaded).text before (Some after)
-      (files-apart out One Two (λ e. absurd (omega (arith, e)))) (files-apart out One Three (λ e. absurd (omega (arith, e)))) (files-apart out Two Three (λ e. absurd (omega (arith, e)))) f.out.calls in
-      let read : ReadViews = views told.files auction out loaded f.holds in
-      let one_run = of-one-run told.files auction out loaded f.holds in
-      let ended = same-end told.files auction out loaded f.holds in
+      let hold : Hold (transcript_file out loaded One) (transcript_file out loaded Two)
+      (transcript_file out loaded Three) (recorded_answer out loaded).text before after =
+      three_stand (transcript_file out loaded One) (transcript_file out loaded Two) (transcript_file out loaded Three)
+      (recorded_answer out loaded).text before (Some after)
+      (files-apart out One Two (λ e. absurd (omega (arith, e)))) (files-apart out One Three (λ e. absurd
+      (omega (arith, e)))) (files-apart out Two Three (λ e. absurd (omega (arith, e)))) (rw (was, is) at (leaves_all
+      desk desk_now (recorded_answer out loaded).files (recorded_answer out loaded).text (Ok tt) f.out.calls)) in
+      let read : ReadViews = views files auction out loaded f.holds in
+      let one_run = of-one-run files auction out loaded f.holds in
+      let ended = same-end files auction out loaded f.holds in
       record {
         text = (recorded_answer out loaded).text;
         said = hold.said;
-        accepted = λ told' told_now' given now end name one two three r not ran.
-            (let reads = put-reads told.files auction out loaded f.holds before after hold told'.files name one two three r in
-            let job = is-job (are_names (name ∷ one ∷ three ∷ [])) (is_name_of two) (Some (Auditing name one two three)) not in
-            let due = subst (λ (j : Option Job). IsDue told'.files j (run_answer read).status) (sym job) (is-due told' told_now' given now end name one two three read reads one_run) in
+        accepted = λ held' told' told_now' given now end name one two three r not from' ran.
+            (let reads = put-reads files auction out loaded f.holds before after hold held' name one two three r in
+            let job =
+            is-job (are_names (name ∷ one ∷ three ∷ [])) (is_name_of two) (Some (Auditing name one two three)) not in
+            let due = subst (λ (j : Option Job). IsDue held' j (run_answer read).status) (sym job)
+            (is-due held' told' told_now' from' given now end name one two three read reads one_run) in
             record {
-              ends = like (run_answer read).status status end (ap (λ (x : Answer). code_of x.status) ended ∙ sym f.out.code)
-                  (led (audit_words name one two three) told' told_now' given now end (run_answer read).status ran due);
+              ends = like (run_answer read).status status end
+                  (ap (λ (x : Answer). code_of x.status) ended ∙ sym f.out.code)
+                  (led (audit_words name one two three) held' told' told_now' given now end
+                  (run_answer read).status from' ran due);
               says = λ same. subst (Said given now) (ap (λ (x : Answer). x.text) ended)
-                  (says-it told' told_now' given now end name one two three read reads one_run (subst IsDoneCode (sym same) w)
-                  (subst (λ (j : Option Job). Ran told' told_now' given now end (subst IsDoneCode (sym same) w) j) job ran));
+                  (says-it held' told' told_now' from' given now end name one two three read reads one_run
+                  (subst IsDoneCode (sym same) w)
+                  (subst (λ (j : Option Job). Ran held' told' told_now' from' given now end
+                  (subst IsDoneCode (sym same) w) j) job ran));
             });
       }
 
-  pub accepts : Ran told told_now (Some before) (Some after) status w (job_of (codes "record" ∷ auction ∷ servers ∷ list ∷ out ∷ [])) →
-      IsAccepted told.files auction out before after status
+  pub accepts : Ran files told told_now from desk desk_now status w
+      (job_of (codes "record" ∷ auction ∷ servers ∷ list ∷ out ∷ [])) →
+      IsAccepted files auction out before after status
   accepts ran =
       let job = Some (Answering (record_errand auction servers list out)) in
-      let r' = named told told_now (Some before) (Some after) status w (are_names (auction ∷ servers ∷ out ∷ [])) (if is_name_of list then job else None) ran in
-      let r = named told told_now (Some before) (Some after) status w (is_name_of list) job r' in
-      accepted-by (found told told_now (Some before) (Some after) status w (limited_errand auction servers list) (recorded_answer out) (IsLimited told.files auction)
-      (limited told.files auction servers list) r)
+      let r' = named files told told_now from desk desk_now status w (are_names (auction ∷ servers ∷ out ∷ []))
+      (if is_name_of list then job else None) ran in
+      let r = named files told told_now from desk desk_now status w (is_name_of list) job r' in
+      accepted-by (found files told told_now from desk desk_now status w (limited_errand auction servers list)
+      (recorded_answer out) (IsLimited files auction)
+      (limited files auction servers list) r)

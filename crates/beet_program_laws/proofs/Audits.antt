@@ -1,5 +1,6 @@
 -- What the job `audit` has read and said.
-use Rattle.std.proofs.Common.{◌≡◌, inl, ◌≤◌, ◌<◌, ◌*◌, ℕ, List, [], ◌∷◌, length, map, min, Option, Some, None, Ok, refl, sym, ap, subst, ◌∙◌, arith}
+use Rattle.std.proofs.Common.{◌≡◌, inl, ◌≤◌, ◌<◌, ◌*◌, ℕ, List, [], ◌∷◌, length, map, min, Option, Some, None, Ok, refl}
+use Rattle.std.proofs.Common.{sym, ap, subst, ◌∙◌, arith}
 use Rattle.std.specs.Prelude.{All, IfOk, MatchOption, codes, if◌then◌else◌}
 use Rattle.beet_field.specs.Field.{IsElement}
 use Rattle.beet_field.specs.Trio.{member, of_each}
@@ -7,7 +8,7 @@ use Rattle.beet_field.specs.declared.point.Point.{Point}
 use Rattle.beet_field.specs.declared.point.Point.TheVariants.{One, Two, Three}
 use Rattle.beet_field.specs.declared.trio.Trio.{Trio}
 use Rattle.beet_store.specs.Files.{File, Told}
-use Rattle.beet_store.specs.Desks.{Given}
+use Rattle.beet_store.specs.Desks.{DeskTold}
 use Rattle.beet_forms.specs.Faults.{Reading}
 use Rattle.beet_forms.specs.Names.{is_name_of}
 use Rattle.beet_forms.specs.declared.faults.TheConstants.{LONGEST_FILE}
@@ -24,15 +25,15 @@ use Rattle.beet_bids.specs.Grids.{Grid}
 use Rattle.beet_bids.specs.declared.auction_file.TheConstants.{AUCTION_LIMIT}
 use Rattle.beet_plan.specs.Kept.{coefficients_kept, masks_kept}
 use Rattle.beet_book.specs.Dealing.{HasLengths, quantities}
-use Rattle.beet_book.specs.Farmers.{Farmer, book_inputs, farmers_of}
+use Rattle.beet_book.specs.Farmers.{BidderWithWords, book_inputs, farmers_of}
 use Rattle.beet_book.specs.Totals.{points_on}
 use Rattle.beet_book.proofs.Quantities.{quantities-many}
 use Rattle.beet_auction.specs.Setups.{auction_setup, setup_for}
 use Rattle.beet_view.specs.Transcripts.{form_in, from_to, grid_at, most_bidders, round_at, seen_at, server_at, view_in}
 use Rattle.beet_view.specs.Views.{Viewed}
 use Rattle.beet_view.specs.declared.reading.TheConstants.{MOST_ROUNDS}
-use Rattle.beet_worlds.specs.Enough.{HasAccepted}
-use Rattle.beet_headline.specs.Halves.{CanRun}
+use Rattle.beet_auction_map.specs.Enough.{HasAccepted}
+use Rattle.beet_headline.specs.Statements.{CanRun}
 use Rattle.beet_errand.specs.Errands.{Answer, Errand, answers, reads, refuses}
 use Rattle.beet_errand.specs.Fetches.{IsDone}
 use Rattle.beet_errand.specs.declared.answer.OwnRefusal.TheVariants.{OfAudit}
@@ -41,17 +42,18 @@ use Rattle.beet_errand.specs.declared.answer.Status.TheVariants.{Done}
 use Rattle.beet_errand.proofs.Statuses.{not_done}
 use Rattle.beet_errand.specs.Statuses.{IsDoneCode}
 use Rattle.beet_load.specs.Counts.{coefficients_wanted}
-use Rattle.beet_audit.specs.Audits.{HaveElements, curve_of, points_of_bidder, recombined_bidder, recombined_book, run_of}
+use Rattle.beet_audit.specs.Audits.{HaveElements, curve_of, points_of_bidder, recombined_bidder, recombined_book}
+use Rattle.beet_audit.specs.Audits.{run_of}
 use Rattle.beet_audit.specs.OneRuns.{OneRun}
 use Rattle.beet_audit.specs.declared.fault.AuditFault.{AuditFault}
 use Rattle.beet_audit.proofs.BidFacts.{OnOwnLines, is-line, on-own-line, own_slope, recombines}
 use Rattle.beet_audit.proofs.FinishFacts.{all-accepted, farmers, is-recombined, same-inputs, slopes}
 use Rattle.beet_audit.proofs.PointFacts.{item-shares, lengths-shares}
-use Rattle.beet_auditor.specs.Ending.{ShowsAudit, audit_answer, run_answer}
-use Rattle.beet_auditor.specs.Reading.{read_errand}
-use Rattle.beet_auditor.specs.declared.reading.ReadViews.{ReadViews}
+use Rattle.beet_job_audit.specs.Ending.{ShowsAudit, audit_answer, run_answer}
+use Rattle.beet_job_audit.specs.Reading.{read_errand}
+use Rattle.beet_job_audit.specs.declared.reading.ReadViews.{ReadViews}
 use Rattle.beet_app.specs.Jobs.{Auditing, are_names, job_of}
-use Rattle.beet_app_laws.specs.Dues.{ReadsTo, answer_over}
+use Rattle.beet_errand.specs.Overs.{FromFiles, ReadsTo, answer_over}
 use Rattle.beet_app_laws.proofs.Led.{read-to}
 use Rattle.beet_app_laws.proofs.Telling.{one-value, told-views}
 use Rattle.beet_program_laws.specs.Commands.{AuditsOneRun}
@@ -75,19 +77,26 @@ view-reads : (bytes : List ℕ) → IfOk (view_in bytes) IsReadView
 unfolding view_in
 view-reads bytes =
     then-reads (form_in bytes) _ (λ form. Unit {0}) IsReadView (any-reads (form_in bytes)) (λ form h1.
-    then-reads (server_at bytes form.1) _ (λ server. Unit {0}) IsReadView (any-reads (server_at bytes form.1)) (λ server h2.
-    then-reads (grid_at bytes form.0 server.1) _ (λ grid. Unit {0}) IsReadView (any-reads (grid_at bytes form.0 server.1)) (λ grid h3.
-    then-reads (counted_at bytes (from_to 0 (most_bidders grid.0.prices)) (seen_at bytes server.0 grid.0.prices) grid.1) _
+    then-reads (server_at bytes form.1) _ (λ server. Unit {0}) IsReadView
+    (any-reads (server_at bytes form.1)) (λ server h2.
+    then-reads (grid_at bytes form.0 server.1) _ (λ grid. Unit {0}) IsReadView
+    (any-reads (grid_at bytes form.0 server.1)) (λ grid h3.
+    then-reads
+    (counted_at bytes (from_to 0 (most_bidders grid.0.prices)) (seen_at bytes server.0 grid.0.prices) grid.1) _
     (λ bidders. All (λ seen. Unit {0}) bidders.0 × (length bidders.0 ≤ most_bidders grid.0.prices)) IsReadView
-    (counted-are bytes (from_to 0 (most_bidders grid.0.prices)) (seen_at bytes server.0 grid.0.prices) (λ seen. Unit {0})
+    (counted-are bytes (from_to 0 (most_bidders grid.0.prices)) (seen_at bytes server.0 grid.0.prices)
+    (λ seen. Unit {0})
     (λ at. any-reads (seen_at bytes server.0 grid.0.prices at)) grid.1) (λ bidders h4.
     then-reads (words_at bytes (masks_kept grid.0) bidders.1) _ (λ masks. AreFew (masks_kept grid.0) masks.0) IsReadView
     (words-are bytes (masks_kept grid.0) bidders.1) (λ masks h5.
-    then-reads (words_at bytes (coefficients_kept grid.0) masks.1) _ (λ coefficients. AreFew (coefficients_kept grid.0) coefficients.0) IsReadView
+    then-reads (words_at bytes (coefficients_kept grid.0) masks.1) _
+    (λ coefficients. AreFew (coefficients_kept grid.0) coefficients.0) IsReadView
     (words-are bytes (coefficients_kept grid.0) masks.1) (λ coefficients h6.
-    then-reads (counted_at bytes (from_to 0 MOST_ROUNDS) (round_at bytes) coefficients.1) _ (λ rounds. Unit {0}) IsReadView
+    then-reads (counted_at bytes (from_to 0 MOST_ROUNDS) (round_at bytes) coefficients.1) _
+    (λ rounds. Unit {0}) IsReadView
     (any-reads (counted_at bytes (from_to 0 MOST_ROUNDS) (round_at bytes) coefficients.1)) (λ rounds h7.
-    then-reads (ended bytes TRAILING rounds.1) _ (λ done. Unit {0}) IsReadView (any-reads (ended bytes TRAILING rounds.1)) (λ done h8.
+    then-reads (ended bytes TRAILING rounds.1) _ (λ done. Unit {0}) IsReadView
+    (any-reads (ended bytes TRAILING rounds.1)) (λ done h8.
     record { few = below-min MOST_BIDDERS _ (length bidders.0) h4.1; masks = h5; coefficients = h6 }))))))))
 
 view-is : (bytes : List ℕ) (view : Viewed) → view_in bytes ≡ Ok view → IsReadView view
@@ -102,27 +111,35 @@ three-read one two three h k l One = h
 three-read one two three h k l Two = k
 three-read one two three h k l Three = l
 
-views-yield : (files : List File) (auction one two three : List ℕ) → Yields files (read_errand auction one two three) AreReadViews
+views-yield : (files : List File) (auction one two three : List ℕ) →
+    Yields files (read_errand auction one two three) AreReadViews
 unfolding read_errand
 views-yield files auction one two three =
-    then-yields files (reads auction AUCTION_LIMIT auction_of) _ (λ grid. Unit {0}) AreReadViews (any-yield files auction AUCTION_LIMIT auction_of) (λ grid h.
-    then-yields files (reads one LONGEST_FILE view_in) _ IsReadView AreReadViews (reads-yield files one LONGEST_FILE view_in IsReadView view-is) (λ first h1.
-    then-yields files (reads two LONGEST_FILE view_in) _ IsReadView AreReadViews (reads-yield files two LONGEST_FILE view_in IsReadView view-is) (λ second h2.
-    then-yields files (reads three LONGEST_FILE view_in) _ IsReadView AreReadViews (reads-yield files three LONGEST_FILE view_in IsReadView view-is) (λ third h3.
+    then-yields files (reads auction AUCTION_LIMIT auction_of) _ (λ grid. Unit {0}) AreReadViews
+    (any-yield files auction AUCTION_LIMIT auction_of) (λ grid h.
+    then-yields files (reads one LONGEST_FILE view_in) _ IsReadView AreReadViews
+    (reads-yield files one LONGEST_FILE view_in IsReadView view-is) (λ first h1.
+    then-yields files (reads two LONGEST_FILE view_in) _ IsReadView AreReadViews
+    (reads-yield files two LONGEST_FILE view_in IsReadView view-is) (λ second h2.
+    then-yields files (reads three LONGEST_FILE view_in) _ IsReadView AreReadViews
+    (reads-yield files three LONGEST_FILE view_in IsReadView view-is) (λ third h3.
     gives-yield files AreReadViews (record { grid = grid; views = record { one = first; two = second; three = third } })
     (three-read first second third h1 h2 h3)))))
 
-are-read : (files : List File) (auction one two three : List ℕ) (read : ReadViews) → ReadsTo files (read_errand auction one two three) read →
+are-read : (files : List File) (auction one two three : List ℕ) (read : ReadViews) →
+    ReadsTo files (read_errand auction one two three) read →
     (s : Point) → IsReadView (member read.views s)
 are-read files auction one two three read r s =
     let step = read_errand auction one two three in
     let next : ReadViews → Errand = λ v. answers Done [] in
-    let (other, q, h) = views-yield files auction one two three next (subst (λ (x : Answer). IsDone x.status) (sym (r next)) (inl refl)) in
+    let (other, q, h) =
+    views-yield files auction one two three next (subst (λ (x : Answer). IsDone x.status) (sym (r next)) (inl refl)) in
     subst (λ (v : ReadViews). IsReadView (member v.views s)) (one-value files step other read q r told-views) (h s)
 
 -- ---- the book and the words of one run
 
-module _ (grid : Grid) (views : Trio Viewed) (limits : (s : Point) → IsReadView (member views s)) (one_run : OneRun grid views) where
+module _ (grid : Grid) (views : Trio Viewed) (limits : (s : Point) → IsReadView (member views s))
+    (one_run : OneRun grid views) where
   abbrev n : ℕ
   n = length views.one.bidders
 
@@ -132,7 +149,8 @@ module _ (grid : Grid) (views : Trio Viewed) (limits : (s : Point) → IsReadVie
   curve-at : (i : ℕ) → i < n → IsCurve (curve_of grid.prices (points_of_bidder views i))
   curve-at i lt =
       let b = one_run.bids i lt in
-      subst IsCurve (recombines grid (points_of_bidder views i) (one_run.curves i) b.is_curve b.of_grid b.shares) b.is_curve
+      subst IsCurve
+      (recombines grid (points_of_bidder views i) (one_run.curves i) b.is_curve b.of_grid b.shares) b.is_curve
 
   -- points that are shares of quantities are as many, and numbers of the field
   long : (i : ℕ) → i < n → HasLengths (points_of_bidder views i) (2 * grid.prices)
@@ -149,14 +167,16 @@ module _ (grid : Grid) (views : Trio Viewed) (limits : (s : Point) → IsReadVie
       let values = quantities (one_run.curves i) in
       let many = quantities-many grid (one_run.curves i) b.of_grid in
       subst (λ (t : Trio ℕ). IsElement t.one × (IsElement t.two × IsElement t.three))
-      (sym (ap (λ t. points_on t k) b.shares.shares ∙ item-shares values b.shares.slopes k (omega (arith, many, within)) (omega (arith, many, b.shares.paired, within))))
+      (sym (ap (λ t. points_on t k) b.shares.shares ∙ item-shares values b.shares.slopes k (omega (arith, many, within))
+      (omega (arith, many, b.shares.paired, within))))
       (omega arith, (omega arith, omega arith))
 
   on-lines : (i : ℕ) → i < n → OnOwnLines grid.prices (points_of_bidder views i)
   on-lines i lt =
       let b = one_run.bids i lt in
       let points = points_of_bidder views i in
-      on-own-line grid.prices points (long i lt) (elements i lt) (is-line grid points (one_run.curves i) b.is_curve b.of_grid b.shares)
+      on-own-line grid.prices points (long i lt) (elements i lt)
+      (is-line grid points (one_run.curves i) b.is_curve b.of_grid b.shares)
 
   is-book : IsBook book
   is-book = is-recombined grid views (limits One).few curve-at on-lines
@@ -164,7 +184,7 @@ module _ (grid : Grid) (views : Trio Viewed) (limits : (s : Point) → IsReadVie
   abbrev list : ℕ → List ℕ
   list = slopes grid views (limits One).few curve-at on-lines
 
-  abbrev dealers : List Farmer
+  abbrev dealers : List BidderWithWords
   dealers = farmers grid views (limits One).few curve-at on-lines
 
   abbrev words : Words
@@ -176,10 +196,11 @@ module _ (grid : Grid) (views : Trio Viewed) (limits : (s : Point) → IsReadVie
 
   same-dealers : farmers_of book.bidders words.bidders ≡ dealers
   same-dealers =
-      let bidder = λ (f : Farmer). f.bidder in
-      let own = λ (f : Farmer). f.words in
-      let rule : ℕ → Farmer = λ i. record { bidder = recombined_bidder grid views i; words = list i } in
-      ap (λ l. farmers_of l words.bidders) (sym (map-each bidder rule n)) ∙ ap (farmers_of (map bidder dealers)) (sym (map-each own rule n)) ∙ farmers-back dealers
+      let bidder = λ (f : BidderWithWords). f.bidder in
+      let own = λ (f : BidderWithWords). f.words in
+      let rule : ℕ → BidderWithWords = λ i. record { bidder = recombined_bidder grid views i; words = list i } in
+      ap (λ l. farmers_of l words.bidders) (sym (map-each bidder rule n))
+      ∙ ap (farmers_of (map bidder dealers)) (sym (map-each own rule n)) ∙ farmers-back dealers
 
   -- with these words the book begins the run of the views
   same-run : run_of grid views ≡ setup_for book words
@@ -191,7 +212,8 @@ module _ (grid : Grid) (views : Trio Viewed) (limits : (s : Point) → IsReadVie
   below-slope points k = omega arith
 
   list-are : (i : ℕ) → All IsElement (list i)
-  list-are i = let points = points_of_bidder views i in all-each IsElement (own_slope points) (2 * grid.prices) (λ k lt. below-slope points k)
+  list-are i = let points = points_of_bidder views i in
+      all-each IsElement (own_slope points) (2 * grid.prices) (λ k lt. below-slope points k)
 
   list-words : (i : ℕ) → All IsWord (list i)
   list-words i = λ k d lt. (let h = list-are i k d lt in omega (arith, h))
@@ -199,12 +221,14 @@ module _ (grid : Grid) (views : Trio Viewed) (limits : (s : Point) → IsReadVie
   list-enough : (i : ℕ) → HasAccepted (2 * grid.prices) (list i)
   list-enough i =
       let many = length-each (own_slope (points_of_bidder views i)) (2 * grid.prices) in
-      has-accepted (2 * grid.prices) (list i) (omega (arith, many, ap length (all-accepted (list i) (list-are i)))) (omega (arith, many))
+      has-accepted (2 * grid.prices) (list i) (omega (arith, many, ap length (all-accepted (list i) (list-are i))))
+      (omega (arith, many))
 
   numbers : (s : Point) → HasAccepted (coefficients_wanted grid) (member views s).coefficients
   numbers s =
       has-accepted (coefficients_wanted grid) (member views s).coefficients (one_run.tapes s).coefficients
-      (subst (λ (g : Grid). length (member views s).coefficients ≤ coefficients_kept g) (one_run.grids s) (limits s).coefficients.1)
+      (subst (λ (g : Grid). length (member views s).coefficients ≤ coefficients_kept g) (one_run.grids s)
+      (limits s).coefficients.1)
 
   can-run : CanRun book words
   can-run = record {
@@ -231,14 +255,15 @@ undone files auction one two three done =
     let (read, reads, h) = views-yield files auction one two three next done in
     not_done (Own OfAudit) (subst (λ (a : Answer). IsDone a.status) (reads next) done)
 
-module _ (told : Told) (told_now : Option Told) (given now : Option Given) (status : ℕ) (w : IsDoneCode status) (auction one two three : List ℕ) where
+module _ (files : List File) (told told_now : Told) (from : FromFiles files told told_now) (given now : DeskTold)
+    (status : ℕ) (w : IsDoneCode status) (auction one two three : List ℕ) where
   abbrev Audited : Type 0
-  Audited = AuditsOneRun told.files auction one two three status given now
+  Audited = AuditsOneRun files auction one two three status given now
 
-  told-of : (read : ReadViews) → ReadsTo told.files (read_errand auction one two three) read → OneRun read.grid read.views →
+  told-of : (read : ReadViews) → ReadsTo files (read_errand auction one two three) read → OneRun read.grid read.views →
       WentOut (run_answer read) given now status → Audited
   told-of read r one_run put =
-      let limits = are-read told.files auction one two three read r in
+      let limits = are-read files auction one two three read r in
       let own = words read.grid read.views limits one_run in
       record {
         read = read;
@@ -248,29 +273,33 @@ module _ (told : Told) (told_now : Option Told) (given now : Option Given) (stat
         masks = refl;
         coefficients = refl;
         same_run = same-run read.grid read.views limits one_run;
-        run = servers-open (recombined_book read.grid read.views) own (is-book read.grid read.views limits one_run) (can-run read.grid read.views limits one_run);
+        run = servers-open (recombined_book read.grid read.views) own (is-book read.grid read.views limits one_run)
+            (can-run read.grid read.views limits one_run);
         text = (run_answer read).text;
         tells = tells (recombined_book read.grid read.views) own status put.code;
         said = put.calls;
       }
 
   -- an answer that is done tells of one run
-  finding : (read : ReadViews) → ReadsTo told.files (read_errand auction one two three) read → (found : Option AuditFault) →
-      MatchOption found (OneRun read.grid read.views) (λ fault. OneRun read.grid read.views → ⊥) → WentOut (audit_answer read found) given now status → Audited
+  finding : (read : ReadViews) → ReadsTo files (read_errand auction one two three) read → (found : Option AuditFault) →
+      MatchOption found (OneRun read.grid read.views) (λ fault. OneRun read.grid read.views → ⊥) →
+      WentOut (audit_answer read found) given now status → Audited
   finding read r None one_run put = told-of read r one_run put
   finding read r (Some fault) not put = absurd (not_done (Own OfAudit) put.done)
 
-  audits-by : Ran told told_now given now status w (Some (Auditing auction one two three)) → Audited
+  audits-by : Ran files told told_now from given now status w (Some (Auditing auction one two three)) → Audited
   audits-by r =
-      shown-ends told told_now given now status w {C = Audited} OfAudit (read_errand auction one two three)
+      shown-ends files told told_now from given now status w {C = Audited} OfAudit (read_errand auction one two three)
       (ShowsAudit auction one two three)
-      (undone told.files auction one two three) (λ answer shows put.
-      finding shows.value (read-to told told_now (read_errand auction one two three) shows.value shows.read)
+      (undone files auction one two three) (λ answer shows put.
+      finding shows.value (read-to files told told_now from (read_errand auction one two three) shows.value shows.read)
       shows.shown.found shows.shown.one_run
       (subst (λ (a : Answer). WentOut a given now status) shows.shown.is put)) r
 
-  pub audits : Ran told told_now given now status w (job_of (codes "audit" ∷ auction ∷ one ∷ two ∷ three ∷ [])) → Audited
+  pub audits : Ran files told told_now from given now status w
+      (job_of (codes "audit" ∷ auction ∷ one ∷ two ∷ three ∷ [])) → Audited
   audits ran =
       let job = Some (Auditing auction one two three) in
-      let r = named told told_now given now status w (are_names (auction ∷ one ∷ three ∷ [])) (if is_name_of two then job else None) ran in
-      audits-by (named told told_now given now status w (is_name_of two) job r)
+      let r = named files told told_now from given now status w (are_names (auction ∷ one ∷ three ∷ []))
+      (if is_name_of two then job else None) ran in
+      audits-by (named files told told_now from given now status w (is_name_of two) job r)

@@ -1,5 +1,6 @@
 -- What each job that has an errand of its own has read, put and said.
-use Rattle.std.proofs.Common.{◌≡◌, ◌≤◌, ◌<◌, ◌==◌, ℕ, List, [], ◌∷◌, ◌++◌, length, get_or, map, Bool, true, false, Option, Some, None, Ok, if◌then◌else◌, refl, sym, ap, subst, ◌∙◌, arith}
+use Rattle.std.proofs.Common.{◌≡◌, ◌≤◌, ◌<◌, ◌==◌, ℕ, List, [], ◌∷◌, ◌++◌, length, get_or, map, Bool, true, false}
+use Rattle.std.proofs.Common.{Option, Some, None, Ok, if◌then◌else◌, refl, sym, ap, subst, ◌∙◌, arith}
 use Rattle.std.specs.Prelude.{All, codes}
 use Rattle.std.proofs.lemmas.List.{get_or-map, length-map}
 use Rattle.beet_field.specs.Trio.{member}
@@ -7,7 +8,7 @@ use Rattle.beet_field.specs.declared.point.Point.{Point}
 use Rattle.beet_field.specs.declared.point.Point.TheVariants.{One, Two, Three}
 use Rattle.beet_field.specs.declared.trio.Trio.{Trio}
 use Rattle.beet_store.specs.Files.{File, Told}
-use Rattle.beet_store.specs.Desks.{Given}
+use Rattle.beet_store.specs.Desks.{DeskTold}
 use Rattle.beet_forms.specs.Names.{is_name_of}
 use Rattle.beet_words.specs.Bundles.{Words}
 use Rattle.beet_words.specs.Words.{IsWord}
@@ -18,7 +19,7 @@ use Rattle.beet_bids.specs.Curves.{IsCurve, IsOfGrid}
 use Rattle.beet_bids.specs.Grids.{Grid, IsGrid}
 use Rattle.beet_bids.specs.declared.auction_file.TheConstants.{AUCTION_LIMIT}
 use Rattle.beet_bids.specs.declared.book.Bidder.{Bidder}
-use Rattle.beet_book.specs.Farmers.{Farmer, book_with}
+use Rattle.beet_book.specs.Farmers.{BidderWithWords, book_with}
 use Rattle.beet_book.specs.ServerFiles.{servers_of}
 use Rattle.beet_book.specs.declared.server_file.TheConstants.{SERVERS_LIMIT}
 use Rattle.beet_book.specs.declared.sources.Servers.{Servers}
@@ -41,51 +42,54 @@ use Rattle.beet_world.specs.Schedules.{schedule_of}
 use Rattle.beet_world.specs.Worlds.{named_in}
 use Rattle.beet_world.specs.declared.schedule.Delivery.{Delivery}
 use Rattle.beet_world.specs.declared.schedule.TheConstants.{SCHEDULE_LIMIT}
-use Rattle.beet_worlds.specs.ViewsWith.{transcript_with}
-use Rattle.beet_headline.specs.Halves.{AllHaveEnded, standing}
+use Rattle.beet_auction_map.specs.ViewsWith.{transcript_with}
+use Rattle.beet_headline.specs.Statements.{AllHaveEnded, standing}
 use Rattle.beet_headline.proofs.Standings.{all-ended, ends}
 use Rattle.beet_errand.specs.Errands.{Answer, Step, ◌>>=◌, file_for, gives, reads}
 use Rattle.beet_errand.specs.Statuses.{IsDoneCode, code_of}
 use Rattle.beet_load.specs.Counts.{counts_of}
 use Rattle.beet_load.specs.Wanted.{wanted_of}
-use Rattle.beet_load.specs.Loading.{Loaded, loaded_errand}
+use Rattle.beet_load.specs.Loading.{AuctionWithBidders, loaded_errand}
 use Rattle.beet_load.specs.Servers.{AllWords, all_words_errand, coefficients_of, masks_of}
 use Rattle.beet_load.specs.Wholes.{CanDeal, all_words, limited_errand}
 use Rattle.beet_run.specs.Outcomes.{outcome_answer}
-use Rattle.beet_clear.specs.Clear.{clear_errand, cleared}
-use Rattle.beet_rehearse.specs.Rehearse.{rehearse_errand, rehearse_job, rehearsed}
-use Rattle.beet_rehearse.specs.Standings.{rehearsal_of, standing_of}
-use Rattle.beet_rehearse.specs.declared.standing.Standing.TheVariants.{Waiting, Ended}
-use Rattle.beet_record.specs.Records.{record_errand, recorded_answer}
-use Rattle.beet_envelopes.specs.Gather.{bidders_errand, envelopes_errand}
-use Rattle.beet_envelopes.specs.Open.{entries_job, open_errand, open_job, opened_answer}
-use Rattle.beet_envelopes.specs.SealedBooks.{HaveWords, HoldEachSealed, envelope_fetches, sealed_points}
-use Rattle.beet_envelopes.proofs.SealedBooks.{outcome-sealed}
-use Rattle.beet_envelopes.proofs.SealedFiles.{sealed-files}
-use Rattle.beet_two_worlds.proofs.SecondWords.{words-uncut}
+use Rattle.beet_job_clear.specs.Clear.{clear_errand, cleared}
+use Rattle.beet_job_rehearse.specs.Rehearse.{rehearse_errand, rehearse_job, rehearsed}
+use Rattle.beet_job_rehearse.specs.Standings.{rehearsal_of, standing_of}
+use Rattle.beet_job_rehearse.specs.declared.standing.Standing.TheVariants.{Waiting, Ended}
+use Rattle.beet_job_record.specs.Records.{record_errand, recorded_answer}
+use Rattle.beet_job_envelopes.specs.Gather.{bidders_errand, envelopes_errand}
+use Rattle.beet_job_envelopes.specs.Open.{entries_job, open_errand, open_job, opened_answer}
+use Rattle.beet_job_envelopes.specs.SealedBooks.{HaveWords, HoldEachSealed, sealed_points}
+use Rattle.beet_job_envelopes.proofs.SealedBooks.{outcome-sealed}
+use Rattle.beet_job_envelopes.proofs.SealedFiles.{sealed-files}
+use Rattle.beet_job_worlds.proofs.SecondWords.{words-uncut}
 use Rattle.beet_errand.specs.Runs.{GivesAll}
 use Rattle.beet_app.specs.Jobs.{Job, Answering, are_names, job_of}
-use Rattle.beet_app_laws.specs.Dues.{ReadsTo}
-use Rattle.beet_app_laws.proofs.Led.{NoneFailed, lead-over}
+use Rattle.beet_errand.specs.Overs.{FromFiles, ReadsTo}
 use Rattle.beet_app_laws.proofs.Telling.{one-value, told-each, told-list, told-trio}
 use Rattle.beet_program_laws.specs.Commands.{Clears, OpensEnvelopes, RecordsRun, ShowsStandings}
 use Rattle.beet_load.specs.WholeViews.{loaded_with}
 use Rattle.beet_program_laws.specs.Outcomes.{IsShown, ServersOpen, TellsTheEnd, transcript_files}
 use Rattle.beet_program_laws.proofs.Ends.{Ran, WentOut, found, named, servers-open, tells}
 use Rattle.beet_program_laws.proofs.Grids.{grid-is}
-use Rattle.beet_program_laws.proofs.Read.{AreLists, CanServeAll, IsLoaded, IsRead, all-words-yield, back, can-run, can-run-cut, farmers-back, is-book, limited-yield, loaded-yield, the_book, the_words}
+use Rattle.beet_program_laws.proofs.Read.{AreLists, CanServeAll, IsLoaded, IsRead, all-words-yield, back, can-run}
+use Rattle.beet_program_laws.proofs.Read.{can-run-cut, farmers-back, is-book, limited-yield, loaded-yield, the_book}
+use Rattle.beet_program_laws.proofs.Read.{the_words}
 use Rattle.beet_program_laws.proofs.Steps.{Yields, any-yield, gives-yield, reads-yield, then-told, then-yields}
 
 -- what was loaded is a book with words
-module _ (loaded : Loaded) (h : IsLoaded loaded) where
+module _ (loaded : AuctionWithBidders) (h : IsLoaded loaded) where
   abbrev pub book_in : Book
   book_in = the_book loaded.grid loaded.servers loaded.farmers
 
   abbrev pub words_in : Words
   words_in = the_words loaded.grid loaded.servers loaded.farmers
 
-  pub read-back : (files : List File) (step : Step Loaded) → ReadsTo files step loaded → ReadsTo files step (loaded_with book_in words_in)
-  read-back files step r = subst (λ (l : Loaded). ReadsTo files step l) (sym (back loaded.grid loaded.servers loaded.farmers)) r
+  pub read-back : (files : List File) (step : Step AuctionWithBidders) → ReadsTo files step loaded →
+      ReadsTo files step (loaded_with book_in words_in)
+  read-back files step r =
+      subst (λ (l : AuctionWithBidders). ReadsTo files step l) (sym (back loaded.grid loaded.servers loaded.farmers)) r
 
   pub runs-in : ServersOpen book_in words_in
   runs-in =
@@ -93,26 +97,29 @@ module _ (loaded : Loaded) (h : IsLoaded loaded) where
       (can-run loaded.grid loaded.servers loaded.farmers h.few h.farmers h.servers)
 
   -- its transcripts are those of the words that are kept
-  same-transcript : (s : Point) → transcript_of_book loaded.grid loaded.farmers (masks_of loaded.servers) (coefficients_of loaded.servers) s ≡ transcript_with book_in words_in s
+  same-transcript : (s : Point) → transcript_of_book loaded.grid loaded.farmers (masks_of loaded.servers)
+      (coefficients_of loaded.servers) s ≡ transcript_with book_in words_in s
   same-transcript s =
-      ap (λ (l : List Farmer). transcript_of_book loaded.grid l (masks_of loaded.servers) (coefficients_of loaded.servers) s) (sym (farmers-back loaded.farmers))
+      ap (λ (l : List BidderWithWords). transcript_of_book loaded.grid l (masks_of loaded.servers)
+      (coefficients_of loaded.servers) s) (sym (farmers-back loaded.farmers))
       ∙ ap (λ (w : Words). transcript_for book_in w s)
-      (sym (words-uncut book_in words_in (can-run-cut loaded.grid loaded.servers loaded.farmers h.few h.farmers h.servers)))
+      (sym
+      (words-uncut book_in words_in (can-run-cut loaded.grid loaded.servers loaded.farmers h.few h.farmers h.servers)))
 
   pub same-files : (out : List ℕ) → (recorded_answer out loaded).files ≡ transcript_files out book_in words_in
   same-files out = λ i.
-      (file_for out One, same-transcript One i) ∷ (file_for out Two, same-transcript Two i) ∷ (file_for out Three, same-transcript Three i) ∷ []
+      (file_for out One, same-transcript One i) ∷ (file_for out Two, same-transcript Two i)
+      ∷ (file_for out Three, same-transcript Three i) ∷ []
 
-module _ (told : Told) (told_now : Option Told) (given now : Option Given) (status : ℕ) (w : IsDoneCode status) where
-  abbrev files : List File
-  files = told.files
-
+module _ (files : List File) (told told_now : Told) (from : FromFiles files told told_now) (given now : DeskTold)
+    (status : ℕ) (w : IsDoneCode status) where
   abbrev HasRun : Option Job → Type 0
-  HasRun job = Ran told told_now given now status w job
+  HasRun job = Ran files told told_now from given now status w job
 
   -- ---- clear and record
 
-  cleared-by : (auction servers list : List ℕ) (loaded : Loaded) (h : IsLoaded loaded) → ReadsTo files (loaded_errand auction servers list) loaded →
+  cleared-by : (auction servers list : List ℕ) (loaded : AuctionWithBidders) (h : IsLoaded loaded) →
+      ReadsTo files (loaded_errand auction servers list) loaded →
       WentOut (cleared loaded) given now status → Clears files auction servers list status given now
   cleared-by auction servers list loaded h read out = record {
     book = book_in loaded h;
@@ -127,11 +134,14 @@ module _ (told : Told) (told_now : Option Told) (given now : Option Given) (stat
   pub clears : (auction servers list : List ℕ) → HasRun (job_of (codes "clear" ∷ auction ∷ servers ∷ list ∷ [])) →
       Clears files auction servers list status given now
   clears auction servers list ran =
-      let r = named told told_now given now status w (are_names (auction ∷ servers ∷ list ∷ [])) (Some (Answering (clear_errand auction servers list))) ran in
-      let f = found told told_now given now status w (loaded_errand auction servers list) cleared IsLoaded (loaded-yield files auction servers list) r in
+      let r = named files told told_now from given now status w (are_names (auction ∷ servers ∷ list ∷ []))
+      (Some (Answering (clear_errand auction servers list))) ran in
+      let f = found files told told_now from given now status w (loaded_errand auction servers list) cleared IsLoaded
+      (loaded-yield files auction servers list) r in
       cleared-by auction servers list f.value f.holds f.read f.out
 
-  recorded-by : (auction servers list out : List ℕ) (loaded : Loaded) (h : IsLoaded loaded) → ReadsTo files (limited_errand auction servers list) loaded →
+  recorded-by : (auction servers list out : List ℕ) (loaded : AuctionWithBidders) (h : IsLoaded loaded) →
+      ReadsTo files (limited_errand auction servers list) loaded →
       WentOut (recorded_answer out loaded) given now status → RecordsRun files auction servers list out status given now
   recorded-by auction servers list out loaded h read went = record {
     book = book_in loaded h;
@@ -140,16 +150,20 @@ module _ (told : Told) (told_now : Option Told) (given now : Option Given) (stat
     run = runs-in loaded h;
     text = (recorded_answer out loaded).text;
     tells = tells (book_in loaded h) (words_in loaded h) status went.code;
-    gives = subst (λ (l : List File). GivesAll given now l (recorded_answer out loaded).text (Ok tt)) (same-files loaded h out) went.calls;
+    gives = subst (λ (l : List File). GivesAll given now l (recorded_answer out loaded).text (Ok tt))
+        (same-files loaded h out) went.calls;
   }
 
-  pub records : (auction servers list out : List ℕ) → HasRun (job_of (codes "record" ∷ auction ∷ servers ∷ list ∷ out ∷ [])) →
+  pub records : (auction servers list out : List ℕ) →
+      HasRun (job_of (codes "record" ∷ auction ∷ servers ∷ list ∷ out ∷ [])) →
       RecordsRun files auction servers list out status given now
   records auction servers list out ran =
       let job = Some (Answering (record_errand auction servers list out)) in
-      let r' = named told told_now given now status w (are_names (auction ∷ servers ∷ out ∷ [])) (if is_name_of list then job else None) ran in
-      let r = named told told_now given now status w (is_name_of list) job r' in
-      let f = found told told_now given now status w (limited_errand auction servers list) (recorded_answer out) IsLoaded (limited-yield files auction servers list) r in
+      let r' = named files told told_now from given now status w (are_names (auction ∷ servers ∷ out ∷ []))
+      (if is_name_of list then job else None) ran in
+      let r = named files told told_now from given now status w (is_name_of list) job r' in
+      let f = found files told told_now from given now status w (limited_errand auction servers list)
+      (recorded_answer out) IsLoaded (limited-yield files auction servers list) r in
       recorded-by auction servers list out f.value f.holds f.read f.out
 
 -- ---- rehearse
@@ -178,55 +192,66 @@ module _ (book : Book) (words : Words) (run : ServersOpen book words) (schedule 
   named-end : end_named own_rounds ≡ Some finish
   named-end = ap end_named counted ∙ (ends book words run.is_book run.can_run).finish_named
 
-  own-shown : (s : Point) → IsShown (standing book words (named_in schedule) s) (standing_of finish own_rounds (after own_rounds (named_in schedule)) s)
+  own-shown : (s : Point) → IsShown (standing book words (named_in schedule) s)
+      (standing_of finish own_rounds (after own_rounds (named_in schedule)) s)
   own-shown s =
       let t = passed own_rounds (after own_rounds (named_in schedule)) s in
       shown-by (t == own_rounds) (end_named own_rounds) finish t named-end
 
   -- what is told of a server is how it stands
-  shown-at : (s : Point) → IsShown (standing book words (named_in schedule) s) (standing_of finish rounds (after rounds (named_in schedule)) s)
+  shown-at : (s : Point) → IsShown (standing book words (named_in schedule) s)
+      (standing_of finish rounds (after rounds (named_in schedule)) s)
   shown-at s =
-      subst (λ (r : ℕ). IsShown (standing book words (named_in schedule) s) (standing_of finish r (after r (named_in schedule)) s)) counted (own-shown s)
+      subst (λ (r : ℕ). IsShown (standing book words (named_in schedule) s)
+      (standing_of finish r (after r (named_in schedule)) s)) counted (own-shown s)
 
-  pub shown : (s : Point) → IsShown (standing book words (named_in schedule) s) (member (rehearsal_of finish rounds (after rounds (named_in schedule))).servers s)
+  pub shown : (s : Point) → IsShown (standing book words (named_in schedule) s)
+      (member (rehearsal_of finish rounds (after rounds (named_in schedule))).servers s)
   shown One = shown-at One
   shown Two = shown-at Two
   shown Three = shown-at Three
 
-  pub left : undelivered rounds (after rounds (named_in schedule)) ≡ undelivered own_rounds (after own_rounds (named_in schedule))
+  pub left : undelivered rounds (after rounds (named_in schedule))
+      ≡ undelivered own_rounds (after own_rounds (named_in schedule))
   left = ap (λ (r : ℕ). undelivered r (after r (named_in schedule))) (sym counted)
 
-  pub none-left : undelivered rounds (after rounds (named_in schedule)) ≡ 0 → AllHaveEnded book words (named_in schedule)
+  pub none-left : undelivered rounds (after rounds (named_in schedule)) ≡ 0 →
+      AllHaveEnded book words (named_in schedule)
   none-left none = all-ended book words run.is_book run.can_run (named_in schedule) (sym left ∙ none)
 
 module _ (files : List File) where
   -- what the files of a rehearsal are read as, and what it answers
   record IsRehearsed (auction servers list name : List ℕ) (answer : Answer) : Type 0 where
-    loaded : Loaded
+    loaded : AuctionWithBidders
     is_loaded : IsLoaded loaded
     read : ReadsTo files (loaded_errand auction servers list) loaded
     schedule : List Delivery
     scheduled : ReadsTo files (reads name SCHEDULE_LIMIT schedule_of) schedule
     is : answer ≡ rehearsed loaded schedule
 
-  rehearse-yield : (auction servers list name : List ℕ) → Yields files (rehearse_job auction servers list name) (IsRehearsed auction servers list name)
+  rehearse-yield : (auction servers list name : List ℕ) →
+      Yields files (rehearse_job auction servers list name) (IsRehearsed auction servers list name)
   rehearse-yield auction servers list name =
-      then-told files (loaded_errand auction servers list) (λ loaded. reads name SCHEDULE_LIMIT schedule_of >>= λ schedule. gives (rehearsed loaded schedule))
+      then-told files (loaded_errand auction servers list)
+      (λ loaded. reads name SCHEDULE_LIMIT schedule_of >>= λ schedule. gives (rehearsed loaded schedule))
       IsLoaded (IsRehearsed auction servers list name) (loaded-yield files auction servers list) (λ loaded r1 h.
-      then-told files (reads name SCHEDULE_LIMIT schedule_of) (λ schedule. gives (rehearsed loaded schedule)) (λ schedule. Unit {0})
+      then-told files (reads name SCHEDULE_LIMIT schedule_of) (λ schedule. gives (rehearsed loaded schedule))
+      (λ schedule. Unit {0})
       (IsRehearsed auction servers list name) (any-yield files name SCHEDULE_LIMIT schedule_of) (λ schedule r2 any.
       gives-yield files (IsRehearsed auction servers list name) (rehearsed loaded schedule)
       (record { loaded = loaded; is_loaded = h; read = r1; schedule = schedule; scheduled = r2; is = refl })))
 
   -- ---- open
 
-  envelopes-yield : (grid : Grid) (names : Trio (List ℕ)) → Yields files (envelopes_errand grid names) (λ points. Unit {0})
+  envelopes-yield : (grid : Grid) (names : Trio (List ℕ)) →
+      Yields files (envelopes_errand grid names) (λ points. Unit {0})
   envelopes-yield grid names =
       then-yields files (reads names.one ENVELOPE_LIMIT (envelope_of grid One)) _ (λ one. Unit {0}) (λ points. Unit {0})
       (any-yield files names.one ENVELOPE_LIMIT (envelope_of grid One)) (λ one h1.
       then-yields files (reads names.two ENVELOPE_LIMIT (envelope_of grid Two)) _ (λ two. Unit {0}) (λ points. Unit {0})
       (any-yield files names.two ENVELOPE_LIMIT (envelope_of grid Two)) (λ two h2.
-      then-yields files (reads names.three ENVELOPE_LIMIT (envelope_of grid Three)) _ (λ three. Unit {0}) (λ points. Unit {0})
+      then-yields files (reads names.three ENVELOPE_LIMIT (envelope_of grid Three)) _ (λ three. Unit {0})
+      (λ points. Unit {0})
       (any-yield files names.three ENVELOPE_LIMIT (envelope_of grid Three)) (λ three h3.
       gives-yield files (λ points. Unit {0}) (points_in (record { one = one; two = two; three = three })) tt)))
 
@@ -234,22 +259,20 @@ module _ (files : List File) where
       Yields files (bidders_errand grid read entries) (λ bidders. Unit {0})
   sealed-yield grid read [] = gives-yield files (λ bidders. Unit {0}) read tt
   sealed-yield grid read (entry ∷ entries) =
-      then-yields files (envelopes_errand grid entry.envelopes) (λ points. bidders_errand grid (read ++ points ∷ []) entries) (λ points. Unit {0})
-      (λ bidders. Unit {0}) (envelopes-yield grid entry.envelopes) (λ points h. sealed-yield grid (read ++ points ∷ []) entries)
-
-  -- of the fetches of envelopes none failed
-  none-failed : (entries : List ListEntry) → NoneFailed files (envelope_fetches entries)
-  none-failed [] = tt
-  none-failed (entry ∷ entries) = (refl, (refl, (refl, none-failed entries)))
+      then-yields files (envelopes_errand grid entry.envelopes)
+      (λ points. bidders_errand grid (read ++ points ∷ []) entries) (λ points. Unit {0})
+      (λ bidders. Unit {0}) (envelopes-yield grid entry.envelopes)
+      (λ points h. sealed-yield grid (read ++ points ∷ []) entries)
 
   -- files that hold what bidders sealed are read as the points that they sealed, and as no others
-  points-sealed : (grid : Grid) (entries : List ListEntry) (bidders : List (Trio (List ℕ))) (farmers : List Farmer) → IsGrid grid →
-      ReadsTo files (bidders_errand grid [] entries) bidders → IsBook (book_with grid farmers) → HaveWords grid farmers →
+  points-sealed : (grid : Grid) (entries : List ListEntry) (bidders : List (Trio (List ℕ))) (farmers : List BidderWithWords) →
+      IsGrid grid →
+      ReadsTo files (bidders_errand grid [] entries) bidders → IsBook (book_with grid farmers) →
+      HaveWords grid farmers →
       HoldEachSealed files grid entries farmers → bidders ≡ map sealed_points farmers
   points-sealed grid entries bidders farmers limits read b enough held =
       one-value files (bidders_errand grid [] entries) bidders (map sealed_points farmers) read
-      (λ next. lead-over files (envelope_fetches entries) (bidders_errand grid [] entries next) (next (map sealed_points farmers)) (none-failed entries)
-      (sealed-files files grid entries farmers next limits b enough held))
+      (sealed-files files grid entries farmers limits b enough held)
       (told-each (told-trio told-list))
 
   -- what the files of sealed bids are read as, and what is answered
@@ -268,7 +291,8 @@ module _ (files : List File) where
     bidders_read : ReadsTo files (bidders_errand grid [] entries) bidders
     is : answer ≡ opened_answer grid words.servers bidders
 
-  open-yield : (auction servers list : List ℕ) → Yields files (open_job auction servers list) (IsOpened auction servers list)
+  open-yield : (auction servers list : List ℕ) →
+      Yields files (open_job auction servers list) (IsOpened auction servers list)
   unfolding open_job entries_job
   open-yield auction servers list =
       then-told files (reads auction AUCTION_LIMIT auction_of) _ IsGrid (IsOpened auction servers list)
@@ -281,7 +305,8 @@ module _ (files : List File) where
       (λ words. bidders_errand grid [] entries >>= λ bidders. gives (opened_answer grid words.servers bidders))
       (λ words. CanServeAll grid words.servers × AreLists words.bidders) (IsOpened auction servers list)
       (all-words-yield files grid None sources) (λ words r4 h4.
-      then-told files (bidders_errand grid [] entries) (λ bidders. gives (opened_answer grid words.servers bidders)) (λ bidders. Unit {0})
+      then-told files (bidders_errand grid [] entries) (λ bidders. gives (opened_answer grid words.servers bidders))
+      (λ bidders. Unit {0})
       (IsOpened auction servers list) (sealed-yield grid [] entries) (λ bidders r5 h5.
       gives-yield files (IsOpened auction servers list) (opened_answer grid words.servers bidders) (record {
         grid = grid;
@@ -300,13 +325,14 @@ module _ (files : List File) where
       }))))))
 
 -- farmers of a book with words to deal are as bidders that are read with their words
-farmers-read : (grid : Grid) (farmers : List Farmer) → IsBook (book_with grid farmers) →
+farmers-read : (grid : Grid) (farmers : List BidderWithWords) → IsBook (book_with grid farmers) →
     All (λ farmer. CanDeal (counts_of grid) farmer.words × All IsWord farmer.words) farmers → All (IsRead grid) farmers
 farmers-read grid farmers b each = λ k d lt.
-    let bidders = map (λ (f : Farmer). f.bidder) farmers in
+    let bidders = map (λ (f : BidderWithWords). f.bidder) farmers in
     let farmer = get_or farmers k d in
-    let there : k < length bidders = omega (arith, length-map farmers (λ (f : Farmer). f.bidder), lt) in
-    let is : get_or bidders k d.bidder ≡ farmer.bidder = get_or-map (λ (f : Farmer). f.bidder) farmers k d d.bidder lt in
+    let there : k < length bidders = omega (arith, length-map farmers (λ (f : BidderWithWords). f.bidder), lt) in
+    let is : get_or bidders k d.bidder ≡ farmer.bidder =
+    get_or-map (λ (f : BidderWithWords). f.bidder) farmers k d d.bidder lt in
     record {
       is = record {
         curve = subst (λ (x : Bidder). IsCurve x.curve) is (b.curves k d.bidder there);
@@ -316,22 +342,26 @@ farmers-read grid farmers b each = λ k d lt.
       words = (each k d lt).1;
     }
 
-module _ (told : Told) (told_now : Option Told) (given now : Option Given) (status : ℕ) (w : IsDoneCode status) where
-  rehearsed-by : (auction servers list name : List ℕ) (answer : Answer) → IsRehearsed told.files auction servers list name answer →
-      WentOut answer given now status → ShowsStandings told.files auction servers list name status given now
+module _ (files : List File) (told told_now : Told) (from : FromFiles files told told_now) (given now : DeskTold)
+    (status : ℕ) (w : IsDoneCode status) where
+  rehearsed-by : (auction servers list name : List ℕ) (answer : Answer) →
+      IsRehearsed files auction servers list name answer →
+      WentOut answer given now status → ShowsStandings files auction servers list name status given now
   rehearsed-by auction servers list name answer t o =
-      let out : WentOut (rehearsed t.loaded t.schedule) given now status = subst (λ (a : Answer). WentOut a given now status) t.is o in
+      let out : WentOut (rehearsed t.loaded t.schedule) given now status =
+      subst (λ (a : Answer). WentOut a given now status) t.is o in
       let book = book_in t.loaded t.is_loaded in
       let words = words_in t.loaded t.is_loaded in
       let run = runs-in t.loaded t.is_loaded in
       record {
         book = book;
         words = words;
-        read = read-back t.loaded t.is_loaded told.files (loaded_errand auction servers list) t.read;
+        read = read-back t.loaded t.is_loaded files (loaded_errand auction servers list) t.read;
         schedule = t.schedule;
         scheduled = t.scheduled;
         run = run;
-        rehearsal = rehearsal_of (book_finish book words.masks) (book_rounds book words.masks) (after (book_rounds book words.masks) (named_in t.schedule));
+        rehearsal = rehearsal_of (book_finish book words.masks) (book_rounds book words.masks)
+            (after (book_rounds book words.masks) (named_in t.schedule));
         shown = shown book words run t.schedule;
         left = left book words run t.schedule;
         all = none-left book words run t.schedule;
@@ -339,20 +369,25 @@ module _ (told : Told) (told_now : Option Told) (given now : Option Given) (stat
         said = out.calls;
       }
 
-  pub rehearses : (auction servers list schedule : List ℕ) → Ran told told_now given now status w (job_of (codes "rehearse" ∷ auction ∷ servers ∷ list ∷ schedule ∷ [])) →
-      ShowsStandings told.files auction servers list schedule status given now
+  pub rehearses : (auction servers list schedule : List ℕ) → Ran files told told_now from given now status w
+      (job_of (codes "rehearse" ∷ auction ∷ servers ∷ list ∷ schedule ∷ [])) →
+      ShowsStandings files auction servers list schedule status given now
   rehearses auction servers list schedule ran =
       let job = Some (Answering (rehearse_errand auction servers list schedule)) in
-      let r' = named told told_now given now status w (are_names (auction ∷ servers ∷ schedule ∷ [])) (if is_name_of list then job else None) ran in
-      let r = named told told_now given now status w (is_name_of list) job r' in
-      let f = found told told_now given now status w (rehearse_job auction servers list schedule) (λ answer. answer)
-      (IsRehearsed told.files auction servers list schedule) (rehearse-yield told.files auction servers list schedule) r in
+      let r' = named files told told_now from given now status w (are_names (auction ∷ servers ∷ schedule ∷ []))
+      (if is_name_of list then job else None) ran in
+      let r = named files told told_now from given now status w (is_name_of list) job r' in
+      let f =
+      found files told told_now from given now status w (rehearse_job auction servers list schedule) (λ answer. answer)
+      (IsRehearsed files auction servers list schedule) (rehearse-yield files auction servers list schedule) r in
       rehearsed-by auction servers list schedule f.value f.holds f.out
 
-  opened-by : (auction servers list : List ℕ) (answer : Answer) → IsOpened told.files auction servers list answer → WentOut answer given now status →
-      OpensEnvelopes told.files auction servers list status given now
+  opened-by : (auction servers list : List ℕ) (answer : Answer) → IsOpened files auction servers list answer →
+      WentOut answer given now status →
+      OpensEnvelopes files auction servers list status given now
   opened-by auction servers list answer t o =
-      let out : WentOut (opened_answer t.grid t.words.servers t.bidders) given now status = subst (λ (a : Answer). WentOut a given now status) t.is o in
+      let out : WentOut (opened_answer t.grid t.words.servers t.bidders) given now status =
+      subst (λ (a : Answer). WentOut a given now status) t.is o in
       record {
         grid = t.grid;
         grid_read = t.grid_read;
@@ -369,23 +404,29 @@ module _ (told : Told) (told_now : Option Told) (given now : Option Given) (stat
         sealed = λ farmers held b enough.
             let book = book_with t.grid farmers in
             let masks = masks_of t.words.servers in
-            let same : opened_answer t.grid t.words.servers t.bidders ≡ outcome_answer t.grid (book_finish book masks) (book_rounds book masks) =
-            ap (opened_answer t.grid t.words.servers) (points-sealed told.files t.grid t.entries t.bidders farmers t.limits t.bidders_read b enough held)
+            let same : opened_answer t.grid t.words.servers t.bidders
+            ≡ outcome_answer t.grid (book_finish book masks) (book_rounds book masks) =
+            ap (opened_answer t.grid t.words.servers)
+            (points-sealed files t.grid t.entries t.bidders farmers t.limits t.bidders_read b enough held)
             ∙ outcome-sealed t.grid farmers t.words.servers b enough in
-            let words = all_words t.words.servers (map (λ (farmer : Farmer). farmer.words) farmers) in
+            let words = all_words t.words.servers (map (λ (farmer : BidderWithWords). farmer.words) farmers) in
             subst (λ (x : Answer). TellsTheEnd book words status x.text) (sym same)
             (tells book words status (out.code ∙ ap (λ (x : Answer). code_of x.status) same));
         servers_open = λ farmers b each.
-            let few : length farmers ≤ MOST_BIDDERS = omega (arith, length-map farmers (λ (f : Farmer). f.bidder), b.few) in
+            let few : length farmers ≤ MOST_BIDDERS =
+            omega (arith, length-map farmers (λ (f : BidderWithWords). f.bidder), b.few) in
             servers-open (the_book t.grid t.words.servers farmers) (the_words t.grid t.words.servers farmers) b
             (can-run t.grid t.words.servers farmers few (farmers-read t.grid farmers b each) t.can_serve);
         said = out.calls;
       }
 
-  pub opens : (auction servers list : List ℕ) → Ran told told_now given now status w (job_of (codes "open" ∷ auction ∷ servers ∷ list ∷ [])) →
-      OpensEnvelopes told.files auction servers list status given now
+  pub opens : (auction servers list : List ℕ) →
+      Ran files told told_now from given now status w (job_of (codes "open" ∷ auction ∷ servers ∷ list ∷ [])) →
+      OpensEnvelopes files auction servers list status given now
   opens auction servers list ran =
-      let r = named told told_now given now status w (are_names (auction ∷ servers ∷ list ∷ [])) (Some (Answering (open_errand auction servers list))) ran in
-      let f = found told told_now given now status w (open_job auction servers list) (λ answer. answer) (IsOpened told.files auction servers list)
-      (open-yield told.files auction servers list) r in
+      let r = named files told told_now from given now status w (are_names (auction ∷ servers ∷ list ∷ []))
+      (Some (Answering (open_errand auction servers list))) ran in
+      let f = found files told told_now from given now status w (open_job auction servers list) (λ answer. answer)
+      (IsOpened files auction servers list)
+      (open-yield files auction servers list) r in
       opened-by auction servers list f.value f.holds f.out

@@ -5,7 +5,12 @@ pub mod Grids
 pub mod Read
 pub mod Ends
 pub mod Jobs
+pub mod Tallies
+pub mod Seals
 pub mod Trials
 pub mod Worlds
+pub mod SecondBook
+pub mod SecondWorlds
 pub mod Audits
 pub mod Accepted
+pub mod Telling

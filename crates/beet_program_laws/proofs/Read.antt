@@ -1,5 +1,7 @@
 -- What the files of an auction are read as: a book of accepted bids, and words with which its auction can be run.
-use Rattle.std.proofs.Common.{◌≡◌, ◌≤◌, ◌+◌, ◌*◌, ◌==◌, ℕ, zero, suc, Bool, true, false, List, [], ◌∷◌, ◌++◌, length, map, take, get_or, slice_get, nat_lt, Option, Some, None, Ok, Err, if◌then◌else◌, refl, sym, ap, subst, ◌∙◌, arith, length-append}
+use Rattle.std.proofs.Common.{◌≡◌, ◌≤◌, ◌+◌, ◌*◌, ◌==◌, ℕ, zero, suc, Bool, true, false, List, [], ◌∷◌, ◌++◌, length}
+use Rattle.std.proofs.Common.{map, take, get_or, slice_get, nat_lt, Option, Some, None, Ok, Err, if◌then◌else◌, refl}
+use Rattle.std.proofs.Common.{sym, ap, subst, ◌∙◌, arith, length-append}
 use Rattle.std.specs.Prelude.{All, IfSome, codes}
 use Rattle.std.proofs.lemmas.Bool.{ltb-false}
 use Rattle.std.proofs.lemmas.List.{length-map, take_all}
@@ -27,7 +29,7 @@ use Rattle.beet_bids.specs.declared.book.Bidder.{Bidder}
 use Rattle.beet_plan.specs.Kept.{coefficients_kept, words_kept}
 use Rattle.beet_masking.specs.declared.TheConstants.{SPARE_WORDS}
 use Rattle.beet_book.specs.BookFiles.{book_of}
-use Rattle.beet_book.specs.Farmers.{Farmer, book_with, farmers_of}
+use Rattle.beet_book.specs.Farmers.{BidderWithWords, book_with, farmers_of}
 use Rattle.beet_book.specs.ServerFiles.{servers_of}
 use Rattle.beet_book.specs.declared.book_file.TheConstants.{BOOK_LIMIT, MOST_PRODUCT}
 use Rattle.beet_book.specs.declared.entries.BidderSource.{BidderSource}
@@ -38,16 +40,18 @@ use Rattle.beet_book.specs.declared.sources.ServerSource.{ServerSource}
 use Rattle.beet_book.specs.declared.sources.ServerSource.TheVariants.{Seed as ServerSeed, Tapes}
 use Rattle.beet_book.specs.declared.sources.Servers.{Servers}
 use Rattle.beet_book.specs.declared.sources.Servers.TheVariants.{Three, Bundle}
-use Rattle.beet_worlds.specs.Enough.{HasAccepted}
-use Rattle.beet_headline.specs.Halves.{CanRun}
+use Rattle.beet_auction_map.specs.Enough.{HasAccepted}
+use Rattle.beet_headline.specs.Statements.{CanRun}
 use Rattle.beet_errand.specs.Errands.{Step, gives, reads}
 use Rattle.beet_errand.specs.declared.answer.Refusal.TheVariants.{BadFile, TooFewWords}
 use Rattle.beet_load.specs.Counts.{coefficients_wanted, counts_of, masks_wanted, words_wanted}
 use Rattle.beet_load.specs.Wanted.{wanted_of}
 use Rattle.beet_load.specs.Farmers.{farmer_errand, farmers_errand, list_at, words_errand}
 use Rattle.beet_load.specs.Limits.{over_product}
-use Rattle.beet_load.specs.Loading.{Loaded, loaded_errand, rest_errand}
-use Rattle.beet_load.specs.Servers.{AllWords, HasEnough, IsCut, ServerWords, all_words_errand, counted, cut_server, cut_servers, enough_held, enough_of, enough_of_all, seeded, server_errand, source_errand, three_errand, wrong_count}
+use Rattle.beet_load.specs.Loading.{AuctionWithBidders, loaded_errand, rest_errand}
+use Rattle.beet_load.specs.Servers.{AllWords, HasEnough, IsCut, ServerWords, all_words_errand, counted, cut_server}
+use Rattle.beet_load.specs.Servers.{cut_servers, enough_held, enough_of, enough_of_all, seeded, server_errand}
+use Rattle.beet_load.specs.Servers.{source_errand, three_errand, wrong_count}
 use Rattle.beet_load.specs.Settings.{setting_errand}
 use Rattle.beet_load.specs.Wholes.{CanDeal, CanStart, IsFarmer, all_words, bids_errand, curves_errand, limited_errand}
 use Rattle.beet_load.specs.WordTexts.{server_short_text, too_few_text}
@@ -56,10 +60,11 @@ use Rattle.beet_app_laws.specs.Held.{IsHeld}
 use Rattle.beet_load.specs.WholeViews.{loaded_with}
 use Rattle.beet_program_laws.proofs.Files.{AreFew, bid-is, book-few, bundle-are, seed-are, tape-are}
 use Rattle.beet_program_laws.proofs.Held.{held-yield}
-use Rattle.beet_program_laws.proofs.Steps.{Yields, any-yield, gives-yield, passes-yield, reads-yield, then-yields, weaker-yield}
+use Rattle.beet_program_laws.proofs.Steps.{Yields, any-yield, gives-yield, passes-yield, reads-yield, then-yields}
+use Rattle.beet_program_laws.proofs.Steps.{weaker-yield}
 
 -- a bidder that is read with its words
-pub record IsRead (grid : Grid) (farmer : Farmer) : Type 0 where
+pub record IsRead (grid : Grid) (farmer : BidderWithWords) : Type 0 where
   pub is : IsFarmer (counts_of grid) grid farmer
   pub words : All IsWord farmer.words
 
@@ -92,13 +97,13 @@ abbrev pub AreLists : Option (List (List ℕ)) → Type 0
 AreLists lists = IfSome lists (λ all. All (λ list. All IsWord list) all)
 
 -- what is read of an auction
-pub record IsLoaded (loaded : Loaded) : Type 0 where
+pub record IsLoaded (loaded : AuctionWithBidders) : Type 0 where
   pub few : length loaded.farmers ≤ MOST_BIDDERS
   pub farmers : All (IsRead loaded.grid) loaded.farmers
   pub servers : CanServeAll loaded.grid loaded.servers
 
 -- what is read of an auction whose book is kept whole: the auction's file was held, and the book is within the limit
-pub record IsLimited (files : List File) (auction : List ℕ) (loaded : Loaded) : Type 0 where
+pub record IsLimited (files : List File) (auction : List ℕ) (loaded : AuctionWithBidders) : Type 0 where
   pub grid : IsHeld files auction AUCTION_LIMIT auction_of loaded.grid
   pub product : length loaded.farmers * loaded.grid.prices ≤ MOST_PRODUCT
   pub right : IsLoaded loaded
@@ -116,7 +121,8 @@ item-has P [] i all = tt
 item-has P (x ∷ xs) zero all = All-head P x xs all
 item-has P (x ∷ xs) (suc i) all = item-has P xs i (All-tail P x xs all)
 
-list-has : (lists : Option (List (List ℕ))) (i : ℕ) → AreLists lists → IfSome (list_at lists i) (λ list. All IsWord list)
+list-has : (lists : Option (List (List ℕ))) (i : ℕ) → AreLists lists →
+    IfSome (list_at lists i) (λ list. All IsWord list)
 list-has None i all = tt
 list-has (Some lists) i all = item-has (λ list. All IsWord list) lists i all
 
@@ -126,55 +132,75 @@ one-more n read before rest e f = omega (arith, e, f)
 module _ (files : List File) where
   -- ---- bidders
 
-  words-yield : (given : Option (List ℕ)) → IfSome given (λ list. All IsWord list) → (source : BidderSource) (kept : ℕ) →
+  pub words-yield : (given : Option (List ℕ)) → IfSome given (λ list. All IsWord list) →
+      (source : BidderSource) (kept : ℕ) →
       Yields files (words_errand given source kept) (AreFew kept)
-  words-yield (Some words) all source kept = gives-yield files (AreFew kept) (take kept words) (All-take IsWord kept words all, take-few kept words)
+  words-yield (Some words) all source kept =
+      gives-yield files (AreFew kept) (take kept words) (All-take IsWord kept words all, take-few kept words)
   words-yield None all (Seed seed) kept =
-      gives-yield files (AreFew kept) (seed_words seed 0 kept) (seed-are seed 0 kept, omega (arith, length-map-range_with_len (seed_word seed 0) 0 kept))
-  words-yield None all (Tape name) kept = reads-yield files name TAPE_LIMIT (λ bytes. tape_of bytes kept) (AreFew kept) (λ bytes words e. tape-are bytes kept words e)
+      gives-yield files (AreFew kept) (seed_words seed 0 kept)
+      (seed-are seed 0 kept, omega (arith, length-map-range_with_len (seed_word seed 0) 0 kept))
+  words-yield None all (Tape name) kept = reads-yield files name TAPE_LIMIT (λ bytes. tape_of bytes kept) (AreFew kept)
+      (λ bytes words e. tape-are bytes kept words e)
 
-  farmer-yield : (grid : Grid) (given : Option (List ℕ)) → IfSome given (λ list. All IsWord list) → (number : ℕ) (entry : Entry) →
+  farmer-yield : (grid : Grid) (given : Option (List ℕ)) → IfSome given (λ list. All IsWord list) →
+      (number : ℕ) (entry : Entry) →
       Yields files (farmer_errand (wanted_of None grid) grid given number entry) (IsRead grid)
   farmer-yield grid given all number entry =
-      then-yields files (reads entry.bid BID_LIMIT (bid_of grid)) _ (λ curve. IsCurve curve × IsOfGrid grid curve) (IsRead grid)
-      (reads-yield files entry.bid BID_LIMIT (bid_of grid) (λ curve. IsCurve curve × IsOfGrid grid curve) (λ bytes curve e. bid-is grid bytes curve e)) (λ curve is.
-      then-yields files (words_errand given entry.source (words_kept grid.prices)) _ (AreFew (words_kept grid.prices)) (IsRead grid)
+      then-yields files (reads entry.bid BID_LIMIT (bid_of grid)) _
+      (λ curve. IsCurve curve × IsOfGrid grid curve) (IsRead grid)
+      (reads-yield files entry.bid BID_LIMIT (bid_of grid) (λ curve. IsCurve curve × IsOfGrid grid curve)
+      (λ bytes curve e. bid-is grid bytes curve e)) (λ curve is.
+      then-yields files (words_errand given entry.source (words_kept grid.prices)) _
+      (AreFew (words_kept grid.prices)) (IsRead grid)
       (words-yield given all entry.source (words_kept grid.prices)) (λ words few.
-      let farmer : Farmer = record { bidder = record { known = entry.known; curve = curve }; words = words } in
+      let farmer : BidderWithWords = record { bidder = record { known = entry.known; curve = curve }; words = words } in
       passes-yield files (nat_lt (length (accepted words)) (words_wanted grid))
-      TooFewWords (too_few_text None number (length (accepted words)) (words_wanted grid)) (gives farmer) (IsRead grid) (λ enough.
+      TooFewWords (too_few_text None number (length (accepted words)) (words_wanted grid)) (gives farmer)
+      (IsRead grid) (λ enough.
       gives-yield files (IsRead grid) farmer (record {
         is = record { curve = is.0; of_grid = is.1; words = record { enough = ltb-false _ _ enough; kept = few.1 } };
         words = few.0;
       }))))
 
-  farmers-yield : (grid : Grid) (lists : Option (List (List ℕ))) → AreLists lists → (read : List Farmer) → All (IsRead grid) read → (entries : List Entry) →
+  pub farmers-yield : (grid : Grid) (lists : Option (List (List ℕ))) → AreLists lists → (read : List BidderWithWords) →
+      All (IsRead grid) read → (entries : List Entry) →
       Yields files (farmers_errand (wanted_of None grid) grid lists read entries)
       (λ farmers. All (IsRead grid) farmers × (length farmers ≡ length read + length entries))
   farmers-yield grid lists all read are [] =
-      gives-yield files (λ farmers. All (IsRead grid) farmers × (length farmers ≡ length read + 0)) read (are, omega arith)
+      gives-yield files (λ farmers. All (IsRead grid) farmers × (length farmers ≡ length read + 0)) read
+      (are, omega arith)
   farmers-yield grid lists all read are (entry ∷ entries) =
       then-yields files (farmer_errand (wanted_of None grid) grid (list_at lists (length read)) (length read + 1) entry)
       (λ farmer. farmers_errand (wanted_of None grid) grid lists (read ++ farmer ∷ []) entries) (IsRead grid)
       (λ farmers. All (IsRead grid) farmers × (length farmers ≡ length read + length (entry ∷ entries)))
-      (farmer-yield grid (list_at lists (length read)) (list-has lists (length read) all) (length read + 1) entry) (λ farmer is.
-      let more = All-append (IsRead grid) read (farmer ∷ []) are (All-cons (IsRead grid) farmer [] is (All-nil (IsRead grid))) in
+      (farmer-yield grid (list_at lists (length read)) (list-has lists (length read) all) (length read + 1) entry)
+      (λ farmer is.
+      let more =
+      All-append (IsRead grid) read (farmer ∷ []) are (All-cons (IsRead grid) farmer [] is (All-nil (IsRead grid))) in
       let long : length (read ++ farmer ∷ []) ≡ length read + 1 = length-append read (farmer ∷ []) in
       weaker-yield files (farmers_errand (wanted_of None grid) grid lists (read ++ farmer ∷ []) entries)
       (λ farmers. All (IsRead grid) farmers × (length farmers ≡ length (read ++ farmer ∷ []) + length entries))
       (λ farmers. All (IsRead grid) farmers × (length farmers ≡ length read + length (entry ∷ entries)))
-      (λ farmers h. (h.0, one-more (length farmers) (length (read ++ farmer ∷ [])) (length read) (length entries) h.1 long))
+      (λ farmers h.
+      (h.0, one-more (length farmers) (length (read ++ farmer ∷ [])) (length read) (length entries) h.1 long))
       (farmers-yield grid lists all (read ++ farmer ∷ []) more entries))
 
   -- ---- servers
 
-  source-yield : (grid : Grid) (source : ServerSource) → Yields files (source_errand (wanted_of None grid) source) (AreKept grid)
-  source-yield grid (ServerSeed seed) = gives-yield files (AreKept grid) (seeded (wanted_of None grid) seed) (seeded-kept grid seed)
+  source-yield : (grid : Grid) (source : ServerSource) →
+      Yields files (source_errand (wanted_of None grid) source) (AreKept grid)
+  source-yield grid (ServerSeed seed) =
+      gives-yield files (AreKept grid) (seeded (wanted_of None grid) seed) (seeded-kept grid seed)
   source-yield grid (Tapes coefficients masks) =
-      then-yields files (reads coefficients TAPE_LIMIT (λ bytes. tape_of bytes (coefficients_kept grid))) _ (AreFew (coefficients_kept grid)) (AreKept grid)
-      (reads-yield files coefficients TAPE_LIMIT (λ bytes. tape_of bytes (coefficients_kept grid)) (AreFew (coefficients_kept grid)) (λ bytes words e. tape-are bytes (coefficients_kept grid) words e)) (λ numbers few.
-      then-yields files (reads masks TAPE_LIMIT (λ bytes. tape_of bytes (masks_wanted grid))) _ (AreFew (masks_wanted grid)) (AreKept grid)
-      (reads-yield files masks TAPE_LIMIT (λ bytes. tape_of bytes (masks_wanted grid)) (AreFew (masks_wanted grid)) (λ bytes words e. tape-are bytes (masks_wanted grid) words e)) (λ words few'.
+      then-yields files (reads coefficients TAPE_LIMIT (λ bytes. tape_of bytes (coefficients_kept grid))) _
+      (AreFew (coefficients_kept grid)) (AreKept grid)
+      (reads-yield files coefficients TAPE_LIMIT (λ bytes. tape_of bytes (coefficients_kept grid)) (AreFew
+      (coefficients_kept grid)) (λ bytes words e. tape-are bytes (coefficients_kept grid) words e)) (λ numbers few.
+      then-yields files (reads masks TAPE_LIMIT (λ bytes. tape_of bytes (masks_wanted grid))) _
+      (AreFew (masks_wanted grid)) (AreKept grid)
+      (reads-yield files masks TAPE_LIMIT (λ bytes. tape_of bytes (masks_wanted grid)) (AreFew (masks_wanted grid))
+      (λ bytes words e. tape-are bytes (masks_wanted grid) words e)) (λ words few'.
       gives-yield files (AreKept grid) (record { masks = words; coefficients = numbers })
       (record { cut = record { masks = few'.1; coefficients = few.1 }; masks = few'.0; coefficients = few.0 })))
 
@@ -183,30 +209,39 @@ module _ (files : List File) where
       (λ next. enough_of (wanted_of None grid) server words (step next)) P
   enough-yield grid server words step P y =
       passes-yield files (nat_lt (length (accepted words.coefficients)) (coefficients_wanted grid))
-      TooFewWords (server_short_text None server (codes "coefficients") (length (accepted words.coefficients)) (coefficients_wanted grid))
-      (λ next. enough_held None server (codes "masks") (length words.masks) (masks_wanted grid) (step next)) P (λ numbers.
+      TooFewWords (server_short_text None server (codes "coefficients") (length (accepted words.coefficients))
+      (coefficients_wanted grid))
+      (λ next. enough_held None server (codes "masks") (length words.masks) (masks_wanted grid) (step next)) P
+      (λ numbers.
       passes-yield files (nat_lt (length words.masks) (masks_wanted grid))
-      TooFewWords (server_short_text None server (codes "masks") (length words.masks) (masks_wanted grid)) step P (λ masks.
+      TooFewWords (server_short_text None server (codes "masks") (length words.masks) (masks_wanted grid))
+      step P (λ masks.
       y (record { coefficients = ltb-false _ _ numbers; masks = ltb-false _ _ masks })))
 
   pub servers-yield : {A : Type 0} (grid : Grid) (servers : Trio ServerWords) (step : Step A) (P : A → Type 0) →
-      (HasEnough (counts_of grid) servers.one → HasEnough (counts_of grid) servers.two → HasEnough (counts_of grid) servers.three →
+      (HasEnough (counts_of grid) servers.one → HasEnough (counts_of grid) servers.two →
+      HasEnough (counts_of grid) servers.three →
       Yields files step P) →
       Yields {A = A} files (λ next. enough_of_all (wanted_of None grid) servers (step next)) P
   servers-yield grid servers step P y =
       enough-yield grid 1 servers.one
-      (λ next. enough_of (wanted_of None grid) 2 servers.two (enough_of (wanted_of None grid) 3 servers.three (step next))) P (λ one.
+      (λ next. enough_of (wanted_of None grid) 2 servers.two
+      (enough_of (wanted_of None grid) 3 servers.three (step next))) P (λ one.
       enough-yield grid 2 servers.two (λ next. enough_of (wanted_of None grid) 3 servers.three (step next)) P (λ two.
       enough-yield grid 3 servers.three step P (λ three. y one two three)))
 
-  server-yield : (grid : Grid) (server : ℕ) (source : ServerSource) → Yields files (server_errand (wanted_of None grid) server source)
+  server-yield : (grid : Grid) (server : ℕ) (source : ServerSource) →
+      Yields files (server_errand (wanted_of None grid) server source)
       (CanServe grid)
   server-yield grid server source =
-      then-yields files (source_errand (wanted_of None grid) source) _ (AreKept grid) (CanServe grid) (source-yield grid source)
+      then-yields files (source_errand (wanted_of None grid) source) _ (AreKept grid) (CanServe grid)
+      (source-yield grid source)
       (λ words kept.
-      enough-yield grid server words (gives words) (CanServe grid) (λ enough. gives-yield files (CanServe grid) words (record { enough = enough; kept = kept })))
+      enough-yield grid server words (gives words) (CanServe grid)
+      (λ enough. gives-yield files (CanServe grid) words (record { enough = enough; kept = kept })))
 
-  three-yield : (grid : Grid) (sources : Trio ServerSource) → Yields files (three_errand (wanted_of None grid) sources) (CanServeAll grid)
+  three-yield : (grid : Grid) (sources : Trio ServerSource) →
+      Yields files (three_errand (wanted_of None grid) sources) (CanServeAll grid)
   three-yield grid sources =
       then-yields files (server_errand (wanted_of None grid) 1 sources.one) _ (CanServe grid) (CanServeAll grid)
       (server-yield grid 1 sources.one) (λ one h1.
@@ -214,32 +249,42 @@ module _ (files : List File) where
       (server-yield grid 2 sources.two) (λ two h2.
       then-yields files (server_errand (wanted_of None grid) 3 sources.three) _ (CanServe grid) (CanServeAll grid)
       (server-yield grid 3 sources.three) (λ three h3.
-      gives-yield files (CanServeAll grid) (record { one = one; two = two; three = three }) (record { one = h1; two = h2; three = h3 }))))
+      gives-yield files (CanServeAll grid) (record { one = one; two = two; three = three })
+      (record { one = h1; two = h2; three = h3 }))))
 
   cut-kept : (grid : Grid) (masks coefficients : List ℕ) → All IsWord masks → All IsWord coefficients → AreKept grid
       (cut_server (counts_of grid) masks coefficients)
   cut-kept grid masks coefficients m c = record {
-    cut = record { masks = take-few (masks_wanted grid) masks; coefficients = take-few (coefficients_kept grid) coefficients };
+    cut = record {
+      masks = take-few (masks_wanted grid) masks;
+      coefficients = take-few (coefficients_kept grid) coefficients;
+    };
     masks = All-take IsWord (masks_wanted grid) masks m;
     coefficients = All-take IsWord (coefficients_kept grid) coefficients c;
   }
 
-  chosen-words : (b : Bool) (held words : Words) → (if b then Ok held else Err wrong_count) ≡ Ok words → AreWords held → AreWords words
+  chosen-words : (b : Bool) (held words : Words) → (if b then Ok held else Err wrong_count) ≡ Ok words →
+      AreWords held → AreWords words
   chosen-words true held words e are = let same : held ≡ words = cc in subst AreWords same are
   chosen-words false held words e are = absurd cc
 
-  counted-are : (count : Option ℕ) (bytes : List ℕ) (reading : Reading Words) → bundle_of bytes ≡ reading → (words : Words) → counted count reading ≡ Ok words → AreWords words
+  counted-are : (count : Option ℕ) (bytes : List ℕ) (reading : Reading Words) → bundle_of bytes ≡ reading →
+      (words : Words) → counted count reading ≡ Ok words → AreWords words
   counted-are None bytes reading is words e = bundle-are bytes words (is ∙ e)
-  counted-are (Some count) bytes (Ok held) is words e = chosen-words (length held.bidders == count) held words e (bundle-are bytes held is)
+  counted-are (Some count) bytes (Ok held) is words e =
+      chosen-words (length held.bidders == count) held words e (bundle-are bytes held is)
   counted-are (Some count) bytes (Err fault) is words e = absurd cc
 
   pub all-words-yield : (grid : Grid) (count : Option ℕ) (sources : Servers) →
-      Yields files (all_words_errand (wanted_of None grid) count sources) (λ words. CanServeAll grid words.servers × AreLists words.bidders)
+      Yields files (all_words_errand (wanted_of None grid) count sources)
+      (λ words. CanServeAll grid words.servers × AreLists words.bidders)
   all-words-yield grid count (Three sources) =
-      then-yields files (three_errand (wanted_of None grid) sources) (λ servers. gives (record { servers = servers; bidders = None }))
+      then-yields files (three_errand (wanted_of None grid) sources)
+      (λ servers. gives (record { servers = servers; bidders = None }))
       (CanServeAll grid) (λ words. CanServeAll grid words.servers × AreLists words.bidders)
       (three-yield grid sources) (λ servers h.
-      gives-yield files (λ words. CanServeAll grid words.servers × AreLists words.bidders) (record { servers = servers; bidders = None }) (h, tt))
+      gives-yield files (λ words. CanServeAll grid words.servers × AreLists words.bidders)
+      (record { servers = servers; bidders = None }) (h, tt))
   all-words-yield grid count (Bundle name) =
       then-yields files (reads name LONGEST_FILE (λ bytes. counted count (bundle_of bytes)))
       (λ words next. enough_of_all (wanted_of None grid) (cut_servers (counts_of grid) words) (next (record {
@@ -247,15 +292,25 @@ module _ (files : List File) where
             (counts_of grid) words;
         bidders = Some words.bidders;
       }))) AreWords (λ words. CanServeAll grid words.servers × AreLists words.bidders)
-      (reads-yield files name LONGEST_FILE (λ bytes. counted count (bundle_of bytes)) AreWords (λ bytes words e. counted-are count bytes (bundle_of bytes) refl words e)) (λ words are.
+      (reads-yield files name LONGEST_FILE (λ bytes. counted count (bundle_of bytes)) AreWords
+      (λ bytes words e. counted-are count bytes (bundle_of bytes) refl words e)) (λ words are.
       let all : AllWords = record { servers = cut_servers (counts_of grid) words; bidders = Some words.bidders } in
       servers-yield grid (cut_servers (counts_of grid) words) (gives all)
       (λ words. CanServeAll grid words.servers × AreLists words.bidders) (λ one two three.
       gives-yield files (λ words. CanServeAll grid words.servers × AreLists words.bidders) all (
         record {
-          one = record { enough = one; kept = cut-kept grid words.masks.one words.coefficients.one are.masks.0 are.coefficients.0 };
-          two = record { enough = two; kept = cut-kept grid words.masks.two words.coefficients.two are.masks.1 are.coefficients.1 };
-          three = record { enough = three; kept = cut-kept grid words.masks.three words.coefficients.three are.masks.2 are.coefficients.2 };
+          one = record {
+            enough = one;
+            kept = cut-kept grid words.masks.one words.coefficients.one are.masks.0 are.coefficients.0;
+          };
+          two = record {
+            enough = two;
+            kept = cut-kept grid words.masks.two words.coefficients.two are.masks.1 are.coefficients.1;
+          };
+          three = record {
+            enough = three;
+            kept = cut-kept grid words.masks.three words.coefficients.three are.masks.2 are.coefficients.2;
+          };
         },
         are.bidders,
       )))
@@ -263,16 +318,19 @@ module _ (files : List File) where
   -- ---- the whole
 
   words-farmers-yield : (grid : Grid) (sources : Servers) (entries : List Entry) → length entries ≤ MOST_BIDDERS →
-      Yields {A = Loaded} files (λ next. all_words_errand (wanted_of None grid) (Some (length entries)) sources (λ words. farmers_errand
+      Yields {A = AuctionWithBidders} files
+      (λ next. all_words_errand (wanted_of None grid) (Some (length entries)) sources (λ words. farmers_errand
       (wanted_of None grid) grid words.bidders [] entries (λ farmers.
       next (record { grid = grid; servers = words.servers; farmers = farmers })))) IsLoaded
   words-farmers-yield grid sources entries few =
       then-yields files (all_words_errand (wanted_of None grid) (Some (length entries)) sources)
       (λ words next. farmers_errand (wanted_of None grid) grid words.bidders [] entries (λ farmers. next (record
-      { grid = grid; servers = words.servers; farmers = farmers }))) (λ words. CanServeAll grid words.servers × AreLists words.bidders) IsLoaded
+      { grid = grid; servers = words.servers; farmers = farmers })))
+      (λ words. CanServeAll grid words.servers × AreLists words.bidders) IsLoaded
       (all-words-yield grid (Some (length entries)) sources) (λ words good.
       then-yields files (farmers_errand (wanted_of None grid) grid words.bidders [] entries)
-      (λ farmers. gives (record { grid = grid; servers = words.servers; farmers = farmers })) (λ farmers. All (IsRead grid) farmers × (length farmers ≡ 0 + length entries)) IsLoaded
+      (λ farmers. gives (record { grid = grid; servers = words.servers; farmers = farmers }))
+      (λ farmers. All (IsRead grid) farmers × (length farmers ≡ 0 + length entries)) IsLoaded
       (farmers-yield grid words.bidders good.1 [] (All-nil (IsRead grid)) entries) (λ farmers h.
       gives-yield files IsLoaded (record { grid = grid; servers = words.servers; farmers = farmers })
       (record { few = omega (arith, few, h.1); farmers = h.0; servers = good.0 })))
@@ -280,22 +338,31 @@ module _ (files : List File) where
   pub loaded-yield : (auction servers book : List ℕ) → Yields files (loaded_errand auction servers book) IsLoaded
   unfolding loaded_errand setting_errand rest_errand
   loaded-yield auction servers book =
-      then-yields files (reads auction AUCTION_LIMIT auction_of) _ (λ grid. Unit {0}) IsLoaded (any-yield files auction AUCTION_LIMIT auction_of) (λ grid any.
-      then-yields files (reads servers SERVERS_LIMIT servers_of) _ (λ sources. Unit {0}) IsLoaded (any-yield files servers SERVERS_LIMIT servers_of) (λ sources any.
+      then-yields files (reads auction AUCTION_LIMIT auction_of) _ (λ grid. Unit {0}) IsLoaded
+      (any-yield files auction AUCTION_LIMIT auction_of) (λ grid any.
+      then-yields files (reads servers SERVERS_LIMIT servers_of) _ (λ sources. Unit {0}) IsLoaded
+      (any-yield files servers SERVERS_LIMIT servers_of) (λ sources any.
       then-yields files (reads book BOOK_LIMIT book_of) _ (λ entries. length entries ≤ MOST_BIDDERS) IsLoaded
-      (reads-yield files book BOOK_LIMIT book_of (λ entries. length entries ≤ MOST_BIDDERS) (λ bytes entries e. book-few bytes entries e)) (λ entries few.
+      (reads-yield files book BOOK_LIMIT book_of (λ entries. length entries ≤ MOST_BIDDERS)
+      (λ bytes entries e. book-few bytes entries e)) (λ entries few.
       words-farmers-yield grid sources entries few)))
 
   -- where a job is done that keeps a whole book, what it has read is so
-  pub limited : (auction servers book : List ℕ) → Yields files (limited_errand auction servers book) (IsLimited files auction)
+  pub limited : (auction servers book : List ℕ) →
+      Yields files (limited_errand auction servers book) (IsLimited files auction)
   unfolding limited_errand setting_errand rest_errand
   limited auction servers book =
-      then-yields files (reads auction AUCTION_LIMIT auction_of) _ (IsHeld files auction AUCTION_LIMIT auction_of) (IsLimited files auction)
+      then-yields files (reads auction AUCTION_LIMIT auction_of) _ (IsHeld files auction AUCTION_LIMIT auction_of)
+      (IsLimited files auction)
       (held-yield files auction AUCTION_LIMIT auction_of) (λ grid held.
-      then-yields files (reads servers SERVERS_LIMIT servers_of) _ (λ sources. Unit {0}) (IsLimited files auction) (any-yield files servers SERVERS_LIMIT servers_of) (λ sources any.
-      then-yields files (reads book BOOK_LIMIT book_of) _ (λ entries. length entries ≤ MOST_BIDDERS) (IsLimited files auction)
-      (reads-yield files book BOOK_LIMIT book_of (λ entries. length entries ≤ MOST_BIDDERS) (λ bytes entries e. book-few bytes entries e)) (λ entries few.
-      passes-yield {A = Loaded} files (nat_lt MOST_PRODUCT (0 + length entries * grid.prices)) BadFile (fault_line_of book over_product.place over_product.reason) _
+      then-yields files (reads servers SERVERS_LIMIT servers_of) _ (λ sources. Unit {0}) (IsLimited files auction)
+      (any-yield files servers SERVERS_LIMIT servers_of) (λ sources any.
+      then-yields files (reads book BOOK_LIMIT book_of) _ (λ entries. length entries ≤ MOST_BIDDERS)
+      (IsLimited files auction)
+      (reads-yield files book BOOK_LIMIT book_of (λ entries. length entries ≤ MOST_BIDDERS)
+      (λ bytes entries e. book-few bytes entries e)) (λ entries few.
+      passes-yield {A = AuctionWithBidders} files (nat_lt MOST_PRODUCT (0 + length entries * grid.prices)) BadFile
+      (fault_line_of book over_product.place over_product.reason) _
       (IsLimited files auction) (λ within.
       then-yields files (all_words_errand (wanted_of None grid) (Some (length entries)) sources)
       (λ words next. farmers_errand (wanted_of None grid) grid words.bidders [] entries
@@ -303,10 +370,12 @@ module _ (files : List File) where
       (λ words. CanServeAll grid words.servers × AreLists words.bidders) (IsLimited files auction)
       (all-words-yield grid (Some (length entries)) sources) (λ words good.
       then-yields files (farmers_errand (wanted_of None grid) grid words.bidders [] entries)
-      (λ farmers. gives (record { grid = grid; servers = words.servers; farmers = farmers })) (λ farmers. All (IsRead grid) farmers × (length farmers ≡ 0 + length entries))
+      (λ farmers. gives (record { grid = grid; servers = words.servers; farmers = farmers }))
+      (λ farmers. All (IsRead grid) farmers × (length farmers ≡ 0 + length entries))
       (IsLimited files auction)
       (farmers-yield grid words.bidders good.1 [] (All-nil (IsRead grid)) entries) (λ farmers h.
-      gives-yield files (IsLimited files auction) (record { grid = grid; servers = words.servers; farmers = farmers }) (record {
+      gives-yield files (IsLimited files auction)
+      (record { grid = grid; servers = words.servers; farmers = farmers }) (record {
         grid = held;
         product = within-limit (length farmers) (length entries) grid.prices h.1 within;
         right = record { few = omega (arith, few, h.1); farmers = h.0; servers = good.0 };
@@ -314,73 +383,95 @@ module _ (files : List File) where
 
   pub limited-yield : (auction servers book : List ℕ) → Yields files (limited_errand auction servers book) IsLoaded
   limited-yield auction servers book =
-      weaker-yield files (limited_errand auction servers book) (IsLimited files auction) IsLoaded (λ loaded h. h.right) (limited auction servers book)
+      weaker-yield files (limited_errand auction servers book) (IsLimited files auction) IsLoaded (λ loaded h. h.right)
+      (limited auction servers book)
 
   -- bidders without words
   abbrev IsBidder : Grid → Bidder → Type 0
   IsBidder grid bidder = IsCurve bidder.curve × IsOfGrid grid bidder.curve
 
   bids-yield : (grid : Grid) (read : List Bidder) → All (IsBidder grid) read → (entries : List Entry) →
-      Yields files (bids_errand grid read entries) (λ bidders. All (IsBidder grid) bidders × (length bidders ≡ length read + length entries))
+      Yields files (bids_errand grid read entries)
+      (λ bidders. All (IsBidder grid) bidders × (length bidders ≡ length read + length entries))
   bids-yield grid read are [] =
-      gives-yield files (λ bidders. All (IsBidder grid) bidders × (length bidders ≡ length read + 0)) read (are, omega arith)
+      gives-yield files (λ bidders. All (IsBidder grid) bidders × (length bidders ≡ length read + 0)) read
+      (are, omega arith)
   bids-yield grid read are (entry ∷ entries) =
       then-yields files (reads entry.bid BID_LIMIT (bid_of grid)) _ (λ curve. IsCurve curve × IsOfGrid grid curve)
       (λ bidders. All (IsBidder grid) bidders × (length bidders ≡ length read + length (entry ∷ entries)))
-      (reads-yield files entry.bid BID_LIMIT (bid_of grid) (λ curve. IsCurve curve × IsOfGrid grid curve) (λ bytes curve e. bid-is grid bytes curve e)) (λ curve is.
+      (reads-yield files entry.bid BID_LIMIT (bid_of grid) (λ curve. IsCurve curve × IsOfGrid grid curve)
+      (λ bytes curve e. bid-is grid bytes curve e)) (λ curve is.
       let bidder : Bidder = record { known = entry.known; curve = curve } in
-      let more = All-append (IsBidder grid) read (bidder ∷ []) are (All-cons (IsBidder grid) bidder [] is (All-nil (IsBidder grid))) in
+      let more = All-append (IsBidder grid) read (bidder ∷ []) are
+      (All-cons (IsBidder grid) bidder [] is (All-nil (IsBidder grid))) in
       let long : length (read ++ bidder ∷ []) ≡ length read + 1 = length-append read (bidder ∷ []) in
       weaker-yield files (bids_errand grid (read ++ bidder ∷ []) entries)
       (λ bidders. All (IsBidder grid) bidders × (length bidders ≡ length (read ++ bidder ∷ []) + length entries))
       (λ bidders. All (IsBidder grid) bidders × (length bidders ≡ length read + length (entry ∷ entries)))
-      (λ bidders h. (h.0, one-more (length bidders) (length (read ++ bidder ∷ [])) (length read) (length entries) h.1 long))
+      (λ bidders h.
+      (h.0, one-more (length bidders) (length (read ++ bidder ∷ [])) (length read) (length entries) h.1 long))
       (bids-yield grid (read ++ bidder ∷ []) more entries))
 
-  pub curves-yield : (book : List ℕ) (grid : Grid) → Yields files (curves_errand 0 book grid) (λ bidders. IsBook (record { grid = grid; bidders = bidders }))
+  pub curves-yield : (book : List ℕ) (grid : Grid) →
+      Yields files (curves_errand 0 book grid) (λ bidders. IsBook (record { grid = grid; bidders = bidders }))
   curves-yield book grid =
-      then-yields files (reads book BOOK_LIMIT book_of) _ (λ entries. length entries ≤ MOST_BIDDERS) (λ bidders. IsBook (record { grid = grid; bidders = bidders }))
-      (reads-yield files book BOOK_LIMIT book_of (λ entries. length entries ≤ MOST_BIDDERS) (λ bytes entries e. book-few bytes entries e)) (λ entries few.
-      passes-yield {A = List Bidder} files (nat_lt MOST_PRODUCT (0 + length entries * grid.prices)) BadFile (fault_line_of book over_product.place over_product.reason)
-      (bids_errand grid [] entries) (λ bidders. IsBook (record { grid = grid; bidders = bidders })) (λ within.
-      weaker-yield files (bids_errand grid [] entries) (λ bidders. All (IsBidder grid) bidders × (length bidders ≡ 0 + length entries))
+      then-yields files (reads book BOOK_LIMIT book_of) _ (λ entries. length entries ≤ MOST_BIDDERS)
       (λ bidders. IsBook (record { grid = grid; bidders = bidders }))
-      (λ bidders h. record { few = omega (arith, few, h.1); curves = λ k d lt. (h.0 k d lt).0; of_grid = λ k d lt. (h.0 k d lt).1 })
+      (reads-yield files book BOOK_LIMIT book_of (λ entries. length entries ≤ MOST_BIDDERS)
+      (λ bytes entries e. book-few bytes entries e)) (λ entries few.
+      passes-yield {A = List Bidder} files (nat_lt MOST_PRODUCT (0 + length entries * grid.prices)) BadFile
+      (fault_line_of book over_product.place over_product.reason)
+      (bids_errand grid [] entries) (λ bidders. IsBook (record { grid = grid; bidders = bidders })) (λ within.
+      weaker-yield files (bids_errand grid [] entries)
+      (λ bidders. All (IsBidder grid) bidders × (length bidders ≡ 0 + length entries))
+      (λ bidders. IsBook (record { grid = grid; bidders = bidders }))
+      (λ bidders h.
+      record { few = omega (arith, few, h.1); curves = λ k d lt. (h.0 k d lt).0; of_grid = λ k d lt. (h.0 k d lt).1 })
       (bids-yield grid [] (All-nil (IsBidder grid)) entries)))
 
 -- ---- the book and the words
 
-pub farmers-back : (farmers : List Farmer) → farmers_of (map (λ (f : Farmer). f.bidder) farmers) (map (λ (f : Farmer). f.words) farmers) ≡ farmers
+pub farmers-back : (farmers : List BidderWithWords) →
+    farmers_of (map (λ (f : BidderWithWords). f.bidder) farmers) (map (λ (f : BidderWithWords). f.words) farmers) ≡ farmers
 farmers-back [] = refl
-farmers-back (farmer ∷ farmers) = ap (λ (l : List Farmer). farmer ∷ l) (farmers-back farmers)
+farmers-back (farmer ∷ farmers) = ap (λ (l : List BidderWithWords). farmer ∷ l) (farmers-back farmers)
 
-pub has-accepted : (wanted : ℕ) (words : List ℕ) → wanted ≤ length (accepted words) → length words ≤ wanted + SPARE_WORDS → HasAccepted wanted words
+pub has-accepted : (wanted : ℕ) (words : List ℕ) → wanted ≤ length (accepted words) →
+    length words ≤ wanted + SPARE_WORDS → HasAccepted wanted words
 has-accepted wanted words enough short =
     subst (λ (w : List ℕ). wanted ≤ length (accepted w)) (sym (take_all (wanted + SPARE_WORDS) words short)) enough
 
-module _ (grid : Grid) (servers : Trio ServerWords) (farmers : List Farmer) where
+-- bidders that are read are those of a book
+pub farmers-book : (grid : Grid) (farmers : List BidderWithWords) → length farmers ≤ MOST_BIDDERS → All (IsRead grid) farmers →
+    IsBook (book_with grid farmers)
+farmers-book grid farmers few each = record {
+  few = omega (arith, length-map farmers (λ (f : BidderWithWords). f.bidder), few);
+  curves = All-map (λ (b : Bidder). IsCurve b.curve) (λ (f : BidderWithWords). f.bidder) farmers
+      (λ k d lt. (each k d lt).is.curve);
+  of_grid = All-map (λ (b : Bidder). IsOfGrid grid b.curve) (λ (f : BidderWithWords). f.bidder) farmers
+      (λ k d lt. (each k d lt).is.of_grid);
+}
+
+module _ (grid : Grid) (servers : Trio ServerWords) (farmers : List BidderWithWords) where
   abbrev pub the_book : Book
   the_book = book_with grid farmers
 
   abbrev pub the_words : Words
-  the_words = all_words servers (map (λ (f : Farmer). f.words) farmers)
+  the_words = all_words servers (map (λ (f : BidderWithWords). f.words) farmers)
 
   pub back : loaded_with the_book the_words ≡ record { grid = grid; servers = servers; farmers = farmers }
-  back = ap (λ (l : List Farmer). record { grid = grid; servers = servers; farmers = l }) (farmers-back farmers)
+  back = ap (λ (l : List BidderWithWords). record { grid = grid; servers = servers; farmers = l }) (farmers-back farmers)
 
-  module _ (few : length farmers ≤ MOST_BIDDERS) (each : All (IsRead grid) farmers) (all : CanServeAll grid servers) where
+  module _ (few : length farmers ≤ MOST_BIDDERS) (each : All (IsRead grid) farmers)
+      (all : CanServeAll grid servers) where
     pub is-book : IsBook the_book
-    is-book = record {
-      few = omega (arith, length-map farmers (λ (f : Farmer). f.bidder), few);
-      curves = All-map (λ (b : Bidder). IsCurve b.curve) (λ (f : Farmer). f.bidder) farmers (λ k d lt. (each k d lt).is.curve);
-      of_grid = All-map (λ (b : Bidder). IsOfGrid grid b.curve) (λ (f : Farmer). f.bidder) farmers (λ k d lt. (each k d lt).is.of_grid);
-    }
+    is-book = farmers-book grid farmers few each
 
     many : length the_words.bidders ≡ length the_book.bidders
-    many = length-map farmers (λ (f : Farmer). f.words) ∙ sym (length-map farmers (λ (f : Farmer). f.bidder))
+    many = length-map farmers (λ (f : BidderWithWords). f.words) ∙ sym (length-map farmers (λ (f : BidderWithWords). f.bidder))
 
     deal : All (CanDeal (counts_of grid)) the_words.bidders
-    deal = All-map (CanDeal (counts_of grid)) (λ (f : Farmer). f.words) farmers (λ k d lt. (each k d lt).is.words)
+    deal = All-map (CanDeal (counts_of grid)) (λ (f : BidderWithWords). f.words) farmers (λ k d lt. (each k d lt).is.words)
 
     pub can-run-cut : CanStart the_book the_words
     can-run-cut = record {
@@ -395,14 +486,18 @@ module _ (grid : Grid) (servers : Trio ServerWords) (farmers : List Farmer) wher
       are_words = record {
         masks = (all.one.kept.masks, all.two.kept.masks, all.three.kept.masks);
         coefficients = (all.one.kept.coefficients, all.two.kept.coefficients, all.three.kept.coefficients);
-        bidders = All-map (λ list. All IsWord list) (λ (f : Farmer). f.words) farmers (λ k d lt. (each k d lt).words);
+        bidders = All-map (λ list. All IsWord list) (λ (f : BidderWithWords). f.words) farmers (λ k d lt. (each k d lt).words);
       };
       enough = record {
         masks = (all.one.enough.masks, all.two.enough.masks, all.three.enough.masks);
-        one = has-accepted (coefficients_wanted grid) servers.one.coefficients all.one.enough.coefficients all.one.kept.cut.coefficients;
-        two = has-accepted (coefficients_wanted grid) servers.two.coefficients all.two.enough.coefficients all.two.kept.cut.coefficients;
-        three = has-accepted (coefficients_wanted grid) servers.three.coefficients all.three.enough.coefficients all.three.kept.cut.coefficients;
+        one = has-accepted (coefficients_wanted grid) servers.one.coefficients all.one.enough.coefficients
+            all.one.kept.cut.coefficients;
+        two = has-accepted (coefficients_wanted grid) servers.two.coefficients all.two.enough.coefficients
+            all.two.kept.cut.coefficients;
+        three = has-accepted (coefficients_wanted grid) servers.three.coefficients all.three.enough.coefficients
+            all.three.kept.cut.coefficients;
         count = many;
-        bidders = λ k d lt. (let h = deal k d lt in has-accepted (words_wanted grid) (get_or the_words.bidders k d) h.enough h.kept);
+        bidders = λ k d lt.
+            (let h = deal k d lt in has-accepted (words_wanted grid) (get_or the_words.bidders k d) h.enough h.kept);
       };
     }

@@ -1,13 +1,15 @@
 -- What the job `trial` has tried and said.
-use Rattle.std.proofs.Common.{◌≡◌, ◌≤◌, ◌==◌, ◌&&◌, ◌+◌, ℕ, List, [], ◌∷◌, length, get_or, nat_lt, not, slice_index, Bool, true, false, Option, Some, None, Result, Ok, Err, if◌then◌else◌, refl, ap, subst, arith}
+use Rattle.std.proofs.Common.{◌≡◌, ◌≤◌, ◌==◌, ◌&&◌, ◌+◌, ℕ, List, [], ◌∷◌, length, get_or, nat_lt, not, slice_index}
+use Rattle.std.proofs.Common.{Bool, true, false, Option, Some, None, Result, Ok, Err, if◌then◌else◌, refl, ap, subst}
+use Rattle.std.proofs.Common.{arith}
 use Rattle.std.specs.Prelude.{All, codes, option_and_then, option_map}
 use Rattle.std.specs.Char.{is_ascii_digit}
 use Rattle.std.specs.List.{list_all, range_with_len}
 use Rattle.std.proofs.lemmas.Bool.{ltb-false}
 use Rattle.std.proofs.lemmas.List.Elements.{All-cons, All-map, All-nil}
 use Rattle.std.proofs.lemmas.List.FromFn.{length-map-range_with_len}
-use Rattle.beet_store.specs.Files.{Told}
-use Rattle.beet_store.specs.Desks.{Given}
+use Rattle.beet_store.specs.Files.{File, Told}
+use Rattle.beet_store.specs.Desks.{DeskTold}
 use Rattle.beet_forms.specs.Numbers.{decimal_value, number_of}
 use Rattle.beet_forms.specs.declared.decimals.NumberFault.{NumberFault}
 use Rattle.beet_forms.specs.declared.decimals.NumberFault.TheVariants.{Empty, NotDigit, LeadingZero, TooLarge}
@@ -17,9 +19,10 @@ use Rattle.beet_words.specs.declared.bundle.TheConstants.{MOST_BIDDERS}
 use Rattle.beet_bids.specs.Curves.{IsCurve, IsOfGrid}
 use Rattle.beet_bids.specs.Grids.{Grid}
 use Rattle.beet_bids.specs.declared.grid.TheConstants.{MOST_PRICES}
-use Rattle.beet_book.specs.Farmers.{Farmer}
+use Rattle.beet_book.specs.Farmers.{BidderWithWords}
 use Rattle.beet_plan.specs.Kept.{words_kept}
 use Rattle.beet_auction.specs.Endings.{book_finish, book_rounds}
+use Rattle.beet_errand.specs.Overs.{FromFiles}
 use Rattle.beet_errand.specs.Errands.{Answer, Step, gives}
 use Rattle.beet_errand.specs.declared.answer.Refusal.TheVariants.{TooFewWords}
 use Rattle.beet_errand.specs.Statuses.{IsDoneCode}
@@ -28,29 +31,34 @@ use Rattle.beet_load.specs.Wanted.{wanted_of}
 use Rattle.beet_load.specs.Servers.{HasEnough, masks_of, seeded}
 use Rattle.beet_load.specs.WordTexts.{too_few_text}
 use Rattle.beet_run.specs.OutcomeTexts.{outcome_text}
-use Rattle.beet_trial.specs.Adding.{enough_of_each}
-use Rattle.beet_trial.specs.Rules.{bidder_seed, server_seed, trial_book, trial_farmer, trial_farmers, trial_grid, trial_servers}
-use Rattle.beet_trial.specs.Sizes.{from_low, number_within, sizes_of}
-use Rattle.beet_trial.specs.Trial.{trial_answer, trial_errand, trial_job, trial_over}
-use Rattle.beet_trial.proofs.Curves.{is-curve, is-of-grid}
+use Rattle.beet_job_trial.specs.Adding.{enough_of_each}
+use Rattle.beet_job_trial.specs.Rules.{bidder_seed, server_seed, trial_book, trial_farmer, trial_farmers, trial_grid}
+use Rattle.beet_job_trial.specs.Rules.{trial_servers}
+use Rattle.beet_job_trial.specs.Sizes.{from_low, number_within, sizes_of}
+use Rattle.beet_job_trial.specs.Trial.{trial_answer, trial_errand, trial_job, trial_over}
+use Rattle.beet_job_trial.proofs.Curves.{is-curve, is-of-grid}
 use Rattle.beet_app.specs.Jobs.{Answering, job_of}
 use Rattle.beet_program_laws.specs.Commands.{RunsTrial}
 use Rattle.beet_program_laws.proofs.Ends.{Ran, WentOut, found, no-job, servers-open, tells}
 use Rattle.beet_program_laws.proofs.Files.{seed-are}
-use Rattle.beet_program_laws.proofs.Read.{CanServe, CanServeAll, IsRead, can-run, is-book, seeded-kept, servers-yield, the_book, the_words}
+use Rattle.beet_program_laws.proofs.Read.{CanServe, CanServeAll, IsRead, can-run, is-book, seeded-kept, servers-yield}
+use Rattle.beet_program_laws.proofs.Read.{the_book, the_words}
 use Rattle.beet_program_laws.proofs.Steps.{Yields, gives-yield, passes-yield}
 
 -- ---- the sizes
 
 number-most : (ds : List ℕ) (most n : ℕ) → number_of ds most ≡ Ok n → n ≤ most
-number-most ds most n e = go (length ds == 0) (not (list_all is_ascii_digit ds)) (nat_lt 1 (length ds) && (slice_index ds 0 == 48)) (nat_lt most (decimal_value ds)) refl e where
-  go : (a b c d : Bool) → nat_lt most (decimal_value ds) ≡ d →
-      (if a then Err Empty else if b then Err NotDigit else if c then Err LeadingZero else if d then Err TooLarge else Ok (decimal_value ds)) ≡ Ok n → n ≤ most
-  go true b c d is e = absurd cc
-  go false true c d is e = absurd cc
-  go false false true d is e = absurd cc
-  go false false false true is e = absurd cc
-  go false false false false is e = let same : decimal_value ds ≡ n = cc in omega (arith, same, ltb-false most (decimal_value ds) is)
+number-most ds most n e = go (length ds == 0) (not (list_all is_ascii_digit ds))
+    (nat_lt 1 (length ds) && (slice_index ds 0 == 48)) (nat_lt most (decimal_value ds)) refl e where
+      go : (a b c d : Bool) → nat_lt most (decimal_value ds) ≡ d →
+          (if a then Err Empty else if b then Err NotDigit else if c then Err LeadingZero else if d then Err TooLarge
+          else Ok (decimal_value ds)) ≡ Ok n → n ≤ most
+      go true b c d is e = absurd cc
+      go false true c d is e = absurd cc
+      go false false true d is e = absurd cc
+      go false false false true is e = absurd cc
+      go false false false false is e = let same : decimal_value ds ≡ n = cc in
+          omega (arith, same, ltb-false most (decimal_value ds) is)
 
 not-low : (b : Bool) (m n : ℕ) → (if b then None else Some m) ≡ Some n → m ≡ n
 not-low true m n e = absurd cc
@@ -63,25 +71,27 @@ from-low-is low (Err fault) n e = absurd cc
 within-most : (low high : ℕ) (word : List ℕ) (n : ℕ) → number_within low high word ≡ Some n → n ≤ high
 within-most low high word n e = number-most word high n (from-low-is low (number_of word high) n e)
 
-both-are : (count places : Option ℕ) (sizes : ℕ × ℕ) → option_and_then (λ c. option_map (λ p. (c, p)) places) count ≡ Some sizes →
+both-are : (count places : Option ℕ) (sizes : ℕ × ℕ) →
+    option_and_then (λ c. option_map (λ p. (c, p)) places) count ≡ Some sizes →
     (count ≡ Some sizes.0) × (places ≡ Some sizes.1)
 both-are None places sizes e = absurd cc
 both-are (Some c) None sizes e = absurd cc
 both-are (Some c) (Some p) sizes e =
     let same : (c, p) ≡ sizes = cc in (ap (λ (t : ℕ × ℕ). Some t.0) same, ap (λ (t : ℕ × ℕ). Some t.1) same)
 
-sizes-are : (first second : List ℕ) (sizes : ℕ × ℕ) → sizes_of first second ≡ Some sizes → (sizes.0 ≤ MOST_BIDDERS) × (sizes.1 ≤ MOST_PRICES)
+sizes-are : (first second : List ℕ) (sizes : ℕ × ℕ) → sizes_of first second ≡ Some sizes →
+    (sizes.0 ≤ MOST_BIDDERS) × (sizes.1 ≤ MOST_PRICES)
 sizes-are first second sizes e =
     let both = both-are (number_within 0 MOST_BIDDERS first) (number_within 1 MOST_PRICES second) sizes e in
     (within-most 0 MOST_BIDDERS first sizes.0 both.0, within-most 1 MOST_PRICES second sizes.1 both.1)
 
 -- ---- the bidders
 
-abbrev HasWords : Grid → Farmer → Type 0
+abbrev HasWords : Grid → BidderWithWords → Type 0
 HasWords grid farmer = words_wanted grid ≤ length (accepted farmer.words)
 
 -- what the rule makes
-record IsMade (grid : Grid) (farmer : Farmer) : Type 0 where
+record IsMade (grid : Grid) (farmer : BidderWithWords) : Type 0 where
   curve : IsCurve farmer.bidder.curve
   of_grid : IsOfGrid grid farmer.bidder.curve
   kept : length farmer.words ≤ words_kept grid.prices
@@ -98,21 +108,27 @@ all-made grid bidders limit =
       words = seed-are (bidder_seed i) 0 (words_kept grid.prices);
     })
 
-all-read : (grid : Grid) (bidders : ℕ) → grid.prices ≤ MOST_PRICES → All (HasWords grid) (trial_farmers grid bidders) → All (IsRead grid) (trial_farmers grid bidders)
+all-read : (grid : Grid) (bidders : ℕ) → grid.prices ≤ MOST_PRICES → All (HasWords grid) (trial_farmers grid bidders) →
+    All (IsRead grid) (trial_farmers grid bidders)
 all-read grid bidders limit enough = λ k d lt.
     let made = all-made grid bidders limit k d lt in
     record {
-      is = record { curve = made.curve; of_grid = made.of_grid; words = record { enough = enough k d lt; kept = made.kept } };
+      is = record {
+        curve = made.curve;
+        of_grid = made.of_grid;
+        words = record { enough = enough k d lt; kept = made.kept };
+      };
       words = made.words;
     }
 
-module _ (told : Told) (told_now : Option Told) (given now : Option Given) (status : ℕ) (w : IsDoneCode status) where
-  each-yield : {A : Type 0} (grid : Grid) (number : ℕ) (farmers : List Farmer) (step : Step A) (P : A → Type 0) →
-      (All (HasWords grid) farmers → Yields told.files step P) →
-      Yields {A = A} told.files (λ next. enough_of_each grid number farmers (step next)) P
+module _ (files : List File) (told told_now : Told) (from : FromFiles files told told_now) (given now : DeskTold)
+    (status : ℕ) (w : IsDoneCode status) where
+  each-yield : {A : Type 0} (grid : Grid) (number : ℕ) (farmers : List BidderWithWords) (step : Step A) (P : A → Type 0) →
+      (All (HasWords grid) farmers → Yields files step P) →
+      Yields {A = A} files (λ next. enough_of_each grid number farmers (step next)) P
   each-yield grid number [] step P y = y (All-nil (HasWords grid))
   each-yield grid number (farmer ∷ farmers) step P y =
-      passes-yield told.files (nat_lt (length (accepted farmer.words)) (words_wanted grid))
+      passes-yield files (nat_lt (length (accepted farmer.words)) (words_wanted grid))
       TooFewWords (too_few_text None number (length (accepted farmer.words)) (words_wanted grid))
       (λ next. enough_of_each grid (number + 1) farmers (step next)) P (λ enough.
       each-yield grid (number + 1) farmers step P (λ all.
@@ -126,39 +142,51 @@ module _ (told : Told) (told_now : Option Told) (given now : Option Given) (stat
     three : HasEnough (counts_of grid) (trial_servers grid).three
     bidders_enough : All (HasWords grid) (trial_farmers grid bidders)
 
-  trial-yield : (grid : Grid) (bidders : ℕ) → Yields told.files (trial_over grid bidders) (IsTried grid bidders)
+  trial-yield : (grid : Grid) (bidders : ℕ) → Yields files (trial_over grid bidders) (IsTried grid bidders)
   trial-yield grid bidders =
-      servers-yield told.files grid (trial_servers grid) (λ next. enough_of_each grid 1 (trial_farmers grid bidders) (next (trial_answer grid bidders))) (IsTried grid bidders)
-      (λ one two three. each-yield grid 1 (trial_farmers grid bidders) (gives (trial_answer grid bidders)) (IsTried grid bidders) (λ all.
-      gives-yield told.files (IsTried grid bidders) (trial_answer grid bidders) (record { is = refl; one = one; two = two; three = three; bidders_enough = all })))
+      servers-yield files grid (trial_servers grid) (λ next. enough_of_each grid 1 (trial_farmers grid bidders)
+      (next (trial_answer grid bidders))) (IsTried grid bidders)
+      (λ one two three. each-yield grid 1 (trial_farmers grid bidders) (gives (trial_answer grid bidders))
+      (IsTried grid bidders) (λ all.
+      gives-yield files (IsTried grid bidders) (trial_answer grid bidders)
+      (record { is = refl; one = one; two = two; three = three; bidders_enough = all })))
 
   tried : (first second : List ℕ) (sizes : Option (ℕ × ℕ)) → sizes_of first second ≡ sizes →
-      Ran told told_now given now status w (option_map (λ s. Answering (trial_errand s.0 s.1)) sizes) → RunsTrial first second status given now
-  tried first second None e ran = no-job told told_now given now status w ran
+      Ran files told told_now from given now status w (option_map (λ s. Answering (trial_errand s.0 s.1)) sizes) →
+      RunsTrial first second status given now
+  tried first second None e ran = no-job files told told_now from given now status w ran
   tried first second (Some sizes) e ran =
       let grid = trial_grid sizes.1 in
       let limits = sizes-are first second sizes e in
-      let f = found told told_now given now status w (trial_job sizes.0 sizes.1) (λ answer. answer) (IsTried grid sizes.0) (trial-yield grid sizes.0) ran in
-      let out : WentOut (trial_answer grid sizes.0) given now status = subst (λ (x : Answer). WentOut x given now status) f.holds.is f.out in
+      let f = found files told told_now from given now status w (trial_job sizes.0 sizes.1) (λ answer. answer)
+      (IsTried grid sizes.0) (trial-yield grid sizes.0) ran in
+      let out : WentOut (trial_answer grid sizes.0) given now status =
+      subst (λ (x : Answer). WentOut x given now status) f.holds.is f.out in
       let farmers = trial_farmers grid sizes.0 in
       let servers = trial_servers grid in
-      let serve : (server : ℕ) → HasEnough (counts_of grid) (seeded (wanted_of None grid) (server_seed server)) → CanServe grid
+      let serve : (server : ℕ) →
+      HasEnough (counts_of grid) (seeded (wanted_of None grid) (server_seed server)) → CanServe grid
       (seeded (wanted_of None grid) (server_seed server)) =
       λ server enough. record { enough = enough; kept = seeded-kept grid (server_seed server) } in
-      let all : CanServeAll grid servers = record { one = serve 1 f.holds.one; two = serve 2 f.holds.two; three = serve 3 f.holds.three } in
-      let few : length farmers ≤ MOST_BIDDERS = omega (arith, limits.0, length-map-range_with_len (trial_farmer grid) 0 sizes.0) in
+      let all : CanServeAll grid servers =
+      record { one = serve 1 f.holds.one; two = serve 2 f.holds.two; three = serve 3 f.holds.three } in
+      let few : length farmers ≤ MOST_BIDDERS =
+      omega (arith, limits.0, length-map-range_with_len (trial_farmer grid) 0 sizes.0) in
       let each : All (IsRead grid) farmers = all-read grid sizes.0 limits.1 f.holds.bidders_enough in
       record {
         bidders = sizes.0;
         prices = sizes.1;
         sizes = e;
-        text = outcome_text grid (book_finish (trial_book grid sizes.0) (masks_of servers)) (book_rounds (trial_book grid sizes.0) (masks_of servers));
+        text = outcome_text grid (book_finish (trial_book grid sizes.0) (masks_of servers))
+            (book_rounds (trial_book grid sizes.0) (masks_of servers));
         words = the_words grid servers farmers;
         words_are = refl;
-        run = servers-open (the_book grid servers farmers) (the_words grid servers farmers) (is-book grid servers farmers few each all) (can-run grid servers farmers few each all);
+        run = servers-open (the_book grid servers farmers) (the_words grid servers farmers)
+            (is-book grid servers farmers few each all) (can-run grid servers farmers few each all);
         tells = tells (the_book grid servers farmers) (the_words grid servers farmers) status out.code;
         said = out.calls;
       }
 
-  pub tries : (first second : List ℕ) → Ran told told_now given now status w (job_of (codes "trial" ∷ first ∷ second ∷ [])) → RunsTrial first second status given now
+  pub tries : (first second : List ℕ) → Ran files told told_now from given now status w
+      (job_of (codes "trial" ∷ first ∷ second ∷ [])) → RunsTrial first second status given now
   tries first second ran = tried first second (sizes_of first second) refl ran

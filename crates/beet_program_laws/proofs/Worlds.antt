@@ -4,16 +4,16 @@ use Rattle.std.specs.Prelude.{codes, option_map}
 use Rattle.beet_field.specs.Point.{server_of}
 use Rattle.beet_field.specs.declared.point.Point.{Point}
 use Rattle.beet_store.specs.Files.{File, Told}
-use Rattle.beet_store.specs.Desks.{Given}
+use Rattle.beet_store.specs.Desks.{DeskTold}
 use Rattle.beet_words.specs.Bundles.{Words, bundle_bytes}
 use Rattle.beet_bids.specs.Books.{IsBook}
 use Rattle.beet_auction.specs.Endings.{book_finish, book_rounds}
 use Rattle.beet_view.specs.BookViews.{transcript_for}
-use Rattle.beet_worlds.specs.ViewsWith.{transcript_with}
-use Rattle.beet_worlds.specs.declared.agreeing.MapFault.{MapFault}
-use Rattle.beet_headline.specs.Halves.{AreOnePair, AreTwoBooks}
+use Rattle.beet_auction_map.specs.ViewsWith.{transcript_with}
+use Rattle.beet_auction_map.specs.declared.agreeing.MapFault.{MapFault}
+use Rattle.beet_headline.specs.Statements.{AreOnePair, AreTwoBooks}
 use Rattle.beet_headline.proofs.Pairing.{mapped-pair}
-use Rattle.beet_errand.specs.Errands.{Answer, Errand, answers, gives, refuses}
+use Rattle.beet_errand.specs.Errands.{Answer, Errand, answers, refuses}
 use Rattle.beet_errand.specs.Fetches.{IsDone, IsRead}
 use Rattle.beet_errand.specs.Runs.{GivesAll}
 use Rattle.beet_errand.specs.Statuses.{IsDoneCode, code_of}
@@ -21,16 +21,16 @@ use Rattle.beet_errand.specs.declared.answer.OwnRefusal.TheVariants.{OfWorlds}
 use Rattle.beet_errand.specs.declared.answer.Refusal.TheVariants.{Own}
 use Rattle.beet_errand.specs.declared.answer.Status.TheVariants.{Done}
 use Rattle.beet_errand.proofs.Statuses.{not_done}
-use Rattle.beet_load.specs.Loading.{Loaded}
+use Rattle.beet_load.specs.Loading.{AuctionWithBidders}
 use Rattle.beet_load.specs.Wholes.{curves_errand, limited_errand}
 use Rattle.beet_run.specs.OutcomeTexts.{outcome_text}
-use Rattle.beet_two_worlds.specs.Answering.{ShowsTheSame, worlds_text}
-use Rattle.beet_two_worlds.specs.Differences.{difference_between}
-use Rattle.beet_two_worlds.specs.Ending.{ShowsWorlds, compared_errand, unless_differing}
-use Rattle.beet_two_worlds.specs.Reading.{Both, both_errand, first_book, second_book, words_read}
-use Rattle.beet_two_worlds.proofs.SecondWords.{words-uncut}
+use Rattle.beet_job_worlds.specs.Answering.{ShowsTheSame, worlds_text}
+use Rattle.beet_job_worlds.specs.Differences.{difference_between}
+use Rattle.beet_job_worlds.specs.Ending.{ShowsWorlds, compared_errand, unless_differing}
+use Rattle.beet_job_worlds.specs.Reading.{Both, both_errand, first_book, second_book, words_read}
+use Rattle.beet_job_worlds.proofs.SecondWords.{words-uncut}
 use Rattle.beet_app.specs.Jobs.{Comparing, are_names, job_of}
-use Rattle.beet_app_laws.specs.Dues.{ReadsTo, answer_over}
+use Rattle.beet_errand.specs.Overs.{FromFiles, ReadsTo, answer_over}
 use Rattle.beet_app_laws.proofs.Led.{read-to}
 use Rattle.beet_app_laws.proofs.Telling.{one-value, told-both}
 use Rattle.beet_program_laws.specs.Commands.{PutsBothWorlds}
@@ -41,24 +41,29 @@ use Rattle.beet_program_laws.proofs.Steps.{Yields, gives-yield, then-yields}
 
 -- ---- both books
 
-record IsBoth (both : Both) : Type 0 where
-  first : IsLoaded both.first
-  second : IsBook (second_book both)
+pub record IsBoth (both : Both) : Type 0 where
+  pub first : IsLoaded both.first
+  pub second : IsBook (second_book both)
 
-both-yield : (files : List File) (auction servers list1 list2 : List ℕ) → Yields files (both_errand auction servers list1 list2) IsBoth
+both-yield : (files : List File) (auction servers list1 list2 : List ℕ) →
+    Yields files (both_errand auction servers list1 list2) IsBoth
 unfolding both_errand
 both-yield files auction servers list1 list2 =
-    then-yields files (limited_errand auction servers list1) _ IsLoaded IsBoth (limited-yield files auction servers list1) (λ first h.
-    then-yields files (curves_errand 0 list2 first.grid) _ (λ bidders. IsBook (record { grid = first.grid; bidders = bidders })) IsBoth
+    then-yields files (limited_errand auction servers list1) _ IsLoaded IsBoth
+    (limited-yield files auction servers list1) (λ first h.
+    then-yields files (curves_errand 0 list2 first.grid) _
+    (λ bidders. IsBook (record { grid = first.grid; bidders = bidders })) IsBoth
     (curves-yield files list2 first.grid) (λ second k.
     gives-yield files IsBoth (record { first = first; second = second }) (record { first = h; second = k })))
 
 -- what was read of both books is right
-is-both : (files : List File) (auction servers list1 list2 : List ℕ) (both : Both) → ReadsTo files (both_errand auction servers list1 list2) both → IsBoth both
+pub is-both : (files : List File) (auction servers list1 list2 : List ℕ) (both : Both) →
+    ReadsTo files (both_errand auction servers list1 list2) both → IsBoth both
 is-both files auction servers list1 list2 both r =
     let step = both_errand auction servers list1 list2 in
     let next : Both → Errand = λ v. answers Done [] in
-    let (other, q, h) = both-yield files auction servers list1 list2 next (subst (λ (x : Answer). IsDone x.status) (sym (r next)) (inl refl)) in
+    let (other, q, h) = both-yield files auction servers list1 list2 next
+    (subst (λ (x : Answer). IsDone x.status) (sym (r next)) (inl refl)) in
     subst IsBoth (one-value files step other both q r told-both) h
 
 refused : (files : List File) (difference : Option MapFault) →
@@ -67,40 +72,50 @@ refused files None done = not_done (Own OfWorlds) done
 refused files (Some difference) done = not_done (Own OfWorlds) done
 
 -- an errand that goes on from both books to a refusal is not done
-undone : (files : List File) (auction servers list1 list2 : List ℕ) (s : Point) →
-    IsDone (answer_over files (compared_errand auction servers list1 list2 s (λ both. refuses (Own OfWorlds) []))).status → ⊥
+pub undone : (files : List File) (auction servers list1 list2 : List ℕ) (s : Point) →
+    IsDone
+    (answer_over files (compared_errand auction servers list1 list2 s (λ both. refuses (Own OfWorlds) []))).status → ⊥
 undone files auction servers list1 list2 s done =
-    let next : Both → Errand = λ both. unless_differing (difference_between s (first_book both) (second_book both)) (refuses (Own OfWorlds) []) in
+    let next : Both → Errand =
+    λ both. unless_differing (difference_between s (first_book both) (second_book both)) (refuses (Own OfWorlds) []) in
     let (both, reads, h) = both-yield files auction servers list1 list2 next done in
-    refused files (difference_between s (first_book both) (second_book both)) (subst (λ (a : Answer). IsDone a.status) (reads next) done)
+    refused files (difference_between s (first_book both) (second_book both))
+    (subst (λ (a : Answer). IsDone a.status) (reads next) done)
 
-module _ (told : Told) (told_now : Option Told) (given now : Option Given) (status : ℕ) (w : IsDoneCode status)
+module _ (files : List File) (told told_now : Told) (from : FromFiles files told told_now) (given now : DeskTold)
+    (status : ℕ) (w : IsDoneCode status)
     (auction servers list1 list2 : List ℕ) (s : Point) (out : List ℕ) where
   abbrev Compared : Type 0
-  Compared = PutsBothWorlds told.files auction servers list1 list2 s out status given now
+  Compared = PutsBothWorlds files auction servers list1 list2 s out status given now
 
-  shown : (both : Both) (answer : Answer) → IsRead (Some told) told_now (both_errand auction servers list1 list2) both →
-      ShowsTheSame s out (first_book both) (words_read both) (second_book both) answer → WentOut answer given now status → Compared
+  shown : (both : Both) (answer : Answer) → IsRead told told_now (both_errand auction servers list1 list2) both →
+      ShowsTheSame s out (first_book both) (words_read both) (second_book both) answer →
+      WentOut answer given now status → Compared
   shown both answer is-read same put =
       let step = both_errand auction servers list1 list2 in
-      let read = read-to told told_now step both is-read in
-      let h = is-both told.files auction servers list1 list2 both read in
+      let read = read-to files told told_now from step both is-read in
+      let h = is-both files auction servers list1 list2 both read in
       let run = runs-in both.first h.first in
       let loaded = both.first in
       let first = first_book both in
       let words = words_read both in
       let second = second_book both in
-      let two : AreTwoBooks s first second = record { first_book = run.is_book; second_book = h.second; agree = same.agree } in
-      let pair : AreOnePair s first words second same.second_words = mapped-pair s first second words same.second_words two run.can_run same.mapped in
-      let cut = words-uncut first words (can-run-cut loaded.grid loaded.servers loaded.farmers h.first.few h.first.farmers h.first.servers) in
-      let own : same.seen ≡ transcript_with first words s = sym same.first_seen ∙ ap (λ (x : Words). transcript_for first x s) (sym cut) in
+      let two : AreTwoBooks s first second =
+      record { first_book = run.is_book; second_book = h.second; agree = same.agree } in
+      let pair : AreOnePair s first words second same.second_words =
+      mapped-pair s first second words same.second_words two run.can_run same.mapped in
+      let cut = words-uncut first words
+      (can-run-cut loaded.grid loaded.servers loaded.farmers h.first.few h.first.farmers h.first.servers) in
+      let own : same.seen ≡ transcript_with first words s =
+      sym same.first_seen ∙ ap (λ (x : Words). transcript_for first x s) (sym cut) in
       let other : same.seen ≡ transcript_with second same.second_words s = own ∙ sym pair.transcripts in
       let calls = subst (λ (a : Answer). GivesAll given now a.files a.text (Ok tt)) same.is put.calls in
       record {
         first = first;
         words = words;
         second = second;
-        read = subst (λ (l : Loaded). ReadsTo told.files step (record { first = l; second = both.second })) (sym (back loaded.grid loaded.servers loaded.farmers)) read;
+        read = subst (λ (l : AuctionWithBidders). ReadsTo files step (record { first = l; second = both.second }))
+            (sym (back loaded.grid loaded.servers loaded.farmers)) read;
         two = two;
         run = run;
         second_words = same.second_words;
@@ -108,25 +123,35 @@ module _ (told : Told) (told_now : Option Told) (given now : Option Given) (stat
         text = outcome_text first.grid (book_finish first words.masks) (book_rounds first words.masks);
         tells = tells first words status (put.code ∙ ap (λ (a : Answer). code_of a.status) same.is);
         gives = subst (λ (l : List File). GivesAll given now l (worlds_text first words) (Ok tt))
-            (λ i. (out ++ codes ".first", own i) ∷ (out ++ codes ".second", other i) ∷ (out ++ codes ".words", bundle_bytes same.second_words) ∷ []) calls;
+            (λ i. (out ++ codes ".first", own i) ∷ (out ++ codes ".second", other i)
+            ∷ (out ++ codes ".words", bundle_bytes same.second_words) ∷ []) calls;
       }
 
-  compares : Ran told told_now given now status w (Some (Comparing auction servers list1 list2 s out)) → Compared
+  compares : Ran files told told_now from given now status w (Some (Comparing auction servers list1 list2 s out)) →
+      Compared
   compares r =
-      shown-ends told told_now given now status w {C = Compared} OfWorlds (compared_errand auction servers list1 list2 s)
+      shown-ends files told told_now from given now status w {C = Compared} OfWorlds
+      (compared_errand auction servers list1 list2 s)
       (ShowsWorlds auction servers list1 list2 s out)
-      (undone told.files auction servers list1 list2 s) (λ answer shows put. shown shows.value answer shows.read shows.shown put) r
+      (undone files auction servers list1 list2 s)
+      (λ answer shows put. shown shows.value answer shows.read shows.shown put) r
 
-module _ (told : Told) (told_now : Option Told) (given now : Option Given) (status : ℕ) (w : IsDoneCode status) (auction servers list1 list2 server out : List ℕ) where
+module _ (files : List File) (told told_now : Told) (from : FromFiles files told told_now) (given now : DeskTold)
+    (status : ℕ) (w : IsDoneCode status) (auction servers list1 list2 server out : List ℕ) where
   by-server : (at : Option Point) → server_of server ≡ at →
-      Ran told told_now given now status w (option_map (λ s. Comparing auction servers list1 list2 s out) at) →
-      (s : Point) × (server_of server ≡ Some s) × PutsBothWorlds told.files auction servers list1 list2 s out status given now
-  by-server None e ran = no-job told told_now given now status w ran
-  by-server (Some s) e ran = (s, e, compares told told_now given now status w auction servers list1 list2 s out ran)
+      Ran files told told_now from given now status w
+      (option_map (λ s. Comparing auction servers list1 list2 s out) at) →
+      (s : Point) × (server_of server ≡ Some s)
+      × PutsBothWorlds files auction servers list1 list2 s out status given now
+  by-server None e ran = no-job files told told_now from given now status w ran
+  by-server (Some s) e ran =
+      (s, e, compares files told told_now from given now status w auction servers list1 list2 s out ran)
 
-  pub compares-worlds : Ran told told_now given now status w (job_of (codes "worlds" ∷ auction ∷ servers ∷ list1 ∷ list2 ∷ server ∷ out ∷ [])) →
-      (s : Point) × (server_of server ≡ Some s) × PutsBothWorlds told.files auction servers list1 list2 s out status given now
+  pub compares-worlds : Ran files told told_now from given now status w
+      (job_of (codes "worlds" ∷ auction ∷ servers ∷ list1 ∷ list2 ∷ server ∷ out ∷ [])) →
+      (s : Point) × (server_of server ≡ Some s)
+      × PutsBothWorlds files auction servers list1 list2 s out status given now
   compares-worlds ran =
       by-server (server_of server) refl
-      (named told told_now given now status w (are_names (auction ∷ servers ∷ list1 ∷ list2 ∷ out ∷ []))
+      (named files told told_now from given now status w (are_names (auction ∷ servers ∷ list1 ∷ list2 ∷ out ∷ []))
       (option_map (λ s. Comparing auction servers list1 list2 s out) (server_of server)) ran)

@@ -1,21 +1,34 @@
--- What each command has read, put and said where its run ends with status 0 or 6, over a shelf that holds these files.
-use Rattle.std.specs.Prelude.{◌≡◌, ◌++◌, ℕ, List, [], ◌∷◌, All, map, codes, Option, Some, None, Ok}
+-- What each command has read, put and said where its run ends with status 0 or 6, over a shelf whose answers are of
+-- these files.
+use Rattle.std.specs.Prelude.{◌≡◌, ◌≤◌, ◌++◌, ℕ, List, [], ◌∷◌, All, length, map, codes, decimal, Some, None}
+use Rattle.std.specs.Prelude.{Ok}
 use Rattle.beet_field.specs.Trio.{member, of_each}
 use Rattle.beet_field.specs.declared.point.Point.{Point}
+use Rattle.beet_field.specs.declared.point.Point.TheVariants.{One, Two, Three}
 use Rattle.beet_field.specs.declared.trio.Trio.{Trio}
 use Rattle.beet_store.specs.Files.{File}
-use Rattle.beet_store.specs.Desks.{Given}
+use Rattle.beet_store.specs.Desks.{DeskTold}
 use Rattle.beet_words.specs.Bundles.{Words, bundle_bytes}
-use Rattle.beet_words.specs.Words.{IsWord}
+use Rattle.beet_words.specs.Words.{IsWord, accepted}
 use Rattle.beet_bids.specs.AuctionFiles.{auction_of}
+use Rattle.beet_bids.specs.BidFiles.{bid_of}
 use Rattle.beet_bids.specs.Books.{Book, IsBook}
-use Rattle.beet_bids.specs.Grids.{Grid}
+use Rattle.beet_bids.specs.Curves.{Curve, IsCurve, IsOfGrid}
+use Rattle.beet_bids.specs.Grids.{Grid, IsGrid}
+use Rattle.beet_bids.specs.Sums.{demand_at, supply_at}
 use Rattle.beet_bids.specs.declared.auction_file.TheConstants.{AUCTION_LIMIT}
-use Rattle.beet_book.specs.Farmers.{Farmer, book_with}
+use Rattle.beet_bids.specs.declared.bid_file.TheConstants.{BID_LIMIT}
+use Rattle.beet_book.specs.BookFiles.{book_of}
+use Rattle.beet_book.specs.Dealing.{points_at, quantities}
+use Rattle.beet_book.specs.Farmers.{BidderWithWords, book_with}
 use Rattle.beet_book.specs.PointSums.{inputs_at}
 use Rattle.beet_book.specs.ServerFiles.{servers_of}
+use Rattle.beet_book.specs.declared.book_file.TheConstants.{BOOK_LIMIT}
+use Rattle.beet_book.specs.declared.entries.BidderSource.{BidderSource}
+use Rattle.beet_book.specs.declared.entries.Entry.{Entry}
 use Rattle.beet_book.specs.declared.server_file.TheConstants.{SERVERS_LIMIT}
 use Rattle.beet_book.specs.declared.sources.Servers.{Servers}
+use Rattle.beet_farmer.specs.Envelopes.{envelope_of}
 use Rattle.beet_farmer.specs.Lists.{list_of}
 use Rattle.beet_farmer.specs.declared.list_file.ListEntry.{ListEntry}
 use Rattle.beet_farmer.specs.declared.list_file.TheConstants.{LIST_LIMIT}
@@ -27,38 +40,60 @@ use Rattle.beet_world.specs.Schedules.{schedule_of}
 use Rattle.beet_world.specs.Worlds.{named_in}
 use Rattle.beet_world.specs.declared.schedule.Delivery.{Delivery}
 use Rattle.beet_world.specs.declared.schedule.TheConstants.{SCHEDULE_LIMIT}
-use Rattle.beet_worlds.specs.ViewsWith.{transcript_with}
-use Rattle.beet_headline.specs.Halves.{AllHaveEnded, AreOnePair, AreTwoBooks, standing}
-use Rattle.beet_errand.specs.Errands.{reads}
+use Rattle.beet_auction_map.specs.ViewsWith.{transcript_with}
+use Rattle.beet_headline.specs.Statements.{AllHaveEnded, AreOnePair, AreTwoBooks, standing}
+use Rattle.beet_errand.specs.Errands.{file_for, reads}
 use Rattle.beet_errand.specs.Statuses.{code_of}
 use Rattle.beet_errand.specs.Texts.{line_of}
 use Rattle.beet_errand.specs.Runs.{GivesAll, Said}
-use Rattle.beet_load.specs.Counts.{counts_of}
+use Rattle.beet_load.specs.Counts.{counts_of, words_wanted}
+use Rattle.beet_load.specs.Farmers.{farmers_errand}
 use Rattle.beet_load.specs.Wanted.{wanted_of}
 use Rattle.beet_load.specs.Loading.{loaded_errand}
 use Rattle.beet_load.specs.Servers.{AllWords, all_words_errand, masks_of}
 use Rattle.beet_load.specs.Wholes.{CanDeal, all_words, limited_errand}
 use Rattle.beet_run.specs.OutcomeTexts.{outcome_text}
 use Rattle.beet_run.specs.Outcomes.{status_of}
-use Rattle.beet_rehearse.specs.Rehearse.{rehearsal_status}
-use Rattle.beet_rehearse.specs.StandingTexts.{rehearsal_text}
-use Rattle.beet_rehearse.specs.declared.standing.Rehearsal.{Rehearsal}
-use Rattle.beet_envelopes.specs.Gather.{bidders_errand}
-use Rattle.beet_envelopes.specs.SealedBooks.{HaveWords, HoldEachSealed}
-use Rattle.beet_trial.specs.Rules.{trial_book, trial_farmers, trial_grid, trial_servers}
-use Rattle.beet_trial.specs.Sizes.{sizes_of}
-use Rattle.beet_trial.specs.Trial.{sizes_text}
-use Rattle.beet_two_worlds.specs.Reading.{both_errand}
+use Rattle.beet_job_rehearse.specs.Rehearse.{rehearsal_status}
+use Rattle.beet_job_rehearse.specs.StandingTexts.{rehearsal_text}
+use Rattle.beet_job_rehearse.specs.declared.standing.Rehearsal.{Rehearsal}
+use Rattle.beet_job_envelopes.specs.Gather.{bidders_errand}
+use Rattle.beet_job_envelopes.specs.Seal.{own_words_errand}
+use Rattle.beet_job_envelopes.specs.SealedBooks.{HaveWords, HoldEachSealed}
+use Rattle.beet_job_envelopes.specs.SourceWords.{source_word}
+use Rattle.beet_job_trial.specs.Rules.{trial_book, trial_farmers, trial_grid, trial_servers}
+use Rattle.beet_job_trial.specs.Sizes.{sizes_of}
+use Rattle.beet_job_trial.specs.Trial.{sizes_text}
+use Rattle.beet_job_worlds.specs.Reading.{both_errand}
 use Rattle.beet_audit.specs.Audits.{recombined_book, run_of}
 use Rattle.beet_audit.specs.OneRuns.{OneRun}
-use Rattle.beet_auditor.specs.Reading.{read_errand}
-use Rattle.beet_auditor.specs.declared.reading.ReadViews.{ReadViews}
-use Rattle.beet_app_laws.specs.Dues.{ReadsTo}
+use Rattle.beet_job_audit.specs.Reading.{read_errand}
+use Rattle.beet_job_audit.specs.declared.reading.ReadViews.{ReadViews}
+use Rattle.beet_errand.specs.Overs.{ReadsTo}
 use Rattle.beet_load.specs.WholeViews.{loaded_with}
 use Rattle.beet_program_laws.specs.Outcomes.{IsShown, ServersOpen, TellsTheEnd, transcript_files}
 
+-- `tally`: the files read as a grid of one price and the bidders of a book, each with words enough; the sums of what
+-- they sell and buy at that price were said, and nothing else
+pub record Tallies (files : List File) (auction book_file : List ℕ) (status : ℕ) (given now : DeskTold) : Type 0 where
+  pub grid : Grid
+  pub grid_read : ReadsTo files (reads auction AUCTION_LIMIT auction_of) grid
+  pub one_price : grid.prices ≡ 1
+  pub entries : List Entry
+  pub entries_read : ReadsTo files (reads book_file BOOK_LIMIT book_of) entries
+  pub farmers : List BidderWithWords
+  pub farmers_read : ReadsTo files (farmers_errand (wanted_of None grid) grid None [] entries) farmers
+  pub is_book : IsBook (book_with grid farmers)
+  pub have_words : HaveWords grid farmers
+  pub is_done : status ≡ 0
+  pub said :
+      let bidders = (book_with grid farmers).bidders in
+      Said given now (line_of (codes "supply " ++ decimal (supply_at bidders 0))
+      ++ line_of (codes "demand " ++ decimal (demand_at bidders 0)))
+
 -- `clear`: the files read as a book with words; what its servers open was said, and nothing else
-pub record Clears (files : List File) (auction servers book_file : List ℕ) (status : ℕ) (given now : Option Given) : Type 0 where
+pub record Clears (files : List File) (auction servers book_file : List ℕ) (status : ℕ)
+    (given now : DeskTold) : Type 0 where
   pub book : Book
   pub words : Words
   pub read : ReadsTo files (loaded_errand auction servers book_file) (loaded_with book words)
@@ -68,7 +103,8 @@ pub record Clears (files : List File) (auction servers book_file : List ℕ) (st
   pub said : Said given now text
 
 -- `record`: so it is, and before the text the transcripts of the run were put
-pub record RecordsRun (files : List File) (auction servers book_file out : List ℕ) (status : ℕ) (given now : Option Given) : Type 0 where
+pub record RecordsRun (files : List File) (auction servers book_file out : List ℕ) (status : ℕ)
+    (given now : DeskTold) : Type 0 where
   pub book : Book
   pub words : Words
   pub read : ReadsTo files (limited_errand auction servers book_file) (loaded_with book words)
@@ -77,9 +113,11 @@ pub record RecordsRun (files : List File) (auction servers book_file out : List 
   pub tells : TellsTheEnd book words status text
   pub gives : GivesAll given now (transcript_files out book words) text (Ok tt)
 
--- `rehearse`: the files read as a book with words, and a schedule; it was said how each server stands after the deliveries of the schedule, and
--- how many messages are undelivered. The status is 6 where a server has ended with spent masks. Where nothing is undelivered, all have ended
-pub record ShowsStandings (files : List File) (auction servers book_file name : List ℕ) (status : ℕ) (given now : Option Given) : Type 0 where
+-- `rehearse`: the files read as a book with words, and a schedule; it was said how each server stands after the
+-- deliveries of the schedule, and how many messages are undelivered. The status is 6 where a server has ended with
+-- spent masks. Where nothing is undelivered, all have ended
+pub record ShowsStandings (files : List File) (auction servers book_file name : List ℕ) (status : ℕ)
+    (given now : DeskTold) : Type 0 where
   pub book : Book
   pub words : Words
   pub read : ReadsTo files (loaded_errand auction servers book_file) (loaded_with book words)
@@ -88,14 +126,44 @@ pub record ShowsStandings (files : List File) (auction servers book_file name : 
   pub run : ServersOpen book words
   pub rehearsal : Rehearsal
   pub shown : (s : Point) → IsShown (standing book words (named_in schedule) s) (member rehearsal.servers s)
-  pub left : rehearsal.undelivered ≡ undelivered (rounds_for book words) (after (rounds_for book words) (named_in schedule))
+  pub left : rehearsal.undelivered
+      ≡ undelivered (rounds_for book words) (after (rounds_for book words) (named_in schedule))
   pub all : rehearsal.undelivered ≡ 0 → AllHaveEnded book words (named_in schedule)
   pub status_is : status ≡ code_of (rehearsal_status rehearsal)
   pub said : Said given now (rehearsal_text book.grid rehearsal)
 
--- `open`: the files read as a grid, words of servers and points of bidders, which may lie on no line; it was said what is found over the
--- sums of these points. Where the files hold what bidders sealed of a book, it is its outcome, which its servers open
-pub record OpensEnvelopes (files : List File) (auction servers list : List ℕ) (status : ℕ) (given now : Option Given) : Type 0 where
+-- `seal`: the files read as a grid, a curve of it, and words of the source that are enough. An envelope for each server
+-- was put: it reads back as that server's points of the lines whose values are the curve's quantities, and whose slopes
+-- are the accepted words, in order. Then the number of prices was said
+pub record Seals (files : List File) (auction bid source out : List ℕ) (status : ℕ)
+    (given now : DeskTold) : Type 0 where
+  pub grid : Grid
+  pub grid_read : ReadsTo files (reads auction AUCTION_LIMIT auction_of) grid
+  pub is_grid : IsGrid grid
+  pub curve : Curve
+  pub curve_read : ReadsTo files (reads bid BID_LIMIT (bid_of grid)) curve
+  pub is_curve : IsCurve curve
+  pub of_grid : IsOfGrid grid curve
+  pub from : BidderSource
+  pub from_is : source_word source ≡ Some from
+  pub words : List ℕ
+  pub words_read : ReadsTo files (own_words_errand grid from) words
+  pub are_words : All IsWord words
+  pub enough : words_wanted grid ≤ length (accepted words)
+  pub envelopes : Trio (List ℕ)
+  pub read_back : (s : Point) → envelope_of grid s (member envelopes s)
+      ≡ Ok (record { server = s; points = points_at (quantities curve) (accepted words) s })
+  pub is_done : status ≡ 0
+  pub gives : GivesAll given now
+      ((file_for out One, envelopes.one) ∷ (file_for out Two, envelopes.two)
+      ∷ (file_for out Three, envelopes.three) ∷ [])
+      (line_of (codes "sealed " ++ decimal grid.prices)) (Ok tt)
+
+-- `open`: the files read as a grid, words of servers and points of bidders, which may lie on no line; it was said what
+-- is found over the sums of these points. Where the files hold what bidders sealed of a book, it is its outcome, which
+-- its servers open
+pub record OpensEnvelopes (files : List File) (auction servers list : List ℕ) (status : ℕ)
+    (given now : DeskTold) : Type 0 where
   pub grid : Grid
   pub grid_read : ReadsTo files (reads auction AUCTION_LIMIT auction_of) grid
   pub sources : Servers
@@ -113,33 +181,39 @@ pub record OpensEnvelopes (files : List File) (auction servers list : List ℕ) 
       let masks = masks_of words.servers in
       (status ≡ code_of (status_of (points_finish a inputs masks)))
       × (text ≡ outcome_text grid (points_finish a inputs masks) (points_rounds a inputs masks))
-  pub sealed : (farmers : List Farmer) → HoldEachSealed files grid entries farmers → IsBook (book_with grid farmers) → HaveWords grid farmers →
+  pub sealed : (farmers : List BidderWithWords) → HoldEachSealed files grid entries farmers →
+      IsBook (book_with grid farmers) →
+      HaveWords grid farmers →
       TellsTheEnd (book_with grid farmers) (all_words words.servers (map (λ farmer. farmer.words) farmers)) status text
-  pub servers_open : (farmers : List Farmer) → IsBook (book_with grid farmers) →
+  pub servers_open : (farmers : List BidderWithWords) → IsBook (book_with grid farmers) →
       All (λ farmer. CanDeal (counts_of grid) farmer.words × All IsWord farmer.words) farmers →
       ServersOpen (book_with grid farmers) (all_words words.servers (map (λ farmer. farmer.words) farmers))
   pub said : Said given now text
 
 -- `trial`: the words are two sizes; what servers open of the book that the rule makes of them was said
-pub record RunsTrial (first second : List ℕ) (status : ℕ) (given now : Option Given) : Type 0 where
+pub record RunsTrial (first second : List ℕ) (status : ℕ) (given now : DeskTold) : Type 0 where
   pub bidders : ℕ
   pub prices : ℕ
   pub sizes : sizes_of first second ≡ Some (bidders, prices)
   pub text : List ℕ
   pub words : Words
-  pub words_are : words ≡ all_words (trial_servers (trial_grid prices)) (map (λ farmer. farmer.words) (trial_farmers (trial_grid prices) bidders))
+  pub words_are : words ≡ all_words (trial_servers (trial_grid prices))
+      (map (λ farmer. farmer.words) (trial_farmers (trial_grid prices) bidders))
   pub run : ServersOpen (trial_book (trial_grid prices) bidders) words
   pub tells : TellsTheEnd (trial_book (trial_grid prices) bidders) words status text
   pub said : Said given now (sizes_text bidders prices ++ text)
 
--- `worlds`: the files read as two books that agree for the server, and words for the first; there are words for the second that go with these and
--- with no others. What the server sees of both runs was put, which is the same, and these words; and how the first run ends was said
-pub record PutsBothWorlds (files : List File) (auction servers book1 book2 : List ℕ) (s : Point) (out : List ℕ) (status : ℕ) (given now : Option Given) :
+-- `worlds`: the files read as two books that agree for the server, and words for the first; there are words for the
+-- second that go with these and with no others. What the server sees of both runs was put, which is the same, and these
+-- words; and how the first run ends was said
+pub record PutsBothWorlds (files : List File) (auction servers book1 book2 : List ℕ) (s : Point) (out : List ℕ)
+    (status : ℕ) (given now : DeskTold) :
     Type 0 where
   pub first : Book
   pub words : Words
   pub second : Book
-  pub read : ReadsTo files (both_errand auction servers book1 book2) (record { first = loaded_with first words; second = second.bidders })
+  pub read : ReadsTo files (both_errand auction servers book1 book2)
+      (record { first = loaded_with first words; second = second.bidders })
   pub two : AreTwoBooks s first second
   pub run : ServersOpen first words
   pub second_words : Words
@@ -153,9 +227,11 @@ pub record PutsBothWorlds (files : List File) (auction servers book1 book2 : Lis
       ∷ [])
       (text ++ line_of (codes "transcripts equal")) (Ok tt)
 
--- `audit`: the files read as a grid and three views of one run, which is that of a book with words: the book that the points recombine to, and
--- the words of the tapes, with words of the bidders that begin the same run; how its auction ends was said
-pub record AuditsOneRun (files : List File) (auction one two three : List ℕ) (status : ℕ) (given now : Option Given) : Type 0 where
+-- `audit`: the files read as a grid and three views of one run, which is that of a book with words: the book that the
+-- points recombine to, and the words of the tapes, with words of the bidders that begin the same run; how its auction
+-- ends was said
+pub record AuditsOneRun (files : List File) (auction one two three : List ℕ) (status : ℕ)
+    (given now : DeskTold) : Type 0 where
   pub read : ReadViews
   pub are_read : ReadsTo files (read_errand auction one two three) read
   pub one_run : OneRun read.grid read.views

@@ -1,3 +1,4 @@
 pub mod Outcomes
 pub mod Commands
 pub mod Accepted
+pub mod Again

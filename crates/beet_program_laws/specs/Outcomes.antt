@@ -14,21 +14,22 @@ use Rattle.beet_server.specs.Endings.{Ending, Ends, Waits}
 use Rattle.beet_auction.specs.Endings.{book_rounds}
 use Rattle.beet_run.specs.OutcomeTexts.{outcome_text}
 use Rattle.beet_errand.specs.Errands.{file_for}
-use Rattle.beet_rehearse.specs.declared.standing.Standing.{Standing}
-use Rattle.beet_rehearse.specs.declared.standing.Standing.TheVariants.{Waiting, Ended}
-use Rattle.beet_worlds.specs.ViewsWith.{transcript_with}
-use Rattle.beet_headline.specs.Halves.{CanRun, OpensTheOutcome, are_spent}
+use Rattle.beet_job_rehearse.specs.declared.standing.Standing.{Standing}
+use Rattle.beet_job_rehearse.specs.declared.standing.Standing.TheVariants.{Waiting, Ended}
+use Rattle.beet_auction_map.specs.ViewsWith.{transcript_with}
+use Rattle.beet_headline.specs.Statements.{CanRun, OpensTheOutcome, are_spent}
 
--- the status and the text tell how the auction of a book ends: at 0 the masks are not spent, and the text is that of the outcome of the
--- plaintext auction; at 6 they are spent, and the text says so. Both tell after how many rounds
+-- the status and the text tell how the auction of a book ends: at 0 the masks are not spent, and the text is that of
+-- the outcome of the plaintext auction; at 6 they are spent, and the text says so. Both tell after how many rounds
 pub record TellsTheEnd (book : Book) (words : Words) (status : ℕ) (text : List ℕ) : Type 0 where
   pub opened : status ≡ 0 →
-      (are_spent book words ≡ false) × (text ≡ outcome_text book.grid (finish_of (outcome_of book)) (book_rounds book words.masks))
+      (are_spent book words ≡ false)
+      × (text ≡ outcome_text book.grid (finish_of (outcome_of book)) (book_rounds book words.masks))
   pub spent : status ≡ 6 →
       (are_spent book words ≡ true) × (text ≡ outcome_text book.grid MasksSpent (book_rounds book words.masks))
 
--- a book of accepted bids, and words with which its auction can be run: whatever the order, the repeats and the delays of the messages, a
--- server that has ended has opened the outcome of the book, or the masks are spent
+-- a book of accepted bids, and words with which its auction can be run: whatever the order, the repeats and the delays
+-- of the messages, a server that has ended has opened the outcome of the book, or the masks are spent
 pub record ServersOpen (book : Book) (words : Words) : Type 0 where
   pub is_book : IsBook book
   pub can_run : CanRun book words

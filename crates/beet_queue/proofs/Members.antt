@@ -8,7 +8,8 @@ use Rattle.beet_delivery.specs.Events.{same}
 
 module _ {A : Type 0} where
   -- what holds of the new value, and of the old ones elsewhere
-  pub at_member : (P : A → Type 0) (t : Trio A) (s j : Point) (x : A) → (s ≡ j → P x) → (same s j ≡ false → P (member t j)) → P (member (with_member t s x) j)
+  pub at_member : (P : A → Type 0) (t : Trio A) (s j : Point) (x : A) → (s ≡ j → P x) →
+      (same s j ≡ false → P (member t j)) → P (member (with_member t s x) j)
   at_member P t One One x here there = here refl
   at_member P t Two Two x here there = here refl
   at_member P t Three Three x here there = here refl

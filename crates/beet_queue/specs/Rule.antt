@@ -1,5 +1,6 @@
 -- The rule of a queue with a sender for each server and one receiver.
-use Rattle.std.specs.Prelude.{◌≡◌, ◌≤◌, ◌<◌, ◌+◌, ◌⊎◌, ◌||◌, ℕ, Bool, true, false, if◌then◌else◌, List, [], ◌∷◌, ◌++◌, length, take, drop, filter, Some, slice_get}
+use Rattle.std.specs.Prelude.{◌≡◌, ◌≤◌, ◌<◌, ◌+◌, ◌⊎◌, ◌||◌, ℕ, Bool, true, false, if◌then◌else◌, List, [], ◌∷◌, ◌++◌}
+use Rattle.std.specs.Prelude.{length, take, drop, filter, Some, slice_get}
 use mathlib.Core.Option.{some}
 use lib.ListN.{get_elem?}
 use Rattle.beet_field.specs.Trio.{member, with_member, trio_of}
@@ -17,7 +18,8 @@ abbrev pub no_one : Trio Bool
 no_one = trio_of (λ _. false)
 
 abbrev pub known_of : {T : Type 0} → Trio Bool → Bool → Trio (List T) → Trio ℕ → List T → Known T
-known_of puts takes streams put taken = record { puts = puts; takes = takes; streams = streams; put = put; taken = taken }
+known_of puts takes streams put taken =
+    record { puts = puts; takes = takes; streams = streams; put = put; taken = taken }
 
 -- the first pass has all rights, and names no item yet
 abbrev pub first_known : {T : Type 0} → Known T
@@ -52,16 +54,19 @@ both v w =
 abbrev pub all_named : {T : Type 0} → Trio (List T) → ℕ
 all_named streams = length streams.one + length streams.two + length streams.three
 
--- the one pass that may put the items of a server knows how many were put, and the one that may take knows those that were taken; both
--- know what was named
+-- the one pass that may put the items of a server knows how many were put, and the one that may take knows those that
+-- were taken; both know what was named
 abbrev pub Knows : {T : Type 0} → Trio ℕ → ℕ → Trio (List T) → Trio ℕ → List T → ℕ → Known T → Type 0
 Knows writer reader streams put taken port v =
-    ((s : Point) → member v.puts s ≡ true → (port ≡ member writer s) × (v.streams ≡ streams) × (member v.put s ≡ member put s))
+    ((s : Point) → member v.puts s ≡ true →
+    (port ≡ member writer s) × (v.streams ≡ streams) × (member v.put s ≡ member put s))
     × (v.takes ≡ true → (port ≡ reader) × (v.streams ≡ streams) × (v.taken ≡ taken))
 
--- what a sender knows of the queue: while an item of its server is left to put, the queue holds fewer items than are named
+-- what a sender knows of the queue: while an item of its server is left to put, the queue holds fewer items than are
+-- named
 abbrev pub HasRoom : {T : Type 0} → Known T → List T → Type 0
-HasRoom v items = (s : Point) → member v.puts s ≡ true → member v.put s < length (member v.streams s) → length items < all_named v.streams
+HasRoom v items = (s : Point) → member v.puts s ≡ true → member v.put s < length (member v.streams s) →
+    length items < all_named v.streams
 
 module _ {T : Type 0} (server : T → Point) where
   -- of each server, the items taken and those in the queue are the first that were named, as many as were put, in order
@@ -83,4 +88,5 @@ module _ {T : Type 0} (server : T → Point) where
   -- what the receiver knows of the queue, where it may also put the items of a server
   abbrev pub KnowsAll : Known T → List T → Type 0
   KnowsAll v items =
-      v.takes ≡ true → (s : Point) → member v.puts s ≡ true → of server s (v.taken ++ items) ≡ take (member v.put s) (member v.streams s)
+      v.takes ≡ true → (s : Point) → member v.puts s ≡ true →
+      of server s (v.taken ++ items) ≡ take (member v.put s) (member v.streams s)

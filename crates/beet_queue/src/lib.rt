@@ -1,5 +1,5 @@
-//! A queue of several senders and one receiver: the rule that what each sender puts is named before, and arrives in its order, whole and
-//! once.
+//! A queue of several senders and one receiver: the rule that what each sender puts is named before, and arrives in its
+//! order, whole and once.
 #![tactic(auto)]
 
 mod rule;

@@ -13,8 +13,8 @@ pub trait FromServer {
     ghost server: { Self → Point };
 }
 
-// What a pass may do, the items that were named of each server, how many of each it knows to be put, and those that it knows to be taken.
-// No value of it is made.
+// What a pass may do, the items that were named of each server, how many of each it knows to be put, and those that it
+// knows to be taken. No value of it is made.
 pub struct Known<T> {
     pub puts: Trio<bool>,
     pub takes: bool,

@@ -22,7 +22,6 @@ peer-apart Two High e = cc e
 peer-apart Three Low e = cc e
 peer-apart Three High e = cc e
 
--- a peer has one side
 pub peer-one : (me : Point) (s t : Side) → peer me s ≡ peer me t → s ≡ t
 peer-one me Low Low e = refl
 peer-one me High High e = refl

@@ -1,5 +1,6 @@
 -- The messages that a server has received of its round and of the next.
-use Rattle.std.specs.Prelude.{◌≡◌, ◌≢◌, ℕ, ◌+◌, ◌<◌, ◌≤◌, List, [], Option, Some, None, is_some, IfSome, true, false, ◌⊎◌, ◌==◌, if◌then◌else◌}
+use Rattle.std.specs.Prelude.{◌≡◌, ◌≢◌, ℕ, ◌+◌, ◌<◌, ◌≤◌, List, [], Option, Some, None, is_some, IfSome, true, false}
+use Rattle.std.specs.Prelude.{◌⊎◌, ◌==◌, if◌then◌else◌}
 use Rattle.arrayvec.specs.ArrayVec.{array_vec_len}
 use Rattle.beet_field.specs.declared.point.Point.{Point}
 use Rattle.beet_field.specs.declared.TheConstants.{MOST_NUMBERS}
@@ -8,7 +9,8 @@ use Rattle.beet_round.specs.declared.sides.Side.TheVariants.{Low, High}
 use Rattle.beet_round.specs.declared.message.RoundMessage.{RoundMessage}
 use Rattle.beet_round.specs.declared.places.Places.{Places}
 use Rattle.beet_round.specs.declared.mailbox.Verdict.{Verdict}
-use Rattle.beet_round.specs.declared.mailbox.Verdict.TheVariants.{Stored, Ready, Repeat, Old, TooEarly, WrongLength, Stranger}
+use Rattle.beet_round.specs.declared.mailbox.Verdict.TheVariants.{Stored, Ready, Repeat, Old, TooEarly, WrongLength}
+use Rattle.beet_round.specs.declared.mailbox.Verdict.TheVariants.{Stranger}
 use Rattle.beet_round.specs.Sides.{peer}
 
 -- the place of the other server of this side

@@ -14,7 +14,6 @@ peer Two High = Three
 peer Three Low = One
 peer Three High = Two
 
--- the place of a side
 abbrev pub place_of : Side → ℕ
 place_of Low = 0
 place_of High = 1

@@ -1,5 +1,5 @@
-//! The box of a server: for each of the other two servers it has a place for a message of the current round and one for a
-//! message of the next round.
+//! The box of a server: for each of the other two servers it has a place for a message of the current round and one for
+//! a message of the next round.
 #![tactic(auto)]
 
 mod mailbox;

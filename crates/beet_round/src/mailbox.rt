@@ -3,7 +3,8 @@
 ghost use Rattle.std.specs.Prelude.{◌≡◌, Some, ◌↔◌, ◌<◌, ◌≤◌, ◌-◌, ◌^◌, length, IsTrue};
 ghost use Rattle.beet_field.specs.declared.TheConstants.{MOST_NUMBERS};
 ghost use Rattle.beet_round.specs.Sides.{peer};
-ghost use Rattle.beet_round.specs.Boxes.{fresh_box, HasBoth, numbers_at, Judged, JudgedFrom, IsDue, IsWanted, place_at, turned};
+ghost use Rattle.beet_round.specs.Boxes.{fresh_box, HasBoth, numbers_at, Judged, JudgedFrom, IsDue, IsWanted, place_at};
+ghost use Rattle.beet_round.specs.Boxes.{turned};
 
 use crate::message::RoundMessage;
 use crate::places::{Places, advance};
@@ -11,8 +12,8 @@ use crate::sides::Side;
 use beet_field::{Fe, Point};
 use std::marker::Model;
 
-/// What a box answers to a message: the first of these that stands, in the order `Stranger`, `Old`, `TooEarly`, `Repeat`,
-/// `WrongLength`, `Ready`, `Stored`. Only `Ready` and `Stored` change the box.
+/// What a box answers to a message: the first of these that stands, in the order `Stranger`, `Old`, `TooEarly`,
+/// `Repeat`, `WrongLength`, `Ready`, `Stored`. Only `Ready` and `Stored` change the box.
 #[derive(Clone, Copy, PartialEq, Eq, Debug)]
 pub enum Verdict {
     /// The message was put in its place, and the round still wants a message or it was one of the next round.
@@ -48,7 +49,8 @@ impl Model for RoundBox {
 
     ghost view = { λ b. record { me = b.me; round = b.round; want = b.want; now = b.current; next = b.early } };
 
-    ghost invariant = { λ b. IsSound (record { me = b.me; round = b.round; want = b.want; now = b.current; next = b.early }) };
+    ghost invariant = { λ b. IsSound
+        (record { me = b.me; round = b.round; want = b.want; now = b.current; next = b.early }) };
 }
 
 impl RoundBox {
@@ -156,8 +158,8 @@ impl RoundBox {
         self.round
     }
 
-    /// Drops both messages of the round, and moves to the next one, which wants messages of `want` numbers. An early message
-    /// of another length is dropped.
+    /// Drops both messages of the round, and moves to the next one, which wants messages of `want` numbers. An early
+    /// message of another length is dropped.
     pub fn turn(&mut self, want: u32)
         requires both { HasBoth self.old.now }
         requires wanted { want ≤ MOST_NUMBERS }

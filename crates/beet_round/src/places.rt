@@ -9,15 +9,15 @@ use crate::sides::Side;
 use beet_field::Point;
 use std::marker::Model;
 
-/// A place for a message, in memory that is used again: a message is put there by the numbers that it has. Contracts see the message, if
-/// it is there.
+/// A place for a message, in memory that is used again: a message is put there by the numbers that it has. Contracts
+/// see the message, if it is there.
 #[derive(Drop)]
-pub struct Place {
+pub struct MessagePlace {
     filled: bool,
     message: RoundMessage,
 }
 
-impl Model for Place {
+impl Model for MessagePlace {
     ghost use Rattle.std.specs.Prelude.{Option, Some, None, if◌then◌else◌};
     ghost use Rattle.beet_round.specs.declared.message.RoundMessage.{RoundMessage};
 
@@ -26,12 +26,12 @@ impl Model for Place {
     ghost view = { λ p. if p.filled then Some p.message else None };
 }
 
-impl Place {
+impl MessagePlace {
     /// An empty place at this server.
-    fn empty(me: Point) -> Place
+    fn empty(me: Point) -> MessagePlace
         ensures { result ≡ None }
     {
-        Place {
+        MessagePlace {
             filled: false,
             message: RoundMessage::blank(me, me),
         }
@@ -68,7 +68,7 @@ impl Place {
     }
 
     /// Puts the message of another place in this one, if it has so many numbers, and else empties it.
-    fn keep(&mut self, other: &Place, want: u32)
+    fn keep(&mut self, other: &MessagePlace, want: u32)
         ensures value { self.new ≡ kept want other.now }
         ensures length { IfSome self.new (λ m. array_vec_len m.numbers ≡ want) }
     {
@@ -83,8 +83,8 @@ impl Place {
 /// For each of the other two servers its message of one round, if it is there.
 #[derive(Drop)]
 pub struct Places {
-    pub low: Place,
-    pub high: Place,
+    pub low: MessagePlace,
+    pub high: MessagePlace,
 }
 
 impl Places {
@@ -93,8 +93,8 @@ impl Places {
         ensures { result ≡ no_places }
     {
         Places {
-            low: Place::empty(me),
-            high: Place::empty(me),
+            low: MessagePlace::empty(me),
+            high: MessagePlace::empty(me),
         }
     }
 
@@ -126,8 +126,9 @@ impl Places {
     }
 }
 
-/// Moves the early message to the place of the current one, if it has so many numbers; else it is dropped, and no message is there.
-pub fn advance(early: &mut Place, current: &mut Place, want: u32)
+/// Moves the early message to the place of the current one, if it has so many numbers; else it is dropped, and no
+/// message is there.
+pub fn advance(early: &mut MessagePlace, current: &mut MessagePlace, want: u32)
     ensures early { early.new ≡ None }
     ensures current { current.new ≡ kept want early.old }
     ensures length { IfSome current.new (λ m. array_vec_len m.numbers ≡ want) }

@@ -14,7 +14,7 @@ use Rattle.beet_sharing.specs.Runs.{Setup, shared_at}
 use Rattle.beet_auction.specs.Endings.{AuctionEnds, book_finish, book_rounds}
 use Rattle.beet_auction.proofs.Ends.{book-ends}
 use Rattle.beet_book.specs.Farmers.{book_with}
-use Rattle.beet_load.specs.Loading.{IsKeptOf, Kept, Loaded}
+use Rattle.beet_load.specs.Loading.{IsKeptOf, AuctionWithInputs, AuctionWithBidders}
 use Rattle.beet_load.specs.Servers.{ServerWords, masks_of}
 use Rattle.beet_run.specs.Runs.{EndsAuction, setup_with}
 use Rattle.beet_run.proofs.ShareLines.{shares-lines}
@@ -25,7 +25,8 @@ pub inputs-many : (book : Book) (inputs : Trio (List ℕ)) → IsBook book → A
 inputs-many book inputs b x i = (shares-lines book inputs b x).lengths i ∙ length-sums book
 
 -- so are the points that are kept of an auction that is read
-pub kept-many : (kept : Kept) (loaded : Loaded) → IsKeptOf kept loaded → (i : Point) → length (member kept.inputs i) ≡ 2 * kept.grid.prices
+pub kept-many : (kept : AuctionWithInputs) (loaded : AuctionWithBidders) → IsKeptOf kept loaded → (i : Point) →
+    length (member kept.inputs i) ≡ 2 * kept.grid.prices
 kept-many kept loaded k i = inputs-many (book_with kept.grid loaded.farmers) kept.inputs k.book k.shares i
 
 -- a run of an auction ends in one way
@@ -41,5 +42,6 @@ pub book-run : (book : Book) (inputs : Trio (List ℕ)) (words : Trio ServerWord
     AreShares (sums_of book) inputs → EndsAuction book.grid inputs words finish rounds →
     (finish ≡ book_finish book (masks_of words)) × (rounds ≡ book_rounds book (masks_of words))
 book-run book inputs words finish rounds b x h =
-    one-end (auction_over book.grid) (setup_with book.grid inputs words) rounds (book_rounds book (masks_of words)) finish (book_finish book (masks_of words))
+    one-end (auction_over book.grid) (setup_with book.grid inputs words) rounds
+    (book_rounds book (masks_of words)) finish (book_finish book (masks_of words))
     h.ends (book-ends book (setup_with book.grid inputs words) x.slopes b h.masks refl (shares-lines book inputs b x))

@@ -1,5 +1,6 @@
 -- The end of a run names a finish.
-use Rattle.std.proofs.Common.{◌≡◌, ◌≢◌, ◌<◌, arith, ℕ, zero, suc, List, Some, Option, IsSome, sym, ◌∙◌, ap, refl, subst, true, false, true≢false}
+use Rattle.std.proofs.Common.{◌≡◌, ◌≢◌, ◌<◌, arith, ℕ, zero, suc, List, Some, Option, IsSome, sym, ◌∙◌, ap, refl, subst}
+use Rattle.std.proofs.Common.{true, false, true≢false}
 use Rattle.beet_field.specs.declared.point.Point.TheVariants.{One}
 use Rattle.beet_field.specs.declared.trio.Trio.{Trio}
 use Rattle.beet_gates.specs.Clear.{is_end}
@@ -45,7 +46,8 @@ is-the-end (Reveal shown) h = absurd (true≢false (sym h))
 is-the-end End h = refl
 
 -- so the script names a finish after them
-pub named : (core : Core Auction) (answer : Option Finish) → HasEndedRun core → TellsEnd (auction_batch core.script) core.opened answer → IsSome answer
+pub named : (core : Core Auction) (answer : Option Finish) → HasEndedRun core →
+    TellsEnd (auction_batch core.script) core.opened answer → IsSome answer
 named core answer h tells =
     let f = h.fits in
     let came : ComesTo (auction_batch core.script) core.round core.opened =
@@ -54,7 +56,8 @@ named core answer h tells =
     (comes-to h.setup core.round f.rounds)) in
     (tells core.round came).1 (is-the-end (auction_batch core.script core.round core.opened).act h.ended)
 
-module _ (grid : Grid) (inputs : Trio (List ℕ)) (words : Trio ServerWords) (cores : Trio (Core Auction)) (s : Starts grid inputs words cores)
+module _ (grid : Grid) (inputs : Trio (List ℕ)) (words : Trio ServerWords) (cores : Trio (Core Auction))
+    (s : Starts grid inputs words cores)
     (ended : Trio (Core Auction)) (h : HaveEnded auction_batch inputs_of most_rounds cores ended) where
   abbrev run : Setup
   run = setup_with grid inputs words
@@ -67,7 +70,8 @@ module _ (grid : Grid) (inputs : Trio (List ℕ)) (words : Trio ServerWords) (co
   rounds = rounds_among run (most_rounds (auction_over grid))
 
   at-rounds : ended.one.round ≡ rounds
-  at-rounds = (h.ended One).round ∙ ap (λ o. rounds_among o (most_rounds cores.one.script)) s.setup ∙ ap (λ a. rounds_among run (most_rounds a)) (s.script One)
+  at-rounds = (h.ended One).round ∙ ap (λ o. rounds_among o (most_rounds cores.one.script)) s.setup
+      ∙ ap (λ a. rounds_among run (most_rounds a)) (s.script One)
 
   abbrev all : Delivered
   all = all_delivered (rounds_among (setup_of auction_batch inputs_of cores) (most_rounds cores.one.script))

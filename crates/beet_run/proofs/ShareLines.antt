@@ -36,12 +36,15 @@ element book w b = elim (cases_lt w (length (sums_of book))) [
   | inr beyond ↦ rw (past (sums_of book) w (omega (arith, beyond))) (omega arith)
 ]
 
-pub shares-lines : (book : Book) (inputs : Trio (List ℕ)) → IsBook book → (x : AreShares (sums_of book) inputs) → OnLines (sums_of book) x.slopes inputs
+pub shares-lines : (book : Book) (inputs : Trio (List ℕ)) → IsBook book → (x : AreShares (sums_of book) inputs) →
+    OnLines (sums_of book) x.slopes inputs
 shares-lines book inputs b x =
     let vs = sums_of book in
     record {
       paired = x.paired;
-      lengths = λ i. ap (λ t. length (member t i)) x.shares ∙ ap length (member-shares vs x.slopes i) ∙ length-points vs x.slopes i x.paired;
-      points = λ i w. ap (λ t. slice_index (member t i) w) x.shares ∙ ap (λ l. slice_index l w) (member-shares vs x.slopes i) ∙ on-line vs x.slopes i w x.paired;
+      lengths = λ i. ap (λ t. length (member t i)) x.shares ∙ ap length (member-shares vs x.slopes i)
+          ∙ length-points vs x.slopes i x.paired;
+      points = λ i w. ap (λ t. slice_index (member t i) w) x.shares
+          ∙ ap (λ l. slice_index l w) (member-shares vs x.slopes i) ∙ on-line vs x.slopes i w x.paired;
       elements = λ w. element book w b;
     }

@@ -10,13 +10,16 @@ abbrev pub opened_text : List ℕ → List ℕ → Option ℕ → List ℕ
 opened_text before name None = []
 opened_text before name (Some number) = before ++ name ++ decimal number
 
--- how a run ended: with a price and the numbers that are opened there, each behind this text, with none, or with the third rejected mask
+-- how a run ended: with a price and the numbers that are opened there, each behind this text, with none, or with the
+-- third rejected mask
 abbrev pub finish_text : List ℕ → Grid → Finish → List ℕ
 finish_text between grid (Price place volume supply) =
-    codes "price " ++ decimal (price_of grid place) ++ opened_text between (codes "volume ") volume ++ opened_text between (codes "supply ") supply
+    codes "price " ++ decimal (price_of grid place) ++ opened_text between (codes "volume ") volume
+    ++ opened_text between (codes "supply ") supply
 finish_text between grid NoPrice = codes "no price"
 finish_text between grid MasksSpent = codes "masks spent"
 
 -- how a run ended, a line for each number, and after how many rounds
 abbrev pub outcome_text : Grid → Finish → ℕ → List ℕ
-outcome_text grid finish rounds = line_of (finish_text (codes "\n") grid finish) ++ line_of (codes "rounds " ++ decimal rounds)
+outcome_text grid finish rounds =
+    line_of (finish_text (codes "\n") grid finish) ++ line_of (codes "rounds " ++ decimal rounds)

@@ -1,8 +1,9 @@
 -- Three servers that run a script, and those that run the auction over a grid.
-use Rattle.std.specs.Prelude.{◌≡◌, ℕ, List, true}
+use Rattle.std.specs.Prelude.{◌≡◌, ◌≤◌, ℕ, List, length, true}
 use Rattle.beet_field.specs.Trio.{member}
 use Rattle.beet_field.specs.declared.point.Point.{Point}
 use Rattle.beet_field.specs.declared.trio.Trio.{Trio}
+use Rattle.beet_words.specs.Words.{accepted}
 use Rattle.beet_gates.specs.declared.Batch.{Batch}
 use Rattle.beet_bids.specs.Grids.{Grid}
 use Rattle.beet_plan.specs.Auction.{Auction, auction_batch, auction_over, most_rounds}
@@ -20,6 +21,14 @@ use Rattle.beet_load.specs.Servers.{ServerWords, masks_of, coefficients_of}
 -- the setup of an auction over a grid, with these points of the inputs and these words of the servers
 abbrev pub setup_with : Grid → Trio (List ℕ) → Trio ServerWords → Setup
 setup_with grid inputs words = auction_setup grid inputs (masks_of words) (coefficients_of words)
+
+-- a server can begin a script with these points and words: it has a point of each input, and as many words as the
+-- script may ask for
+pub record CanStart {S : Type 0} (inputs_of coefficients_of masks_of : S → ℕ) (script : S) (inputs : List ℕ)
+    (words : ServerWords) : Type 0 where
+  pub points : length inputs ≡ inputs_of script
+  pub coefficients : coefficients_of script ≤ length (accepted words.coefficients)
+  pub masks : masks_of script ≤ length words.masks
 
 module _ {S : Type 0} (next : S → ℕ → List ℕ → Batch) (wanted : S → ℕ) where
   -- the setup of a script, with these points of the inputs and these words of the servers
@@ -65,6 +74,7 @@ pub record HasEndedRun (core : Core Auction) : Type 0 where
   pub ended : has_ended auction_batch core ≡ true
 
 -- the auction over a grid with these points and words ends with this finish after so many rounds
-pub record EndsAuction (grid : Grid) (inputs : Trio (List ℕ)) (words : Trio ServerWords) (finish : Finish) (rounds : ℕ) : Type 0 where
+pub record EndsAuction (grid : Grid) (inputs : Trio (List ℕ)) (words : Trio ServerWords) (finish : Finish)
+    (rounds : ℕ) : Type 0 where
   pub ends : AuctionEnds (auction_over grid) (setup_with grid inputs words) rounds finish
   pub masks : AreMasks (masks_of words)

@@ -5,5 +5,5 @@
 mod outcome;
 mod running;
 
-pub use outcome::{finish_words, opened_words, outcome_reply};
+pub use outcome::{finish_as_text, opened_as_text, outcome_reply};
 pub use running::{finish_at, run_on_one_thread, run_script, start_script, start_servers};

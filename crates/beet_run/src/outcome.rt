@@ -20,46 +20,47 @@ fn status_after(finish: &Finish) -> Status
     }
 }
 
-/// The words of a number that may be opened: its name and digits behind a text, or nothing.
-pub fn opened_words(
+/// The text of a number that may be opened: its name and digits behind a text, or nothing.
+pub fn opened_as_text(
     alloc: Global,
     before: &str,
     name: &str,
     number: Option<u64>,
 ) -> Result<String, AllocError>
-    ensures { IfOk result (λ words. string_bytes words ≡ opened_text before.now name.now number) }
+    ensures { IfOk result (λ text. string_bytes text ≡ opened_text before.now name.now number) }
 {
-    let words = match number {
+    let text = match number {
         None => String::new(alloc),
         Some(number) => format!(in alloc; "{before}{name}{number}")?,
     };
-    Ok(words)
+    Ok(text)
 }
 
-/// The words of a price, of none, or of spent masks; behind a price, the numbers that are opened there, each after `between`.
-pub fn finish_words(
+/// The text of a price, of none, or of spent masks; behind a price, the numbers that are opened there, each after
+/// `between`.
+pub fn finish_as_text(
     alloc: Global,
     grid: &Grid,
     finish: &Finish,
     between: &str,
 ) -> Result<String, AllocError>
-    ensures { IfOk result (λ words. string_bytes words ≡ finish_text between.now grid.now finish.now) }
+    ensures { IfOk result (λ text. string_bytes text ≡ finish_text between.now grid.now finish.now) }
 {
-    let words = match finish {
+    let text = match finish {
         Finish::Price {
             place,
             volume,
             supply,
         } => {
             let price = grid.base() + *place as u64 * grid.tick();
-            let volume = opened_words(alloc, between, "volume ", volume.map(Fe::value))?;
-            let supply = opened_words(alloc, between, "supply ", supply.map(Fe::value))?;
+            let volume = opened_as_text(alloc, between, "volume ", volume.map(Fe::value))?;
+            let supply = opened_as_text(alloc, between, "supply ", supply.map(Fe::value))?;
             format!(in alloc; "price {price}{volume}{supply}")?
         }
         Finish::NoPrice => String::from_str(alloc, "no price")?,
         Finish::MasksSpent => String::from_str(alloc, "masks spent")?,
     };
-    Ok(words)
+    Ok(text)
 }
 
 /// The lines of how a run ended, and that of the rounds.
@@ -71,8 +72,8 @@ fn outcome_lines(
 ) -> Result<Vec<u8>, AllocError>
     ensures { IfOk result (λ text. text.items ≡ outcome_text grid.now finish.now rounds) }
 {
-    let words = finish_words(alloc, grid, finish, "\n")?;
-    Ok(format!(in alloc; "{words}\nrounds {rounds}\n")?.into_bytes())
+    let text = finish_as_text(alloc, grid, finish, "\n")?;
+    Ok(format!(in alloc; "{text}\nrounds {rounds}\n")?.into_bytes())
 }
 
 /// The reply that tells how a run ended, and after how many rounds.

@@ -1,15 +1,14 @@
 //! Three servers begin a script, and run it to its end on one thread; those of an auction.
 
-ghost use Rattle.std.specs.Prelude.{◌≡◌, ◌≤◌, ◌*◌, IfErr, IfOk, All, Some, length};
+ghost use Rattle.std.specs.Prelude.{◌≡◌, ◌*◌, IfErr, IfOk, All, Some, length};
 ghost use Rattle.beet_field.specs.Trio.{member};
-ghost use Rattle.beet_field.specs.declared.point.Point.{Point as Server};
-ghost use Rattle.beet_words.specs.Words.{IsWord, accepted};
+ghost use Rattle.beet_words.specs.Words.{IsWord};
 ghost use Rattle.beet_gates.specs.Plans.{plan_finish};
 ghost use Rattle.beet_plan.specs.Auction.{auction_plan};
 ghost use Rattle.beet_server.specs.Cores.{IsFresh, fresh};
 ghost use Rattle.beet_load.specs.Counts.{counts_of};
 ghost use Rattle.beet_load.specs.Servers.{HaveEnough};
-ghost use Rattle.beet_run.specs.Runs.{HasEndedRun, HaveRunScript, HaveRunToEnd, StartScript, Starts};
+ghost use Rattle.beet_run.specs.Runs.{CanStart, HasEndedRun, HaveRunScript, HaveRunToEnd, StartScript, Starts};
 
 use beet_bids::Grid;
 use beet_errand::Stop;
@@ -31,9 +30,7 @@ fn start<S: Script>(
     inputs: FeList,
     words: ServerWords,
 ) -> Result<ServerCore<S>, Stop>
-    requires inputs { length inputs ≡ S.inputs_of script }
-    requires coefficients { S.coefficients_of script ≤ length (accepted words.coefficients) }
-    requires masks { S.masks_of script ≤ length words.masks }
+    requires { CanStart S.inputs_of S.coefficients_of S.masks_of script inputs words }
     ensures memory { IfErr result (λ stop. stop ≡ Stop.OutOfMemory) }
     ensures core { IfOk result (λ core. core ≡ fresh S.batch_of me script inputs
         (record { words = words.masks; passed = 0 })
@@ -59,9 +56,8 @@ pub fn start_script<S: Script>(
     inputs: Trio<FeList>,
     words: Trio<ServerWords>,
 ) -> Result<Trio<ServerCore<S>>, Stop>
-    requires inputs { (i : Server) → length (member inputs i) ≡ S.inputs_of script }
-    requires coefficients { (i : Server) → S.coefficients_of script ≤ length (accepted (member words i).coefficients) }
-    requires masks { (i : Server) → S.masks_of script ≤ length (member words i).masks }
+    requires { (i : Point) → CanStart S.inputs_of S.coefficients_of S.masks_of script (member inputs i)
+        (member words i) }
     ensures memory { IfErr result (λ stop. stop ≡ Stop.OutOfMemory) }
     ensures starts { IfOk result (StartScript S.batch_of S.inputs_of script inputs words) }
 {
@@ -72,17 +68,16 @@ pub fn start_script<S: Script>(
     Ok(cores)
 }
 
-/// Starts the three servers of a script with these points of the inputs and these words, and runs them to the end on the
-/// caller's thread, round by round. Want of memory is the only error, and comes before the first round.
+/// Starts the three servers of a script with these points of the inputs and these words, and runs them to the end on
+/// the caller's thread, round by round. Want of memory is the only error, and comes before the first round.
 pub fn run_script<S: Script>(
     alloc: Global,
     script: S,
     inputs: Trio<FeList>,
     words: Trio<ServerWords>,
 ) -> Result<Trio<ServerCore<S>>, Stop>
-    requires inputs { (i : Server) → length (member inputs i) ≡ S.inputs_of script }
-    requires coefficients { (i : Server) → S.coefficients_of script ≤ length (accepted (member words i).coefficients) }
-    requires masks { (i : Server) → S.masks_of script ≤ length (member words i).masks }
+    requires { (i : Point) → CanStart S.inputs_of S.coefficients_of S.masks_of script (member inputs i)
+        (member words i) }
     ensures memory { IfErr result (λ stop. stop ≡ Stop.OutOfMemory) }
     ensures ended { IfOk result (HaveRunScript S.batch_of S.inputs_of S.rounds_of script inputs words) }
 {
@@ -90,8 +85,8 @@ pub fn run_script<S: Script>(
     Ok(lockstep(cores))
 }
 
-/// The three servers of an auction over the grid, at its start, with these points of the inputs (supply at each price, and
-/// then demand) and these words. Want of memory is the only error.
+/// The three servers of an auction over the grid, at its start, with these points of the inputs (supply at each price,
+/// and then demand) and these words. Want of memory is the only error.
 pub fn start_servers(
     alloc: Global,
     grid: &Grid,
@@ -99,7 +94,7 @@ pub fn start_servers(
     words: Trio<ServerWords>,
 ) -> Result<Trio<ServerCore<AuctionScript>>, Stop>
     requires enough { HaveEnough (counts_of grid.now) words }
-    requires inputs { (i : Server) → length (member inputs i) ≡ 2 * grid.now.prices }
+    requires inputs { (i : Point) → length (member inputs i) ≡ 2 * grid.now.prices }
     ensures memory { IfErr result (λ stop. stop ≡ Stop.OutOfMemory) }
     ensures starts { IfOk result (Starts grid.now inputs words) }
 {
@@ -118,8 +113,8 @@ pub fn finish_at(core: &ServerCore<AuctionScript>) -> Finish
     }
 }
 
-/// Starts the three servers of an auction with these points of the inputs and these words, and runs them to the end on the
-/// caller's thread, round by round. Want of memory is the only error, and comes before the first round.
+/// Starts the three servers of an auction with these points of the inputs and these words, and runs them to the end on
+/// the caller's thread, round by round. Want of memory is the only error, and comes before the first round.
 pub fn run_on_one_thread(
     alloc: Global,
     grid: &Grid,
@@ -127,7 +122,7 @@ pub fn run_on_one_thread(
     words: Trio<ServerWords>,
 ) -> Result<Trio<ServerCore<AuctionScript>>, Stop>
     requires enough { HaveEnough (counts_of grid.now) words }
-    requires inputs { (i : Server) → length (member inputs i) ≡ 2 * grid.now.prices }
+    requires inputs { (i : Point) → length (member inputs i) ≡ 2 * grid.now.prices }
     ensures memory { IfErr result (λ stop. stop ≡ Stop.OutOfMemory) }
     ensures ended { IfOk result (HaveRunToEnd grid.now inputs words) }
 {

@@ -51,7 +51,8 @@ fn servers(rt: &impl Abort, alloc: Global) -> Trio<Core> {
     }
 }
 
-/// The sender and the receiver of a message, its round and how many numbers it has, and what server 1 says of it in round 3.
+/// The sender and the receiver of a message, its round and how many numbers it has, and what server 1 says of it in
+/// round 3.
 type Offer = (Point, Point, u32, u64, Verdict);
 
 const OFFERS: [Offer; 5] = [

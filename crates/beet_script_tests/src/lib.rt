@@ -1,8 +1,11 @@
-//! The tests of the crates of the script, of the servers and of what they see, which are proved over their contracts alone.
+//! The tests of the crates of the script, of the servers and of what they see, which are proved over their contracts
+//! alone.
 #![tactic(auto)]
 
 #[cfg(test)]
 mod auction;
+#[cfg(test)]
+mod bits;
 #[cfg(test)]
 mod gates;
 #[cfg(test)]

@@ -3,10 +3,10 @@ ghost use Rattle.beet_gates.specs.Scripts.{HasWords};
 ghost use Rattle.beet_sharing.specs.Runs.{numbers_of};
 ghost use Rattle.beet_map.specs.Refused.{HasSecrets};
 
+use crate::bits::SecondBits;
 use crate::samples::{ONES, lists};
-use arrayvec::ArrayVec;
 use beet_field::{Fe, Point, Trio};
-use beet_gates::{Act, Batch, Product, Script};
+use beet_gates::{Product, Script};
 use beet_map::{GateFault, Secrets, gate_map};
 use beet_shamir::Line;
 use beet_words::{WordList, count_accepted};
@@ -15,65 +15,6 @@ use std::process::Abort;
 
 /// A half in the field.
 const HALF: u64 = 1_152_921_504_606_846_976;
-
-/// The script in which each server deals one word.
-#[derive(Clone, Copy)]
-struct OneDeal;
-
-impl Script for OneDeal {
-    ghost use Rattle.std.specs.Prelude.{◌==◌, if◌then◌else◌, ⊤};
-    ghost use Rattle.std.proofs.Common.{rules};
-    ghost use Rattle.beet_gates.specs.Batches.{deal_batch, end_batch};
-
-    type Place = ();
-
-    ghost inputs_of = { λ _. 0 };
-
-    ghost rounds_of = { λ _. 1 };
-
-    ghost masks_of = { λ _. 1 };
-
-    ghost coefficients_of = { λ _. 61 };
-
-    ghost wires_of = { λ _. 183 };
-
-    ghost batch_of = { λ _ done _. if done == 0 then deal_batch else end_batch };
-
-    ghost is_at = { λ _ _ _ _. ⊤ };
-
-    ghost goes_on = { λ _ _ _ _ _ _ there _. there };
-
-    ghost lawful = { Prim.search rules };
-
-    fn inputs(&self) -> u32 {
-        0
-    }
-
-    fn rounds(&self) -> u32 {
-        1
-    }
-
-    fn masks(&self) -> u32 {
-        1
-    }
-
-    fn coefficients(&self) -> u32 {
-        61
-    }
-
-    fn wires(&self) -> u32 {
-        183
-    }
-
-    fn next(&self, done: u32, _opened: &[Fe]) -> Batch {
-        Batch {
-            lets: ArrayVec::new(),
-            act: if done == 0 { Act::Deal } else { Act::End },
-        }
-    }
-
-    fn begin(&self) {}
-}
 
 /// The line of this value and slope.
 fn line((value, slope): (u64, u64)) -> Line {
@@ -240,7 +181,7 @@ fn deal_map(
     let here = dealers(rt, alloc, 1, 2, 3);
     let there = dealers(rt, alloc, one, two, 3);
     let words = ones_and_fives(rt, alloc);
-    let mapped = map(rt, alloc, &OneDeal, &here, &there, &words);
+    let mapped = map(rt, alloc, &SecondBits, &here, &there, &words);
     drop((here, there, words));
     mapped
 }
@@ -251,8 +192,8 @@ fn other_word_of_the_server(rt: HostRuntime) {
     assert!(rt; fault == Some(GateFault::OwnMaskDiffers(0)));
 }
 
-/// Words of the dealing script's other world: the lowest bit of server 1 is 1 in the first world and 0 in the second, so its
-/// number gains 1/2. The words of ones stay.
+/// Words of the dealing script's other world: the lowest bit of server 1, which is not opened, is 1 in the first world
+/// and 0 in the second, so its number gains 1/2. The words of ones stay.
 const OTHER_BIT: [(Point, usize, Option<u64>); 6] = [
     (Point::One, 0, Some(ONES)),
     (Point::One, 1, Some(HALF + 5)),

@@ -1,5 +1,5 @@
 use beet_field::Point;
-use beet_forms::{Place, ReadFault};
+use beet_forms::{FaultPlace, ReadFault};
 use beet_world::{Delivery, read_schedule};
 use std::alloc::Global;
 use std::process::Abort;
@@ -34,7 +34,7 @@ const MOST: u32 = 1_000_000;
 /// Compares the row and the reason that a schedule is refused with.
 fn expect_bad(rt: &impl Abort, alloc: Global, text: &str, number: u32, reason: u32) {
     assert!(rt; text.len() <= 16_777_216);
-    let place = Place::Row(number);
+    let place = FaultPlace::Row(number);
     let fault = ReadFault::Bad { place, reason };
     assert!(rt; read_schedule(alloc, text.as_bytes()).err() == Some(fault));
 }

@@ -116,8 +116,8 @@ fn expect_opened(rt: &impl Abort, run: &ClearRun, wanted: Option<&[u64]>) {
     }
 }
 
-/// A number of prices, what is opened, sums, how many masks are rejected, the numbers that are opened where these are compared, the
-/// end and the rounds.
+/// A number of prices, what is opened, sums, how many masks are rejected, the numbers that are opened where these are
+/// compared, the end and the rounds.
 type Worked = (
     u32,
     Policy,

@@ -1,105 +1,35 @@
+use crate::bits::SecondBits;
 use crate::product::{product, three_and_four};
 use crate::samples::{NO_WORD, ONES, tape};
 use arrayvec::ArrayVec;
 use beet_field::{Fe, Point, Trio};
-use beet_gates::{Act, Batch, Product, Script};
+use beet_gates::{Product, Script};
 use beet_round::{RoundMessage, Verdict};
 use beet_server::{ServerCore, StartFault};
 use beet_words::{FeList, Tape};
 use std::alloc::Global;
 use std::process::Abort;
 
-/// Each server deals a word, and the lowest bits of the three words are opened.
-#[derive(Clone, Copy)]
-struct LowestBits;
-
-impl Script for LowestBits {
-    ghost use Rattle.std.specs.Prelude.{⊤};
-    ghost use Rattle.std.proofs.Common.{rules, ◌==◌, if◌then◌else◌, [], ◌∷◌};
-    ghost use Rattle.beet_gates.specs.Batches.{deal_batch, reveal_batch, end_batch};
-
-    type Place = ();
-
-    ghost inputs_of = { λ _. 0 };
-
-    ghost rounds_of = { λ _. 2 };
-
-    ghost masks_of = { λ _. 1 };
-
-    ghost coefficients_of = { λ _. 61 };
-
-    ghost wires_of = { λ _. 183 };
-
-    ghost batch_of = { λ _ done _. if done == 0 then deal_batch else
-        (if done == 1 then reveal_batch [] (0 ∷ 61 ∷ 122 ∷ []) else end_batch) };
-
-    ghost is_at = { λ _ _ _ _. ⊤ };
-
-    ghost goes_on = { λ _ _ _ _ _ _ there _. there };
-
-    ghost lawful = { Prim.search rules };
-
-    fn inputs(&self) -> u32 {
-        0
-    }
-
-    fn rounds(&self) -> u32 {
-        2
-    }
-
-    fn masks(&self) -> u32 {
-        1
-    }
-
-    fn coefficients(&self) -> u32 {
-        61
-    }
-
-    fn wires(&self) -> u32 {
-        183
-    }
-
-    fn next(&self, done: u32, _opened: &[Fe]) -> Batch {
-        let act = if done == 0 {
-            Act::Deal
-        } else if done == 1 {
-            let mut wires = ArrayVec::new();
-            wires.push(0);
-            wires.push(61);
-            wires.push(122);
-            Act::Reveal(wires)
-        } else {
-            Act::End
-        };
-        Batch {
-            lets: ArrayVec::new(),
-            act,
-        }
-    }
-
-    fn begin(&self) {}
-}
-
 /// A server of the script that opens three bits, with the word that it may deal and so many coefficient words.
-fn lowest_bits(
+fn second_bits(
     rt: &impl Abort,
     alloc: Global,
     me: Point,
     word: u64,
     count: u32,
-) -> Result<ServerCore<LowestBits>, StartFault> {
+) -> Result<ServerCore<SecondBits>, StartFault> {
     let masks = tape(rt, alloc, word);
     let coefficients = Tape::of_seed(alloc, &[7; 32], me.number(), count).expect(rt, "memory");
     let inputs = FeList::of(Vec::new(alloc));
-    ServerCore::start(alloc, me, LowestBits, inputs, masks, coefficients)
+    ServerCore::start(alloc, me, SecondBits, inputs, masks, coefficients)
 }
 
-/// Three such servers, which deal 1, 2 and 5.
-fn one_two_five(rt: &impl Abort, alloc: Global) -> Trio<ServerCore<LowestBits>> {
+/// Three such servers, which deal 2, 1 and 6.
+fn two_one_six(rt: &impl Abort, alloc: Global) -> Trio<ServerCore<SecondBits>> {
     Trio {
-        one: lowest_bits(rt, alloc, Point::One, 1, 70).expect(rt, "server 1"),
-        two: lowest_bits(rt, alloc, Point::Two, 2, 70).expect(rt, "server 2"),
-        three: lowest_bits(rt, alloc, Point::Three, 5, 70).expect(rt, "server 3"),
+        one: second_bits(rt, alloc, Point::One, 2, 70).expect(rt, "server 1"),
+        two: second_bits(rt, alloc, Point::Two, 1, 70).expect(rt, "server 2"),
+        three: second_bits(rt, alloc, Point::Three, 6, 70).expect(rt, "server 3"),
     }
 }
 
@@ -218,8 +148,8 @@ fn give_three(rt: &impl Abort, from: &mut ServerCore<Product>, three: &mut Serve
     expect_taken(rt, three, early);
 }
 
-/// Server 3 gets both messages of the second round before the last of the first, and passes the second round as it hands
-/// out its own messages. The answer is how many rounds it has passed before and after.
+/// Server 3 gets both messages of the second round before the last of the first, and passes the second round as it
+/// hands out its own messages. The answer is how many rounds it has passed before and after.
 fn pass_early(rt: &impl Abort, cores: &mut Trio<ServerCore<Product>>) -> (u32, u32) {
     let (one_three, two_three) = pass_without_three(rt, cores);
     give_three(rt, &mut cores.one, &mut cores.three);
@@ -318,8 +248,8 @@ fn an_ended_server_changes_nothing(rt: HostRuntime) {
     expect_course(&rt, rt.alloc(), Course::Late);
 }
 
-/// The run in which the words 1, 2 and 5 are dealt.
-fn expect_bits(rt: &impl Abort, cores: &mut Trio<ServerCore<LowestBits>>) {
+/// The run in which the words 2, 1 and 6 are dealt.
+fn expect_bits(rt: &impl Abort, cores: &mut Trio<ServerCore<SecondBits>>) {
     pass_round(rt, cores);
     assert!(rt; cores.one.masks().masks_left() == 0);
     assert!(rt; cores.one.coefficients().accepted_left() == 9);
@@ -330,7 +260,7 @@ fn expect_bits(rt: &impl Abort, cores: &mut Trio<ServerCore<LowestBits>>) {
 
 #[test]
 fn bits_of_each_server(rt: HostRuntime) {
-    let mut cores = one_two_five(&rt, rt.alloc());
+    let mut cores = two_one_six(&rt, rt.alloc());
     expect_bits(&rt, &mut cores);
     drop(cores);
 }
@@ -342,7 +272,7 @@ fn product_fault(rt: &impl Abort, alloc: Global, word: u64) -> Option<StartFault
 
 /// Why server 2 of the three bits does not start with no word to deal and so many coefficient words.
 fn bits_fault(rt: &impl Abort, alloc: Global, count: u32) -> Option<StartFault> {
-    lowest_bits(rt, alloc, Point::Two, NO_WORD, count).err()
+    second_bits(rt, alloc, Point::Two, NO_WORD, count).err()
 }
 
 #[test]

@@ -1,5 +1,6 @@
 -- The plan that is left at a place of the script.
-use Rattle.std.proofs.Common.{◌≡◌, ◌≢◌, ◌↔◌, ℕ, zero, suc, ◌+◌, ◌-◌, ◌/◌, ◌<◌, ◌≤◌, ◌⊎◌, inl, inr, Bool, true, false, List, [], ◌∷◌, Option, Some, None, refl, ap, sym, ◌∙◌, arith, eq-eqb, ne_eqb}
+use Rattle.std.proofs.Common.{◌≡◌, ◌≢◌, ◌↔◌, ℕ, zero, suc, ◌+◌, ◌-◌, ◌/◌, ◌<◌, ◌≤◌, ◌⊎◌, inl, inr, Bool, true, false}
+use Rattle.std.proofs.Common.{List, [], ◌∷◌, Option, Some, None, refl, ap, sym, ◌∙◌, arith, eq-eqb, ne_eqb}
 use Rattle.std.specs.Prelude.{nat_lt, IsTrue, unwrap_or}
 use Rattle.std.proofs.lemmas.Bool.{cases_lt, iff_false}
 use Rattle.std.proofs.lemmas.Bool.Decides.{nat_tests}
@@ -47,15 +48,18 @@ module _ (g : Blocks) (policy : Policy) (prices n lo hi spare first : ℕ) where
 
 -- with one mask rejected more
 module _ (g : Blocks) (policy : Policy) (prices n lo hi spare first : ℕ) where
-  pub again-plan : 0 < n → lo < hi → (product : ℕ) → product ≡ 1 → spare ≢ 0 → search_plan g policy prices n lo hi (spare - 1) (after_mask g first)
+  pub again-plan : 0 < n → lo < hi → (product : ℕ) → product ≡ 1 → spare ≢ 0 →
+      search_plan g policy prices n lo hi (spare - 1) (after_mask g first)
       ≡ after_product g MasksSpent spare first (with_mask g prices (search_plan g policy prices (n - 1)) lo hi) product
-  again-plan hn h product one some = rw (eq-eqb product 1 one, ne_eqb spare 0 some) (open-plan g policy prices n lo hi (spare - 1) (after_mask g first) hn h)
+  again-plan hn h product one some = rw (eq-eqb product 1 one, ne_eqb spare 0 some)
+      (open-plan g policy prices n lo hi (spare - 1) (after_mask g first) hn h)
 
 pub block-batch : {F : Type 0} (bs : List Batch) (next : ℕ → Plan F) (step : ℕ) → plan_batch (Block bs next) step [] ≡ batch_at bs step
 unfolding plan_batch
 block-batch bs next step = refl
 
-pub last-batch : {F : Type 0} (b : Batch) (n : ℕ) (named : List ℕ → F) (step : ℕ) → plan_batch (Last b n named) step [] ≡ batch_at (b ∷ []) step
+pub last-batch : {F : Type 0} (b : Batch) (n : ℕ) (named : List ℕ → F) (step : ℕ) →
+    plan_batch (Last b n named) step [] ≡ batch_at (b ∷ []) step
 unfolding plan_batch
 last-batch b n named step = refl
 
@@ -72,7 +76,8 @@ module _ (policy : Policy) (prices place : ℕ) where
   pub end-past : prices ≤ place → end_plan policy prices place ≡ Ended NoPrice
   end-past h = let t : nat_lt place prices ≡ false = grind (arith, nat_tests) in rw t refl
 
-  pub end-shows : (shown : Policy) → shown ≡ policy → place < prices → end_plan policy prices place ≡ opening_plan (shown_by shown (prices + place) place) (price_with place)
+  pub end-shows : (shown : Policy) → shown ≡ policy → place < prices →
+      end_plan policy prices place ≡ opening_plan (shown_by shown (prices + place) place) (price_with place)
   end-shows shown e h =
       let t : nat_lt place prices ≡ true = grind (arith, nat_tests) in
       rw t (ap (λ (q : Policy). opening_plan (shown_by q (prices + place) place) (price_with place)) (sym e))
@@ -101,25 +106,32 @@ module _ (w : Walk) where
   stage-is s e = ap (λ (t : Stage). stage_plan t w) e
 
   open-at : w.stage ≡ Search → (b : Bool) → (IsTrue b ↔ ((0 < w.left) × (w.lo < w.hi))) → b ≡ true →
-      plan_at w ≡ Block ((blocks_of w.gates).mask w.first) (after_product (blocks_of w.gates) MasksSpent w.spare w.first (with_mask (blocks_of w.gates) w.prices (search_plan (blocks_of w.gates) w.policy w.prices (w.left - 1)) w.lo w.hi))
+      plan_at w ≡ Block ((blocks_of w.gates).mask w.first)
+      (after_product (blocks_of w.gates) MasksSpent w.spare w.first (with_mask (blocks_of w.gates) w.prices
+      (search_plan (blocks_of w.gates) w.policy w.prices (w.left - 1)) w.lo w.hi))
   open-at e b says t =
       let o = open-from b w.left w.lo w.hi says t in
       stage-is Search e ∙ open-plan (blocks_of w.gates) w.policy w.prices w.left w.lo w.hi w.spare w.first o.0 o.1
-      ∙ until-open (blocks_of w.gates) MasksSpent w.spare w.first (with_mask (blocks_of w.gates) w.prices (search_plan (blocks_of w.gates) w.policy w.prices (w.left - 1)) w.lo w.hi)
+      ∙ until-open (blocks_of w.gates) MasksSpent w.spare w.first (with_mask (blocks_of w.gates) w.prices
+      (search_plan (blocks_of w.gates) w.policy w.prices (w.left - 1)) w.lo w.hi)
 
-  pub closed-at : w.stage ≡ Search → (b : Bool) → (IsTrue b ↔ ((0 < w.left) × (w.lo < w.hi))) → b ≡ false → plan_at w ≡ end_plan w.policy w.prices w.lo
-  closed-at e b says t = stage-is Search e ∙ closed-plan (blocks_of w.gates) w.policy w.prices w.left w.lo w.hi w.spare w.first (closed-from b w.left w.lo w.hi says t)
+  pub closed-at : w.stage ≡ Search → (b : Bool) → (IsTrue b ↔ ((0 < w.left) × (w.lo < w.hi))) → b ≡ false →
+      plan_at w ≡ end_plan w.policy w.prices w.lo
+  closed-at e b says t = stage-is Search e ∙ closed-plan
+      (blocks_of w.gates) w.policy w.prices w.left w.lo w.hi w.spare w.first (closed-from b w.left w.lo w.hi says t)
 
   -- the supply is still to be read
   pub supply-at : (volume : ℕ) → w.stage ≡ Supply volume → plan_at w ≡ Last end_batch 1 (λ opened. price_with w.lo (volume ∷ opened))
   supply-at volume e = stage-is (Supply volume) e
 
   -- lengths
-  pub length-open : w.stage ≡ Search → (b : Bool) → (IsTrue b ↔ ((0 < w.left) × (w.lo < w.hi))) → b ≡ true → plan_length (plan_at w) ≡ (blocks_of w.gates).mask_rounds
+  pub length-open : w.stage ≡ Search → (b : Bool) → (IsTrue b ↔ ((0 < w.left) × (w.lo < w.hi))) → b ≡ true →
+      plan_length (plan_at w) ≡ (blocks_of w.gates).mask_rounds
   length-open e b says t = ap plan_length (open-at e b says t) ∙ (are-blocks w.gates).masks.rounds w.first
 
   pub length-borrow : (c : ℕ) → w.stage ≡ Borrow c → plan_length (plan_at w) ≡ (blocks_of w.gates).compare_rounds - 1
-  length-borrow c e = ap plan_length (stage-is (Borrow c) e) ∙ omega (arith, (are-blocks w.gates).comparisons.rounds (after_mask (blocks_of w.gates) w.first) w.first c)
+  length-borrow c e = ap plan_length (stage-is (Borrow c) e)
+      ∙ omega (arith, (are-blocks w.gates).comparisons.rounds (after_mask (blocks_of w.gates) w.first) w.first c)
 
   -- batches
   pub batch-open : w.stage ≡ Search → (b : Bool) → (IsTrue b ↔ ((0 < w.left) × (w.lo < w.hi))) → b ≡ true → (step : ℕ) →
@@ -127,10 +139,12 @@ module _ (w : Walk) where
   batch-open e b says t step = ap (λ (p : Plan Finish). plan_batch p step []) (open-at e b says t) ∙ block-batch _ _ step
 
   pub batch-masked : w.stage ≡ Masked → (step : ℕ) →
-      plan_batch (plan_at w) step [] ≡ batch_at ((blocks_of w.gates).masked (after_mask (blocks_of w.gates) w.first) w.first ((w.lo + w.hi) / 2) (w.prices + (w.lo + w.hi) / 2) ∷ []) step
+      plan_batch (plan_at w) step [] ≡ batch_at ((blocks_of w.gates).masked
+      (after_mask (blocks_of w.gates) w.first) w.first ((w.lo + w.hi) / 2) (w.prices + (w.lo + w.hi) / 2) ∷ []) step
   batch-masked e step = ap (λ (p : Plan Finish). plan_batch p step []) (stage-is Masked e) ∙ block-batch _ _ step
 
-  pub batch-borrow : (c : ℕ) → w.stage ≡ Borrow c → (step : ℕ) → plan_batch (plan_at w) step [] ≡ batch_at ((blocks_of w.gates).answer (after_mask (blocks_of w.gates) w.first) w.first c) step
+  pub batch-borrow : (c : ℕ) → w.stage ≡ Borrow c → (step : ℕ) → plan_batch (plan_at w) step []
+      ≡ batch_at ((blocks_of w.gates).answer (after_mask (blocks_of w.gates) w.first) w.first c) step
   batch-borrow c e step = ap (λ (p : Plan Finish). plan_batch p step []) (stage-is (Borrow c) e) ∙ block-batch _ _ step
 
   pub batch-ended : (f : Finish) → w.stage ≡ StageEnded f → (step : ℕ) → plan_batch (plan_at w) step [] ≡ end_batch
@@ -143,14 +157,17 @@ module _ (w : Walk) where
     past (suc k) = refl
 
   -- a batch past the end of a short block
-  pub past-borrow : (c : ℕ) → w.stage ≡ Borrow c → (step : ℕ) → (blocks_of w.gates).compare_rounds ≤ step + 1 → plan_batch (plan_at w) step [] ≡ end_batch
+  pub past-borrow : (c : ℕ) → w.stage ≡ Borrow c → (step : ℕ) → (blocks_of w.gates).compare_rounds ≤ step + 1 →
+      plan_batch (plan_at w) step [] ≡ end_batch
   past-borrow c e step h =
       let l = (are-blocks w.gates).comparisons.rounds (after_mask (blocks_of w.gates) w.first) w.first c in
-      batch-borrow c e step ∙ ap (λ (o : Option Batch). unwrap_or o end_batch) (get-past ((blocks_of w.gates).answer (after_mask (blocks_of w.gates) w.first) w.first c) step (omega (arith, l)))
+      batch-borrow c e step ∙ ap (λ (o : Option Batch). unwrap_or o end_batch)
+      (get-past ((blocks_of w.gates).answer (after_mask (blocks_of w.gates) w.first) w.first c) step (omega (arith, l)))
 
   -- the plan after a number
   pub after-open : w.stage ≡ Search → (b : Bool) → (IsTrue b ↔ ((0 < w.left) × (w.lo < w.hi))) → b ≡ true → (x : ℕ) →
-      plan_after (plan_at w) x ≡ after_product (blocks_of w.gates) MasksSpent w.spare w.first (with_mask (blocks_of w.gates) w.prices (search_plan (blocks_of w.gates) w.policy w.prices (w.left - 1)) w.lo w.hi) x
+      plan_after (plan_at w) x ≡ after_product (blocks_of w.gates) MasksSpent w.spare w.first (with_mask
+      (blocks_of w.gates) w.prices (search_plan (blocks_of w.gates) w.policy w.prices (w.left - 1)) w.lo w.hi) x
   after-open e b says t x = ap (λ (p : Plan Finish). plan_after p x) (open-at e b says t)
 
 pub block-finish : {F : Type 0} (bs : List Batch) (next : ℕ → Plan F) → plan_finish (Block bs next) [] ≡ None
@@ -166,7 +183,8 @@ unfolding plan_finish
 ended-finish f = refl
 
 module _ (w : Walk) where
-  pub finish-open : w.stage ≡ Search → (b : Bool) → (IsTrue b ↔ ((0 < w.left) × (w.lo < w.hi))) → b ≡ true → plan_finish (plan_at w) [] ≡ None
+  pub finish-open : w.stage ≡ Search → (b : Bool) → (IsTrue b ↔ ((0 < w.left) × (w.lo < w.hi))) → b ≡ true →
+      plan_finish (plan_at w) [] ≡ None
   finish-open e b says t = ap (λ (p : Plan Finish). plan_finish p []) (open-at w e b says t) ∙ block-finish _ _
 
   pub finish-masked : w.stage ≡ Masked → plan_finish (plan_at w) [] ≡ None

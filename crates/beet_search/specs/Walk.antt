@@ -17,7 +17,8 @@ use Rattle.beet_search.specs.declared.walk.Walk.{Walk}
 abbrev pub stage_plan : Stage → Walk → Plan Finish
 stage_plan Search w = search_plan (blocks_of w.gates) w.policy w.prices w.left w.lo w.hi w.spare w.first
 stage_plan Masked w =
-    with_mask (blocks_of w.gates) w.prices (search_plan (blocks_of w.gates) w.policy w.prices w.left) w.lo w.hi w.spare w.first
+    with_mask (blocks_of w.gates) w.prices (search_plan (blocks_of w.gates) w.policy w.prices w.left) w.lo
+    w.hi w.spare w.first
 stage_plan (Borrow c) w =
     let blocks = blocks_of w.gates in
     Block (blocks.answer (after_mask blocks w.first) w.first c)

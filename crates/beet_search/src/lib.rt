@@ -1,4 +1,5 @@
-//! The auction's script: a binary search for the first price at which supply reaches demand, by comparisons under masks.
+//! The auction's script: a binary search for the first price at which supply reaches demand, by comparisons under
+//! masks.
 #![tactic(auto)]
 
 mod laws;
@@ -7,4 +8,4 @@ mod walk;
 
 pub use beet_plan::Finish;
 pub use laws::{auction_law, book_law, five_law};
-pub use script::{AuctionScript, Place};
+pub use script::{AuctionScript, ScriptPlace};

@@ -15,8 +15,8 @@ use beet_masking::{MASK_WORDS, SPARE_MASKS};
 use beet_plan::{Finish, most_coefficients, most_masks};
 use std::marker::Model;
 
-/// The script of an auction with so many prices, this kind of gates, and what it opens beside the price. With P prices, input k is the supply at
-/// place k, and input P + k the demand there.
+/// The script of an auction with so many prices, this kind of gates, and what it opens beside the price. With P prices,
+/// input k is the supply at place k, and input P + k the demand there.
 #[derive(Clone, Copy, PartialEq, Eq, Debug)]
 pub struct AuctionScript {
     prices: u32,
@@ -38,7 +38,7 @@ impl Model for AuctionScript {
 
 /// How far a run has come in the script.
 #[derive(Clone, Copy)]
-pub struct Place {
+pub struct ScriptPlace {
     walk: Walk,
     /// How many batches come before the block of the walk.
     before: u32,
@@ -53,7 +53,8 @@ impl AuctionScript {
     /// The script that opens the price and the volume, or none where the number of prices is outside 1 to 4,096.
     pub fn new(prices: u32, gates: Gates) -> Option<AuctionScript>
         ensures accepted { IsSome result ↔ IsGridSize prices }
-        ensures value { IfSome result (λ script. script ≡ record { prices = prices; gates = gates; policy = Policy.Volume }) }
+        ensures value { IfSome result
+            (λ script. script ≡ record { prices = prices; gates = gates; policy = Policy.Volume }) }
     {
         if prices >= 1 && prices <= MOST_PRICES {
             Some(AuctionScript {
@@ -121,7 +122,7 @@ impl Script for AuctionScript {
     ghost use Rattle.beet_plan.proofs.AuctionLaw.{auction-law};
     ghost use Rattle.beet_search.specs.Places.{IsAt, goes-on};
 
-    type Place = Place;
+    type Place = ScriptPlace;
 
     ghost inputs_of = { λ s. 2 * s.prices };
 
@@ -171,15 +172,15 @@ impl Script for AuctionScript {
         batch
     }
 
-    fn begin(&self) -> Place {
-        Place {
+    fn begin(&self) -> ScriptPlace {
+        ScriptPlace {
             walk: self.start(),
             before: 0,
             read: 0,
         }
     }
 
-    fn refill(&self, done: u32, opened: &[Fe], place: &mut Place, batch: &mut Batch) {
+    fn refill(&self, done: u32, opened: &[Fe], place: &mut ScriptPlace, batch: &mut Batch) {
         while place.read < opened.len() {
             let length = place.walk.length();
             let step = done - place.before;

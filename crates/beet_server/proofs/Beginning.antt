@@ -28,11 +28,13 @@ none_before r = grind (arith, nat_tests)
 module _ {S : Type 0} (next : S → ℕ → List ℕ → Batch) (inputs most : S → ℕ) where
   -- a fresh core fits a setup that has its inputs, words and numbers
   pub fresh-fits : (o : Setup) (s : Point) (c : Core S) → c.me ≡ s → IsFresh next inputs c → o.next ≡ next c.script →
-      member o.inputs s ≡ take (inputs c.script) c.wires → member o.masks s ≡ c.masks.words → member o.numbers s ≡ accepted c.coefficients.words →
+      member o.inputs s ≡ take (inputs c.script) c.wires → member o.masks s ≡ c.masks.words →
+      member o.numbers s ≡ accepted c.coefficients.words →
       Fits next o nothing c
   fresh-fits o s c name is script ins masks numbers =
       subst (λ (k : Core S). Fits next o nothing k) (sym is)
-      (begins next c.me c.script (take (inputs c.script) c.wires) (unpassed next c.masks.words) (unpassed next c.coefficients.words) refl refl o (record {
+      (begins next c.me c.script (take (inputs c.script) c.wires) (unpassed next c.masks.words)
+      (unpassed next c.coefficients.words) refl refl o (record {
         has_script = script;
         has_inputs = ap (member o.inputs) name ∙ ins;
         has_words = ap (member o.masks) name ∙ masks;
@@ -68,11 +70,13 @@ module _ {S : Type 0} (next : S → ℕ → List ℕ → Batch) (inputs most : S
   -- where the first has not ended, the round is one of the run
   pub goes-on : (o : Setup) (t : ℕ) (cores : Trio (Core S)) → AreAtRound next o t cores → has_ended next cores.one ≡ false → IsRound o t
   goes-on o t cores stand on k le = elim (cases_eq k t) [
-    | inl last ↦ rw last (sym (ap (λ r. is_end (coming o r).act) (stand One).round) ∙ sym (coming_is next o (all_delivered t) cores.one (stand One).fits) ∙ on)
+    | inl last ↦ rw last (sym (ap (λ r. is_end (coming o r).act) (stand One).round)
+        ∙ sym (coming_is next o (all_delivered t) cores.one (stand One).fits) ∙ on)
     | inr before ↦ (stand One).fits.rounds k (omega (arith, le, before, (stand One).round))
   ]
 
-  pub may-pass : (o : Setup) (t : ℕ) (cores : Trio (Core S)) → AreAtRound next o t cores → has_ended next cores.one ≡ false → MayPass next cores
+  pub may-pass : (o : Setup) (t : ℕ) (cores : Trio (Core S)) → AreAtRound next o t cores →
+      has_ended next cores.one ≡ false → MayPass next cores
   may-pass o t cores stand on = record {
     o = o;
     t = t;

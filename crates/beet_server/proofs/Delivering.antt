@@ -1,6 +1,9 @@
 -- A core that fits a run goes on fitting it.
-use Rattle.std.proofs.Common.{◌≡◌, ◌≢◌, ◌≤◌, ◌<◌, ◌+◌, ◌==◌, ◌&&◌, ◌||◌, if◌then◌else◌, ℕ, suc, Bool, true, false, true≢false, Some, None, is_some, List, ◌++◌, drop, sym, refl, ap, subst, ◌∙◌, ◌⊎◌, inl, inr, ⊎_elim, arith, add-one}
-use Rattle.std.proofs.lemmas.Bool.{eq-eqb, le-ltb, lt-ltb, and_from, and_parts, and_right, cases_lt, eqb-true, false_from_ne_true, ne_eqb, or_cases, or_left, or_right}
+use Rattle.std.proofs.Common.{◌≡◌, ◌≢◌, ◌≤◌, ◌<◌, ◌+◌, ◌==◌, ◌&&◌, ◌||◌, if◌then◌else◌, ℕ, suc, Bool, true, false}
+use Rattle.std.proofs.Common.{true≢false, Some, None, is_some, List, ◌++◌, drop, sym, refl, ap, subst, ◌∙◌, ◌⊎◌, inl}
+use Rattle.std.proofs.Common.{inr, ⊎_elim, arith, add-one}
+use Rattle.std.proofs.lemmas.Bool.{eq-eqb, le-ltb, lt-ltb, and_from, and_parts, and_right, cases_lt, eqb-true}
+use Rattle.std.proofs.lemmas.Bool.{false_from_ne_true, ne_eqb, or_cases, or_left, or_right}
 use Rattle.std.proofs.lemmas.Bool.Decides.{nat_tests}
 use Rattle.arrayvec.specs.ArrayVec.{array_vec_len}
 use Rattle.beet_field.specs.Trio.{member}
@@ -14,6 +17,7 @@ use Rattle.beet_gates.specs.Scripts.{size_of}
 use Rattle.beet_gates.specs.declared.Act.{Act}
 use Rattle.beet_gates.specs.declared.Batch.{Batch}
 use Rattle.beet_gates.proofs.EachFacts.{each-more}
+use Rattle.beet_gates.specs.Draws.{draws_in}
 use Rattle.beet_round.specs.Boxes.{Mailbox, place_at, with_place, numbers_of, numbers_at, HasBoth, Judged, JudgedFrom, kept, turned}
 use Rattle.beet_round.specs.Sides.{peer}
 use Rattle.beet_round.proofs.BoxFacts.{judged-from}
@@ -24,7 +28,7 @@ use Rattle.beet_round.specs.declared.mailbox.Verdict.{Verdict}
 use Rattle.beet_round.specs.declared.mailbox.Verdict.TheVariants.{Stored, Ready, Repeat, Old, TooEarly, WrongLength, Stranger}
 use Rattle.beet_round.specs.declared.sides.Side.{Side}
 use Rattle.beet_round.specs.declared.sides.Side.TheVariants.{Low, High}
-use Rattle.beet_sharing.specs.Runs.{Setup, Shared, coming, message, sent_for, shared_at, standing_at, draws_in, gained}
+use Rattle.beet_sharing.specs.Runs.{Setup, Shared, coming, message, sent_for, shared_at, standing_at, gained}
 use Rattle.beet_delivery.specs.Events.{Delivered, same, both_in, with_triple}
 use Rattle.beet_server.specs.Answers.{HandsOut, IsLateVerdict, Keeps, Moves, other_side, verdict_on}
 use Rattle.beet_server.specs.Cores.{Core, coming_at, has_ended}
@@ -90,7 +94,8 @@ module _ {S : Type 0} (next : S → ℕ → List ℕ → Batch) (o : Setup) (x :
           wires = fits.wires;
           opened = fits.opened;
           dealt = rw (coming-is, dealt) refl;
-          drawn = rw (coming-is, drawn) (sym (passed-again c.coefficients.words (shared_at o c.round).drawn (draws_in (coming o c.round).act)));
+          drawn = rw (coming-is, drawn)
+              (sym (passed-again c.coefficients.words (shared_at o c.round).drawn (draws_in (coming o c.round).act)));
           own = sends-is h c.me;
         };
         received = fits.received;
@@ -144,7 +149,8 @@ module _ {S : Type 0} (next : S → ℕ → List ℕ → Batch) (o : Setup) (x :
     new_coming : next c.script (c.round + 1) (moved_on next c).opened ≡ new_batch
     new_coming = λ i. sym fits.script i (sym next_round i) (opened_is i)
 
-    gained_is : wires_given next (work_of c) (numbers_at c.mail.now Low) (numbers_at c.mail.now High) ≡ member (shared_at o (suc c.round)).wires c.me
+    gained_is : wires_given next (work_of c) (numbers_at c.mail.now Low) (numbers_at c.mail.now High)
+        ≡ member (shared_at o (suc c.round)).wires c.me
     gained_is =
         (λ i. fits.wires i ++ points_given (coming-is i).act (from_is One i) (from_is Two i) (from_is Three i))
         ∙ ap (λ l. member there.wires c.me ++ l) (gains-run o there act c.me)
@@ -196,7 +202,8 @@ module _ {S : Type 0} (next : S → ℕ → List ℕ → Batch) (o : Setup) (x :
         received = rw (fits.received, in_place Low, in_place High) (sym (each-more (messages_to o c.me) c.round));
         now = λ s. turned_now c.mail want s ∙ ap (kept want) (fits.early s)
             ∙ kept_place want (x (peer c.me s) c.me (c.round + 1)) (message_of o (peer c.me s) c.me (c.round + 1)) (size_is s);
-        early = λ s. turned_next c.mail want s ∙ ap (λ b. some_if b (message_of o (peer c.me s) c.me (c.round + 1 + 1))) (sym (none_later s));
+        early = λ s. turned_next c.mail want s
+            ∙ ap (λ b. some_if b (message_of o (peer c.me s) c.me (c.round + 1 + 1))) (sym (none_later s));
         before = λ s t h. below-or t c.round h (fits.before s t) (λ e. rw e (delivered s));
         soon = λ s t e. let h = fits.soon s t e in let low = rw handed at h.0 in (omega (arith, low), h.1);
       };
@@ -225,7 +232,8 @@ module _ (x : Delivered) (me : Point) (side : Side) (t : ℕ) where
 
   new-other : (s : Side) (r : ℕ) → s ≢ side → new_set (peer me s) me r ≡ x (peer me s) me r
   new-other s r other =
-      or-false _ _ (false_from_ne_true _ (λ e. let b = (and_parts _ _ e).0 in other (peer-one me s side (same_is (peer me s) (peer me side) (and_parts _ _ b).0))))
+      or-false _ _ (false_from_ne_true _ (λ e. let b = (and_parts _ _ e).0 in
+      other (peer-one me s side (same_is (peer me s) (peer me side) (and_parts _ _ b).0))))
 
   new-kept : (s : Side) (r : ℕ) → x (peer me s) me r ≡ true → new_set (peer me s) me r ≡ true
   new-kept s r e = or_left _ _ e
@@ -262,7 +270,8 @@ other-in : (old new : Mailbox) (side : Side) (m : RoundMessage) → new ≡ reco
 other-in old new Low m is both = (subst (λ (k : Mailbox). HasBoth k.now) is both).1
 other-in old new High m is both = (subst (λ (k : Mailbox). HasBoth k.now) is both).0
 
-other-out : (old new : Mailbox) (side : Side) (m : RoundMessage) → new ≡ record old { now = with_place old.now side m } → (HasBoth new.now → ⊥) →
+other-out : (old new : Mailbox) (side : Side) (m : RoundMessage) →
+    new ≡ record old { now = with_place old.now side m } → (HasBoth new.now → ⊥) →
     is_some (place_at old.now (other_side side)) ≡ false
 other-out old new Low m is not = false_from_ne_true _ (λ e. not (subst (λ (k : Mailbox). HasBoth k.now) (sym is) (refl, e)))
 other-out old new High m is not = false_from_ne_true _ (λ e. not (subst (λ (k : Mailbox). HasBoth k.now) (sym is) (e, refl)))
@@ -316,15 +325,18 @@ module _ {S : Type 0} (next : S → ℕ → List ℕ → Batch) (o : Setup) (x :
       rw e (sym (some-place _ (message_of o (peer c.me side) c.me (c.round + 1))) ∙ ap is_some (sym (fits.early side)) ∙ filled)
 
   -- a message of the run has the length that is wanted
-  not-long : c.mail.round ≡ c.round → c.mail.want ≡ size_of (coming_at next c).act → t ≡ c.mail.round → array_vec_len the_message.numbers ≡ c.mail.want
+  not-long : c.mail.round ≡ c.round → c.mail.want ≡ size_of (coming_at next c).act → t ≡ c.mail.round →
+      array_vec_len the_message.numbers ≡ c.mail.want
   not-long at want due =
       let e : t ≡ c.round = due ∙ at in
-      rw (e, want, coming-is next o x c fits.stands) (length-sent_for o (standing_at o c.round) (coming o c.round).act (peer c.me side) c.me)
+      rw (e, want, coming-is next o x c fits.stands)
+      (length-sent_for o (standing_at o c.round) (coming o c.round).act (peer c.me side) c.me)
 
   -- the core has handed out the messages of the round
   module _ (handed : c.handed ≡ true) where
     soon_stays : (s : Side) (r : ℕ) → the_set (peer c.me s) c.me r ≡ true → (r ≤ taken c.round c.handed) × IsRound o r
-    soon_stays s r e = ⊎_elim (λ a. fits.soon s r a) (λ (b : r ≡ t). rw (b, handed) (omega (arith, near), is_round)) (new-cases x c.me side t s r e)
+    soon_stays s r e = ⊎_elim (λ a. fits.soon s r a) (λ (b : r ≡ t). rw (b, handed) (omega (arith, near), is_round))
+        (new-cases x c.me side t s r e)
 
     before_stays : (s : Side) (r : ℕ) → r < c.round → the_set (peer c.me s) c.me r ≡ true
     before_stays s r h = new-kept x c.me side t s r (fits.before s r h)
@@ -332,7 +344,8 @@ module _ {S : Type 0} (next : S → ℕ → List ℕ → Batch) (o : Setup) (x :
     -- a change of the box alone
     boxed : (box : Mailbox) →
         ((s : Side) → place_at box.now s ≡ some_if (the_set (peer c.me s) c.me c.round) (message_of o (peer c.me s) c.me c.round)) →
-        ((s : Side) → place_at box.next s ≡ some_if (the_set (peer c.me s) c.me (c.round + 1)) (message_of o (peer c.me s) c.me (c.round + 1))) →
+        ((s : Side) → place_at box.next s
+        ≡ some_if (the_set (peer c.me s) c.me (c.round + 1)) (message_of o (peer c.me s) c.me (c.round + 1))) →
         Stands next o the_set (record c { mail = box })
     boxed box now early = record {
       work = fits.work;
@@ -349,10 +362,12 @@ module _ {S : Type 0} (next : S → ℕ → List ℕ → Batch) (o : Setup) (x :
     put-now box e is =
         boxed box
         (λ s. ap (λ (b : Mailbox). place_at b.now s) is ∙ split
-        (λ s. place_at (with_place c.mail.now side the_message) s ≡ some_if (the_set (peer c.me s) c.me c.round) (message_of o (peer c.me s) c.me c.round)) side
+        (λ s. place_at (with_place c.mail.now side the_message) s
+        ≡ some_if (the_set (peer c.me s) c.me c.round) (message_of o (peer c.me s) c.me c.round)) side
         (placed-here c.mail.now side the_message ∙ rw (← e, new-here x c.me side t) refl)
         (λ s other. placed-other c.mail.now side s the_message other ∙ fits.now s ∙ rw (new-other x c.me side t s c.round other) refl) s)
-        (λ s. ap (λ (b : Mailbox). place_at b.next s) is ∙ fits.early s ∙ rw (new-apart x c.me side t s (c.round + 1) (λ f. absurd (omega (arith, e, f)))) refl)
+        (λ s. ap (λ (b : Mailbox). place_at b.next s) is ∙ fits.early s
+        ∙ rw (new-apart x c.me side t s (c.round + 1) (λ f. absurd (omega (arith, e, f)))) refl)
 
     -- the message is put in its place of the next round
     put-next : (box : Mailbox) → t ≡ c.round + 1 → box ≡ record c.mail { next = with_place c.mail.next side the_message } →
@@ -365,9 +380,11 @@ module _ {S : Type 0} (next : S → ℕ → List ℕ → Batch) (o : Setup) (x :
               boxed box
               (λ s. ap (λ (b : Mailbox). place_at b.now s) is ∙ fits.now s ∙ rw (apart s) refl)
               (λ s. ap (λ (b : Mailbox). place_at b.next s) is ∙ split
-              (λ s. place_at (with_place c.mail.next side the_message) s ≡ some_if (the_set (peer c.me s) c.me (c.round + 1)) (message_of o (peer c.me s) c.me (c.round + 1))) side
+              (λ s. place_at (with_place c.mail.next side the_message) s
+              ≡ some_if (the_set (peer c.me s) c.me (c.round + 1)) (message_of o (peer c.me s) c.me (c.round + 1))) side
               (placed-here c.mail.next side the_message ∙ rw (← e, new-here x c.me side t) refl)
-              (λ s other. placed-other c.mail.next side s the_message other ∙ fits.early s ∙ rw (new-other x c.me side t s (c.round + 1) other) refl) s);
+              (λ s other. placed-other c.mail.next side s the_message other ∙ fits.early s
+              ∙ rw (new-other x c.me side t s (c.round + 1) other) refl) s);
           waits = λ h. rw (apart Low, apart High) (fits.waits h);
         }
 
@@ -480,7 +497,8 @@ module _ {S : Type 0} (next : S → ℕ → List ℕ → Batch) (c : Core S) whe
       (put-now next o x c fits s t is_round near handed box (j.0.0 ∙ at) j.3) handed goes j.2
 
   -- the messages are handed out, and the round is passed where both messages to the server are in
-  pub after-out : (d : Core S) (o : Setup) (x : Delivered) → c.handed ≡ false → has_ended next c ≡ false → HandsOut next c d → Fits next o x c → Fits next o x d
+  pub after-out : (d : Core S) (o : Setup) (x : Delivered) → c.handed ≡ false → has_ended next c ≡ false →
+      HandsOut next c d → Fits next o x c → Fits next o x d
   after-out d o x handed goes leaves fits =
       let a = hands-out next o x c fits.stands handed in
       ⊎_elim
@@ -491,7 +509,8 @@ module _ {S : Type 0} (next : S → ℕ → List ℕ → Batch) (c : Core S) whe
   -- so far is the core then
   pub moves-after : (d : Core S) → HandsOut next c d → Moves c d
   moves-after d leaves =
-      ⊎_elim (λ b. inl (b.0, ap (λ k. k.round) b.1, ap (λ k. k.handed) b.1)) (λ b. inr (b.0, ap (λ k. k.round) b.1, ap (λ k. k.handed) b.1)) leaves
+      ⊎_elim (λ b. inl (b.0, ap (λ k. k.round) b.1, ap (λ k. k.handed) b.1))
+      (λ b. inr (b.0, ap (λ k. k.round) b.1, ap (λ k. k.handed) b.1)) leaves
 
   -- and so much of it stays
   pub keeps-after : (d : Core S) → HandsOut next c d → Keeps c d
@@ -502,7 +521,8 @@ module _ {S : Type 0} (next : S → ℕ → List ℕ → Batch) (c : Core S) whe
       leaves
 
   -- the two messages that are handed out
-  pub handed-messages : (o : Setup) (x : Delivered) → Fits next o x c → c.handed ≡ false → messages_out next c ≡ messages_from o c.me c.round
+  pub handed-messages : (o : Setup) (x : Delivered) → Fits next o x c → c.handed ≡ false →
+      messages_out next c ≡ messages_from o c.me c.round
   handed-messages o x fits handed =
       let is : (s : Side) → sends next (work_of c) (peer c.me s) ≡ message o c.me (peer c.me s) c.round =
       λ s. sends-is next o x c fits.stands handed (peer c.me s) in

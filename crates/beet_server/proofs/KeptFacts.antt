@@ -21,18 +21,21 @@ messages-more me t (x ∷ xs) (y ∷ ys) l h e =
     rw n (ap (λ (ms : List (List RoundMessage)). (message_with me t Low x ∷ message_with me t High y ∷ []) ∷ ms)
     (messages-more me (t + 1) xs ys l h (omega (arith, e))))
 
-pub length-messages : (me : Point) (t : ℕ) (lows highs : List (List ℕ)) → length highs ≡ length lows → length (messages_of me t lows highs) ≡ length lows
+pub length-messages : (me : Point) (t : ℕ) (lows highs : List (List ℕ)) → length highs ≡ length lows →
+    length (messages_of me t lows highs) ≡ length lows
 length-messages me t [] highs e = refl
 length-messages me t (x ∷ xs) [] e = absurd (omega (arith, e))
 length-messages me t (x ∷ xs) (y ∷ ys) e = ap suc (length-messages me (t + 1) xs ys (omega (arith, e)))
 
-pub numbers-low : (me : Point) (t : ℕ) (lows highs : List (List ℕ)) (k : ℕ) → length highs ≡ length lows → numbers_in (messages_of me t lows highs) k Low ≡ slice_get lows k
+pub numbers-low : (me : Point) (t : ℕ) (lows highs : List (List ℕ)) (k : ℕ) → length highs ≡ length lows →
+    numbers_in (messages_of me t lows highs) k Low ≡ slice_get lows k
 numbers-low me t [] highs k e = refl
 numbers-low me t (x ∷ xs) [] k e = absurd (omega (arith, e))
 numbers-low me t (x ∷ xs) (y ∷ ys) zero e = refl
 numbers-low me t (x ∷ xs) (y ∷ ys) (suc k) e = numbers-low me (t + 1) xs ys k (omega (arith, e))
 
-pub numbers-high : (me : Point) (t : ℕ) (lows highs : List (List ℕ)) (k : ℕ) → length highs ≡ length lows → numbers_in (messages_of me t lows highs) k High ≡ slice_get highs k
+pub numbers-high : (me : Point) (t : ℕ) (lows highs : List (List ℕ)) (k : ℕ) → length highs ≡ length lows →
+    numbers_in (messages_of me t lows highs) k High ≡ slice_get highs k
 numbers-high me t [] [] k e = refl
 numbers-high me t [] (y ∷ ys) k e = absurd (omega (arith, e))
 numbers-high me t (x ∷ xs) [] k e = absurd (omega (arith, e))

@@ -1,5 +1,6 @@
 -- How the round of a core stands to the rounds that its server has passed.
-use Rattle.std.proofs.Common.{◌≡◌, ◌≢◌, ◌≤◌, ◌<◌, ◌+◌, ◌==◌, ◌&&◌, ◌||◌, ◌↔◌, ℕ, Bool, true, false, List, sym, refl, ap, subst, ◌∙◌, inl, inr, arith}
+use Rattle.std.proofs.Common.{◌≡◌, ◌≢◌, ◌≤◌, ◌<◌, ◌+◌, ◌==◌, ◌&&◌, ◌||◌, ◌↔◌, ℕ, Bool, true, false, List, sym, refl, ap}
+use Rattle.std.proofs.Common.{subst, ◌∙◌, inl, inr, arith}
 use Rattle.std.proofs.lemmas.Bool.{both_ways, or_cases, or_left, and_left, and_right, cases_lt, cases_Bool}
 use Rattle.beet_field.specs.declared.point.Point.{Point}
 use Rattle.beet_gates.specs.Clear.{is_end}
@@ -117,9 +118,11 @@ elsewhere next o x y c agree f =
       stands = record {
         work = f.work;
         received = f.received;
-        now = λ s. subst (λ b. place_at c.mail.now s ≡ some_if b (message_of o (peer c.me s) c.me c.round)) (sym (agree s c.round)) (f.now s);
+        now = λ s. subst (λ b. place_at c.mail.now s ≡ some_if b (message_of o (peer c.me s) c.me c.round))
+            (sym (agree s c.round)) (f.now s);
         early = λ s.
-            subst (λ b. place_at c.mail.next s ≡ some_if b (message_of o (peer c.me s) c.me (c.round + 1))) (sym (agree s (c.round + 1))) (f.early s);
+            subst (λ b. place_at c.mail.next s ≡ some_if b (message_of o (peer c.me s) c.me (c.round + 1)))
+            (sym (agree s (c.round + 1))) (f.early s);
         before = λ s t lt. agree s t ∙ f.before s t lt;
         soon = λ s t there. f.soon s t (sym (agree s t) ∙ there);
       };

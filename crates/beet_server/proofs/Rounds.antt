@@ -1,5 +1,6 @@
 -- One round of three servers, round by round.
-use Rattle.std.proofs.Common.{◌≡◌, ◌≢◌, ℕ, ◌+◌, ◌≤◌, List, Bool, true, false, true≢false, inl, inr, arith, refl, sym, ◌∙◌, ap, subst, ◌&&◌, ◌||◌, ◌==◌, ◌⊎◌, not, nat_lt}
+use Rattle.std.proofs.Common.{◌≡◌, ◌≢◌, ℕ, ◌+◌, ◌≤◌, List, Bool, true, false, true≢false, inl, inr, arith, refl, sym}
+use Rattle.std.proofs.Common.{◌∙◌, ap, subst, ◌&&◌, ◌||◌, ◌==◌, ◌⊎◌, not, nat_lt}
 use Rattle.std.proofs.lemmas.Bool.Decides.{nat_tests}
 use Rattle.beet_field.specs.declared.point.Point.{Point}
 use Rattle.beet_field.specs.declared.point.Point.TheVariants.{One, Two, Three}
@@ -60,17 +61,19 @@ high-missing s t = rw (peers_apart s, none-yet s High t) refl
 
 -- both peers' messages of a round, and those of the rounds before
 low-there : (s : Point) (r t : ℕ) → with_both s t (peer s Low) s r ≡ nat_lt r (t + 1)
-low-there s r t = rw (before-round s Low t r, peers_apart_too s, same_self (peer s Low), same_self s) (tidy (nat_lt r t) (r == t) ∙ more_below r t) where
-  tidy : (a b : Bool) → (a || b || false) ≡ (a || b)
-  tidy true b = refl
-  tidy false true = refl
-  tidy false false = refl
+low-there s r t = rw (before-round s Low t r, peers_apart_too s, same_self (peer s Low), same_self s)
+    (tidy (nat_lt r t) (r == t) ∙ more_below r t) where
+      tidy : (a b : Bool) → (a || b || false) ≡ (a || b)
+      tidy true b = refl
+      tidy false true = refl
+      tidy false false = refl
 
 high-there : (s : Point) (r t : ℕ) → with_both s t (peer s High) s r ≡ nat_lt r (t + 1)
-high-there s r t = rw (before-round s High t r, peers_apart s, same_self (peer s High), same_self s) (tidy (nat_lt r t) (r == t) ∙ more_below r t) where
-  tidy : (a b : Bool) → (a || false || b) ≡ (a || b)
-  tidy true b = refl
-  tidy false b = refl
+high-there s r t = rw (before-round s High t r, peers_apart s, same_self (peer s High), same_self s)
+    (tidy (nat_lt r t) (r == t) ∙ more_below r t) where
+      tidy : (a b : Bool) → (a || false || b) ≡ (a || b)
+      tidy true b = refl
+      tidy false b = refl
 
 both-there : (s : Point) (t : ℕ) → both_in (with_both s t) s t ≡ true
 both-there s t = rw (low-there s t t, high-there s t t) (within t) where
@@ -104,7 +107,8 @@ module _ {S : Type 0} (next : S → ℕ → List ℕ → Batch) (o : Setup) (t :
       name = me ∙ a.name
 
   -- the lower peer's message comes first: the core waits for the other
-  pub takes-low : (s : Point) (c d : Core S) (m : RoundMessage) (v : Verdict) → HasHanded next o t (all_delivered t) s c → Answers next c d m v →
+  pub takes-low : (s : Point) (c d : Core S) (m : RoundMessage) (v : Verdict) →
+      HasHanded next o t (all_delivered t) s c → Answers next c d m v →
       Fits next o (with_low s t) d → d.me ≡ c.me → HasHanded next o t (with_low s t) s d
   takes-low s c d m v h a f me = elim (ready_or v) [
     | inl ready ↦
@@ -118,7 +122,8 @@ module _ {S : Type 0} (next : S → ℕ → List ℕ → Batch) (o : Setup) (t :
   ]
 
   -- the higher peer's message comes: the core passes the round
-  pub takes-high : (s : Point) (c d : Core S) (m : RoundMessage) (v : Verdict) → HasHanded next o t (with_low s t) s c → Answers next c d m v →
+  pub takes-high : (s : Point) (c d : Core S) (m : RoundMessage) (v : Verdict) → HasHanded next o t (with_low s t) s c →
+      Answers next c d m v →
       Fits next o (with_both s t) d → d.me ≡ c.me → IsAtRound next o (t + 1) s d
   takes-high s c d m v h a f me = elim (ready_or v) [
     | inl ready ↦
@@ -127,7 +132,8 @@ module _ {S : Type 0} (next : S → ℕ → List ℕ → Batch) (o : Setup) (t :
         record {
           name = name;
           fits = elsewhere next o (with_both s t) (all_delivered (t + 1)) d
-              (λ side r. (λ i. all_delivered (t + 1) (peer (name i) side) (name i) r) ∙ all-there s side t r ∙ (λ i. with_both s t (peer (sym name i) side) (sym name i) r)) f;
+              (λ side r. (λ i. all_delivered (t + 1) (peer (name i) side) (name i) r) ∙ all-there s side t r
+              ∙ (λ i. with_both s t (peer (sym name i) side) (sym name i) r)) f;
           round = ap (λ k. k.round) passes ∙ ap (λ k. k + 1) h.round;
           handed = ap (λ k. k.handed) passes;
         }
@@ -144,7 +150,8 @@ module _ {S : Type 0} (next : S → ℕ → List ℕ → Batch) (o : Setup) (t :
       with_triple x (record { from = peer c.me side; to = c.me; round = t }) ≡ with_triple x (from_side s side t)
   named_set x side s c e = λ i. with_triple x (record { from = peer (e i) side; to = e i; round = t })
 
-  named_message : (side : Side) (s : Point) (c : Core S) (m : RoundMessage) → c.me ≡ s → m ≡ message_of o (peer s side) s t → m ≡ message_of o (peer c.me side) c.me t
+  named_message : (side : Side) (s : Point) (c : Core S) (m : RoundMessage) → c.me ≡ s →
+      m ≡ message_of o (peer s side) s t → m ≡ message_of o (peer c.me side) c.me t
   named_message side s c m e is = is ∙ (λ i. message_of o (peer (sym e i) side) (sym e i) t)
 
   -- a core in a round of the run has not ended
@@ -153,7 +160,8 @@ module _ {S : Type 0} (next : S → ℕ → List ℕ → Batch) (o : Setup) (t :
 
   -- what a call gives that delivers a message of the run
   abbrev pub FitsBy : Core S → Core S → RoundMessage → Type 0
-  FitsBy c d m = (o : Setup) (x : Delivered) (s : Side) (t : ℕ) → Fits next o x c → m ≡ message_of o (peer c.me s) c.me t → IsRound o t → t ≤ c.round + 1 →
+  FitsBy c d m = (o : Setup) (x : Delivered) (s : Side) (t : ℕ) → Fits next o x c →
+      m ≡ message_of o (peer c.me s) c.me t → IsRound o t → t ≤ c.round + 1 →
       Fits next o (with_triple x (record { from = peer c.me s; to = c.me; round = t })) d
 
   pub low-taken : (s : Point) (c d : Core S) (m : RoundMessage) (v : Verdict) → HasHanded next o t (all_delivered t) s c → IsRound o t →
@@ -181,10 +189,12 @@ module _ {S : Type 0} (next : S → ℕ → List ℕ → Batch) (o : Setup) (t :
   loud-then s c a is = rw (a.handed, coming_is next o (all_delivered t) c a.fits ∙ is c.round (omega (arith, a.round))) refl
 
   -- what a core at a round sends
-  pub sent-low : (s : Point) (c : Core S) (low high : RoundMessage) → IsAtRound next o t s c → AreSent o c.me c.round low high → low ≡ message_of o s (peer s Low) t
+  pub sent-low : (s : Point) (c : Core S) (low high : RoundMessage) → IsAtRound next o t s c →
+      AreSent o c.me c.round low high → low ≡ message_of o s (peer s Low) t
   sent-low s c low high a m = m.to_low ∙ (λ i. message_of o (a.name i) (peer (a.name i) Low) (a.round i))
 
-  pub sent-high : (s : Point) (c : Core S) (low high : RoundMessage) → IsAtRound next o t s c → AreSent o c.me c.round low high → high ≡ message_of o s (peer s High) t
+  pub sent-high : (s : Point) (c : Core S) (low high : RoundMessage) → IsAtRound next o t s c →
+      AreSent o c.me c.round low high → high ≡ message_of o s (peer s High) t
   sent-high s c low high a m = m.to_high ∙ (λ i. message_of o (a.name i) (peer (a.name i) High) (a.round i))
 
 -- for each server

@@ -1,5 +1,6 @@
 -- Lists that lie one after another: one more, and one of them.
-use Rattle.std.proofs.Common.{◌≡◌, ◌≤◌, ◌<◌, ◌+◌, ◌-◌, ℕ, zero, suc, List, [], ◌∷◌, ◌++◌, length, take, drop, slice_get, slice_index, Some, refl, ap, sym, ◌∙◌, arith}
+use Rattle.std.proofs.Common.{◌≡◌, ◌≤◌, ◌<◌, ◌+◌, ◌-◌, ℕ, zero, suc, List, [], ◌∷◌, ◌++◌, length, take, drop, slice_get}
+use Rattle.std.proofs.Common.{slice_index, Some, refl, ap, sym, ◌∙◌, arith}
 use Rattle.std.proofs.Math.Seq.{drop-append_seam}
 use Rattle.beet_server.specs.Rows.{Rows, rows_of, AreEnds}
 
@@ -43,10 +44,12 @@ length-rows items start [] = refl
 length-rows items start (e ∷ es) = ap suc (length-rows items e es)
 
 pub length-shown : (shown : Rows) (items es : List ℕ) (count items_room ends_room : ℕ) →
-    record { rows = rows_of items 0 es; count = count; items_room = items_room; ends_room = ends_room } ≡ shown → length shown.rows ≡ length es
+    record { rows = rows_of items 0 es; count = count; items_room = items_room; ends_room = ends_room } ≡ shown →
+    length shown.rows ≡ length es
 length-shown shown items es count items_room ends_room is = ap (λ (v : Rows). length v.rows) (sym is) ∙ length-rows items 0 es
 
-pub first-row : (items : List ℕ) (start : ℕ) (es : List ℕ) → 0 < length es → slice_get (rows_of items start es) 0 ≡ Some (take (slice_index es 0 - start) (drop start items))
+pub first-row : (items : List ℕ) (start : ℕ) (es : List ℕ) → 0 < length es →
+    slice_get (rows_of items start es) 0 ≡ Some (take (slice_index es 0 - start) (drop start items))
 first-row items start [] h = absurd (omega arith)
 first-row items start (e ∷ es) h = refl
 

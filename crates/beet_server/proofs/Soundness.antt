@@ -1,16 +1,18 @@
 -- What computes in a server stays sound.
-use Rattle.std.proofs.Common.{◌≡◌, ◌+◌, ◌*◌, ◌^◌, ◌<◌, ◌≤◌, ℕ, zero, suc, Bool, true, false, List, [], ◌∷◌, ◌++◌, drop, length, refl, sym, ap, ◌∙◌, arith, mul-add, true≢false, length-append}
+use Rattle.std.proofs.Common.{◌≡◌, ◌+◌, ◌*◌, ◌^◌, ◌<◌, ◌≤◌, ℕ, zero, suc, Bool, true, false, List, [], ◌∷◌, ◌++◌, drop}
+use Rattle.std.proofs.Common.{length, refl, sym, ap, ◌∙◌, arith, mul-add, true≢false, length-append}
 use Rattle.std.proofs.Math.Nat.{mul-le-mul_left}
 use Rattle.beet_field.specs.declared.TheConstants.{MOST_NUMBERS}
 use Rattle.beet_words.specs.Tapes.{Tape, left_of}
 use Rattle.beet_gates.specs.Clear.{with_lets, is_end}
-use Rattle.beet_gates.specs.Scripts.{ActBelow, Standing, LawFrom, BatchStands, LetsBelow, IsWithin, after, acted, revealed, deals_in, size_of, start_among}
+use Rattle.beet_gates.specs.Scripts.{ActBelow, Standing, LawFrom, BatchStands, LetsBelow, IsWithin, after, acted}
+use Rattle.beet_gates.specs.Scripts.{revealed, deals_in, size_of, start_among}
 use Rattle.beet_gates.specs.declared.Act.{Act}
 use Rattle.beet_gates.specs.declared.Act.TheVariants.{Deal, Mul, Reveal, End}
 use Rattle.beet_gates.specs.declared.Batch.{Batch}
 use Rattle.beet_gates.proofs.ClearFacts.{length-with_lets, done-after}
 use Rattle.beet_gates.proofs.Laws.{law-now, law-next, law-last}
-use Rattle.beet_sharing.specs.Runs.{draws_in}
+use Rattle.beet_gates.specs.Draws.{draws_in}
 use Rattle.beet_server.specs.Sound.{IsSound}
 use Rattle.beet_sharing.specs.Steps.{gained_among}
 
@@ -51,23 +53,24 @@ module _ (servers numbers : ℕ) (next : ℕ → List ℕ → Batch) (bounds : S
         bounds.masks ≤ length masks.words → numbers * bounds.coefficients ≤ length (left_of coefficients) → bounds.wires ≤ wire_room →
         MOST_NUMBERS * rounds ≤ opened_room → rounds < 2 ^ 32 →
         IsSound servers numbers next bounds rounds batch 0 wires opened masks coefficients false wire_room opened_room
-    first-sound batch given wires opened masks coefficients wire_room opened_room comes count is_wires no_opened none words drawn room answers small = record {
-      coming = rw no_opened comes;
-      standing = start_among servers n;
-      dealers = refl;
-      left = rounds;
-      done = refl;
-      few = omega arith;
-      law = rw no_opened law;
-      counted = ap length is_wires ∙ length-with_lets given batch.lets.items ∙ ap (λ k. k + length batch.lets.items) count;
-      answers = rw no_opened (omega arith);
-      dealt = omega (arith, none);
-      words = words;
-      drawn = omega (arith, drawn);
-      wires_fit = room;
-      opened_fit = answers;
-      small = small;
-    }
+    first-sound batch given wires opened masks coefficients wire_room opened_room comes count is_wires no_opened none
+        words drawn room answers small = record {
+          coming = rw no_opened comes;
+          standing = start_among servers n;
+          dealers = refl;
+          left = rounds;
+          done = refl;
+          few = omega arith;
+          law = rw no_opened law;
+          counted = ap length is_wires ∙ length-with_lets given batch.lets.items ∙ ap (λ k. k + length batch.lets.items) count;
+          answers = rw no_opened (omega arith);
+          dealt = omega (arith, none);
+          words = words;
+          drawn = omega (arith, drawn);
+          wires_fit = room;
+          opened_fit = answers;
+          small = small;
+        }
 
   module _ (batch : Batch) (round : ℕ) (wires opened : List ℕ) (masks coefficients : Tape) (handed : Bool) (wire_room opened_room : ℕ)
       (sound : IsSound servers numbers next bounds rounds batch round wires opened masks coefficients handed wire_room opened_room) where
@@ -156,9 +159,11 @@ module _ (servers numbers : ℕ) (next : ℕ → List ℕ → Batch) (bounds : S
 
     -- the round is passed
     module _ (is_handed : handed ≡ true) (goes : is_end batch.act ≡ false) where
-      more : (n : ℕ) × (sound.left ≡ suc n) × ((new : List ℕ) → length new ≡ revealed batch.act → LawFrom next bounds n (after sound.standing batch) (opened ++ new))
+      more : (n : ℕ) × (sound.left ≡ suc n) × ((new : List ℕ) → length new ≡ revealed batch.act →
+          LawFrom next bounds n (after sound.standing batch) (opened ++ new))
       more = by_left sound.left refl where
-        by_left : (k : ℕ) → sound.left ≡ k → (n : ℕ) × (sound.left ≡ suc n) × ((new : List ℕ) → length new ≡ revealed batch.act → LawFrom next bounds n (after sound.standing batch) (opened ++ new))
+        by_left : (k : ℕ) → sound.left ≡ k → (n : ℕ) × (sound.left ≡ suc n) × ((new : List ℕ) →
+            length new ≡ revealed batch.act → LawFrom next bounds n (after sound.standing batch) (opened ++ new))
         by_left zero e =
             let law = rw e at sound.law in
             let last = rw at at (law-last next bounds sound.standing opened law) in
@@ -178,7 +183,8 @@ module _ (servers numbers : ℕ) (next : ℕ → List ℕ → Batch) (bounds : S
         then_at : next (after sound.standing batch).done opened' ≡ next (round + 1) opened'
         then_at = ap (λ k. next k opened') (done-after sound.standing batch goes ∙ ap (λ k. k + 1) sound.done)
 
-        then_now : BatchStands (after sound.standing batch) (next (round + 1) opened') × IsWithin bounds (after (after sound.standing batch) (next (round + 1) opened'))
+        then_now : BatchStands (after sound.standing batch) (next (round + 1) opened')
+            × IsWithin bounds (after (after sound.standing batch) (next (round + 1) opened'))
         then_now = rw then_at at (law-now next bounds more.0 (after sound.standing batch) opened' then_law)
 
         then_count : length wires' ≡ (after sound.standing batch).wires
@@ -191,7 +197,8 @@ module _ (servers numbers : ℕ) (next : ℕ → List ℕ → Batch) (bounds : S
         next-room =
             omega (arith, then_count, then_now.1.0, sound.wires_fit, (leads (after sound.standing batch) (next (round + 1) opened')).wires)
 
-        pub passes-sound : (batch' : Batch) (wires'' : List ℕ) → batch' ≡ next (round + 1) opened' → wires'' ≡ with_lets wires' batch'.lets.items →
+        pub passes-sound : (batch' : Batch) (wires'' : List ℕ) → batch' ≡ next (round + 1) opened' →
+            wires'' ≡ with_lets wires' batch'.lets.items →
             IsSound servers numbers next bounds rounds batch' (round + 1) wires'' opened' masks coefficients false wire_room opened_room
         passes-sound batch' wires'' comes is_wires =
             let dealt = rw is_handed at sound.dealt in

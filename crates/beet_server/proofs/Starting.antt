@@ -1,5 +1,6 @@
 -- A core that starts.
-use Rattle.std.proofs.Common.{◌≡◌, ℕ, false, true≢false, List, [], ◌∷◌, ◌++◌, take, length, refl, sym, ap, ◌∙◌, arith, append-nil, append_assoc}
+use Rattle.std.proofs.Common.{◌≡◌, ℕ, false, true≢false, List, [], ◌∷◌, ◌++◌, take, length, refl, sym, ap, ◌∙◌, arith}
+use Rattle.std.proofs.Common.{append-nil, append_assoc}
 use Rattle.beet_field.specs.declared.point.Point.{Point}
 use Rattle.beet_words.specs.Tapes.{Tape}
 use Rattle.beet_words.proofs.DrawnFrom.{none-passed}
@@ -60,8 +61,8 @@ module _ {S : Type 0} (next : S → ℕ → List ℕ → Batch) (me : Point) (sc
       λ i. core_of (e i) (none i) (is_box i)
 
   module _ (no_mask : masks.passed ≡ 0) (no_number : coefficients.passed ≡ 0) where
-    -- it is fresh
-    pub is-fresh : (inputs_of : S → ℕ) → length inputs ≡ inputs_of script → IsFresh next inputs_of (fresh next me script inputs masks coefficients)
+    pub is-fresh : (inputs_of : S → ℕ) → length inputs ≡ inputs_of script →
+        IsFresh next inputs_of (fresh next me script inputs masks coefficients)
     is-fresh inputs_of count =
         let given = first-wires inputs (next script 0 []).lets.items in
         rw (← count, given, at-first masks no_mask, at-first coefficients no_number) refl

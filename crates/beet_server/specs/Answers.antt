@@ -20,8 +20,8 @@ pub record Keeps {S : Type 0} (old new : Core S) : Type 0 where
   pub masks : new.masks.words ≡ old.masks.words
   pub coefficients : new.coefficients.words ≡ old.coefficients.words
 
--- what handing out its messages makes of how far a core is: it passes the round where both messages to it are in, and else it stays in
--- the round
+-- what handing out its messages makes of how far a core is: it passes the round where both messages to it are in, and
+-- else it stays in the round
 abbrev pub Moves : {S : Type 0} → Core S → Core S → Type 0
 Moves old new =
     (HasBoth old.mail.now × (new.round ≡ old.round + 1) × (new.handed ≡ false))
@@ -41,20 +41,20 @@ IsLateVerdict c m (TooEarly t) = (m.to ≡ c.me) × (m.from ≢ c.me) × (c.roun
 IsLateVerdict c m _ = ⊥
 
 -- the box says the verdict; at Ready the core passes the round, and else only the box changes
-pub record Answers {S : Type 0} (next : S → ℕ → List ℕ → Batch) (old new : Core S) (m : RoundMessage) (v : Verdict) : Type 0 where
+pub record Answers {S : Type 0} (next : S → ℕ → List ℕ → Batch) (old new : Core S) (m : RoundMessage)
+    (v : Verdict) : Type 0 where
   pub box : Mailbox
   pub judged : Judged old.mail box m v
   pub waits : v ≢ Ready → new ≡ record old { mail = box }
   pub passes : v ≡ Ready → new ≡ moved_on next (record old { mail = box })
 
--- the other side
 abbrev pub other_side : Side → Side
 other_side Low = High
 other_side High = Low
 
--- the verdict of a server in a round on a message of the run from its peer of a side, of a round that is no later than the next: old below
--- the server's round, else a repeat where it is in the set, else ready where it is of the round and the other peer's message of it is in,
--- and else stored
+-- the verdict of a server in a round on a message of the run from its peer of a side, of a round that is no later than
+-- the next: old below the server's round, else a repeat where it is in the set, else ready where it is of the round and
+-- the other peer's message of it is in, and else stored
 abbrev pub verdict_on : Delivered → Point → ℕ → Side → ℕ → Verdict
 verdict_on x s round side t =
     if nat_lt t round then Old

@@ -12,10 +12,10 @@ use Rattle.beet_round.specs.declared.message.RoundMessage.{RoundMessage}
 use Rattle.beet_sharing.specs.Runs.{Setup, numbers_of}
 use Rattle.beet_field.specs.Trio.{of_each}
 
--- a server: its script and tapes; how many rounds it has passed, and both messages to it of each passed round, the lower sender's first;
--- its points of the wires, with the lets of the batch that comes; the opened numbers; the numbers that it sends itself in its round, once
--- the messages of the round are handed out, and none before; the messages that came for its round and the next; and whether the messages
--- of its round are handed out
+-- a server: its script and tapes; how many rounds it has passed, and both messages to it of each passed round, the
+-- lower sender's first; its points of the wires, with the lets of the batch that comes; the opened numbers; the numbers
+-- that it sends itself in its round, once the messages of the round are handed out, and none before; the messages that
+-- came for its round and the next; and whether the messages of its round are handed out
 pub record Core (S : Type 0) : Type 0 where
   pub me : Point
   pub script : S

@@ -1,5 +1,6 @@
 -- When a core fits a run and a set of delivered messages.
-use Rattle.std.specs.Prelude.{◌≡◌, ℕ, suc, ◌+◌, ◌<◌, ◌≤◌, List, [], ◌∷◌, Option, Some, None, Bool, true, false, if◌then◌else◌}
+use Rattle.std.specs.Prelude.{◌≡◌, ℕ, suc, ◌+◌, ◌<◌, ◌≤◌, List, [], ◌∷◌, Option, Some, None, Bool, true, false}
+use Rattle.std.specs.Prelude.{if◌then◌else◌}
 use Rattle.beet_field.specs.Trio.{member}
 use Rattle.beet_field.specs.declared.point.Point.{Point}
 use Rattle.beet_words.specs.Tapes.{words_passed}
@@ -50,8 +51,8 @@ pub record FitsWork {S : Type 0} (next : S → ℕ → List ℕ → Batch) (o : 
   pub words : w.masks.words ≡ member o.masks w.me
   pub numbers : accepted w.coefficients.words ≡ member o.numbers w.me
   pub rounds : (t : ℕ) → t < w.round → is_end (coming o t).act ≡ false
-  -- its points, opened and own numbers are those of the run; of its tapes the words are passed that it dealt and drew, with every word
-  -- before them and none after the last
+  -- its points, opened and own numbers are those of the run; of its tapes the words are passed that it dealt and drew,
+  -- with every word before them and none after the last
   pub wires : w.wires ≡ member (standing_at o w.round).wires w.me
   pub opened : w.opened ≡ (shared_at o w.round).opened
   pub dealt : w.masks.passed ≡ (shared_at o (taken w.round w.handed)).dealt
@@ -64,16 +65,18 @@ pub record Stands {S : Type 0} (next : S → ℕ → List ℕ → Batch) (o : Se
   pub open work use *
   pub received : c.received ≡ each (messages_to o c.me) c.round
   -- its box has the delivered messages of its round and the next
-  pub now : (s : Side) → place_at c.mail.now s ≡ some_if (x (peer c.me s) c.me c.round) (message_of o (peer c.me s) c.me c.round)
+  pub now : (s : Side) →
+      place_at c.mail.now s ≡ some_if (x (peer c.me s) c.me c.round) (message_of o (peer c.me s) c.me c.round)
   pub early : (s : Side) →
-      place_at c.mail.next s ≡ some_if (x (peer c.me s) c.me (c.round + 1)) (message_of o (peer c.me s) c.me (c.round + 1))
-  -- both messages of each passed round are delivered, and nothing above the round, or above the next once the messages of the round are
-  -- handed out
+      place_at c.mail.next s
+      ≡ some_if (x (peer c.me s) c.me (c.round + 1)) (message_of o (peer c.me s) c.me (c.round + 1))
+  -- both messages of each passed round are delivered, and nothing above the round, or above the next once the messages
+  -- of the round are handed out
   pub before : (s : Side) (t : ℕ) → t < c.round → x (peer c.me s) c.me t ≡ true
   pub soon : (s : Side) (t : ℕ) → x (peer c.me s) c.me t ≡ true → (t ≤ taken c.round c.handed) × IsRound o t
 
--- the core stands in the run as its server, and has what was delivered to it; that its box is of the same server and round, and wants as
--- many numbers as a message of the round has, is kept by the core's invariant
+-- the core stands in the run as its server, and has what was delivered to it; that its box is of the same server and
+-- round, and wants as many numbers as a message of the round has, is kept by the core's invariant
 pub record Fits {S : Type 0} (next : S → ℕ → List ℕ → Batch) (o : Setup) (x : Delivered) (c : Core S) : Type 0 where
   pub stands : Stands next o x c
   pub open stands use *
@@ -81,7 +84,8 @@ pub record Fits {S : Type 0} (next : S → ℕ → List ℕ → Batch) (o : Setu
   pub waits : c.handed ≡ true → both_in x c.me c.round ≡ false
 
 -- a setup has this script, these points of the inputs, these words and these numbers at a server
-pub record OpensAt {S : Type 0} (next : S → ℕ → List ℕ → Batch) (o : Setup) (me : Point) (script : S) (inputs masks coefficients : List ℕ) : Type 0 where
+pub record OpensAt {S : Type 0} (next : S → ℕ → List ℕ → Batch) (o : Setup) (me : Point) (script : S)
+    (inputs masks coefficients : List ℕ) : Type 0 where
   pub has_script : o.next ≡ next script
   pub has_inputs : member o.inputs me ≡ inputs
   pub has_words : member o.masks me ≡ masks

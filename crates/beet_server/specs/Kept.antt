@@ -1,5 +1,6 @@
 -- The messages of the rounds that a server has passed, by their numbers.
-use Rattle.std.specs.Prelude.{◌≡◌, ◌≤◌, ◌*◌, ◌+◌, ℕ, List, [], ◌∷◌, length, Option, option_map, option_and_then, slice_get}
+use Rattle.std.specs.Prelude.{◌≡◌, ◌≤◌, ◌*◌, ◌+◌, ℕ, List, [], ◌∷◌, length, Option, option_map, option_and_then}
+use Rattle.std.specs.Prelude.{slice_get}
 use Rattle.beet_field.specs.declared.point.Point.{Point}
 use Rattle.beet_field.specs.declared.TheConstants.{MOST_NUMBERS}
 use Rattle.beet_round.specs.Sides.{peer, place_of}
@@ -14,16 +15,19 @@ pub record KeptMessages : Type 0 where
   pub room : ℕ
 
 abbrev pub message_with : Point → ℕ → Side → List ℕ → RoundMessage
-message_with me round side numbers = record { from = peer me side; to = me; round = round; numbers = record { items = numbers } }
+message_with me round side numbers =
+    record { from = peer me side; to = me; round = round; numbers = record { items = numbers } }
 
 -- the messages of each round from this one on
 abbrev pub messages_of : Point → ℕ → List (List ℕ) → List (List ℕ) → List (List RoundMessage)
 messages_of me round [] highs = []
 messages_of me round (l ∷ lows) [] = []
-messages_of me round (l ∷ lows) (h ∷ highs) = (message_with me round Low l ∷ message_with me round High h ∷ []) ∷ messages_of me (round + 1) lows highs
+messages_of me round (l ∷ lows) (h ∷ highs) =
+    (message_with me round Low l ∷ message_with me round High h ∷ []) ∷ messages_of me (round + 1) lows highs
 
 abbrev pub numbers_in : List (List RoundMessage) → ℕ → Side → Option (List ℕ)
-numbers_in messages round side = option_and_then (λ pair. option_map (λ m. m.numbers.items) (slice_get pair (place_of side))) (slice_get messages round)
+numbers_in messages round side = option_and_then
+    (λ pair. option_map (λ m. m.numbers.items) (slice_get pair (place_of side))) (slice_get messages round)
 
 -- each has no more numbers than a message may
 abbrev pub AreShort : List (List ℕ) → Type 0

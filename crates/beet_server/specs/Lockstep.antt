@@ -18,7 +18,8 @@ pub record AreSent (o : Setup) (me : Point) (t : ℕ) (low high : RoundMessage) 
   pub to_high : high ≡ message_of o me (peer me High) t
 
 module _ {S : Type 0} (next : S → ℕ → List ℕ → Batch) where
-  -- the core of a server that has passed t rounds of a run, with all messages of these rounds delivered and nothing of the next
+  -- the core of a server that has passed t rounds of a run, with all messages of these rounds delivered and nothing of
+  -- the next
   pub record IsAtRound (o : Setup) (t : ℕ) (s : Point) (c : Core S) : Type 0 where
     pub name : c.me ≡ s
     pub fits : Fits next o (all_delivered t) c
@@ -36,7 +37,8 @@ module _ {S : Type 0} (next : S → ℕ → List ℕ → Batch) where
     pub round : c.round ≡ t
     pub handed : c.handed ≡ true
 
-  -- these are both messages of a round of some run to a core that has handed out its own, with nothing of the round delivered
+  -- these are both messages of a round of some run to a core that has handed out its own, with nothing of the round
+  -- delivered
   pub record MayTake (c : Core S) (low high : RoundMessage) : Type 0 where
     pub o : Setup
     pub t : ℕ
@@ -53,9 +55,11 @@ module _ {S : Type 0} (next : S → ℕ → List ℕ → Batch) where
     pub is_round : IsRound o t
     pub stand : AreAtRound o t cores
 
-  -- three fresh cores have passed all rounds of their run, with all its messages delivered, and still have the words that they began with
+  -- three fresh cores have passed all rounds of their run, with all its messages delivered, and still have the words
+  -- that they began with
   pub record HaveEnded (inputs most : S → ℕ) (start end : Trio (Core S)) : Type 0 where
-    pub ended : AreAtRound (setup_of next inputs start) (rounds_among (setup_of next inputs start) (most start.one.script)) end
+    pub ended : AreAtRound (setup_of next inputs start)
+        (rounds_among (setup_of next inputs start) (most start.one.script)) end
     pub at_end : (s : Point) → has_ended next (member end s) ≡ true
     pub script : (s : Point) → (member end s).script ≡ start.one.script
     pub masks : (s : Point) → (member end s).masks.words ≡ (member start s).masks.words

@@ -5,9 +5,9 @@ use Rattle.beet_field.specs.declared.TheConstants.{MOST_NUMBERS}
 use Rattle.beet_words.specs.Tapes.{Tape, left_of}
 use Rattle.beet_gates.specs.Scripts.{Standing, LawFrom, deals_in, size_of}
 use Rattle.beet_gates.specs.declared.Batch.{Batch}
+use Rattle.beet_gates.specs.Draws.{draws_in}
 use Rattle.beet_round.specs.Boxes.{Mailbox}
 use Rattle.beet_round.specs.declared.message.RoundMessage.{RoundMessage}
-use Rattle.beet_sharing.specs.Runs.{draws_in}
 use Rattle.beet_server.specs.Steps.{Work, batch_of}
 
 -- a number once the messages of the round are handed out, and else none
@@ -15,9 +15,10 @@ abbrev pub if_handed : Bool → ℕ → ℕ
 if_handed true n = n
 if_handed false n = 0
 
--- the script stands where its batches before this round led, the wires and tapes are as many as it counts among so many servers that draw
--- so many numbers for each secret, and there is room for all that may come
-pub record IsSound (servers numbers : ℕ) (next : ℕ → List ℕ → Batch) (bounds : Standing) (rounds : ℕ) (batch : Batch) (round : ℕ)
+-- the script stands where its batches before this round led, the wires and tapes are as many as it counts among so many
+-- servers that draw so many numbers for each secret, and there is room for all that may come
+pub record IsSound (servers numbers : ℕ) (next : ℕ → List ℕ → Batch) (bounds : Standing) (rounds : ℕ)
+    (batch : Batch) (round : ℕ)
     (wires opened : List ℕ) (masks coefficients : Tape) (handed : Bool) (wire_room opened_room : ℕ) : Type 0 where
   pub coming : batch ≡ next round opened
   pub standing : Standing
@@ -36,9 +37,10 @@ pub record IsSound (servers numbers : ℕ) (next : ℕ → List ℕ → Batch) (
   pub opened_fit : MOST_NUMBERS * rounds ≤ opened_room
   pub small : rounds < 2 ^ 32
 
--- what computes in a server, the messages of the passed rounds and the box are of one round, and there is room for the messages of all
--- rounds
-pub record AreTied {S : Type 0} (next : S → ℕ → List ℕ → Batch) (rounds : ℕ) (w : Work S) (received : List (List RoundMessage)) (mail : Mailbox) (room : ℕ) (keeper : Point) : Type 0 where
+-- what computes in a server, the messages of the passed rounds and the box are of one round, and there is room for the
+-- messages of all rounds
+pub record AreTied {S : Type 0} (next : S → ℕ → List ℕ → Batch) (rounds : ℕ) (w : Work S)
+    (received : List (List RoundMessage)) (mail : Mailbox) (room : ℕ) (keeper : Point) : Type 0 where
   pub me : mail.me ≡ w.me
   pub round : mail.round ≡ w.round
   pub want : mail.want ≡ size_of (batch_of next w).act

@@ -1,17 +1,18 @@
 -- What one server does in a round: what it sends, and what the three messages to it give.
-use Rattle.std.specs.Prelude.{ℕ, ◌+◌, List, [], ◌∷◌, ◌++◌, slice_index, slice_get, take, Option, Some, None, Bool, true, false, option_map, option_and_then}
+use Rattle.std.specs.Prelude.{ℕ, ◌+◌, List, [], ◌∷◌, ◌++◌, slice_index, slice_get, take, Option, Some, None, Bool, true}
+use Rattle.std.specs.Prelude.{false, option_map, option_and_then}
 use Rattle.beet_field.specs.declared.point.Point.{Point}
 use Rattle.beet_field.specs.declared.point.Point.TheVariants.{One, Two, Three}
 use Rattle.beet_words.specs.Tapes.{Tape, drawn_from, left_of}
 use Rattle.beet_gates.specs.Clear.{with_lets}
 use Rattle.beet_gates.specs.Scripts.{deals_in, size_of}
 use Rattle.beet_gates.specs.declared.Batch.{Batch}
+use Rattle.beet_gates.specs.Draws.{draws_in}
 use Rattle.beet_round.specs.Boxes.{Mailbox, numbers_at, turned}
 use Rattle.beet_round.specs.Sides.{peer, side_of}
 use Rattle.beet_round.specs.declared.message.RoundMessage.{RoundMessage}
 use Rattle.beet_round.specs.declared.sides.Side.{Side}
 use Rattle.beet_round.specs.declared.sides.Side.TheVariants.{Low, High}
-use Rattle.beet_sharing.specs.Runs.{draws_in}
 use Rattle.beet_server.specs.Cores.{Core}
 use Rattle.beet_sharing.specs.Steps.{numbers_for, points_given, numbers_opened}
 
@@ -76,7 +77,8 @@ module _ {S : Type 0} (next : S → ℕ → List ℕ → Batch) where
   abbrev pub sends : Work S → Point → List ℕ
   sends w to =
       let act = (batch_of w).act in
-      numbers_for act w.wires (slice_index w.masks.words w.masks.passed) (take (draws_in act) (left_of w.coefficients)) to
+      numbers_for act w.wires (slice_index w.masks.words w.masks.passed)
+      (take (draws_in act) (left_of w.coefficients)) to
 
   -- the messages of the round are handed out, and the words and numbers are taken for them
   abbrev pub handing : Work S → Work S
@@ -140,5 +142,6 @@ module _ {S : Type 0} (next : S → ℕ → List ℕ → Batch) where
 -- the numbers of a sender in a passed round
 abbrev pub received_from : {S : Type 0} → Core S → ℕ → Point → Option (List ℕ)
 received_from c round sender =
-    option_and_then (λ messages. option_map (λ m. m.numbers.items) (at_side (side_of c.me sender) None (slice_get messages 0) (slice_get messages 1)))
+    option_and_then (λ messages. option_map (λ m. m.numbers.items)
+    (at_side (side_of c.me sender) None (slice_get messages 0) (slice_get messages 1)))
     (slice_get c.received round)

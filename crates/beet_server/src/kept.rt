@@ -14,32 +14,33 @@ use std::marker::Model;
 
 /// The messages to a server of each round, by their numbers alone.
 #[derive(Drop)]
-pub struct Kept {
+pub struct KeptRounds {
     me: Point,
     low: Rows,
     high: Rows,
 }
 
-impl Model for Kept {
+impl Model for KeptRounds {
     ghost use Rattle.beet_server.specs.Kept.{KeptMessages, messages_of, IsKept};
 
     ghost Value = { KeptMessages };
 
-    ghost view = { λ k. record { me = k.me; messages = messages_of k.me 0 k.low.rows k.high.rows; room = k.low.ends_room } };
+    ghost view = { λ k.
+        record { me = k.me; messages = messages_of k.me 0 k.low.rows k.high.rows; room = k.low.ends_room } };
 
     ghost invariant = { λ k. IsKept k.low k.high };
 }
 
-impl Kept {
+impl KeptRounds {
     /// None, with room for those of so many rounds.
-    pub fn new(alloc: Global, me: Point, rounds: u32) -> Result<Kept, AllocError>
+    pub fn new(alloc: Global, me: Point, rounds: u32) -> Result<KeptRounds, AllocError>
         ensures me { IfOk result (λ k. k.me ≡ me) }
         ensures none { IfOk result (λ k. k.messages ≡ []) }
         ensures room { IfOk result (λ k. k.room ≡ rounds) }
     {
         let low = Rows::new(alloc, rounds as usize, MOST_NUMBERS * rounds as usize)?;
         let high = Rows::new(alloc, rounds as usize, MOST_NUMBERS * rounds as usize)?;
-        Ok(Kept { me, low, high })
+        Ok(KeptRounds { me, low, high })
     }
 
     /// Appends the messages of the next round, the lower peer's first.

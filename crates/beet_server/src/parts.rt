@@ -8,9 +8,9 @@ ghost use Rattle.beet_words.specs.Tapes.{drawn_from, left_of};
 ghost use Rattle.beet_gates.specs.Each.{each};
 ghost use Rattle.beet_gates.specs.Scripts.{LetsBelow, PairsBelow, WiresBelow, ActBelow, deals_in, revealed, size_of};
 ghost use Rattle.beet_gates.specs.Clear.{with_lets, product_of};
+ghost use Rattle.beet_gates.specs.Draws.{draws_in};
 ghost use Rattle.beet_round.specs.Sides.{peer, side_of};
 ghost use Rattle.beet_round.specs.declared.sides.Side.TheVariants.{Low, High};
-ghost use Rattle.beet_sharing.specs.Runs.{draws_in};
 ghost use Rattle.beet_server.specs.Steps.{at_side};
 ghost use Rattle.beet_sharing.specs.Steps.{hidden, numbers_for, three_at, points_given, numbers_opened, gained_in};
 
@@ -196,8 +196,8 @@ fn hide(values: &[Fe], slopes: &[Fe], to: Point, numbers: &mut Numbers)
     }
 }
 
-/// Puts the points of the lines with these values and slopes in the place of the numbers for the server itself, for its lower and
-/// for its higher peer.
+/// Puts the points of the lines with these values and slopes in the place of the numbers for the server itself, for its
+/// lower and for its higher peer.
 fn hide_for_each(
     values: &[Fe],
     slopes: &[Fe],
@@ -217,8 +217,8 @@ fn hide_for_each(
     hide(values, slopes, Side::High.peer(me), high);
 }
 
-/// The numbers of a batch for the server itself, for its lower and for its higher peer, in the place of others. The words and
-/// the numbers that they need are taken from the tapes.
+/// The numbers of a batch for the server itself, for its lower and for its higher peer, in the place of others. The
+/// words and the numbers that they need are taken from the tapes.
 pub fn put_numbers(
     act: &Act,
     wires: &[Fe],

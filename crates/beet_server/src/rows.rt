@@ -1,6 +1,7 @@
 //! Lists of numbers, kept one after another.
 
-ghost use Rattle.std.specs.Prelude.{◌≡◌, ◌<◌, ◌≤◌, ◌+◌, ◌-◌, ◌++◌, [], ◌∷◌, length, IfOk, Some, slice_get, slice_index, take, drop};
+ghost use Rattle.std.specs.Prelude.{◌≡◌, ◌<◌, ◌≤◌, ◌+◌, ◌-◌, ◌++◌, [], ◌∷◌, length, IfOk, Some, slice_get, slice_index};
+ghost use Rattle.std.specs.Prelude.{take, drop};
 
 use crate::parts::append_all;
 use beet_field::Fe;

@@ -1,6 +1,7 @@
 //! One server of three.
 
-ghost use Rattle.std.specs.Prelude.{◌≡◌, ◌≢◌, ◌↔◌, ◌⊎◌, ◌<◌, ◌≤◌, ◌+◌, ◌-◌, ◌*◌, ◌^◌, ◌∷◌, [], ℕ, List, length, IfOk, IsNone, IfNone, IfSome, IsErrOf, option_map, vec_capacity, true, false};
+ghost use Rattle.std.specs.Prelude.{◌≡◌, ◌≢◌, ◌↔◌, ◌⊎◌, ◌<◌, ◌≤◌, ◌+◌, ◌-◌, ◌*◌, ◌^◌, ◌∷◌, [], ℕ, List, length, IfOk};
+ghost use Rattle.std.specs.Prelude.{IsNone, IfNone, IfSome, IsErrOf, option_map, vec_capacity, true, false};
 ghost use Rattle.beet_field.specs.declared.TheConstants.{MOST_NUMBERS};
 ghost use Rattle.beet_words.specs.Tapes.{left_of};
 ghost use Rattle.beet_gates.specs.Scripts.{size_of};
@@ -17,7 +18,7 @@ ghost use Rattle.beet_server.specs.Answers.{HandsOut, Keeps, Moves, IsLateVerdic
 ghost use Rattle.beet_server.specs.declared.server.StartFault.TheVariants.{TooFewWords, TooFewMasks};
 
 use crate::engine::Engine;
-use crate::kept::Kept;
+use crate::kept::KeptRounds;
 use beet_field::{Fe, MOST_NUMBERS, Point};
 use beet_gates::Script;
 use beet_round::{RoundBox, RoundMessage, Side, Verdict};
@@ -60,15 +61,15 @@ fn address(message: &mut RoundMessage, me: Point, side: Side, round: u32)
     message.round = round;
 }
 
-/// All memory that a server ever needs: for the messages that it gets, for its wires, and for the numbers that it opens. Tapes
-/// that hold too few words are refused first.
+/// All memory that a server ever needs: for the messages that it gets, for its wires, and for the numbers that it
+/// opens. Tapes that hold too few words are refused first.
 fn take_room<S: Script>(
     alloc: Global,
     me: Point,
     script: &S,
     masks: &Tape,
     coefficients: &Tape,
-) -> Result<(Kept, Vec<Fe>, Vec<Fe>), StartFault>
+) -> Result<(KeptRounds, Vec<Fe>, Vec<Fe>), StartFault>
     requires { masks.now.passed ≡ 0 }
     ensures words { (have : ℕ) → IsErrOf result (TooFewWords have)
         ↔ ((have ≡ length (left_of coefficients.now)) × (have < S.coefficients_of script.now)) }
@@ -96,7 +97,7 @@ fn take_room<S: Script>(
     if have < script.masks() {
         return Err(StartFault::TooFewMasks(have));
     }
-    let received = Kept::new(alloc, me, script.rounds())?;
+    let received = KeptRounds::new(alloc, me, script.rounds())?;
     let opened = Vec::with_capacity(alloc, MOST_NUMBERS * script.rounds() as usize)?;
     let wires = Vec::with_capacity(alloc, script.wires() as usize)?;
     Ok((received, wires, opened))
@@ -107,7 +108,7 @@ fn take_room<S: Script>(
 pub struct ServerCore<S: Script> {
     engine: Engine<S>,
     mail: RoundBox,
-    received: Kept,
+    received: KeptRounds,
 }
 
 impl<S: Script> Model for ServerCore<S> {

@@ -11,7 +11,8 @@
 ghost use Rattle.std.specs.Prelude.{◌≡◌, ◌≢◌, ◌↔◌, IsTrue};
 ghost use Rattle.beet_field.specs.Field.{add_of, mul_of};
 ghost use Rattle.beet_field.specs.Point.{number_of};
-ghost use Rattle.beet_shamir.specs.Line.{point_of, points_of, recombined, reshared, AreElements, GivesValue, HasLine, IsLine, IsOnlyLine, SharesProduct};
+ghost use Rattle.beet_shamir.specs.Line.{point_of, points_of, recombined, reshared, AreElements, GivesValue, HasLine};
+ghost use Rattle.beet_shamir.specs.Line.{IsLine, IsOnlyLine, SharesProduct};
 
 use beet_field::{Fe, Point, Trio};
 
@@ -97,7 +98,7 @@ fn slope_of(a: Point, at_a: Fe, b: Point, at_b: Fe) -> Fe
 }
 
 /// The line with the point `at_a` at `a` and the point `at_b` at `b` (Shamir 1979).
-pub fn line_of(a: Point, at_a: Fe, b: Point, at_b: Fe) -> Line
+pub fn line_through(a: Point, at_a: Fe, b: Point, at_b: Fe) -> Line
     requires { a ≢ b }
     ensures first { point_of result.value result.slope a ≡ at_a }
     ensures second { point_of result.value result.slope b ≡ at_b }

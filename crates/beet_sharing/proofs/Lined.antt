@@ -1,5 +1,6 @@
 -- Lists of points on lines: what is appended, lets, deals, products and openings.
-use Rattle.std.proofs.Common.{◌≡◌, ℕ, zero, suc, ◌+◌, ◌-◌, ◌*◌, ◌%◌, ◌<◌, ◌≤◌, ◌⊎◌, inl, inr, List, [], ◌∷◌, ◌++◌, map, length, slice_index, slice_index_or, refl, sym, ◌∙◌, ap, subst, arith, length-append}
+use Rattle.std.proofs.Common.{◌≡◌, ℕ, zero, suc, ◌+◌, ◌-◌, ◌*◌, ◌%◌, ◌<◌, ◌≤◌, ◌⊎◌, inl, inr, List, [], ◌∷◌, ◌++◌}
+use Rattle.std.proofs.Common.{length, slice_index, refl, sym, ◌∙◌, ap, subst, arith, length-append}
 use Rattle.std.proofs.Math.ListN.{get_or-append, get_or-eq_default}
 use Rattle.std.proofs.Math.Seq.{get_or-append_right}
 use Rattle.beet_field.specs.Field.{p, IsElement, add_of, mul_of, sub_of}
@@ -13,7 +14,7 @@ use Rattle.beet_shamir.specs.Line.{point_of, reshared}
 use Rattle.beet_gates.specs.Clear.{weighed, let_of, with_lets, product_of}
 use Rattle.beet_gates.specs.Each.{each}
 use Rattle.beet_gates.specs.declared.Linear.{Linear}
-use Rattle.beet_gates.proofs.EachFacts.{length-each, item-each, each-zero, each-cons}
+use Rattle.beet_gates.proofs.EachFacts.{length-each, item-each}
 use Rattle.beet_sharing.specs.Lines.{OnLines, slope_of, with_slopes}
 
 -- the three points of each wire are those of the line with its value and its slope
@@ -69,7 +70,8 @@ lined-append v s v' s' f g a b = record {
         get_or-append (f i) (g i) 0 w (omega (arith, x, a.lengths i)) ∙ a.on i w
         ∙ (λ j. point_of (sym (get_or-append v v' 0 w x) j) (sym (get_or-append s s' 0 w (omega (arith, x, a.paired))) j) i)
     | inr x ↦
-        get_or-append_right (f i) (g i) w 0 (omega (arith, x, a.lengths i)) ∙ ap (λ n. slice_index (g i) (w - n)) (a.lengths i) ∙ b.on i (w - length v)
+        get_or-append_right (f i) (g i) w 0 (omega (arith, x, a.lengths i))
+        ∙ ap (λ n. slice_index (g i) (w - n)) (a.lengths i) ∙ b.on i (w - length v)
         ∙ (λ j. point_of (sym (get_or-append_right v v' w 0 x) j)
         (sym (get_or-append_right s s' w 0 (omega (arith, x, a.paired)) ∙ ap (λ n. slice_index s' (w - n)) a.paired) j) i)
   ];
@@ -85,7 +87,8 @@ each-past f n k h = get_or-eq_default (each f n) 0 (omega (arith, h, length-each
 
 -- lists that are given by a rule for the place
 pub lined-each : (n : ℕ) (value slope : ℕ → ℕ) (points : Point → ℕ → ℕ) → ((k : ℕ) → k < n → IsElement (value k)) →
-    ((i : Point) (k : ℕ) → k < n → points i k ≡ point_of (value k) (slope k) i) → Lined (each value n) (each slope n) (λ i. each (points i) n)
+    ((i : Point) (k : ℕ) → k < n → points i k ≡ point_of (value k) (slope k) i) →
+    Lined (each value n) (each slope n) (λ i. each (points i) n)
 lined-each n value slope points small line = record {
   paired = length-each slope n ∙ sym (length-each value n);
   lengths = λ i. length-each (points i) n ∙ sym (length-each value n);
@@ -100,7 +103,8 @@ lined-each n value slope points small line = record {
 }
 
 -- a sum of multiples of points
-weighed-line : (n : ℕ) (ws v s : List ℕ) → ((w : ℕ) → slice_index ws w ≡ add_of (slice_index v w) (mul_of (slice_index s w) n)) → (ts : List (ℕ × ℕ)) →
+weighed-line : (n : ℕ) (ws v s : List ℕ) →
+    ((w : ℕ) → slice_index ws w ≡ add_of (slice_index v w) (mul_of (slice_index s w) n)) → (ts : List (ℕ × ℕ)) →
     weighed ws ts % p ≡ (weighed v ts + weighed s ts * n) % p
 unfolding weighed
 weighed-line n ws v s on [] = omega arith
@@ -119,7 +123,8 @@ let-line n ws v s on l =
     let e2 = mul_same (slope_of s l) n (weighed s l.terms) n (omega arith) refl in
     omega (arith, e1, e2)
 
-lined-let : (v s : List ℕ) (f : Point → List ℕ) (l : Linear) → Lined v s f → Lined (let_of v l ∷ []) (slope_of s l ∷ []) (λ i. let_of (f i) l ∷ [])
+lined-let : (v s : List ℕ) (f : Point → List ℕ) (l : Linear) → Lined v s f →
+    Lined (let_of v l ∷ []) (slope_of s l ∷ []) (λ i. let_of (f i) l ∷ [])
 lined-let v s f l a = record { paired = refl; lengths = λ i. refl; on = line; elements = small } where
   line : (i : Point) (w : ℕ) →
       slice_index (let_of (f i) l ∷ []) w ≡ point_of (slice_index (let_of v l ∷ []) w) (slice_index (slope_of s l ∷ []) w) i
@@ -131,7 +136,8 @@ lined-let v s f l a = record { paired = refl; lengths = λ i. refl; on = line; e
   small (suc w) = omega arith
 
 -- with lets
-pub lined-lets : (ls : List Linear) (v s : List ℕ) (f : Point → List ℕ) → Lined v s f → Lined (with_lets v ls) (with_slopes s ls) (λ i. with_lets (f i) ls)
+pub lined-lets : (ls : List Linear) (v s : List ℕ) (f : Point → List ℕ) → Lined v s f →
+    Lined (with_lets v ls) (with_slopes s ls) (λ i. with_lets (f i) ls)
 lined-lets [] v s f a = a
 lined-lets (l ∷ ls) v s f a =
     lined-lets ls (v ++ let_of v l ∷ []) (s ++ slope_of s l ∷ []) (λ i. f i ++ let_of (f i) l ∷ [])
@@ -151,7 +157,8 @@ reshared-products v a w b =
     omega (arith, e1, e2, e3)
 
 -- the products of the points of a pair, put together
-pub products-together : (v s : List ℕ) (f : Point → List ℕ) (pair : ℕ × ℕ) → Lined v s f → reshared (trio_of (λ j. product_of (f j) pair)) ≡ product_of v pair
+pub products-together : (v s : List ℕ) (f : Point → List ℕ) (pair : ℕ × ℕ) → Lined v s f →
+    reshared (trio_of (λ j. product_of (f j) pair)) ≡ product_of v pair
 products-together v s f pair a =
     (λ j. reshared (record {
       one = mul_of (a.on One pair.0 j) (a.on One pair.1 j);
@@ -164,15 +171,7 @@ products-together v s f pair a =
 recombined-line : (v s : ℕ) → IsElement v → sub_of (mul_of 2 (add_of v (mul_of s 1))) (add_of v (mul_of s 2)) ≡ v
 recombined-line v s h = omega arith
 
-pub opened-line : (v s : List ℕ) (f : Point → List ℕ) → Lined v s f → (w : ℕ) → sub_of (mul_of 2 (slice_index (f One) w)) (slice_index (f Two) w) ≡ slice_index v w
+pub opened-line : (v s : List ℕ) (f : Point → List ℕ) → Lined v s f → (w : ℕ) →
+    sub_of (mul_of 2 (slice_index (f One) w)) (slice_index (f Two) w) ≡ slice_index v w
 opened-line v s f a w =
     (λ j. sub_of (mul_of 2 (a.on One w j)) (a.on Two w j)) ∙ recombined-line (slice_index v w) (slice_index s w) (a.elements w)
-
--- a list from another, by the place
-pub map-places : {A : Type 0} (f : A → ℕ) (d : A) → (xs : List A) → map f xs ≡ each (λ k. f (slice_index_or xs k d)) (length xs)
-map-places f d [] = sym (each-zero (λ k. f (slice_index_or [] k d)))
-map-places f d (x ∷ xs) = ap (λ l. f x ∷ l) (map-places f d xs) ∙ sym (each-cons (λ k. f (slice_index_or (x ∷ xs) k d)) (length xs))
-
-pub map-same : (f g : ℕ → ℕ) → ((w : ℕ) → f w ≡ g w) → (ws : List ℕ) → map f ws ≡ map g ws
-map-same f g same [] = refl
-map-same f g same (w ∷ ws) = λ j. same w j ∷ map-same f g same ws j

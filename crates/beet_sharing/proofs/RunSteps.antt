@@ -12,9 +12,11 @@ use Rattle.beet_gates.specs.Scripts.{size_of}
 use Rattle.beet_gates.specs.declared.Act.{Act}
 use Rattle.beet_gates.specs.declared.Act.TheVariants.{Deal, Mul, Reveal, End}
 use Rattle.beet_gates.proofs.EachFacts.{length-each, item-each, each-same}
-use Rattle.beet_sharing.specs.Runs.{Setup, Shared, draws_in, hidden_at, secret_hidden, number_drawn, product_at, gained, opened_at, opened_by, sent_for}
+use Rattle.beet_gates.specs.Draws.{draws_in}
+use Rattle.beet_gates.proofs.Lists.{item-taken, item-map, each-map}
+use Rattle.beet_sharing.specs.Runs.{Setup, Shared, hidden_at, secret_hidden, number_drawn, product_at, gained}
+use Rattle.beet_sharing.specs.Runs.{opened_at, opened_by, sent_for}
 use Rattle.beet_sharing.specs.Steps.{numbers_for, three_at, points_given, numbers_opened}
-use Rattle.beet_sharing.proofs.Lists.{item-taken, item-map, each-map}
 
 -- a trio of points of lines, put together as the share of a product
 pub reshared-points : (a b c r s t : ℕ) (i : Point) →
@@ -79,7 +81,8 @@ opens-run o s (Mul pairs) i = refl
 opens-run o s (Reveal shown) i =
     let xs = shown.items in
     rw (length-map xs (slice_index (member s.wires One))) (each-same
-    (λ k. recombined (three_at (map (slice_index (member s.wires One)) xs) (map (slice_index (member s.wires Two)) xs) (map (slice_index (member s.wires Three)) xs) k))
+    (λ k. recombined (three_at (map (slice_index (member s.wires One)) xs) (map (slice_index (member s.wires Two)) xs)
+    (map (slice_index (member s.wires Three)) xs) k))
     (λ k. opened_at s.wires (slice_index xs k)) (length xs)
     (λ k h. rw (
       item-map (slice_index (member s.wires One)) xs 0 k h,

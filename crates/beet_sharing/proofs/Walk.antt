@@ -1,5 +1,6 @@
 -- A lawful script's run among three servers, batch by batch: what stands, what is drawn and dealt, and how long messages are.
-use Rattle.std.proofs.Common.{◌≡◌, ℕ, zero, suc, ◌+◌, ◌*◌, ◌-◌, ◌<◌, ◌≤◌, inl, inr, true, false, [], ◌++◌, length, slice_index, refl, sym, ◌∙◌, ap, arith, length-append}
+use Rattle.std.proofs.Common.{◌≡◌, ℕ, zero, suc, ◌+◌, ◌*◌, ◌-◌, ◌<◌, ◌≤◌, inl, inr, true, false, [], ◌++◌, length}
+use Rattle.std.proofs.Common.{slice_index, refl, sym, ◌∙◌, ap, arith, length-append}
 use Rattle.std.proofs.lemmas.Bool.{cases_eq}
 use Rattle.std.proofs.lemmas.List.{length-map}
 use Rattle.beet_field.specs.Trio.{member}
@@ -8,14 +9,17 @@ use Rattle.beet_field.specs.declared.point.Point.TheVariants.{One, Two, Three}
 use Rattle.beet_field.specs.declared.TheConstants.{MOST_NUMBERS}
 use Rattle.beet_gates.specs.Clear.{is_end, with_lets}
 use Rattle.beet_gates.specs.Each.{each}
-use Rattle.beet_gates.specs.Scripts.{Standing, ActBelow, BatchStands, IsWithin, LawFrom, acted, after, deals_in, revealed, size_of, start_of}
+use Rattle.beet_gates.specs.Scripts.{Standing, ActBelow, BatchStands, IsWithin, LawFrom, acted, after, deals_in}
+use Rattle.beet_gates.specs.Scripts.{revealed, size_of, start_of}
 use Rattle.beet_gates.specs.declared.Act.{Act}
 use Rattle.beet_gates.specs.declared.Act.TheVariants.{Deal, Mul, Reveal, End}
 use Rattle.beet_gates.specs.declared.Batch.{Batch}
 use Rattle.beet_gates.proofs.ClearFacts.{length-with_lets}
 use Rattle.beet_gates.proofs.EachFacts.{length-each}
 use Rattle.beet_gates.proofs.Laws.{law-now, law-next, law-last}
-use Rattle.beet_sharing.specs.Runs.{Setup, Shared, act_among, batch_among, coming, draws_in, gained, hidden_at, message, opened_at, opened_by, product_at, sent_for, shared_at, standing_at, with_batch_lets}
+use Rattle.beet_gates.specs.Draws.{draws_in}
+use Rattle.beet_sharing.specs.Runs.{Setup, Shared, act_among, batch_among, coming, gained, hidden_at, message}
+use Rattle.beet_sharing.specs.Runs.{opened_at, opened_by, product_at, sent_for, shared_at, standing_at, with_batch_lets}
 use Rattle.beet_sharing.specs.Rounds.{HasInputs}
 use Rattle.beet_sharing.proofs.Lined.{member-trio, member-each}
 
@@ -50,7 +54,8 @@ goes-on o t go more k lt = elim (cases_eq k t) [
 ]
 
 -- what an act gives and opens
-length-gained : (o : Setup) (s : Shared) (a : Act) (i : Point) → (n : Standing) → n.dealers ≡ 3 → (acted n a).wires ≡ n.wires + length (gained o s a i)
+length-gained : (o : Setup) (s : Shared) (a : Act) (i : Point) → (n : Standing) → n.dealers ≡ 3 →
+    (acted n a).wires ≡ n.wires + length (gained o s a i)
 length-gained o s Deal i n three =
     let bits : 61 * n.dealers ≡ 61 * 3 = ap (λ k. 61 * k) three in
     omega (
@@ -120,7 +125,8 @@ counts-act o n s a c = record {
   opened = omega (arith, length-append s.opened (opened_by s a), length-opened_by s a, c.opened, acted-opened n a);
 }
 
-length-lets : (b : Batch) (s : Shared) (i : Point) → length (member (with_batch_lets b s).wires i) ≡ length (member s.wires i) + length b.lets.items
+length-lets : (b : Batch) (s : Shared) (i : Point) →
+    length (member (with_batch_lets b s).wires i) ≡ length (member s.wires i) + length b.lets.items
 length-lets b s i =
     ap length (member-each (λ points. with_lets points b.lets.items) s.wires i) ∙ length-with_lets (member s.wires i) b.lets.items
 
@@ -165,7 +171,8 @@ lawful-last o bounds inputs t l =
     let opened = (shared_at o t).opened in
     ap (λ k. is_end (o.next k opened).act) (sym l.at) ∙ law-last o.next bounds s opened l.law
 
-pub lawful-start : (o : Setup) (bounds : Standing) (most inputs : ℕ) → LawFrom o.next bounds most (start_of inputs) [] → Lawful o bounds inputs most 0
+pub lawful-start : (o : Setup) (bounds : Standing) (most inputs : ℕ) → LawFrom o.next bounds most (start_of inputs) [] →
+    Lawful o bounds inputs most 0
 lawful-start o bounds most inputs law = record { at = refl; law = law }
 
 -- the law holds on, as long as the end has not come
@@ -190,7 +197,8 @@ along o bounds most inputs law (suc t) go =
     along-next o bounds inputs most t (most - t) refl a.few a.lawful (go t (omega arith))
 
 -- a lawful run after t batches, none of which is the end
-pub walks : (o : Setup) (bounds : Standing) (most inputs : ℕ) → LawFrom o.next bounds most (start_of inputs) [] → HasInputs o inputs → (t : ℕ) → Goes o t →
+pub walks : (o : Setup) (bounds : Standing) (most inputs : ℕ) → LawFrom o.next bounds most (start_of inputs) [] →
+    HasInputs o inputs → (t : ℕ) → Goes o t →
     Walks o bounds most t
 walks o bounds most inputs law h t go =
     let a = along o bounds most inputs law t go in
@@ -222,18 +230,34 @@ module _ (o : Setup) (bounds : Standing) (most t : ℕ) (w : Walks o bounds most
   pub draws-fit : (shared_at o t).drawn + draws_in (coming o t).act ≤ bounds.coefficients
   draws-fit =
       let s = w.standing in
-      omega (arith, coming-stands.1.2, w.coefficients, acted-coefficients (record s { wires = s.wires + length (coming o t).lets.items }) (coming o t).act)
+      omega (
+        arith,
+        coming-stands.1.2,
+        w.coefficients,
+        acted-coefficients (record s { wires = s.wires + length (coming o t).lets.items }) (coming o t).act,
+      )
 
   -- and so are the words that it deals
   pub deals-fit : (shared_at o t).dealt + deals_in (coming o t).act ≤ bounds.masks
   deals-fit =
       let s = w.standing in
-      omega (arith, coming-stands.1.1, w.masks, acted-masks (record s { wires = s.wires + length (coming o t).lets.items }) (coming o t).act)
+      omega (
+        arith,
+        coming-stands.1.1,
+        w.masks,
+        acted-masks (record s { wires = s.wires + length (coming o t).lets.items }) (coming o t).act,
+      )
 
   -- the points after the batch are within the bounds
   pub wires-fit : (i : Point) → length (member (shared_at o (suc t)).wires i) ≤ bounds.wires
   wires-fit i =
-      let c : Counts w.standing (shared_at o t) = record { dealers = w.dealers; wires = w.wires; masks = w.masks; coefficients = w.coefficients; opened = w.opened } in
+      let c : Counts w.standing (shared_at o t) = record {
+        dealers = w.dealers;
+        wires = w.wires;
+        masks = w.masks;
+        coefficients = w.coefficients;
+        opened = w.opened;
+      } in
       omega (arith, coming-stands.1.0, (counts-batch o w.standing (shared_at o t) (coming o t) c).wires i)
 
   -- each message has a number, where the end has not come

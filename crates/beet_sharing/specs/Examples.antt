@@ -37,7 +37,8 @@ deal_batch_at zero = deal_batch
 deal_batch_at (suc zero) = reveal_batch (three_terms 5 (2, 0) (3, 61) (7, 122) ∷ []) (183 ∷ [])
 deal_batch_at (suc (suc n)) = end_batch
 
--- the words 5, 2 and 2^60 + 1 are dealt, and for its k-th bit server 1 draws 10 + k, server 2 100 + k and server 3 1000 + k
+-- the words 5, 2 and 2^60 + 1 are dealt, and for its k-th bit server 1 draws 10 + k, server 2 100 + k and server 3 1000
+-- + k
 abbrev pub deal_setup : Setup
 deal_setup = record {
   next = λ done opened. deal_batch_at done;

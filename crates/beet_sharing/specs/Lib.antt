@@ -3,3 +3,4 @@ pub mod Lines
 pub mod Rounds
 pub mod Examples
 pub mod Steps
+pub mod Seen

@@ -18,7 +18,8 @@ use Rattle.beet_sharing.specs.Runs.{Setup, Shared, HasRounds, coming, shared_at,
 pub record OnLines (values slopes : List ℕ) (wires : Trio (List ℕ)) : Type 0 where
   pub paired : length slopes ≡ length values
   pub lengths : (i : Point) → length (member wires i) ≡ length values
-  pub points : (i : Point) (w : ℕ) → slice_index (member wires i) w ≡ point_of (slice_index values w) (slice_index slopes w) i
+  pub points : (i : Point) (w : ℕ) →
+      slice_index (member wires i) w ≡ point_of (slice_index values w) (slice_index slopes w) i
   pub elements : (w : ℕ) → IsElement (slice_index values w)
 
 -- the slope of a let: the same combination of slopes, without the constant
@@ -30,10 +31,11 @@ abbrev pub with_slopes : List ℕ → List Linear → List ℕ
 with_slopes slopes [] = slopes
 with_slopes slopes (l ∷ ls) = with_slopes (slopes ++ slope_of slopes l ∷ []) ls
 
--- the slopes of the wires that an act gives: of a dealt bit the number that its dealer drew, of a product the three numbers drawn, put
--- together
+-- the slopes of the wires that an act gives: of a dealt bit the number that its dealer drew, of a product the three
+-- numbers drawn, put together
 abbrev pub slopes_gained : Setup → Shared → Act → List ℕ
-slopes_gained o s Deal = each (number_drawn o s One) 61 ++ (each (number_drawn o s Two) 61 ++ each (number_drawn o s Three) 61)
+slopes_gained o s Deal =
+    each (number_drawn o s One) 61 ++ (each (number_drawn o s Two) 61 ++ each (number_drawn o s Three) 61)
 slopes_gained o s (Mul pairs) = each (λ k. reshared (trio_of (λ j. number_drawn o s j k))) (length pairs.items)
 slopes_gained o s (Reveal shown) = []
 slopes_gained o s End = []

@@ -1,22 +1,22 @@
--- The run of a script among three servers: the three points of each wire and the opened numbers, batch by batch. There are no
--- messages in it.
-use Rattle.std.specs.Prelude.{◌≡◌, ◌<◌, ℕ, zero, suc, ◌+◌, List, [], ◌++◌, map, length, slice_index, slice_index_or, true, false}
-use Rattle.std.specs.Int.{bit_at}
+-- The run of a script among three servers: the three points of each wire and the opened numbers, batch by batch. There
+-- are no messages in it.
+use Rattle.std.specs.Prelude.{◌≡◌, ◌<◌, ℕ, zero, suc, ◌+◌, List, [], ◌++◌, map, length, slice_index, true, false}
 use Rattle.beet_field.specs.Trio.{member, of_each, trio_of}
 use Rattle.beet_field.specs.declared.point.Point.{Point}
 use Rattle.beet_field.specs.declared.point.Point.TheVariants.{One, Two, Three}
 use Rattle.beet_field.specs.declared.trio.Trio.{Trio}
 use Rattle.beet_shamir.specs.Line.{point_of, recombined, reshared}
 use Rattle.beet_words.specs.Words.{accepted}
-use Rattle.beet_gates.specs.Clear.{with_lets, product_of, is_end, first_end}
+use Rattle.beet_gates.specs.Clear.{with_lets, is_end, first_end}
+use Rattle.beet_gates.specs.Draws.{draws_in, secret_of}
 use Rattle.beet_gates.specs.Each.{each}
 use Rattle.beet_gates.specs.Scripts.{deals_in}
 use Rattle.beet_gates.specs.declared.Act.{Act}
 use Rattle.beet_gates.specs.declared.Act.TheVariants.{Deal, Mul, Reveal, End}
 use Rattle.beet_gates.specs.declared.Batch.{Batch}
 
--- what three servers begin with: the batches of a script, the points of the inputs, the words that each server deals, and the
--- numbers that each draws, in order
+-- what three servers begin with: the batches of a script, the points of the inputs, the words that each server deals,
+-- and the numbers that each draws, in order
 pub record Setup : Type 0 where
   pub next : ℕ → List ℕ → Batch
   pub inputs : Trio (List ℕ)
@@ -27,31 +27,13 @@ pub record Setup : Type 0 where
 abbrev pub numbers_of : Trio (List ℕ) → Trio (List ℕ)
 numbers_of coefficients = of_each accepted coefficients
 
--- how far a run has come: the three points of each wire, the opened numbers, and how many numbers each server has drawn and how
--- many words it has dealt
+-- how far a run has come: the three points of each wire, the opened numbers, and how many numbers each server has drawn
+-- and how many words it has dealt
 pub record Shared : Type 0 where
   pub wires : Trio (List ℕ)
   pub opened : List ℕ
   pub drawn : ℕ
   pub dealt : ℕ
-
--- how many numbers each server draws for an act
-abbrev pub draws_in : Act → ℕ
-draws_in Deal = 61
-draws_in (Mul pairs) = length pairs.items
-draws_in (Reveal shown) = 0
-draws_in End = 0
-
--- the pair at a place
-abbrev pub pair_at : List (ℕ × ℕ) → ℕ → ℕ × ℕ
-pair_at pairs k = slice_index_or pairs k (0, 0)
-
--- what the k-th number that a server draws for an act hides: a bit of the word that it deals, or the product of its points of a pair
-abbrev pub secret_of : Act → List ℕ → ℕ → ℕ → ℕ
-secret_of Deal points word k = bit_at word k
-secret_of (Mul pairs) points word k = product_of points (pair_at pairs.items k)
-secret_of (Reveal shown) points word k = 0
-secret_of End points word k = 0
 
 -- the k-th number that a server draws for the coming act
 abbrev pub number_drawn : Setup → Shared → Point → ℕ → ℕ
@@ -61,7 +43,8 @@ number_drawn o s j k = slice_index (member o.numbers j) (s.drawn + k)
 abbrev pub secret_hidden : Setup → Shared → Act → Point → ℕ → ℕ
 secret_hidden o s a j k = secret_of a (member s.wires j) (slice_index (member o.masks j) s.dealt) k
 
--- the k-th secret of server j as the value of a line, and the number that hides it as its slope: the point of this line at i
+-- the k-th secret of server j as the value of a line, and the number that hides it as its slope: the point of this line
+-- at i
 abbrev pub hidden_at : Setup → Shared → Act → Point → Point → ℕ → ℕ
 hidden_at o s a j i k = point_of (secret_hidden o s a j k) (number_drawn o s j k) i
 
@@ -72,7 +55,8 @@ product_at o s a i k =
 
 -- the points at i of the wires that an act gives
 abbrev pub gained : Setup → Shared → Act → Point → List ℕ
-gained o s Deal i = each (hidden_at o s Deal One i) 61 ++ (each (hidden_at o s Deal Two i) 61 ++ each (hidden_at o s Deal Three i) 61)
+gained o s Deal i =
+    each (hidden_at o s Deal One i) 61 ++ (each (hidden_at o s Deal Two i) 61 ++ each (hidden_at o s Deal Three i) 61)
 gained o s (Mul pairs) i = each (product_at o s (Mul pairs) i) (length pairs.items)
 gained o s (Reveal shown) i = []
 gained o s End i = []
@@ -122,7 +106,8 @@ coming o t = o.next t (shared_at o t).opened
 abbrev pub standing_at : Setup → ℕ → Shared
 standing_at o t = with_batch_lets (coming o t) (shared_at o t)
 
--- the numbers that one server sends another for an act: of a deal and of products the hidden secrets, of an opening its own points
+-- the numbers that one server sends another for an act: of a deal and of products the hidden secrets, of an opening its
+-- own points
 abbrev pub sent_for : Setup → Shared → Act → Point → Point → List ℕ
 sent_for o s Deal from to = each (hidden_at o s Deal from to) 61
 sent_for o s (Mul pairs) from to = each (hidden_at o s (Mul pairs) from to) (length pairs.items)

@@ -29,8 +29,14 @@ module _ {S : Type 0} (next : S → ℕ → List ℕ → Batch) (inputs most : S
       let is : x.core ≡ member start s = ap (λ y. y.core) made ∙ fresh_one in
       let none : 0 ≡ x.core.round = sym (ap (λ c. c.round) is ∙ stand.round) in
       record {
-        stands = subst (λ r. IsAtRound next (setup_of next inputs start) r s x.core) none (subst (λ (c : Core S). IsAtRound next (setup_of next inputs start) 0 s c) (sym is) stand);
-        keeps = record { me = ap (λ c. c.me) is; script = ap (λ c. c.script) is; masks = ap (λ c. c.masks.words) is; coefficients = ap (λ c. c.coefficients.words) is };
+        stands = subst (λ r. IsAtRound next (setup_of next inputs start) r s x.core) none
+            (subst (λ (c : Core S). IsAtRound next (setup_of next inputs start) 0 s c) (sym is) stand);
+        keeps = record {
+          me = ap (λ c. c.me) is;
+          script = ap (λ c. c.script) is;
+          masks = ap (λ c. c.masks.words) is;
+          coefficients = ap (λ c. c.coefficients.words) is;
+        };
         to_low = ap (λ y. y.to_low) made ∙ to_low ∙ ap (link_at next inputs most start s (peer s Low)) none;
         to_high = ap (λ y. y.to_high) made ∙ to_high ∙ ap (link_at next inputs most start s (peer s High)) none;
         from_low = ap (λ y. y.from_low) made ∙ from_low ∙ ap (link_at next inputs most start (peer s Low) s) none;
@@ -38,14 +44,17 @@ module _ {S : Type 0} (next : S → ℕ → List ℕ → Batch) (inputs most : S
       }
 
   -- three servers that have ended in threads are as after lockstep
-  pub all-ended : (start end : Trio (Core S)) → AreFresh next inputs start → AreEnded next inputs most start end → HaveEnded next inputs most start end
+  pub all-ended : (start end : Trio (Core S)) → AreFresh next inputs start → AreEnded next inputs most start end →
+      HaveEnded next inputs most start end
   all-ended start end fresh ended =
       let keeps : (s : Point) → Keeps (member start s) (member end s) =
       by_point (λ s. Keeps (member start s) (member end s)) ended.one.keeps ended.two.keeps ended.three.keeps in
       record {
-        ended = by_point (λ s. IsAtRound next (setup_of next inputs start) (rounds_from next inputs most start) s (member end s)) ended.one.stands ended.two.stands ended.three.stands;
+        ended = by_point (λ s. IsAtRound next (setup_of next inputs start) (rounds_from next inputs most start) s
+            (member end s)) ended.one.stands ended.two.stands ended.three.stands;
         at_end = by_point (λ s. has_ended next (member end s) ≡ true) ended.one.over ended.two.over ended.three.over;
-        script = λ s. (keeps s).script ∙ by_point (λ s. (member start s).script ≡ start.one.script) refl fresh.script_two fresh.script_three s;
+        script = λ s. (keeps s).script
+            ∙ by_point (λ s. (member start s).script ≡ start.one.script) refl fresh.script_two fresh.script_three s;
         masks = λ s. (keeps s).masks;
         coefficients = λ s. (keeps s).coefficients;
       }

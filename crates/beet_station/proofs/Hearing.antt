@@ -17,7 +17,8 @@ use Rattle.beet_station.specs.Stations.{HasHeard}
 
 -- the core fits the run with this message more
 pub fits-heard : {S : Type 0} (next : S → ℕ → List ℕ → Batch) (c d : Core S) (from : LinkEnd) (v : Verdict) → HasHeard next c d from v →
-    (o : Setup) (rounds : ℕ) (x : Delivered) (side : Side) → HasRounds o rounds → Fits next o x c → from.stream ≡ stream o rounds (peer c.me side) c.me →
+    (o : Setup) (rounds : ℕ) (x : Delivered) (side : Side) → HasRounds o rounds → Fits next o x c →
+    from.stream ≡ stream o rounds (peer c.me side) c.me →
     from.moved ≤ c.round + 1 → Fits next o (with_triple x (record { from = peer c.me side; to = c.me; round = from.moved })) d
 fits-heard next c d from v h o rounds x side has f streams near =
     let at : slice_get (stream o rounds (peer c.me side) c.me) from.moved ≡ Some h.message =

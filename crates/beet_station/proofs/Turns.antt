@@ -33,7 +33,8 @@ keeps-on a b c k l = record {
 }
 
 -- one end moved one message
-moved-one : (room : ℕ) (l : List RoundMessage) (t u : ℕ) (old new : LinkEnd) → old ≡ end_at room l t → new ≡ one_on old → u ≡ t + 1 → new ≡ end_at room l u
+moved-one : (room : ℕ) (l : List RoundMessage) (t u : ℕ) (old new : LinkEnd) → old ≡ end_at room l t →
+    new ≡ one_on old → u ≡ t + 1 → new ≡ end_at room l u
 moved-one room l t u old new is next count = next ∙ ap one_on is ∙ ap (end_at room l) (sym count)
 
 module _ {S : Type 0} (next : S → ℕ → List ℕ → Batch) (inputs most : S → ℕ) (bounds : Standing) (start : Trio (Core S))
@@ -57,7 +58,8 @@ module _ {S : Type 0} (next : S → ℕ → List ℕ → Batch) (inputs most : S
         absurd (both_ways (has_ended next c) going ((ended_at next run x c rounds has-rounds f).1 last))
   ]
 
-  module _ {Place : Type 0} (s : Point) (x : Station S Place) (tied : IsTied next inputs most start s x) (going : has_ended next x.core ≡ false) where
+  module _ {Place : Type 0} (s : Point) (x : Station S Place) (tied : IsTied next inputs most start s x)
+      (going : has_ended next x.core ≡ false) where
     abbrev t : ℕ
     t = x.core.round
 
@@ -119,10 +121,12 @@ module _ {S : Type 0} (next : S → ℕ → List ℕ → Batch) (inputs most : S
             }
 
   -- a server that has ended has passed all rounds
-  pub all-passed : {Place : Type 0} (s : Point) (x : Station S Place) → IsTied next inputs most start s x → has_ended next x.core ≡ true → IsEnded next inputs most start s x.core
+  pub all-passed : {Place : Type 0} (s : Point) (x : Station S Place) → IsTied next inputs most start s x →
+      has_ended next x.core ≡ true → IsEnded next inputs most start s x.core
   all-passed s x tied over = record {
     stands =
-        subst (λ r. IsAtRound next run r s x.core) ((ended_at next run (all_delivered x.core.round) x.core rounds has-rounds tied.stands.fits).0 over) tied.stands;
+        subst (λ r. IsAtRound next run r s x.core)
+        ((ended_at next run (all_delivered x.core.round) x.core rounds has-rounds tied.stands.fits).0 over) tied.stands;
     over = over;
     keeps = tied.keeps;
   }

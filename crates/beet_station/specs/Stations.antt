@@ -26,7 +26,8 @@ module _ {S : Type 0} (next : S → ℕ → List ℕ → Batch) where
     pub message : RoundMessage
     pub is_next : IsNext from message
     pub answers : has_ended next old ≡ false → Answers next old new message v
-    pub fits : (o : Setup) (x : Delivered) (s : Side) (t : ℕ) → Fits next o x old → message ≡ message_of o (peer old.me s) old.me t → IsRound o t →
+    pub fits : (o : Setup) (x : Delivered) (s : Side) (t : ℕ) → Fits next o x old →
+        message ≡ message_of o (peer old.me s) old.me t → IsRound o t →
         t ≤ old.round + 1 → Fits next o (with_triple x (record { from = peer old.me s; to = old.me; round = t })) new
 
 module _ {S : Type 0} (next : S → ℕ → List ℕ → Batch) (inputs most : S → ℕ) where

@@ -2,7 +2,6 @@
 
 ghost use Rattle.std.specs.Prelude.{◌≡◌, ◌≤◌, ◌∷◌, List, length};
 ghost use Rattle.beet_field.specs.declared.TheConstants.{MOST_NUMBERS};
-ghost use Rattle.beet_station.specs.declared.notes.DeskNote.{DeskNote as Note};
 ghost use Rattle.beet_station.specs.Notes.{Awaits, a_note};
 
 use arrayvec::ArrayVec;
@@ -37,8 +36,8 @@ pub trait Sink {
     /// Is told the numbers that a server has opened in a round.
     fn tell<R: Wait>(&mut self, rt: &R, server: Point, round: u32, opened: &[Fe])
         requires few { length opened.now ≤ MOST_NUMBERS }
-        requires next { (rest : List Note) × Awaits (due self.old) (a_note server round opened.now ∷ rest) }
-        ensures told { (rest : List Note) → Awaits (due self.old) (a_note server round opened.now ∷ rest)
+        requires next { (rest : List DeskNote) × Awaits (due self.old) (a_note server round opened.now ∷ rest) }
+        ensures told { (rest : List DeskNote) → Awaits (due self.old) (a_note server round opened.now ∷ rest)
             → Awaits (due self.new) rest }
         ensures same { origin self.new ≡ origin self.old };
 }

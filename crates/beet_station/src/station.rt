@@ -16,7 +16,7 @@ ghost use Rattle.beet_station.specs.Stations.{HasHeard, IsEnded, IsTied};
 use crate::notes::Sink;
 use beet_field::{Fe, Point, Trio};
 use beet_gates::Script;
-use beet_link::{Gate, LinkRx, LinkTx, Note};
+use beet_link::{Gate, GateNote, LinkRx, LinkTx};
 use beet_round::{RoundMessage, Verdict};
 use beet_server::ServerCore;
 use std::snapshot::Snapshot;
@@ -95,7 +95,7 @@ fn round<S: Script, R: Wait, G: Gate, K: Sink>(
         (notes_left S.batch_of S.inputs_of S.rounds_of run.now.value me station.new.core.round) }
     ensures same { K.origin sink.new ≡ K.origin sink.old }
 {
-    let note = Note {
+    let note = GateNote {
         server: me,
         round: station.core.round(),
     };

@@ -1,5 +1,7 @@
 -- What is held after one file is changed or added.
-use Rattle.std.proofs.Common.{◌≡◌, ◌≢◌, ℕ, ◌+◌, ◌<◌, suc, Bool, true, false, List, [], ◌∷◌, ◌++◌, Option, Some, None, if◌then◌else◌, length, get_or, take, drop, set, nat_eq, refl, sym, ◌∙◌, ap, drop-cons, append-nil}
+use Rattle.std.proofs.Common.{◌≡◌, ◌≢◌, ℕ, ◌+◌, ◌<◌, suc, Bool, true, false, List, [], ◌∷◌, ◌++◌, Option, Some, None}
+use Rattle.std.proofs.Common.{if◌then◌else◌, length, get_or, take, drop, set, nat_eq, refl, sym, ◌∙◌, ap, drop-cons}
+use Rattle.std.proofs.Common.{append-nil}
 use Rattle.std.proofs.lemmas.List.{take-append-drop, take_more, set_split}
 use Rattle.std.proofs.lemmas.Option.{slice_get-get_or, slice_get_within, get_or_from_slice_get}
 use Rattle.std.specs.Cmp.Lexicographic.{pointwise, same_text, bytes_decides}
@@ -17,7 +19,8 @@ head_is file files name e = rw ((bytes_decides file.0 name).1 e) refl
 head_not : (file : File) (files : List File) (name : List ℕ) → file.0 ≢ name → bytes_of (file ∷ files) name ≡ bytes_of files name
 head_not file files name apart = rw (other_name file.0 name (pointwise nat_eq file.0 name) refl apart) refl
 
-passed : (t : Bool) (v : List ℕ) (r s u : Option (List ℕ)) → (r ≡ None → s ≡ u) → (if t then Some v else r) ≡ None → (if t then Some v else s) ≡ u
+passed : (t : Bool) (v : List ℕ) (r s u : Option (List ℕ)) → (r ≡ None → s ≡ u) → (if t then Some v else r) ≡ None →
+    (if t then Some v else s) ≡ u
 passed true v r s u later e = absurd cc
 passed false v r s u later e = later e
 
@@ -25,17 +28,21 @@ passed false v r s u later e = later e
 bytes_of-append_none : (a b : List File) (name : List ℕ) → bytes_of a name ≡ None → bytes_of (a ++ b) name ≡ bytes_of b name
 bytes_of-append_none [] b name none = refl
 bytes_of-append_none (file ∷ a) b name none =
-    passed (pointwise nat_eq file.0 name) file.1 (bytes_of a name) (bytes_of (a ++ b) name) (bytes_of b name) (bytes_of-append_none a b name) none
+    passed (pointwise nat_eq file.0 name) file.1 (bytes_of a name) (bytes_of (a ++ b) name) (bytes_of b name)
+    (bytes_of-append_none a b name) none
 
 -- equal ends give equal wholes
-bytes_of-append_same : (a b c : List File) (name : List ℕ) → bytes_of b name ≡ bytes_of c name → bytes_of (a ++ b) name ≡ bytes_of (a ++ c) name
+bytes_of-append_same : (a b c : List File) (name : List ℕ) → bytes_of b name ≡ bytes_of c name →
+    bytes_of (a ++ b) name ≡ bytes_of (a ++ c) name
 bytes_of-append_same [] b c name same = same
 bytes_of-append_same (file ∷ a) b c name same =
     ap (λ rest. if pointwise nat_eq file.0 name then Some file.1 else rest) (bytes_of-append_same a b c name same)
 
-split_at : (files : List File) (i : ℕ) (file : File) → i < length files → file ≡ get_or files i file → files ≡ take i files ++ (file ∷ drop (suc i) files)
+split_at : (files : List File) (i : ℕ) (file : File) → i < length files → file ≡ get_or files i file →
+    files ≡ take i files ++ (file ∷ drop (suc i) files)
 split_at files i file lt at =
-    sym (take-append-drop i files) ∙ ap (λ rest. take i files ++ rest) (drop-cons files i file lt ∙ ap (λ f. f ∷ drop (suc i) files) (sym at))
+    sym (take-append-drop i files)
+    ∙ ap (λ rest. take i files ++ rest) (drop-cons files i file lt ∙ ap (λ f. f ∷ drop (suc i) files) (sym at))
 
 -- one more file is passed
 pub take_passed : (files : List File) (i : ℕ) (file : File) (text name : List ℕ) → i < length files → file ≡ get_or files i file →
@@ -80,9 +87,11 @@ replaced_others files i old text name bytes other first at named apart =
     ∙ ap (λ fs. bytes_of fs other) (sym (split_at files i old lt at)))
 
 -- a file is added under a name that is not held
-pub added_file : (files : List File) (new : File) (name : List ℕ) → new.0 ≡ name → bytes_of files name ≡ None → bytes_of (files ++ new ∷ []) name ≡ Some new.1
+pub added_file : (files : List File) (new : File) (name : List ℕ) → new.0 ≡ name → bytes_of files name ≡ None →
+    bytes_of (files ++ new ∷ []) name ≡ Some new.1
 added_file files new name named none = bytes_of-append_none files (new ∷ []) name none ∙ head_is new [] name named
 
-pub added_others : (files : List File) (new : File) (other : List ℕ) → new.0 ≢ other → bytes_of (files ++ new ∷ []) other ≡ bytes_of files other
+pub added_others : (files : List File) (new : File) (other : List ℕ) → new.0 ≢ other →
+    bytes_of (files ++ new ∷ []) other ≡ bytes_of files other
 added_others files new other apart =
     bytes_of-append_same files (new ∷ []) [] other (head_not new [] other apart) ∙ ap (λ fs. bytes_of fs other) (append-nil files)

@@ -11,7 +11,8 @@ read_more (Some x) (Some y) None read piece p q = absurd q
 read_more (Some x) (Some y) (Some z) read piece p q = p ∙ ap (λ rest. read ++ rest) q ∙ sym (append_assoc read piece z)
 
 -- a piece that lies at the front of a longer one
-pub read_front : (a b c : Option (List ℕ)) (read piece rest : List ℕ) (n : ℕ) → n ≤ length piece → Consumes a b read → Consumes b c (take n piece) →
+pub read_front : (a b c : Option (List ℕ)) (read piece rest : List ℕ) (n : ℕ) → n ≤ length piece → Consumes a b read →
+    Consumes b c (take n piece) →
     Consumes a c (read ++ take n (piece ++ rest))
 read_front a b c read piece rest n le p q = rw (take-append-le n piece rest le) (read_more a b c read (take n piece) p q)
 
@@ -22,7 +23,8 @@ read_kept (Some x) None c read p q = absurd p
 read_kept (Some x) (Some y) None read p q = absurd q
 read_kept (Some x) (Some y) (Some z) read p q = p ∙ ap (λ rest. read ++ rest) (sym q)
 
-pub read_nothing : (a b c : Option (List ℕ)) (read piece : List ℕ) (n : ℕ) → n ≡ 0 → Consumes a b read → Consumes b c (take n piece) → Consumes a c read
+pub read_nothing : (a b c : Option (List ℕ)) (read piece : List ℕ) (n : ℕ) → n ≡ 0 → Consumes a b read →
+    Consumes b c (take n piece) → Consumes a c read
 read_nothing None b c read piece n none p q = tt
 read_nothing (Some x) None c read piece n none p q = absurd p
 read_nothing (Some x) (Some y) None read piece n none p q = absurd q

@@ -1,5 +1,6 @@
 -- What a desk is given: files by name, and a printed text.
-use Rattle.std.specs.Prelude.{◌≡◌, ◌≤◌, ◌≢◌, ℕ, List, [], ◌∷◌, ◌++◌, take, Option, Some, None, Result, Ok, Err, IsErrOf, IsSomeAnd, OnOk}
+use Rattle.std.specs.Prelude.{◌≡◌, ◌≤◌, ◌≢◌, ℕ, List, [], ◌∷◌, ◌++◌, take, Option, Some, None, Result, Ok, Err}
+use Rattle.std.specs.Prelude.{IsSomeAnd}
 use Rattle.beet_store.specs.Causes.{Rose}
 use Rattle.beet_store.specs.Files.{File, bytes_of}
 use Rattle.beet_store.specs.declared.desk.PutFault.{PutFault}
@@ -14,23 +15,31 @@ pub data DeskCall : Type 0 where
   Put : List ℕ → List ℕ → Done → DeskCall
   Say : List ℕ → Done → DeskCall
 
--- what a desk tells: the files that it was given, the text printed so far, and its record of the calls so far
+-- the files that a desk was given, and the text printed so far
 pub record Given : Type 0 where
   pub files : List File
   pub said : List ℕ
+
+-- what a desk tells: its record of the calls so far, with their answers; and what it was given, if it tells that
+pub record DeskTold : Type 0 where
+  pub given : Option Given
   pub calls : List DeskCall
 
 -- what is seen of a desk: what it tells, and its count of faults
 pub record DeskSeen : Type 0 where
-  pub given : Option Given
+  pub told : DeskTold
   pub faults : ℕ
 
--- why a put or a say answers as it does, whatever the desk tells: the count of faults rose where it failed, and is as it was where
--- it was taken
+-- the count rises with a call that failed, and with no other
+abbrev pub CountsCall : ℕ → ℕ → Done → Type 0
+CountsCall before now (Ok done) = now ≡ before
+CountsCall before now (Err Failed) = Rose before now
+CountsCall before now (Err OutOfMemory) = now ≡ before
+
+-- why a put or a say answers as it does, whatever the desk tells
 pub record HasPutCause (before now : ℕ) (result : Done) : Type 0 where
   pub later : before ≤ now
-  pub failed : IsErrOf result Failed → Rose before now
-  pub taken : OnOk result (now ≡ before)
+  pub count : CountsCall before now result
 
 -- every other name and the printed text stand
 pub record StandsBut (name : List ℕ) (old new : Given) : Type 0 where
@@ -57,8 +66,8 @@ pub record SaysAll (bytes : List ℕ) (old new : Given) : Type 0 where
   pub files : new.files ≡ old.files
   pub said : new.said ≡ old.said ++ bytes
 
--- what a call leaves of files and text: what was asked for where it is taken, and for want of memory what stood; after a failure
--- nothing is known of the name, or it is not known how much of the text went out
+-- what a call leaves of files and text: what was asked for where it is taken, and for want of memory what stood; after
+-- a failure nothing is known of the name, or it is not known how much of the text went out
 abbrev pub Leaves : DeskCall → Given → Given → Type 0
 Leaves (Put name bytes (Ok done)) old new = Replaced name bytes old new
 Leaves (Put name bytes (Err Failed)) old new = StandsBut name old new
@@ -67,10 +76,15 @@ Leaves (Say bytes (Ok done)) old new = SaysAll bytes old new
 Leaves (Say bytes (Err Failed)) old new = SaysSome bytes old new
 Leaves (Say bytes (Err OutOfMemory)) old new = Stands old new
 
--- what a call leaves and records, where the desk tells it: one call more, this one
-abbrev pub GivesCall : Option Given → Option Given → DeskCall → Type 0
-GivesCall None new call = new ≡ None
-GivesCall (Some old) new call = IsSomeAnd new (λ given. Leaves call old given × (given.calls ≡ old.calls ++ call ∷ []))
+-- what a call leaves, where the desk tells it
+abbrev pub LeavesGiven : Option Given → Option Given → DeskCall → Type 0
+LeavesGiven None new call = new ≡ None
+LeavesGiven (Some old) new call = IsSomeAnd new (Leaves call old)
+
+-- one call more was made, this one, and what it left
+pub record GivesCall (old new : DeskTold) (call : DeskCall) : Type 0 where
+  pub recorded : new.calls ≡ old.calls ++ call ∷ []
+  pub left : LeavesGiven old.given new.given call
 
 -- what a call answered
 abbrev pub answer_of : DeskCall → Done
@@ -80,4 +94,4 @@ answer_of (Say bytes answer) = answer
 -- a desk was called: why it answered as it did, and what the call left
 pub record Called (old new : DeskSeen) (call : DeskCall) : Type 0 where
   pub cause : HasPutCause old.faults new.faults (answer_of call)
-  pub content : GivesCall old.given new.given call
+  pub content : GivesCall old.told new.told call

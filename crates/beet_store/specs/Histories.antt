@@ -1,7 +1,8 @@
--- The record of the calls of a memory type, and how the logic stores it.
-use Rattle.std.specs.Prelude.{◌≡◌, ℕ, ◌==◌, List, [], Bool, true, false, if◌then◌else◌, Ok, Err, refl}
-use Rattle.std.specs.Coded.{Coded, code_by, coded×, coded_ℕ, coded_bool, coded_list}
-use Rattle.beet_store.specs.Files.{Fetch}
+-- The record of the calls of a shelf or a desk, and how the logic stores it.
+use Rattle.std.specs.Prelude.{◌≡◌, ℕ, ◌==◌, List, [], Bool, true, false, if◌then◌else◌, Option, Some, None, Result, Ok}
+use Rattle.std.specs.Prelude.{Err, refl}
+use Rattle.std.specs.Coded.{Coded, code_by, coded×, coded_ℕ, coded_bool, coded_list, coded_option, coded_result}
+use Rattle.beet_store.specs.Files.{Fetch, FetchAnswer, Bytes, Longer, Nothing}
 use Rattle.beet_store.specs.Desks.{DeskCall, Put, Say, Done}
 use Rattle.beet_store.specs.declared.desk.PutFault.TheVariants.{Failed, OutOfMemory}
 
@@ -43,14 +44,40 @@ from_parts-to_parts (Say bytes (Err Failed)) = refl
 from_parts-to_parts (Say bytes (Err OutOfMemory)) = refl
 
 abbrev call_code : Coded DeskCall
-call_code = code_by CallParts (coded× coded_bool (coded× (coded_list coded_ℕ) (coded× (coded_list coded_ℕ) coded_ℕ))) to_parts from_parts from_parts-to_parts
+call_code = code_by CallParts (coded× coded_bool (coded× (coded_list coded_ℕ) (coded× (coded_list coded_ℕ) coded_ℕ)))
+    to_parts from_parts from_parts-to_parts
+
+-- what a fetch answered, as std's types have it: bytes, or maybe a length
+abbrev AnswerParts : Type 0
+AnswerParts = Result (List ℕ) (Option ℕ)
+
+abbrev answer_parts : FetchAnswer → AnswerParts
+answer_parts (Bytes bytes) = Ok bytes
+answer_parts (Longer n) = Err (Some n)
+answer_parts Nothing = Err None
+
+abbrev answer_at : AnswerParts → FetchAnswer
+answer_at (Ok bytes) = Bytes bytes
+answer_at (Err (Some n)) = Longer n
+answer_at (Err None) = Nothing
+
+pub answer_at-answer_parts : (answer : FetchAnswer) → answer_at (answer_parts answer) ≡ answer
+answer_at-answer_parts (Bytes bytes) = refl
+answer_at-answer_parts (Longer n) = refl
+answer_at-answer_parts Nothing = refl
+
+abbrev answer_code : Coded FetchAnswer
+answer_code =
+    code_by AnswerParts (coded_result (coded_list coded_ℕ) (coded_option coded_ℕ)) answer_parts answer_at
+    answer_at-answer_parts
 
 abbrev fetch_code : Coded Fetch
 fetch_code =
-    code_by (List ℕ × (ℕ × Bool)) (coded× (coded_list coded_ℕ) (coded× coded_ℕ coded_bool)) (λ f. (f.name, (f.limit, f.failed)))
-    (λ p. record { name = p.0; limit = p.1.0; failed = p.1.1 }) (λ _. refl)
+    code_by (List ℕ × (ℕ × FetchAnswer)) (coded× (coded_list coded_ℕ) (coded× coded_ℕ answer_code))
+    (λ f. (f.name, (f.limit, f.answer))) (λ p. record { name = p.0; limit = p.1.0; answer = p.1.1 }) (λ _. refl)
 
 abbrev pub recorded_code : Coded Recorded
 recorded_code =
-    code_by (List Fetch × List DeskCall) (coded× (coded_list fetch_code) (coded_list call_code)) (λ r. (r.fetches, r.calls))
+    code_by (List Fetch × List DeskCall) (coded× (coded_list fetch_code) (coded_list call_code))
+    (λ r. (r.fetches, r.calls))
     (λ p. record { fetches = p.0; calls = p.1 }) (λ _. refl)

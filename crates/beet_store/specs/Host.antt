@@ -1,15 +1,14 @@
--- What the host types count, how far a reader is read, and what a writer gets.
-use Rattle.std.specs.Prelude.{◌≡◌, ◌≤◌, ◌+◌, ℕ, List, length, take, Option, None, Result, Ok, Err, ⊤}
+-- What the host types tell and count, how far a reader is read, and what a writer gets.
+use Rattle.std.specs.Prelude.{◌≡◌, ◌≤◌, ◌+◌, ℕ, List, Bool, if◌then◌else◌, length, take, Option, None, Ok, Err, ⊤}
 use Rattle.std.specs.Io.KnownBytes.{Appends, Consumes, IsAtEnd}
 use Rattle.beet_store.specs.Causes.{next_count}
-use Rattle.beet_store.specs.Files.{Fetched}
-use Rattle.beet_store.specs.Desks.{DeskSeen, Done}
+use Rattle.beet_store.specs.Files.{Fetch, Fetched, Seen}
+use Rattle.beet_store.specs.Desks.{DeskCall, DeskSeen, Done}
 use Rattle.beet_store.specs.declared.shelf.FetchFault.TheVariants.{Failed, TooLong, OutOfMemory}
 
--- the count of faults after a call: one more at each error
-abbrev pub count_after : {T E : Type 0} → ℕ → Result T E → ℕ
-count_after before (Ok done) = before
-count_after before (Err fault) = next_count before
+-- the count of faults after a call: one more where it failed
+abbrev pub count_after : ℕ → Bool → ℕ
+count_after before failed = if failed then next_count before else before
 
 -- the bytes that were read are the whole, or so many that the limit is passed
 abbrev pub IsWhole : Option (List ℕ) → List ℕ → Fetched → Type 0
@@ -37,6 +36,10 @@ abbrev pub WritesAll : Option (List ℕ) → Option (List ℕ) → List ℕ → 
 WritesAll old new bytes (Ok done) = Appends old new bytes
 WritesAll old new bytes (Err fault) = (n : ℕ) × Appends old new (take n bytes)
 
--- a host desk tells nothing but its count of faults
-abbrev pub untold_desk : ℕ → DeskSeen
-untold_desk faults = record { given = None; faults = faults }
+-- a host shelf tells its record of the fetches, and not its files
+abbrev pub host_shelf : List Fetch → ℕ → Seen
+host_shelf fetches faults = record { told = record { files = None; fetches = fetches }; faults = faults }
+
+-- a host desk tells its record of the calls, and not what it was given
+abbrev pub host_desk : List DeskCall → ℕ → DeskSeen
+host_desk calls faults = record { told = record { given = None; calls = calls }; faults = faults }

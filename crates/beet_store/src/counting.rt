@@ -1,19 +1,16 @@
 //! The count of faults of the host types.
 
-ghost use Rattle.std.specs.Prelude.{◌≡◌, ◌≤◌, IsErrOf, OnOk};
+ghost use Rattle.std.specs.Prelude.{◌≡◌, ◌≤◌, IsTrue};
 ghost use Rattle.beet_store.specs.Causes.{Rose};
 ghost use Rattle.beet_store.specs.Host.{count_after};
 
-/// The answer of a call, with its fault counted; at its last value the count stays.
-pub(crate) fn counted<T: Drop, E: Drop>(faults: &mut u64, answer: Result<T, E>) -> Result<T, E>
-    ensures answer { result ≡ answer }
-    ensures count { faults.new ≡ count_after faults.old result }
+/// Counts a call that failed; at its last value the count stays.
+pub(crate) fn count_call(faults: &mut u64, failed: bool)
+    ensures count { faults.new ≡ count_after faults.old failed }
     ensures later { faults.old ≤ faults.new }
-    ensures rose { (fault : E) → IsErrOf result fault → Rose faults.old faults.new }
-    ensures stays { OnOk result (faults.new ≡ faults.old) }
+    ensures rose { IsTrue failed → Rose faults.old faults.new }
 {
-    if answer.is_err() {
+    if failed {
         *faults = faults.saturating_add(1);
     }
-    answer
 }

@@ -28,11 +28,12 @@ impl From<AllocError> for PutFault {
 
 /// A place that files are put to, by name, and that a text is printed on. Each call is recorded, with its answer.
 pub trait Desk {
-    /// The files and the text that it was given, with the calls so far, where it tells them, and the count of faults.
+    /// The calls so far with their answers, the files and the text that it was given if it tells them, and the count of
+    /// faults.
     ghost seen: { Self → DeskSeen };
 
-    /// Replaces the whole file of the name. After `Failed` nothing is known of that name, after want of memory the files
-    /// are as before.
+    /// Replaces the whole file of the name. After `Failed` nothing is known of that name, after want of memory the
+    /// files are as before.
     fn put(&mut self, alloc: Global, name: &str, bytes: &[u8]) -> Result<(), PutFault>
         ensures { Called (seen self.old) (seen self.new) (Put name.now bytes.now result) };
 

@@ -1,10 +1,12 @@
-//! The record of the calls of a memory type. It exists in proofs alone, so that no call fails for want of its memory.
+//! The record of the calls of a shelf or a desk. It exists in proofs alone, so that no call fails for want of its
+//! memory.
 
 ghost use Rattle.std.specs.Prelude.{◌≡◌};
 ghost use Rattle.std.specs.Borrow.{ftrue};
 ghost use Rattle.beet_store.specs.Histories.{Recorded, recorded_code, none_recorded};
 
 use crate::desk::PutFault;
+use crate::shelf::FetchFault;
 use std::marker::Model;
 
 /// The calls so far, in order. A clause reads them as `so_far`.
@@ -17,10 +19,10 @@ impl Model for History {
     ghost also_owns = { λ _. ftrue };
 }
 
-/// A call that is recorded: a fetch, by its name, its limit and whether it failed; or a put or a say, with its answer.
+/// A call that is recorded, with its answer. A fetch that is answered by want of memory leaves no entry.
 #[derive(Clone, Copy, Drop)]
 pub(crate) enum Asked<'a> {
-    Fetch(&'a str, u64, bool),
+    Fetch(&'a str, u64, &'a Result<Vec<u8>, FetchFault>),
     Put(&'a str, &'a [u8], Result<(), PutFault>),
     Say(&'a [u8], Result<(), PutFault>),
 }

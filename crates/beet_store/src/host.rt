@@ -1,10 +1,12 @@
-//! A shelf over the files of the system, which tells nothing of what they hold.
+//! A shelf over the files of the system, which tells what it answered, and nothing else of what they hold.
 
-ghost use Rattle.std.specs.Prelude.{◌≡◌, ◌≤◌, ◌<◌, ◌+◌, None, length};
-ghost use Rattle.beet_store.specs.Files.{KeepsLimit, HasCause, TellsFetch};
-ghost use Rattle.beet_store.specs.Host.{ReadsWithin, StopsBeyond, count_after};
+ghost use Rattle.std.specs.Prelude.{◌≡◌, ◌≤◌, ◌<◌, ◌+◌, ◌↔◌, IfSome, IsErrOf, IsTrue, [], length};
+ghost use Rattle.beet_store.specs.Files.{FitsLimit, HasCause, TellsFetch, answer_of};
+ghost use Rattle.beet_store.specs.Host.{ReadsWithin, StopsBeyond, host_shelf};
+ghost use Rattle.beet_store.specs.declared.shelf.FetchFault.TheVariants.{Failed};
 
-use crate::counting::counted;
+use crate::counting::count_call;
+use crate::history::{Asked, History};
 use crate::shelf::{FetchFault, Shelf};
 use std::alloc::Global;
 use std::fs;
@@ -12,39 +14,42 @@ use std::io::Read;
 use std::marker::Model;
 use std::rt::Files;
 
-/// The files of the system, by path. What a fetch reads of a real file is shown by tests alone; a name that is a folder,
-/// and a read that fails or is interrupted midway, answer `Failed`.
+/// The files of the system, by path. What a fetch reads of a real file is shown by tests alone; a name that is a
+/// folder, and a read that fails or is interrupted midway, answer `Failed`.
 #[derive(Drop)]
 pub struct HostShelf<R> {
     rt: R,
     faults: u64,
+    history: History,
     /// Room for what one turn of a fetch reads.
     piece: [u8; PIECE],
 }
 
 impl<R> Model for HostShelf<R> {
-    ghost use Rattle.std.specs.Prelude.{ℕ};
+    ghost use Rattle.beet_store.specs.Files.{Seen};
+    ghost use Rattle.beet_store.specs.Host.{host_shelf};
 
-    ghost Value = { ℕ };
+    ghost Value = { Seen };
 
-    ghost view = { λ a. a.faults };
+    ghost view = { λ a. host_shelf a.history.so_far.fetches a.faults };
 }
 
 impl<R> HostShelf<R> {
     /// A shelf over the files that `rt` reaches.
     pub fn new(rt: R) -> HostShelf<R>
-        ensures { result ≡ 0 }
+        ensures { result ≡ host_shelf [] 0 }
     {
         HostShelf {
             rt,
             faults: 0,
+            history: History::new(),
             piece: [0; PIECE],
         }
     }
 
-    /// The count of faults, one for each error that was answered; at its last value it stays.
+    /// The count of faults, one for each fetch that failed; at its last value it stays.
     pub fn faults(&self) -> u64
-        ensures { result ≡ self.now }
+        ensures { result ≡ self.now.faults }
     {
         self.faults
     }
@@ -74,7 +79,7 @@ fn read_whole<F: Read>(
     limit: u64,
 ) -> Result<Vec<u8>, FetchFault>
     requires { length piece.old ≡ PIECE }
-    ensures limited { KeepsLimit limit result }
+    ensures limited { IfSome (answer_of result) (FitsLimit limit) }
     ensures beyond { StopsBeyond limit result }
     ensures read { ReadsWithin (F.remaining file.old) (F.remaining file.new) limit result }
 {
@@ -104,7 +109,7 @@ fn read_file<R: Files>(
     limit: u64,
 ) -> Result<Vec<u8>, FetchFault>
     requires { length piece.old ≡ PIECE }
-    ensures limited { KeepsLimit limit result }
+    ensures limited { IfSome (answer_of result) (FitsLimit limit) }
     ensures beyond { StopsBeyond limit result }
 {
     let Ok(mut file) = fs::File::open(rt, name) else {
@@ -113,16 +118,24 @@ fn read_file<R: Files>(
     read_whole(&mut file, alloc, piece, limit)
 }
 
+/// Whether a fetch failed.
+fn is_failed(answer: &Result<Vec<u8>, FetchFault>) -> bool
+    ensures { IsTrue result ↔ IsErrOf answer.now Failed }
+{
+    matches!(answer, Err(FetchFault::Failed))
+}
+
 impl<R: Files> Shelf for HostShelf<R> {
-    ghost seen = { λ s. record { told = None; faults = s } };
+    ghost seen = { λ s. s };
 
     fn fetch(&mut self, alloc: Global, name: &str, limit: u64) -> Result<Vec<u8>, FetchFault>
-        ensures cause { HasCause self.old self.new limit result }
-        ensures content { TellsFetch None None name.now limit result }
+        ensures cause { HasCause self.old.faults self.new.faults limit result }
+        ensures content { TellsFetch self.old.told self.new.told name.now limit result }
         ensures beyond { StopsBeyond limit result }
-        ensures counted { self.new ≡ count_after self.old result }
     {
         let answer = read_file(&self.rt, alloc, &mut self.piece, name, limit);
-        counted(&mut self.faults, answer)
+        count_call(&mut self.faults, is_failed(&answer));
+        self.history = self.history.and(&Asked::Fetch(name, limit, &answer));
+        answer
     }
 }

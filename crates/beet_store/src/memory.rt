@@ -1,8 +1,9 @@
 //! A shelf in memory, which fails at the calls that it is told.
 
-ghost use Rattle.std.specs.Prelude.{◌≡◌, ◌↔◌, [], option_map, is_none, true, if◌then◌else◌, Some, None, IfSome, IfNone, IsErrOf, IsTrue};
-ghost use Rattle.beet_store.specs.Files.{bytes_of, fetches_after, Answers, KeepsLimit, HasCause, TellsFetch};
-ghost use Rattle.beet_store.specs.Memory.{IsFirstOf, after_call, fetch_fails};
+ghost use Rattle.std.specs.Prelude.{◌≡◌, ◌↔◌, [], option_map, is_none, true, if◌then◌else◌, Some, None, IfSome, IfNone};
+ghost use Rattle.std.specs.Prelude.{IsErrOf, IsTrue};
+ghost use Rattle.beet_store.specs.Files.{bytes_of, Answers, FitsLimit, HasCause, TellsFetch, answer_of};
+ghost use Rattle.beet_store.specs.Memory.{IsFirstOf, after_call, fetch_fails, shelf_seen};
 ghost use Rattle.beet_store.specs.declared.shelf.FetchFault.TheVariants.{Failed};
 
 use crate::calls::Calls;
@@ -26,8 +27,8 @@ impl Model for Held {
     ghost view = { λ a. (string_bytes a.name, a.bytes.items) };
 }
 
-/// Files in memory, with the record of the fetches, which exists in proofs alone. The calls are numbered from 1; those that
-/// are listed fail, and those that ask for a name that is not held.
+/// Files in memory, with the record of the fetches, which exists in proofs alone. The calls are numbered from 1; those
+/// that are listed fail, and those that ask for a name that is not held.
 #[derive(Drop)]
 pub struct MemoryShelf {
     files: Vec<Held>,
@@ -41,7 +42,8 @@ impl Model for MemoryShelf {
     ghost Value = { ShelfInMemory };
 
     ghost view = { λ a. record {
-      told = record { files = a.files.items; fetches = a.history.so_far.fetches };
+      files = a.files.items;
+      fetches = a.history.so_far.fetches;
       calls = a.calls;
     } };
 }
@@ -80,8 +82,8 @@ fn answered(
     found: Option<&[u8]>,
     limit: u64,
 ) -> Result<Vec<u8>, FetchFault>
-    ensures held { Answers (option_map (λ bytes. bytes.now) found.entry) result }
-    ensures limited { KeepsLimit limit result }
+    ensures held { IfSome (answer_of result) (Answers (option_map (λ bytes. bytes.now) found.entry)) }
+    ensures limited { IfSome (answer_of result) (FitsLimit limit) }
     ensures exact { IsErrOf result Failed ↔ IsTrue (if is_none found.entry then true else fails) }
 {
     let (Some(bytes), false) = (found, fails) else {
@@ -94,27 +96,12 @@ fn answered(
     Ok(Vec::from_slice(alloc, bytes)?)
 }
 
-/// Records the fetch, unless memory ran out.
-fn record_fetch(history: &mut History, name: &str, limit: u64, answer: &Result<Vec<u8>, FetchFault>)
-    ensures { history.new.so_far ≡ record history.old.so_far {
-      fetches = fetches_after history.old.so_far.fetches name.now limit answer.now;
-    } }
-{
-    match answer {
-        Ok(_) | Err(FetchFault::TooLong(_)) => {
-            *history = history.and(&Asked::Fetch(name, limit, false));
-        }
-        Err(FetchFault::Failed) => {
-            *history = history.and(&Asked::Fetch(name, limit, true));
-        }
-        Err(FetchFault::OutOfMemory) => {}
-    }
-}
-
 impl MemoryShelf {
-    /// A shelf of these files; of two with one name the first is held. `failing` are the numbers of the calls that fail.
+    /// A shelf of these files; of two with one name the first is held. `failing` are the numbers of the calls that
+    /// fail.
     pub fn new(files: Vec<Held>, failing: Vec<u64>) -> MemoryShelf
-        ensures told { result.told ≡ record { files = files.items; fetches = [] } }
+        ensures files { result.files ≡ files.items }
+        ensures fetches { result.fetches ≡ [] }
         ensures calls { result.calls ≡ record { failing = failing.items; made = 0; faults = 0 } }
     {
         MemoryShelf {
@@ -133,18 +120,18 @@ impl MemoryShelf {
 }
 
 impl Shelf for MemoryShelf {
-    ghost seen = { λ s. record { told = Some s.told; faults = s.calls.faults } };
+    ghost seen = { shelf_seen };
 
     fn fetch(&mut self, alloc: Global, name: &str, limit: u64) -> Result<Vec<u8>, FetchFault>
         ensures cause { HasCause self.old.calls.faults self.new.calls.faults limit result }
-        ensures content { TellsFetch (Some self.old.told) (Some self.new.told) name.now limit result }
+        ensures content { TellsFetch (shelf_seen self.old).told (shelf_seen self.new).told name.now limit result }
         ensures counted { self.new.calls ≡ after_call self.old.calls (fetch_fails self.old name.now) }
         ensures exact { IsErrOf result Failed ↔ IsTrue (fetch_fails self.old name.now) }
     {
         let found = find(self.files.as_slice(), name);
         let fails = self.calls.begin(found.is_none());
         let answer = answered(alloc, fails, found, limit);
-        record_fetch(&mut self.history, name, limit, &answer);
+        self.history = self.history.and(&Asked::Fetch(name, limit, &answer));
         answer
     }
 }

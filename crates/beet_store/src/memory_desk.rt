@@ -13,8 +13,8 @@ use crate::memory::{Held, find, place};
 use std::alloc::{AllocError, Global};
 use std::marker::Model;
 
-/// Files and a text in memory, with the record of the calls, which exists in proofs alone. The calls are numbered from 1, and
-/// exactly those that are listed fail; they leave files and text as they were.
+/// Files and a text in memory, with the record of the calls, which exists in proofs alone. The calls are numbered from
+/// 1, and exactly those that are listed fail; they leave files and text as they were.
 #[derive(Drop)]
 pub struct MemoryDesk {
     files: Vec<Held>,
@@ -29,7 +29,8 @@ impl Model for MemoryDesk {
     ghost Value = { DeskInMemory };
 
     ghost view = { λ a. record {
-      given = record { files = a.files.items; said = a.said.items; calls = a.history.so_far.calls };
+      given = record { files = a.files.items; said = a.said.items };
+      history = a.history.so_far.calls;
       calls = a.calls;
     } };
 }
@@ -89,7 +90,8 @@ fn say_into(said: &mut Vec<u8>, fails: bool, bytes: &[u8]) -> Result<(), PutFaul
 impl MemoryDesk {
     /// A desk that was given nothing. `failing` are the numbers of the calls that fail, of `put` and `say` together.
     pub fn new(failing: Vec<u64>) -> MemoryDesk
-        ensures given { result.given ≡ record { files = []; said = []; calls = [] } }
+        ensures given { result.given ≡ record { files = []; said = [] } }
+        ensures history { result.history ≡ [] }
         ensures calls { result.calls ≡ record { failing = failing.items; made = 0; faults = 0 } }
     {
         let alloc = *failing.allocator();

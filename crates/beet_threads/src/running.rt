@@ -61,11 +61,14 @@ fn settle<'s, S: Script, K: Drop>(
     requires one { one.told.of ≡ word.now.id }
     requires two { two.told.of ≡ word.now.id }
     requires three { three.told.of ≡ word.now.id }
-    ensures ran { IfOk result (λ ends. ((one.entry.told.value ≡ true) × (two.entry.told.value ≡ true) × (three.entry.told.value ≡ true))
+    ensures ran { IfOk result
+        (λ ends. ((one.entry.told.value ≡ true) × (two.entry.told.value ≡ true) × (three.entry.told.value ≡ true))
         × (ends.one ≡ (one.entry.station.core, one.entry.sink)) × (ends.two ≡ (two.entry.station.core, two.entry.sink))
         × (ends.three ≡ (three.entry.station.core, three.entry.sink))) }
-    ensures stayed { IfErr result (λ cores. ((one.entry.told.value ≡ false) × (two.entry.told.value ≡ false) × (three.entry.told.value ≡ false))
-        × (cores.one ≡ one.entry.station.core) × (cores.two ≡ two.entry.station.core) × (cores.three ≡ three.entry.station.core)) }
+    ensures stayed { IfErr result
+        (λ cores. ((one.entry.told.value ≡ false) × (two.entry.told.value ≡ false) × (three.entry.told.value ≡ false))
+        × (cores.one ≡ one.entry.station.core) × (cores.two ≡ two.entry.station.core)
+        × (cores.three ≡ three.entry.station.core)) }
 {
     one.told.agrees(&two.told);
     one.told.agrees(&three.told);
@@ -108,8 +111,10 @@ where
         thread::scope_env(),
         rt,
         move |scope| -> Result<Trio<Telling<S, K>>, Trio<ServerCore<S>>>
-            ensures one { IfOk result (λ ends. HasTold S.batch_of S.inputs_of S.rounds_of K.due K.origin one.run.value one.me one.sink ends.one) }
-            ensures two { IfOk result (λ ends. HasTold S.batch_of S.inputs_of S.rounds_of K.due K.origin two.run.value two.me two.sink ends.two) }
+            ensures one { IfOk result (λ ends. HasTold S.batch_of S.inputs_of S.rounds_of K.due K.origin one.run.value
+                one.me one.sink ends.one) }
+            ensures two { IfOk result (λ ends. HasTold S.batch_of S.inputs_of S.rounds_of K.due K.origin two.run.value
+                two.me two.sink ends.two) }
             ensures three { IfOk result (λ ends. HasTold S.batch_of S.inputs_of S.rounds_of K.due K.origin
                 three.run.value three.me three.sink ends.three) }
             ensures stayed { IfErr result (λ cores. (cores.one ≡ member one.run.value one.me)
@@ -158,7 +163,8 @@ pub fn servings<S: Script, K: Sink>(
         (notes_left S.batch_of S.inputs_of S.rounds_of runs.three.value Three stations.three.core.round) }
     ensures one { (result.one.me ≡ One) × (result.one.run.value ≡ runs.one.value) × (result.one.sink ≡ sinks.one) }
     ensures two { (result.two.me ≡ Two) × (result.two.run.value ≡ runs.two.value) × (result.two.sink ≡ sinks.two) }
-    ensures three { (result.three.me ≡ Three) × (result.three.run.value ≡ runs.three.value) × (result.three.sink ≡ sinks.three) }
+    ensures three { (result.three.me ≡ Three) × (result.three.run.value ≡ runs.three.value)
+        × (result.three.sink ≡ sinks.three) }
 {
     Trio {
         one: Serving {

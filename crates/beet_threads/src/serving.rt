@@ -51,7 +51,8 @@ impl<'s, S: Script, K: Sink> Promise<Served<'s, S, K>> for Ends<S, K> {
     ghost use Rattle.beet_threads.specs.Words.{HasServed};
 
     ghost kept_by = { λ p r. HasServed S.batch_of S.inputs_of S.rounds_of K.due K.origin
-        p.serving.value.run.value p.serving.value.me p.serving.value.sink p.word.value.id r.told.of r.told.value (r.station.core, r.sink) };
+        p.serving.value.run.value p.serving.value.me p.serving.value.sink p.word.value.id r.told.of r.told.value
+        (r.station.core, r.sink) };
 }
 
 /// Says whether the servers are to run, unless that was said before.
@@ -79,7 +80,8 @@ pub fn serve_if_told<'s, S: Script, R: Wait, G: Gate, K: Sink>(
     word: &'s Word,
     serving: Serving<S, K>,
 ) -> Served<'s, S, K>
-    ensures { HasServed S.batch_of S.inputs_of S.rounds_of K.due K.origin serving.run.value serving.me serving.sink word.now.id
+    ensures { HasServed S.batch_of S.inputs_of S.rounds_of K.due K.origin serving.run.value serving.me
+        serving.sink word.now.id
         result.told.of result.told.value (result.station.core, result.sink) }
 {
     let told = hear_word(rt, word);
@@ -121,8 +123,10 @@ pub fn start<'s, E, S: Script + Send + 's, R: Wait + Sync, G: Gate, K: Sink + Se
 ) -> Result<Worker<'s, S, K>, Served<'s, S, K>>
 where
     S::Place: Send,
-    ensures ok { IfOk result (λ worker. (worker.promise.serving.value ≡ serving) × (worker.promise.word.value ≡ word.now)) }
-    ensures err { IfErr result (λ served. HasServed S.batch_of S.inputs_of S.rounds_of K.due K.origin serving.run.value serving.me serving.sink
+    ensures ok { IfOk result
+        (λ worker. (worker.promise.serving.value ≡ serving) × (worker.promise.word.value ≡ word.now)) }
+    ensures err { IfErr result
+        (λ served. HasServed S.batch_of S.inputs_of S.rounds_of K.due K.origin serving.run.value serving.me serving.sink
         word.now.id served.told.of served.told.value (served.station.core, served.sink)) }
 {
     let ends = Ends {
@@ -132,7 +136,8 @@ where
     match scope.spawn_with(
         ends,
         move || -> Served<'_, S, K>
-            ensures { HasServed S.batch_of S.inputs_of S.rounds_of K.due K.origin serving.run.value serving.me serving.sink word.entry.now.id
+            ensures { HasServed S.batch_of S.inputs_of S.rounds_of K.due K.origin serving.run.value serving.me
+                serving.sink word.entry.now.id
                 result.told.of result.told.value (result.station.core, result.sink) }
         { serve_if_told(rt, gate, word, serving) },
     ) {
@@ -151,7 +156,8 @@ pub fn end<'s, S: Script, R: Threads, K: Sink>(
     started: Result<Worker<'s, S, K>, Served<'s, S, K>>,
 ) -> Served<'s, S, K>
     ensures worker { IfOk started.entry (λ worker. HasServed S.batch_of S.inputs_of S.rounds_of K.due K.origin
-        worker.promise.serving.value.run.value worker.promise.serving.value.me worker.promise.serving.value.sink worker.promise.word.value.id
+        worker.promise.serving.value.run.value worker.promise.serving.value.me worker.promise.serving.value.sink
+        worker.promise.word.value.id
         result.told.of result.told.value (result.station.core, result.sink)) }
     ensures back { IfErr started.entry (λ served. served ≡ result) }
 {

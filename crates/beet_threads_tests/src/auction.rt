@@ -2,7 +2,7 @@
 
 ghost use Rattle.std.specs.Prelude.{◌≡◌, ◌*◌, length, true};
 ghost use Rattle.beet_field.specs.Trio.{member};
-ghost use Rattle.beet_field.specs.declared.point.Point.{Point as Server};
+ghost use Rattle.beet_field.specs.declared.point.Point.{Point};
 ghost use Rattle.beet_bids.specs.Curves.{IsOfGrid};
 ghost use Rattle.beet_bids.specs.Grids.{IsGrid};
 ghost use Rattle.beet_run.specs.Runs.{Starts};
@@ -87,7 +87,7 @@ pub fn points(rt: &impl Abort, alloc: Global, grid: &Grid) -> Trio<FeList> {
 
 /// Whether each server has two points at each price.
 fn are_whole(grid: &Grid, points: &Trio<FeList>) -> bool
-    ensures { result ≡ true → (i : Server) → length (member points.now i) ≡ 2 * grid.now.prices }
+    ensures { result ≡ true → (i : Point) → length (member points.now i) ≡ 2 * grid.now.prices }
 {
     let wanted = 2 * grid.prices() as usize;
     let one = points.one.as_slice().len() == wanted;

@@ -8,7 +8,7 @@ use crate::links::{expect_one, put_both};
 use arrayvec::ArrayVec;
 use beet_field::{Fe, Point, Trio};
 use beet_gates::{Act, Batch, Script};
-use beet_link::{Gate, LinkRx, Note};
+use beet_link::{Gate, GateNote, LinkRx};
 use beet_server::ServerCore;
 use beet_station::{Nobody, all_links, mails, serve, stations};
 use beet_words::{FeList, Tape, WordList};
@@ -125,7 +125,7 @@ impl<R: Wait + Sync> Gate for Looking<R> {
 
     fn seat(&self, _server: Point) {}
 
-    fn meet(&self, _seat: &mut (), _note: Note) {
+    fn meet(&self, _seat: &mut (), _note: GateNote) {
         self.met.fetch_add(1, Ordering::SeqCst);
         let mut far = self.far.lock(&self.rt);
         if far.0.take(&self.rt).is_none() && far.1.take(&self.rt).is_none() {

@@ -1,5 +1,6 @@
 -- Mapped mask words: each mask that is compared is turned, the same are all ones, and so they count alike.
-use Rattle.std.proofs.Common.{◌≡◌, ℕ, ◌+◌, ◌<◌, ◌≤◌, inl, inr, List, ◌∷◌, length, slice_index, Option, Some, None, refl, sym, ap, ◌∙◌, arith}
+use Rattle.std.proofs.Common.{◌≡◌, ℕ, ◌+◌, ◌<◌, ◌≤◌, inl, inr, List, ◌∷◌, length, slice_index, Option, Some, None, refl}
+use Rattle.std.proofs.Common.{sym, ap, ◌∙◌, arith}
 use Rattle.std.specs.Prelude.{if◌then◌else◌, ◌==◌}
 use Rattle.std.proofs.lemmas.Bool.{cases_lt}
 use Rattle.std.proofs.lemmas.List.{get_or_past}
@@ -52,13 +53,17 @@ module _ (losses : List ℕ) where
     both_past : (xs ys : List ℕ) (i : ℕ) → length ys ≡ length xs → length xs ≤ i → slice_index ys i ≡ slice_index xs i
     both_past xs ys i e le = get_or_past ys i 0 (omega arith) ∙ sym (get_or_past xs i 0 le)
 
-    mask-past : (s : Point) → MasksMapped s losses words words' → (i : ℕ) → length (member words (peer s Low)) ≤ i → mask_at words' i ≡ mask_at words i
+    mask-past : (s : Point) → MasksMapped s losses words words' → (i : ℕ) → length (member words (peer s Low)) ≤ i →
+        mask_at words' i ≡ mask_at words i
     mask-past One m i le =
-        λ j. mask_of (slice_index (m.others One (λ e. cc) j) i) (both_past words.two words'.two i (m.lengths Two) le j) (slice_index (m.others Three (λ e. cc) j) i)
+        λ j. mask_of (slice_index (m.others One (λ e. cc) j) i) (both_past words.two words'.two i (m.lengths Two) le j)
+        (slice_index (m.others Three (λ e. cc) j) i)
     mask-past Two m i le =
-        λ j. mask_of (both_past words.one words'.one i (m.lengths One) le j) (slice_index (m.others Two (λ e. cc) j) i) (slice_index (m.others Three (λ e. cc) j) i)
+        λ j. mask_of (both_past words.one words'.one i (m.lengths One) le j) (slice_index (m.others Two (λ e. cc) j) i)
+        (slice_index (m.others Three (λ e. cc) j) i)
     mask-past Three m i le =
-        λ j. mask_of (both_past words.one words'.one i (m.lengths One) le j) (slice_index (m.others Two (λ e. cc) j) i) (slice_index (m.others Three (λ e. cc) j) i)
+        λ j. mask_of (both_past words.one words'.one i (m.lengths One) le j) (slice_index (m.others Two (λ e. cc) j) i)
+        (slice_index (m.others Three (λ e. cc) j) i)
 
     -- the same masks are all ones
     pub mask-ones : (s : Point) → MasksMapped s losses words words' → (i : ℕ) → (mask_at words' i == p) ≡ (mask_at words i == p)

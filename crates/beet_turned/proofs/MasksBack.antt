@@ -1,5 +1,6 @@
 -- Mask words are mapped back, and in one way.
-use Rattle.std.proofs.Common.{◌≡◌, inl, inr, ℕ, ◌^◌, ◌<◌, List, ◌∷◌, map, length, slice_index, slice_get, Option, Some, None, refl, sym, ap, subst, ◌∙◌, arith}
+use Rattle.std.proofs.Common.{◌≡◌, inl, inr, ℕ, ◌^◌, ◌<◌, List, ◌∷◌, map, length, slice_index, slice_get, Option, Some}
+use Rattle.std.proofs.Common.{None, refl, sym, ap, subst, ◌∙◌, arith}
 use Rattle.std.specs.Prelude.{All, if◌then◌else◌, nat_le, bit_xor, option_map, unwrap_or}
 use Rattle.std.proofs.lemmas.Bool.{cases_Bool}
 use Rattle.std.proofs.lemmas.List.{ext_get_or}
@@ -23,9 +24,11 @@ use Rattle.beet_masking.proofs.Words.{mask-small}
 use Rattle.beet_masking.proofs.Places.{some-place}
 
 -- what is compared for the images of items
-pub compared-map : {A B : Type 0} (f : A → B) (items : List A) (masks : ℕ → ℕ) (i : ℕ) → item_compared (map f items) masks i ≡ option_map f (item_compared items masks i)
+pub compared-map : {A B : Type 0} (f : A → B) (items : List A) (masks : ℕ → ℕ) (i : ℕ) →
+    item_compared (map f items) masks i ≡ option_map f (item_compared items masks i)
 compared-map f items masks i = by (masks i) _ _ where
-  by : (mask rejected accepted : ℕ) → item_after (map f items) mask rejected accepted ≡ option_map f (item_after items mask rejected accepted)
+  by : (mask rejected accepted : ℕ) →
+      item_after (map f items) mask rejected accepted ≡ option_map f (item_after items mask rejected accepted)
   by mask rejected accepted = elim (cases_Bool (is_accepted mask)) [
     | inr f ↦ rw f refl
     | inl t ↦ elim (cases_Bool (nat_le rejected SPARE_MASKS)) [
@@ -47,7 +50,8 @@ word-mapped-back : (word mask word' mask' : ℕ) (loss : Option ℕ) → mask < 
 word-mapped-back word mask word' mask' None small below m w = sym w
 word-mapped-back word mask word' mask' (Some d) small below m w =
     let r = turned mask d in
-    let back : turned mask' (neg_of d) ≡ mask = ap (λ x. turned x (neg_of d)) m ∙ turned-undone mask d (neg_of d) small (nothing-lost d (below d refl)) in
+    let back : turned mask' (neg_of d) ≡ mask =
+    ap (λ x. turned x (neg_of d)) m ∙ turned-undone mask d (neg_of d) small (nothing-lost d (below d refl)) in
     sym (word-back word mask r) ∙ sym (λ j. bit_xor (bit_xor (w j) (m j)) (back j))
 
 module _ (s : Point) (losses : List ℕ) (elements : All IsElement losses) (words words' : Trio (List ℕ)) (small : AreMasks words) where
@@ -60,15 +64,19 @@ module _ (s : Point) (losses : List ℕ) (elements : All IsElement losses) (word
         turns = λ i lt.
             let h : i < length (member words l) = omega (arith, mapped.lengths l) in
             let loss : loss_in (map neg_of losses) words' i ≡ option_map neg_of (loss_in losses words i) =
-            compared-map neg_of losses (mask_at words') i ∙ ap (option_map neg_of) (compared-same losses (mask_at words) (mask_at words') i alike) in
-            word-mapped-back (slice_index (member words l) i) (mask_at words i) (slice_index (member words' l) i) (mask_at words' i) (loss_in losses words i)
-            (mask-small words small i) (λ d e. let q = some-place losses (mask_at words) i d e in all-at IsElement losses q.0 d elements q.1) (mask-turned losses words words' s mapped i h) (mapped.turns i h)
+            compared-map neg_of losses (mask_at words') i
+            ∙ ap (option_map neg_of) (compared-same losses (mask_at words) (mask_at words') i alike) in
+            word-mapped-back (slice_index (member words l) i) (mask_at words i) (slice_index (member words' l) i)
+            (mask_at words' i) (loss_in losses words i)
+            (mask-small words small i) (λ d e. let q = some-place losses (mask_at words) i d e in all-at IsElement
+            losses q.0 d elements q.1) (mask-turned losses words words' s mapped i h) (mapped.turns i h)
             ∙ ap (word_mapped (mask_at words' i) (slice_index (member words' l) i)) (sym loss);
         others = λ j ne. sym (mapped.others j ne);
       }
 
 module _ (losses : List ℕ) (words : Trio (List ℕ)) where
-  lower-only : (s : Point) (u v : Trio (List ℕ)) → MasksMapped s losses words u → MasksMapped s losses words v → member u (peer s Low) ≡ member v (peer s Low)
+  lower-only : (s : Point) (u v : Trio (List ℕ)) → MasksMapped s losses words u → MasksMapped s losses words v →
+      member u (peer s Low) ≡ member v (peer s Low)
   lower-only s u v a b =
       let l = peer s Low in
       ext_get_or 0 (member u l) (member v l) (a.lengths l ∙ sym (b.lengths l))

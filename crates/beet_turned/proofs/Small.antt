@@ -32,7 +32,8 @@ module _ (losses : List ℕ) where
         (λ i lt.
         let h : i < length (member words l) = omega (arith, mapped.lengths l) in
         rw (mapped.turns i h)
-        (mapped-small (mask_at words i) (slice_index (member words l) i) (loss_in losses words i) (mask-small words m i) (word-small (member words l) (member-words l) i)))
+        (mapped-small (mask_at words i) (slice_index (member words l) i) (loss_in losses words i) (mask-small words m i)
+        (word-small (member words l) (member-words l) i)))
 
     other-words : (j : Point) → j ≢ peer s Low → All IsWord (member words' j)
     other-words j ne = rw (mapped.others j ne) (member-words j)

@@ -27,13 +27,15 @@ pub turned-undone : (r d e : ℕ) → r < 2 ^ 61 → add_of d e ≡ 0 → turned
 turned-undone r d e small none = elim (cases_eq r p) [
   | inl all ↦ turned-stays (turned r d) e (turned-stays r d all) ∙ sym all
   | inr some ↦
-      ap (λ x. turned x e) (turned-moves r d some) ∙ turned-moves (add_of r d) e (let l : add_of r d < p = omega arith in λ h. absurd (omega arith))
+      ap (λ x. turned x e) (turned-moves r d some)
+      ∙ turned-moves (add_of r d) e (let l : add_of r d < p = omega arith in λ h. absurd (omega arith))
       ∙ (let back : add_of (add_of r d) e ≡ r = omega arith in back)
 ]
 
 -- what is opened under an accepted mask stays
 pub turned-opens : (r y z : ℕ) → r ≢ p → IsElement y → IsElement z → add_of z (turned r (sub_of y z)) ≡ add_of y r
-turned-opens r y z some few less = ap (λ x. add_of z x) (turned-moves r (sub_of y z) some) ∙ (let e : add_of z (add_of r (sub_of y z)) ≡ add_of y r = omega arith in e)
+turned-opens r y z some few less = ap (λ x. add_of z x) (turned-moves r (sub_of y z) some)
+    ∙ (let e : add_of z (add_of r (sub_of y z)) ≡ add_of y r = omega arith in e)
 
 pub turned-small : (r d : ℕ) → r < 2 ^ 61 → turned r d < 2 ^ 61
 turned-small r d small = elim (cases_eq r p) [

@@ -1,5 +1,6 @@
 -- The loop that turns the words of one server.
-use Rattle.std.proofs.Common.{◌≡◌, ◌≢◌, ◌≤◌, ◌<◌, ◌+◌, ◌-◌, ℕ, inl, inr, List, [], ◌∷◌, ◌++◌, length, slice_index, get_or, Option, refl, sym, ap, ◌∙◌, arith, length-append, add-one}
+use Rattle.std.proofs.Common.{◌≡◌, ◌≢◌, ◌≤◌, ◌<◌, ◌+◌, ◌-◌, ℕ, inl, inr, List, [], ◌∷◌, ◌++◌, length, slice_index}
+use Rattle.std.proofs.Common.{get_or, Option, refl, sym, ap, ◌∙◌, arith, length-append, add-one}
 use Rattle.std.specs.Prelude.{if◌then◌else◌, ◌==◌}
 use Rattle.std.proofs.lemmas.Bool.{cases_lt}
 use Rattle.std.proofs.lemmas.List.{get_or_append_left, get_or-append-add, get_or_default}
@@ -25,7 +26,8 @@ module _ (losses : List ℕ) (masks : Trio (List ℕ)) (words : List ℕ) where
   last-item : (out : List ℕ) (x i : ℕ) → length out ≡ i → slice_index (out ++ x ∷ []) i ≡ x
   last-item out x i e = let h : i ≡ length out + 0 = omega arith in ap (slice_index (out ++ x ∷ [])) h ∙ get_or-append-add out (x ∷ []) 0 0
 
-  pub turned-more : (out after : List ℕ) (i rejected rejected' mask word x : ℕ) (place : Option ℕ) → i < length words → TurnedTo out i rejected →
+  pub turned-more : (out after : List ℕ) (i rejected rejected' mask word x : ℕ) (place : Option ℕ) → i < length words →
+      TurnedTo out i rejected →
       mask ≡ mask_at masks i → word ≡ get_or words i word → place ≡ item_after losses mask rejected (i - rejected) →
       x ≡ word_mapped mask word place → after ≡ out ++ x ∷ [] → rejected' ≡ rejected + (if mask == p then 1 else 0) →
       TurnedTo after (i + 1) rejected'
@@ -35,9 +37,11 @@ module _ (losses : List ℕ) (masks : Trio (List ℕ)) (words : List ℕ) where
       let here : place ≡ loss_in losses masks i = pl ∙ (λ j. item_after losses (ms j) (g.rejected_is j) (acc j)) in
       let item : word ≡ slice_index words i = ws ∙ get_or_default words i word 0 lt in
       let long : length after ≡ i + 1 = ap length added ∙ length-append out (x ∷ []) ∙ ap (λ n. n + 1) g.count in
-      let more : length (rejected_among (mask_at masks) (i + 1)) ≡ length (rejected_among (mask_at masks) i) + (if mask_at masks i == p then 1 else 0) =
+      let more : length (rejected_among (mask_at masks) (i + 1))
+      ≡ length (rejected_among (mask_at masks) i) + (if mask_at masks i == p then 1 else 0) =
       ap (λ n. length (rejected_among (mask_at masks) n)) (add-one i) ∙ passing-more (λ k. mask_at masks k == p) i in
-      let both : rejected' ≡ length (rejected_among (mask_at masks) (i + 1)) = rs ∙ (λ j. g.rejected_is j + (if ms j == p then 1 else 0)) ∙ sym more in
+      let both : rejected' ≡ length (rejected_among (mask_at masks) (i + 1)) =
+      rs ∙ (λ j. g.rejected_is j + (if ms j == p then 1 else 0)) ∙ sym more in
       record {
         count = long;
         rejected_is = both;
@@ -57,7 +61,8 @@ module _ (losses : List ℕ) (words words' : Trio (List ℕ)) where
     pub turns : (i : ℕ) → i < length (member words' server) → slice_index (member words' server) i
         ≡ word_mapped (mask_at words i) (slice_index (member words server) i) (loss_in losses words i)
 
-  first-lengths : TurnsList One → words'.two ≡ words.two → words'.three ≡ words.three → (j : Point) → length (member words' j) ≡ length (member words j)
+  first-lengths : TurnsList One → words'.two ≡ words.two → words'.three ≡ words.three → (j : Point) →
+      length (member words' j) ≡ length (member words j)
   first-lengths t two three One = t.same_length
   first-lengths t two three Two = ap length two
   first-lengths t two three Three = ap length three
@@ -67,7 +72,8 @@ module _ (losses : List ℕ) (words words' : Trio (List ℕ)) where
   first-others two three Two ne = two
   first-others two three Three ne = three
 
-  pub first-list : (s : Point) → peer s Low ≡ One → TurnsList One → words'.two ≡ words.two → words'.three ≡ words.three → MasksMapped s losses words words'
+  pub first-list : (s : Point) → peer s Low ≡ One → TurnsList One → words'.two ≡ words.two →
+      words'.three ≡ words.three → MasksMapped s losses words words'
   first-list One l t two three = cc l
   first-list Two l t two three = record {
     lengths = first-lengths t two three;

@@ -23,8 +23,8 @@ word_mapped mask word (Some loss) = bit_xor (bit_xor word mask) (turned mask los
 abbrev pub loss_in : List ℕ → Trio (List ℕ) → ℕ → Option ℕ
 loss_in losses words i = item_compared losses (mask_at words) i
 
--- the mask words of two worlds in which the numbers that are compared, one after another, lose so much, mapped for server s: the lower other
--- server's words turn each mask that is compared, and all other words are the same
+-- the mask words of two worlds in which the numbers that are compared, one after another, lose so much, mapped for
+-- server s: the lower other server's words turn each mask that is compared, and all other words are the same
 pub record MasksMapped (s : Point) (losses : List ℕ) (words words' : Trio (List ℕ)) : Type 0 where
   pub lengths : (j : Point) → length (member words' j) ≡ length (member words j)
   pub turns : (i : ℕ) → i < length (member words (peer s Low)) →

@@ -12,8 +12,8 @@ ghost use Rattle.beet_round.specs.declared.sides.Side.TheVariants.{Low};
 ghost use Rattle.beet_turned.specs.MappedMasks.{MasksMapped, loss_in, mask_mapped};
 ghost use Rattle.beet_turned.specs.Turn.{turned};
 
-/// A turned mask is turned back by what takes the number off again, a mask is all ones exactly where the turned one is, and
-/// under an accepted mask the number that has lost as much shows the same sum.
+/// A turned mask is turned back by what takes the number off again, a mask is all ones exactly where the turned one is,
+/// and under an accepted mask the number that has lost as much shows the same sum.
 pub fn turned_masks()
     ensures back { (r d : ℕ) → IsWord r → IsElement d → turned (turned r d) (neg_of d) ≡ r }
     ensures all_ones { (r d : ℕ) → (turned r d == ones) ≡ (r == ones) }
@@ -22,8 +22,8 @@ pub fn turned_masks()
 {}
 
 /// Of mapped mask words those of the server itself are the same. The exclusive ors are the turned masks where they are
-/// compared, and words again. The same masks are all ones, so that the same are rejected and accepted, and the runs are spent
-/// alike.
+/// compared, and words again. The same masks are all ones, so that the same are rejected and accepted, and the runs are
+/// spent alike.
 pub fn mapped_masks_count_alike()
     ensures own { (s : Point) (losses : List ℕ) (words words' : Trio (List ℕ)) →
         MasksMapped s losses words words' → member words' s ≡ member words s }
@@ -43,8 +43,8 @@ pub fn mapped_masks_count_alike()
         is_spent (mask_at words') c ≡ is_spent (mask_at words) c }
 {}
 
-/// Masks are mapped to no other words than these, and no other words are mapped to them: they are mapped back by what takes
-/// the losses off again.
+/// Masks are mapped to no other words than these, and no other words are mapped to them: they are mapped back by what
+/// takes the losses off again.
 pub fn mapped_masks_map_back()
     ensures back { (s : Point) (losses : List ℕ) (words words' : Trio (List ℕ)) → All IsElement losses →
         AreMasks words → MasksMapped s losses words words' → MasksMapped s (map neg_of losses) words' words }

@@ -94,7 +94,8 @@ fn turning_words(
     Ok(turned)
 }
 
-/// The words of one server in the second world, where the words of `turner` turn each mask that is compared in the first.
+/// The words of one server in the second world, where the words of `turner` turn each mask that is compared in the
+/// first.
 fn words_of(
     alloc: Global,
     turner: Point,
@@ -115,9 +116,9 @@ fn words_of(
     }
 }
 
-/// The mask words of the second world, with which its comparisons open what those of the first world do, where the numbers that are
-/// compared, one after another, lose so much. The words of the lower of the other two servers turn each mask that is compared; all
-/// others are the same.
+/// The mask words of the second world, with which its comparisons open what those of the first world do, where the
+/// numbers that are compared, one after another, lose so much. The words of the lower of the other two servers turn
+/// each mask that is compared; all others are the same.
 pub fn map_masks(
     alloc: Global,
     me: Point,

@@ -4,8 +4,7 @@ ghost use Rattle.std.specs.Prelude.{◌≡◌};
 ghost use Rattle.beet_turned.specs.Turn.{turned};
 
 use beet_field::Fe;
-use beet_map::word_of;
-use beet_words::Word;
+use beet_words::{Word, word_of};
 
 /// The mask that shows the same sum where the number under it has lost `d`. A mask whose bits are all ones stays.
 pub fn turn(r: Word, d: Fe) -> Word

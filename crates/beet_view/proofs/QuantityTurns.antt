@@ -16,7 +16,8 @@ onto-cons front value (Ok read) = ap (λ values. Ok (values, read.1)) (simp appe
 onto-cons front value (Err fault) = refl
 
 -- one more quantity is read
-pub turn-next : (bytes : List ℕ) (course : Course) (before : ℕ) (allowed : Allowed) (front : List ℕ) (count i at after value : ℕ) (whole : Reading (List ℕ × ℕ)) →
+pub turn-next : (bytes : List ℕ) (course : Course) (before : ℕ) (allowed : Allowed) (front : List ℕ)
+    (count i at after value : ℕ) (whole : Reading (List ℕ × ℕ)) →
     i < count →
     allowed ≡ allowed_after course before →
     number_at bytes allowed at ≡ Ok (value, after) →
@@ -25,12 +26,14 @@ pub turn-next : (bytes : List ℕ) (course : Course) (before : ℕ) (allowed : A
 unfolding quantities_at
 turn-next bytes course before allowed front count i at after value whole lt is here so_far =
     let more : count - i ≡ suc (count - (i + 1)) = omega arith in
-    let one : onto front (quantities_at bytes course (count - i) before at) ≡ onto (front ++ value ∷ []) (quantities_at bytes course (count - (i + 1)) value after) =
+    let one : onto front (quantities_at bytes course (count - i) before at)
+    ≡ onto (front ++ value ∷ []) (quantities_at bytes course (count - (i + 1)) value after) =
     rw (more, ← is, here) (onto-cons front value (quantities_at bytes course (count - (i + 1)) value after)) in
     sym one ∙ so_far
 
 -- a quantity with a fault ends it
-pub turn-fault : {T U : Type 0} (bytes : List ℕ) (course : Course) (before : ℕ) (allowed : Allowed) (front : List ℕ) (count i at : ℕ) (whole : Reading (List ℕ × ℕ)) (seen : T → ℕ × ℕ) (view : U → List ℕ × ℕ) (fault : ReadFault) →
+pub turn-fault : {T U : Type 0} (bytes : List ℕ) (course : Course) (before : ℕ) (allowed : Allowed) (front : List ℕ)
+    (count i at : ℕ) (whole : Reading (List ℕ × ℕ)) (seen : T → ℕ × ℕ) (view : U → List ℕ × ℕ) (fault : ReadFault) →
     i < count →
     allowed ≡ allowed_after course before →
     Answers seen (number_at bytes allowed at) (Err fault) →
@@ -39,7 +42,8 @@ pub turn-fault : {T U : Type 0} (bytes : List ℕ) (course : Course) (before : �
 unfolding quantities_at
 turn-fault bytes course before allowed front count i at whole seen view (Bad place reason) lt is here so_far =
     let more : count - i ≡ suc (count - (i + 1)) = omega arith in
-    let one : onto front (quantities_at bytes course (count - i) before at) ≡ Err (record { place = place; reason = reason }) = rw (more, ← is, here) refl in
+    let one : onto front (quantities_at bytes course (count - i) before at)
+    ≡ Err (record { place = place; reason = reason }) = rw (more, ← is, here) refl in
     sym so_far ∙ one
 turn-fault bytes course before allowed front count i at whole seen view OutOfMemory lt is here so_far = tt
 
@@ -51,5 +55,6 @@ pub turn-end : (bytes : List ℕ) (course : Course) (before : ℕ) (front : List
 unfolding quantities_at
 turn-end bytes course before front count i at whole le so_far =
     let none : count - i ≡ 0 = omega arith in
-    let one : onto front (quantities_at bytes course (count - i) before at) ≡ Ok (front, at) = rw none (ap (λ values. Ok (values, at)) (append-nil front)) in
+    let one : onto front (quantities_at bytes course (count - i) before at) ≡ Ok (front, at) =
+    rw none (ap (λ values. Ok (values, at)) (append-nil front)) in
     sym so_far ∙ one

@@ -1,5 +1,6 @@
 -- What a part that was read is known to be.
-use Rattle.std.proofs.Common.{◌≡◌, ℕ, zero, suc, ◌+◌, ◌≤◌, Bool, true, false, ◌||◌, if◌then◌else◌, ltb, List, [], ◌∷◌, length, All, AllPairs, Ok, Err, refl, sym, ap, subst, arith}
+use Rattle.std.proofs.Common.{◌≡◌, ℕ, zero, suc, ◌+◌, ◌≤◌, Bool, true, false, ◌||◌, if◌then◌else◌, ltb, List, [], ◌∷◌}
+use Rattle.std.proofs.Common.{length, All, AllPairs, Ok, Err, refl, sym, ap, subst, arith}
 use Rattle.std.specs.Result.{is_ok}
 use Rattle.std.proofs.lemmas.Bool.{true≢false, ltb-false, or_parts}
 use Rattle.std.proofs.lemmas.List.Elements.{All-nil, All-cons}
@@ -29,7 +30,6 @@ same_value x y e = ap (value_or x) e
 pub value_has : {A : Type 0} (P : A → Type 0) (x y : A) → read_as x ≡ read_as y → P x → P y
 value_has P x y e h = subst P (same_value x y e) h
 
--- a fault is no value
 pub no_value : {A : Type 0} (fault : Fault) (value : A) → Err fault ≡ Ok value → ⊥
 no_value fault value e = true≢false (sym (ap is_ok e))
 
@@ -57,7 +57,8 @@ pub number_at-within : (bytes : List ℕ) (allowed : Allowed) (at : ℕ) (read :
     (allowed.low ≤ read.0) × (read.0 ≤ allowed.high)
 number_at-within bytes allowed at read e =
     let n = eight_bytes_at bytes at in
-    let is = chosen (ltb (length bytes) (at + 8)) (ltb n allowed.low || ltb allowed.high n) (at_offset at allowed.truncated) (at_offset at allowed.outside) (n, at + 8) read e in
+    let is = chosen (ltb (length bytes) (at + 8)) (ltb n allowed.low || ltb allowed.high n)
+    (at_offset at allowed.truncated) (at_offset at allowed.outside) (n, at + 8) read e in
     let both = or_parts (ltb n allowed.low) (ltb allowed.high n) is.0 in
     let number : n ≡ read.0 = ap (λ (r : ℕ × ℕ). r.0) is.1 in
     (rw (← number) (ltb-false n allowed.low both.0), rw (← number) (ltb-false allowed.high n both.1))
@@ -119,11 +120,14 @@ quantities_at-are bytes course zero before at read e =
     value_has (λ (r : List ℕ × ℕ). AreQuantities course before zero r.0) ([], at) read e (record { many = refl; in_order = tt })
 quantities_at-are bytes course (suc count) before at read e =
     let allowed = allowed_after course before in
-    let first = steps_of (number_at bytes allowed at) (λ first. quantities_at bytes course count first.0 first.1 >>= λ others. Ok (first.0 ∷ others.0, others.1)) read e in
-    let others = steps_of (quantities_at bytes course count first.between.0 first.between.1) (λ others. Ok (first.between.0 ∷ others.0, others.1)) read first.two in
+    let first = steps_of (number_at bytes allowed at) (λ first. quantities_at bytes course count first.0 first.1 >>=
+    λ others. Ok (first.0 ∷ others.0, others.1)) read e in
+    let others = steps_of (quantities_at bytes course count first.between.0 first.between.1)
+    (λ others. Ok (first.between.0 ∷ others.0, others.1)) read first.two in
     let rest = quantities_at-are bytes course count first.between.0 first.between.1 others.between others.one in
     let within = number_at-within bytes allowed at first.between first.one in
-    value_has (λ (r : List ℕ × ℕ). AreQuantities course before (suc count) r.0) (first.between.0 ∷ others.between.0, others.between.1) read others.two
+    value_has (λ (r : List ℕ × ℕ). AreQuantities course before (suc count) r.0)
+    (first.between.0 ∷ others.between.0, others.between.1) read others.two
     (record { many = ap suc rest.many; in_order = (within.0, within.1, rest.in_order) })
 
 -- quantities that fall are below what stands before them

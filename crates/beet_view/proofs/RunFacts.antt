@@ -9,11 +9,12 @@ use Rattle.beet_round.specs.declared.message.RoundMessage.{RoundMessage}
 use Rattle.beet_round.specs.declared.sides.Side.{Side}
 use Rattle.beet_round.specs.declared.sides.Side.TheVariants.{Low, High}
 use Rattle.beet_sharing.specs.Runs.{Setup, message}
+use Rattle.beet_sharing.specs.Seen.{round_seen, rounds_seen}
 use Rattle.beet_delivery.specs.Events.{Delivered}
 use Rattle.beet_server.specs.Cores.{Core}
 use Rattle.beet_server.specs.Fits.{Fits, messages_to}
 use Rattle.beet_server.specs.Steps.{received_from}
-use Rattle.beet_view.specs.RunViews.{numbers_received, round_received, rounds_received, round_seen, rounds_seen}
+use Rattle.beet_view.specs.RunViews.{numbers_received, round_received, rounds_received}
 
 -- of both messages to a server, that of its peer of a side
 of_side : {S : Type 0} (c : Core S) → (o : Setup) (me : Point) (side : Side) (t : ℕ) →
@@ -30,7 +31,8 @@ of_side c o Three High t is there = rw (is, there) refl
 module _ {S : Type 0} (next : S → ℕ → List ℕ → Batch) (o : Setup) (x : Delivered) (c : Core S) (fits : Fits next o x c) where
   numbers-fit : (side : Side) (t : ℕ) → t < c.round → numbers_received c side t ≡ message o (peer c.me side) c.me t
   numbers-fit side t h =
-      let there : slice_get c.received t ≡ Some (messages_to o c.me t) = ap (λ (l : List (List RoundMessage)). slice_get l t) fits.received ∙ get-each (messages_to o c.me) c.round t h in
+      let there : slice_get c.received t ≡ Some (messages_to o c.me t) =
+      ap (λ (l : List (List RoundMessage)). slice_get l t) fits.received ∙ get-each (messages_to o c.me) c.round t h in
       ap (λ n. unwrap_or n []) (of_side c o c.me side t refl there)
 
   pub rounds-fit : rounds_received c ≡ rounds_seen o c.me c.round

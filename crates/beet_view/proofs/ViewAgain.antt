@@ -1,5 +1,6 @@
 -- A transcript that was written is read again.
-use Rattle.std.proofs.Common.{◌≡◌, ℕ, suc, ◌+◌, ◌-◌, ◌/◌, ◌^◌, ◌<◌, ◌≤◌, Bool, true, false, eqb, List, [], ◌∷◌, ◌++◌, length, All, AllPairs, Option, None, Some, IfSome, Ok, refl, sym, ap, subst, ◌∙◌, arith}
+use Rattle.std.proofs.Common.{◌≡◌, ℕ, suc, ◌+◌, ◌-◌, ◌/◌, ◌^◌, ◌<◌, ◌≤◌, Bool, true, false, eqb, List, [], ◌∷◌, ◌++◌}
+use Rattle.std.proofs.Common.{length, All, AllPairs, Option, None, Some, IfSome, Ok, refl, sym, ap, subst, ◌∙◌, arith}
 use Rattle.std.specs.List.{flat_map}
 use Rattle.std.proofs.Math.Nat.{le-div_iff_mul-le}
 use Rattle.std.proofs.lemmas.Bool.{le-ltb}
@@ -31,17 +32,24 @@ use Rattle.beet_view.specs.declared.quantities.Course.TheVariants.{Falling, Risi
 use Rattle.beet_view.specs.declared.view.Seen.{Seen}
 use Rattle.beet_view.specs.Views.{Viewed, IsSeenAt, IsView}
 use Rattle.beet_plan.specs.Kept.{words_kept, masks_kept, coefficients_kept}
-use Rattle.beet_view.specs.Transcripts.{tells_policy, magic, from_to, most_bidders, known_of, mark_of, gates_of, number_of_gates, policy_field, form_in, server_at, policy_at, grid_at, point_at, allowed_after, start_of, quantities_at, own_at, own_where_known, seen_at, message_at, round_at, view_in, numbers_bytes, counted_bytes, grid_bytes, own_bytes, seen_bytes, round_bytes, view_bytes, IsMessage, FitsFile, HasNumbers, HasElements, AreNumbers}
+use Rattle.beet_view.specs.Transcripts.{tells_policy, magic, from_to, most_bidders, known_of, mark_of, gates_of}
+use Rattle.beet_view.specs.Transcripts.{number_of_gates, policy_field, form_in, server_at, policy_at, grid_at, point_at}
+use Rattle.beet_view.specs.Transcripts.{allowed_after, start_of, quantities_at, own_at, own_where_known, seen_at}
+use Rattle.beet_view.specs.Transcripts.{message_at, round_at, view_in, numbers_bytes, counted_bytes, grid_bytes}
+use Rattle.beet_view.specs.Transcripts.{own_bytes, seen_bytes, round_bytes, view_bytes, IsMessage, FitsFile, HasNumbers}
+use Rattle.beet_view.specs.Transcripts.{HasElements, AreNumbers}
 use Rattle.beet_view.proofs.ReadFacts.{OnCourse}
 use Rattle.beet_view.proofs.SeenFacts.{grid_at-numbers}
 
 -- a number of so many bytes is read where it stands first
 number_first : (bytes : List ℕ) (low high at n : ℕ) (rest : List ℕ) →
     low ≤ n → n ≤ high → n < 2 ^ 64 → StandsAt bytes at (number_bytes n ++ rest) → number_at bytes (from_to low high) at ≡ Ok (n, at + 8)
-number_first bytes low high at n rest l h f s = number_at-number bytes (from_to low high) at n l h f (StandsAt-left bytes at (number_bytes n) rest s)
+number_first bytes low high at n rest l h f s =
+    number_at-number bytes (from_to low high) at n l h f (StandsAt-left bytes at (number_bytes n) rest s)
 
 -- a counted list is read
-counted_at-parts : {A : Type 0} (bytes : List ℕ) (low high : ℕ) (part : Part A) (text : A → List ℕ) (Fits : A → Type 0) (xs : List A) (at : ℕ) →
+counted_at-parts : {A : Type 0} (bytes : List ℕ) (low high : ℕ) (part : Part A) (text : A → List ℕ) (Fits : A → Type 0)
+    (xs : List A) (at : ℕ) →
     low ≤ length xs →
     length xs ≤ high →
     length xs < 2 ^ 64 →
@@ -52,12 +60,15 @@ counted_at-parts : {A : Type 0} (bytes : List ℕ) (low high : ℕ) (part : Part
 unfolding counted_at
 counted_at-parts bytes low high part text Fits xs at l h f each all s =
     let count = number_first bytes low high at (length xs) (flat_map text xs) l h f s in
-    let items = times-parts bytes part text Fits xs (at + 8) each all (StandsAt-right bytes at (number_bytes (length xs)) (flat_map text xs) s) in
-    let place : at + 8 + length (flat_map text xs) ≡ at + length (counted_bytes text xs) = omega (arith, length-append (number_bytes (length xs)) (flat_map text xs)) in
+    let items = times-parts bytes part text Fits xs (at + 8) each all
+    (StandsAt-right bytes at (number_bytes (length xs)) (flat_map text xs) s) in
+    let place : at + 8 + length (flat_map text xs) ≡ at + length (counted_bytes text xs) =
+    omega (arith, length-append (number_bytes (length xs)) (flat_map text xs)) in
     rw (count, items) (ap (λ n. Ok (xs, n)) place)
 
 -- a number of the field is read
-point_at-point : (bytes : List ℕ) (x offset : ℕ) → IsElement x → StandsAt bytes offset (number_bytes x) → point_at bytes offset ≡ Ok (x, offset + length (number_bytes x))
+point_at-point : (bytes : List ℕ) (x offset : ℕ) → IsElement x → StandsAt bytes offset (number_bytes x) →
+    point_at bytes offset ≡ Ok (x, offset + length (number_bytes x))
 point_at-point bytes x offset below s = number_at-number bytes (from_to 0 (p - 1)) offset x (omega arith) (omega arith) (omega arith) s
 
 -- words are read
@@ -65,7 +76,8 @@ words_at-words : (bytes words : List ℕ) (most at : ℕ) → length words ≤ m
     StandsAt bytes at (counted_bytes number_bytes words) →
     words_at bytes most at ≡ Ok (words, at + length (counted_bytes number_bytes words))
 words_at-words bytes words most at few fits below s =
-    let each : (word offset : ℕ) → IsWord word → StandsAt bytes offset (number_bytes word) → word_at bytes offset ≡ Ok (word, offset + length (number_bytes word)) =
+    let each : (word offset : ℕ) → IsWord word → StandsAt bytes offset (number_bytes word) →
+    word_at bytes offset ≡ Ok (word, offset + length (number_bytes word)) =
     λ word offset small stands. number_at-number bytes (up_to ones) offset word (omega arith) (omega arith) (omega arith) stands in
     counted_at-parts bytes 0 most (word_at bytes) number_bytes IsWord words at (omega arith) few fits each below s
 
@@ -74,7 +86,8 @@ message_at-message : (bytes numbers : List ℕ) (at : ℕ) → IsMessage numbers
     StandsAt bytes at (counted_bytes number_bytes numbers) →
     message_at bytes at ≡ Ok (numbers, at + length (counted_bytes number_bytes numbers))
 message_at-message bytes numbers at is below s =
-    counted_at-parts bytes 1 MOST_NUMBERS (point_at bytes) number_bytes IsElement numbers at is.0 is.1 (omega (arith, is.1)) (point_at-point bytes) below s
+    counted_at-parts bytes 1 MOST_NUMBERS (point_at bytes) number_bytes IsElement numbers at is.0 is.1
+    (omega (arith, is.1)) (point_at-point bytes) below s
 
 -- the messages of a round may stand in a transcript
 record FitsRound (round : List ℕ × List ℕ) : Type 0 where
@@ -106,9 +119,12 @@ quantities_at-quantities bytes course before at [] on small s =
     ap (λ n. Ok ([], n)) place
 quantities_at-quantities bytes course before at (x ∷ xs) on small s =
     let within : x ≤ LARGEST_QUANTITY = All-head (λ x. x ≤ LARGEST_QUANTITY) x xs small in
-    let first = number_at-number bytes (allowed_after course before) at x on.0 on.1 (omega (arith, within)) (StandsAt-left bytes at (number_bytes x) (numbers_bytes xs) s) in
-    let others = quantities_at-quantities bytes course x (at + 8) xs on.2 (All-tail (λ x. x ≤ LARGEST_QUANTITY) x xs small) (StandsAt-right bytes at (number_bytes x) (numbers_bytes xs) s) in
-    let place : at + 8 + length (numbers_bytes xs) ≡ at + length (number_bytes x ++ numbers_bytes xs) = omega (arith, length-append (number_bytes x) (numbers_bytes xs)) in
+    let first = number_at-number bytes (allowed_after course before) at x on.0 on.1 (omega (arith, within))
+    (StandsAt-left bytes at (number_bytes x) (numbers_bytes xs) s) in
+    let others = quantities_at-quantities bytes course x (at + 8) xs on.2
+    (All-tail (λ x. x ≤ LARGEST_QUANTITY) x xs small) (StandsAt-right bytes at (number_bytes x) (numbers_bytes xs) s) in
+    let place : at + 8 + length (numbers_bytes xs) ≡ at + length (number_bytes x ++ numbers_bytes xs) =
+    omega (arith, length-append (number_bytes x) (numbers_bytes xs)) in
     rw (first, others) (ap (λ n. Ok (x ∷ xs, n)) place)
 
 -- later pairs of a list
@@ -126,13 +142,15 @@ on_falling before (x ∷ xs) below pairs = (
 )
 
 -- quantities that never fall are on a rising course
-on_rising : (before : ℕ) (xs : List ℕ) → All (λ x. before ≤ x) xs → All (λ x. x ≤ LARGEST_QUANTITY) xs → AllPairs (λ x y. x ≤ y) xs → OnCourse Rising before xs
+on_rising : (before : ℕ) (xs : List ℕ) → All (λ x. before ≤ x) xs → All (λ x. x ≤ LARGEST_QUANTITY) xs →
+    AllPairs (λ x y. x ≤ y) xs → OnCourse Rising before xs
 unfolding OnCourse
 on_rising before [] above small pairs = tt
 on_rising before (x ∷ xs) above small pairs = (
   All-head (λ y. before ≤ y) x xs above,
   All-head (λ y. y ≤ LARGEST_QUANTITY) x xs small,
-  on_rising x xs (λ k d h. pairs 0 (suc k) d (omega arith) (omega arith)) (All-tail (λ y. y ≤ LARGEST_QUANTITY) x xs small) (AllPairs-tail (λ x y. x ≤ y) x xs pairs),
+  on_rising x xs (λ k d h. pairs 0 (suc k) d (omega arith) (omega arith))
+      (All-tail (λ y. y ≤ LARGEST_QUANTITY) x xs small) (AllPairs-tail (λ x y. x ≤ y) x xs pairs),
 )
 
 -- the curve and the words of a known bidder are read
@@ -153,12 +171,16 @@ own_at-own bytes prices at own small buys sells few curve words s =
     let after = StandsAt-right bytes at a (b ++ c) s in
     let buy = subst (λ n. quantities_at bytes Falling n (start_of Falling) at ≡ Ok (own.0.buy, at + length a)) buys
     (quantities_at-quantities bytes Falling (start_of Falling) at own.0.buy
-    (on_falling (start_of Falling) own.0.buy curve.buy_limit curve.buy_never_rises) curve.buy_limit (StandsAt-left bytes at a (b ++ c) s)) in
+    (on_falling (start_of Falling) own.0.buy curve.buy_limit curve.buy_never_rises) curve.buy_limit
+    (StandsAt-left bytes at a (b ++ c) s)) in
     let sell = subst (λ n. quantities_at bytes Rising n (start_of Rising) (at + length a) ≡ Ok (own.0.sell, at + length a + length b)) sells
     (quantities_at-quantities bytes Rising (start_of Rising) (at + length a) own.0.sell
-    (on_rising (start_of Rising) own.0.sell (λ k d h. omega arith) curve.sell_limit curve.sell_never_falls) curve.sell_limit (StandsAt-left bytes (at + length a) b c after)) in
-    let last = words_at-words bytes own.1 (words_kept prices) (at + length a + length b) few (omega (arith, few)) words (StandsAt-right bytes (at + length a) b c after) in
-    let place : at + length a + length b + length c ≡ at + length (own_bytes (Some own)) = omega (arith, length-append a (b ++ c), length-append b c) in
+    (on_rising (start_of Rising) own.0.sell (λ k d h. omega arith) curve.sell_limit curve.sell_never_falls)
+    curve.sell_limit (StandsAt-left bytes (at + length a) b c after)) in
+    let last = words_at-words bytes own.1 (words_kept prices) (at + length a + length b) few (omega (arith, few)) words
+    (StandsAt-right bytes (at + length a) b c after) in
+    let place : at + length a + length b + length c ≡ at + length (own_bytes (Some own)) =
+    omega (arith, length-append a (b ++ c), length-append b c) in
     rw (buy, sell, last) (ap (λ n. Ok (own, n)) place)
 
 -- the server that a mark names is the one that it was written for
@@ -202,7 +224,8 @@ record FitsSeen (server : Point) (grid : Grid) (seen : Seen) : Type 0 where
   pub numbers : HasNumbers seen
 
 -- what is kept of a bidder is read, or nothing where nothing is kept
-own_where_known-own : (bytes : List ℕ) (server : Point) (grid : Grid) (at : ℕ) (known : Option Point) (points : List ℕ) (own : Option (Curve × List ℕ)) →
+own_where_known-own : (bytes : List ℕ) (server : Point) (grid : Grid) (at : ℕ) (known : Option Point) (points : List ℕ)
+    (own : Option (Curve × List ℕ)) →
     grid.prices ≤ MOST_PRICES →
     FitsSeen server grid (record { known = known; points = points; own = own }) →
     StandsAt bytes at (own_bytes own) →
@@ -214,7 +237,8 @@ own_where_known-own bytes server grid at known points None small fits s =
 own_where_known-own bytes server grid at known points (Some own) small fits s =
     let kept = fits.at_server.own in
     let mark : eqb (mark_of known) (number_of server) ≡ true = rw kept.0 (same_mark server) in
-    let read = own_at-own bytes grid.prices at own small kept.1.buy_length kept.1.sell_length fits.words fits.numbers.own.0 fits.numbers.own.1 s in
+    let read = own_at-own bytes grid.prices at own small kept.1.buy_length kept.1.sell_length fits.words
+    fits.numbers.own.0 fits.numbers.own.1 s in
     rw (mark, read) refl
 
 -- a bidder is read
@@ -227,12 +251,16 @@ unfolding seen_at
 seen_at-seen bytes server grid seen at small fits s =
     let points = numbers_bytes seen.points in
     let own = own_bytes seen.own in
-    let mark = number_first bytes 0 3 at (mark_of seen.known) (points ++ own) (omega arith) (mark_of-small seen.known) (omega (arith, mark_of-small seen.known)) s in
+    let mark = number_first bytes 0 3 at (mark_of seen.known) (points ++ own) (omega arith) (mark_of-small seen.known)
+    (omega (arith, mark_of-small seen.known)) s in
     let after = StandsAt-right bytes at (number_bytes (mark_of seen.known)) (points ++ own) s in
     let read_points = subst (λ n. times n (point_at bytes) (at + 8) ≡ Ok (seen.points, at + 8 + length points)) fits.at_server.points
-    (times-parts bytes (point_at bytes) number_bytes IsElement seen.points (at + 8) (point_at-point bytes) fits.numbers.points (StandsAt-left bytes (at + 8) points own after)) in
-    let read_own = own_where_known-own bytes server grid (at + 8 + length points) seen.known seen.points seen.own small fits (StandsAt-right bytes (at + 8) points own after) in
-    let place : at + 8 + length points + length own ≡ at + length (seen_bytes seen) = omega (arith, length-append points own, length-append (number_bytes (mark_of seen.known)) (points ++ own)) in
+    (times-parts bytes (point_at bytes) number_bytes IsElement seen.points (at + 8)
+    (point_at-point bytes) fits.numbers.points (StandsAt-left bytes (at + 8) points own after)) in
+    let read_own = own_where_known-own bytes server grid (at + 8 + length points) seen.known seen.points seen.own small
+    fits (StandsAt-right bytes (at + 8) points own after) in
+    let place : at + 8 + length points + length own ≡ at + length (seen_bytes seen) =
+    omega (arith, length-append points own, length-append (number_bytes (mark_of seen.known)) (points ++ own)) in
     let made : Option Point → Seen = λ known. record { known = known; points = seen.points; own = seen.own } in
     rw (mark, read_points, read_own) (rw place (ap (λ known. Ok (made known, at + length (seen_bytes seen))) (known_of-mark seen.known)))
 
@@ -280,13 +308,18 @@ grid_at-grid bytes grid is s =
     let at_policy = StandsAt-right bytes 40 gates policy at_gates in
     let small = number_of_gates-small grid.gates in
     let place : 48 + length policy ≡ 16 + length (grid_bytes grid) = omega arith in
-    let made : Gates → Grid = λ kind. record { base = grid.base; tick = grid.tick; prices = grid.prices; gates = kind; policy = grid.policy } in
+    let made : Gates → Grid =
+    λ kind. record { base = grid.base; tick = grid.tick; prices = grid.prices; gates = kind; policy = grid.policy } in
     grid_at-numbers bytes (tells_policy grid.policy) 16 grid.base grid.tick grid.prices (number_of_gates grid.gates) 24 32 40 48
-    (number_first bytes 0 LARGEST_BASE 16 grid.base (tick ++ (prices ++ (gates ++ policy))) (omega arith) is.base_limit (omega (arith, is.base_limit)) s)
-    (number_first bytes 1 LARGEST_TICK 24 grid.tick (prices ++ (gates ++ policy)) is.tick_some is.tick_limit (omega (arith, is.tick_limit)) at_tick)
-    (number_first bytes 1 MOST_PRICES 32 grid.prices (gates ++ policy) is.prices_some is.prices_limit (omega (arith, is.prices_limit)) at_prices)
+    (number_first bytes 0 LARGEST_BASE 16 grid.base (tick ++ (prices ++ (gates ++ policy))) (omega arith) is.base_limit
+    (omega (arith, is.base_limit)) s)
+    (number_first bytes 1 LARGEST_TICK 24 grid.tick (prices ++ (gates ++ policy)) is.tick_some is.tick_limit
+    (omega (arith, is.tick_limit)) at_tick)
+    (number_first bytes 1 MOST_PRICES 32 grid.prices (gates ++ policy) is.prices_some is.prices_limit
+    (omega (arith, is.prices_limit)) at_prices)
     (number_first bytes 0 1 40 (number_of_gates grid.gates) policy (omega arith) small (omega (arith, small)) at_gates)
-    ∙ rw (policy_at-policy bytes grid.policy 48 at_policy) (rw place (ap (λ kind. Ok (made kind, 16 + length (grid_bytes grid))) (gates_of-number grid.gates)))
+    ∙ rw (policy_at-policy bytes grid.policy 48 at_policy)
+    (rw place (ap (λ kind. Ok (made kind, 16 + length (grid_bytes grid))) (gates_of-number grid.gates)))
 
 -- a transcript tells the policy as the text does that it begins with
 form_in-magic : (tells : Bool) (rest : List ℕ) → form_in (magic tells ++ rest) ≡ Ok (tells, 8)
@@ -302,7 +335,8 @@ view_in-parts : (file : List ℕ) (view : Viewed) (tells : Bool) (grid bidders m
     form_in file ≡ Ok (tells, 8) →
     server_at file 8 ≡ Ok (view.server, 16) →
     grid_at file tells 16 ≡ Ok (view.grid, grid) →
-    counted_at file (from_to 0 (most_bidders view.grid.prices)) (seen_at file view.server view.grid.prices) grid ≡ Ok (view.bidders, bidders) →
+    counted_at file (from_to 0 (most_bidders view.grid.prices)) (seen_at file view.server view.grid.prices) grid
+    ≡ Ok (view.bidders, bidders) →
     words_at file (masks_kept view.grid) bidders ≡ Ok (view.masks, masks) →
     words_at file (coefficients_kept view.grid) masks ≡ Ok (view.coefficients, coefficients) →
     counted_at file (from_to 0 MOST_ROUNDS) (round_at file) coefficients ≡ Ok (view.rounds, rounds) →
@@ -341,28 +375,44 @@ view_in-view view is fits are =
     let place_rounds = place_coefficients + length coefficients in
     let at_magic : StandsAt file 0 file = record { front = []; rest = []; whole = sym (append-nil file); place = refl } in
     let start : 0 + length (magic tells) ≡ 8 = omega (arith, length-magic tells) in
-    let at_server = subst (λ n. StandsAt file n (server ++ after_server)) start (StandsAt-right file 0 (magic tells) (server ++ after_server) at_magic) in
+    let at_server = subst (λ n. StandsAt file n (server ++ after_server)) start
+    (StandsAt-right file 0 (magic tells) (server ++ after_server) at_magic) in
     let at_grid = StandsAt-right file 8 server after_server at_server in
     let at_bidders = StandsAt-right file 16 grid after_grid at_grid in
     let at_masks = StandsAt-right file place_bidders bidders after_bidders at_bidders in
     let at_coefficients = StandsAt-right file place_masks masks after_masks at_masks in
     let at_rounds = StandsAt-right file place_coefficients coefficients rounds at_coefficients in
     let comparisons = few_comparisons prices are.grid.prices_limit in
-    let many : length view.bidders ≤ MOST_PRODUCT / prices = (le-div_iff_mul-le {k = prices} {x = length view.bidders} {y = MOST_PRODUCT} (omega (arith, are.grid.prices_some))).1 fits.product in
-    let read_bidders = counted_at-parts file 0 (most_bidders prices) (seen_at file view.server prices) seen_bytes (FitsSeen view.server view.grid) view.bidders place_bidders
+    let many : length view.bidders ≤ MOST_PRODUCT / prices =
+    (le-div_iff_mul-le {k = prices} {x = length view.bidders} {y = MOST_PRODUCT}
+    (omega (arith, are.grid.prices_some))).1 fits.product in
+    let read_bidders = counted_at-parts file 0 (most_bidders prices) (seen_at file view.server prices) seen_bytes
+    (FitsSeen view.server view.grid) view.bidders place_bidders
     (omega arith) (omega (arith, many, is.few)) (omega (arith, is.few))
     (λ seen offset can stands. seen_at-seen file view.server view.grid seen offset are.grid.prices_limit can stands)
     (bidders_fit view is fits are) (StandsAt-left file place_bidders bidders after_bidders at_bidders) in
-    let read_masks = words_at-words file view.masks (masks_kept view.grid) place_masks fits.masks (omega (arith, fits.masks, comparisons)) are.masks
+    let read_masks = words_at-words file view.masks (masks_kept view.grid) place_masks fits.masks
+    (omega (arith, fits.masks, comparisons)) are.masks
     (StandsAt-left file place_masks masks after_masks at_masks) in
-    let read_coefficients = words_at-words file view.coefficients (coefficients_kept view.grid) place_coefficients fits.coefficients (omega (arith, fits.coefficients, comparisons)) are.coefficients
+    let read_coefficients = words_at-words file view.coefficients (coefficients_kept view.grid) place_coefficients
+    fits.coefficients (omega (arith, fits.coefficients, comparisons)) are.coefficients
     (StandsAt-left file place_coefficients coefficients rounds at_coefficients) in
     let read_rounds = counted_at-parts file 0 MOST_ROUNDS (round_at file) round_bytes FitsRound view.rounds place_rounds
     (omega arith) fits.rounds (omega (arith, fits.rounds)) (λ round offset can stands. round_at-round file round offset can stands)
     (rounds_fit view fits are) at_rounds in
     let all : length file ≡ place_rounds + length rounds =
-    omega (arith, length-magic tells, length-append (magic tells) (server ++ after_server), length-append grid after_grid, length-append bidders after_bidders, length-append masks after_masks, length-append coefficients rounds) in
-    let end : ended file TRAILING (place_rounds + length rounds) ≡ Ok tt = rw (le-ltb (place_rounds + length rounds) (length file) (omega arith)) refl in
+    omega (
+      arith,
+      length-magic tells,
+      length-append (magic tells) (server ++ after_server),
+      length-append grid after_grid,
+      length-append bidders after_bidders,
+      length-append masks after_masks,
+      length-append coefficients rounds,
+    ) in
+    let end : ended file TRAILING (place_rounds + length rounds) ≡ Ok tt =
+    rw (le-ltb (place_rounds + length rounds) (length file) (omega arith)) refl in
     view_in-parts file view tells place_bidders place_masks place_coefficients place_rounds (place_rounds + length rounds)
-    (form_in-magic tells (server ++ after_server)) (server_at-server file view.server 8 after_server at_server) (grid_at-grid file view.grid are.grid (StandsAt-left file 16 grid after_grid at_grid))
+    (form_in-magic tells (server ++ after_server)) (server_at-server file view.server 8 after_server at_server)
+    (grid_at-grid file view.grid are.grid (StandsAt-left file 16 grid after_grid at_grid))
     read_bidders read_masks read_coefficients read_rounds end

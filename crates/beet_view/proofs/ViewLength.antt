@@ -14,10 +14,12 @@ use Rattle.beet_bids.specs.declared.outcomes.Policy.{Policy}
 use Rattle.beet_bids.specs.declared.outcomes.Policy.TheVariants.{Price, Volume, Full}
 use Rattle.beet_view.specs.Views.{Viewed, IsSeenAt, IsView}
 use Rattle.beet_plan.specs.Kept.{words_kept}
-use Rattle.beet_view.specs.Transcripts.{tells_policy, magic, mark_of, policy_field, numbers_bytes, counted_bytes, grid_bytes, own_bytes, seen_bytes, round_bytes, view_bytes, IsMessage, FitsFile}
+use Rattle.beet_view.specs.Transcripts.{tells_policy, magic, mark_of, policy_field, numbers_bytes, counted_bytes}
+use Rattle.beet_view.specs.Transcripts.{grid_bytes, own_bytes, seen_bytes, round_bytes, view_bytes, IsMessage, FitsFile}
 
 -- texts that are at most so long, one after another
-texts-short : {A : Type 0} (text : A → List ℕ) (most : ℕ) (xs : List A) → All (λ x. length (text x) ≤ most) xs → length (flat_map text xs) ≤ length xs * most
+texts-short : {A : Type 0} (text : A → List ℕ) (most : ℕ) (xs : List A) → All (λ x. length (text x) ≤ most) xs →
+    length (flat_map text xs) ≤ length xs * most
 texts-short text most [] all = omega arith
 texts-short text most (x ∷ xs) all =
     let first = All-head (λ y. length (text y) ≤ most) x xs all in
@@ -34,22 +36,47 @@ counted-short numbers = omega (arith, numbers-short numbers, length-append (numb
 -- a message has few numbers
 round-short : (round : List ℕ × List ℕ) → IsMessage round.0 × IsMessage round.1 → length (round_bytes round) ≤ 1040
 round-short round are =
-    omega (arith, are.0.1, are.1.1, counted-short round.0, counted-short round.1, length-append (counted_bytes number_bytes round.0) (counted_bytes number_bytes round.1))
+    omega (
+      arith,
+      are.0.1,
+      are.1.1,
+      counted-short round.0,
+      counted-short round.1,
+      length-append (counted_bytes number_bytes round.0) (counted_bytes number_bytes round.1),
+    )
 
-own-short : (prices : ℕ) (own : Curve × List ℕ) → length own.0.buy ≡ prices → length own.0.sell ≡ prices → length own.1 ≤ words_kept prices →
+own-short : (prices : ℕ) (own : Curve × List ℕ) → length own.0.buy ≡ prices → length own.0.sell ≡ prices →
+    length own.1 ≤ words_kept prices →
     length (own_bytes (Some own)) ≤ 72 + 32 * prices
 own-short prices own buys sells few =
     let a = numbers_bytes own.0.buy in
     let b = numbers_bytes own.0.sell in
     let c = counted_bytes number_bytes own.1 in
-    omega (arith, buys, sells, few, numbers-short own.0.buy, numbers-short own.0.sell, counted-short own.1, length-append a (b ++ c), length-append b c)
+    omega (
+      arith,
+      buys,
+      sells,
+      few,
+      numbers-short own.0.buy,
+      numbers-short own.0.sell,
+      counted-short own.1,
+      length-append a (b ++ c),
+      length-append b c,
+    )
 
 -- a bidder whose parts are as many as the prices tell
 seen-short : (server : Point) (grid : Grid) (known : Option Point) (points : List ℕ) (own : Option (Curve × List ℕ)) →
-    IsSeenAt server grid (record { known = known; points = points; own = own }) → IfSome own (λ kept. length kept.1 ≤ words_kept grid.prices) →
+    IsSeenAt server grid (record { known = known; points = points; own = own }) →
+    IfSome own (λ kept. length kept.1 ≤ words_kept grid.prices) →
     length (seen_bytes (record { known = known; points = points; own = own })) ≤ 80 + 48 * grid.prices
 seen-short server grid known points None is few =
-    omega (arith, is.points, numbers-short points, length-append (number_bytes (mark_of known)) (numbers_bytes points ++ []), length-append (numbers_bytes points) [])
+    omega (
+      arith,
+      is.points,
+      numbers-short points,
+      length-append (number_bytes (mark_of known)) (numbers_bytes points ++ []),
+      length-append (numbers_bytes points) [],
+    )
 seen-short server grid known points (Some own) is few =
     let kept = own-short grid.prices own is.own.1.buy_length is.own.1.sell_length few in
     let a = numbers_bytes points in
@@ -84,13 +111,26 @@ view_bytes-short view grid is fits =
     let c = counted_bytes number_bytes view.coefficients in
     let d = counted_bytes round_bytes view.rounds in
     let comparisons = few_comparisons view.grid.prices grid.prices_limit in
-    let bidders : length a ≤ 24160008 = omega (arith, bidders-short view is fits, length-append (number_bytes (length view.bidders)) (flat_map seen_bytes view.bidders)) in
+    let bidders : length a ≤ 24160008 = omega (
+      arith,
+      bidders-short view is fits,
+      length-append (number_bytes (length view.bidders)) (flat_map seen_bytes view.bidders),
+    ) in
     let masks : length b ≤ 128 = omega (arith, counted-short view.masks, fits.masks, comparisons) in
     let coefficients : length c ≤ 61512 = omega (arith, counted-short view.coefficients, fits.coefficients, comparisons) in
-    let rounds : length d ≤ 4259848 = omega (arith, rounds-short view fits, length-append (number_bytes (length view.rounds)) (flat_map round_bytes view.rounds)) in
+    let rounds : length d ≤ 4259848 = omega (
+      arith,
+      rounds-short view fits,
+      length-append (number_bytes (length view.rounds)) (flat_map round_bytes view.rounds),
+    ) in
     let start = magic (tells_policy view.grid.policy) in
     let policy = numbers_bytes (policy_field view.grid.policy) in
     let rest = a ++ (b ++ (c ++ d)) in
     let front : length (view_bytes view) ≤ 56 + length rest =
-    omega (arith, policy-short view.grid.policy, length-append start (number_bytes (number_of view.server) ++ (grid_bytes view.grid ++ rest)), length-append policy rest) in
+    omega (
+      arith,
+      policy-short view.grid.policy,
+      length-append start (number_bytes (number_of view.server) ++ (grid_bytes view.grid ++ rest)),
+      length-append policy rest,
+    ) in
     omega (arith, front, bidders, masks, coefficients, rounds, length-append a (b ++ (c ++ d)), length-append b (c ++ d), length-append c d)

@@ -6,11 +6,12 @@ use Rattle.beet_bids.specs.Grids.{Grid}
 use Rattle.beet_round.specs.Sides.{peer}
 use Rattle.beet_round.specs.declared.sides.Side.{Side}
 use Rattle.beet_round.specs.declared.sides.Side.TheVariants.{Low, High}
-use Rattle.beet_sharing.specs.Runs.{Setup, message}
+use Rattle.beet_sharing.specs.Runs.{Setup}
+use Rattle.beet_sharing.specs.Seen.{SeenRun, run_seen}
 use Rattle.beet_server.specs.Cores.{Core}
 use Rattle.beet_server.specs.Steps.{received_from}
 use Rattle.beet_view.specs.declared.view.Seen.{Seen}
-use Rattle.beet_view.specs.Views.{Viewed}
+use Rattle.beet_view.specs.Views.{Viewed, view_with_run}
 
 -- the numbers that a core received from its peer of a side in a round that it has passed
 abbrev pub numbers_received : {S : Type 0} → Core S → Side → ℕ → List ℕ
@@ -24,32 +25,16 @@ round_received c t = (numbers_received c Low t, numbers_received c High t)
 abbrev pub rounds_received : {S : Type 0} → Core S → List (List ℕ × List ℕ)
 rounds_received c = each (round_received c) c.round
 
+-- what a core has seen of its run
+abbrev pub run_of_core : {S : Type 0} → Core S → SeenRun
+run_of_core c = record { masks = c.masks.words; coefficients = c.coefficients.words; rounds = rounds_received c }
+
 -- what a core has seen, with a grid and bidders
 abbrev pub view_of_core : {S : Type 0} → Core S → Grid → List Seen → Viewed
-view_of_core c grid bidders = record {
-  server = c.me;
-  grid = grid;
-  bidders = bidders;
-  masks = c.masks.words;
-  coefficients = c.coefficients.words;
-  rounds = rounds_received c;
-}
+view_of_core c grid bidders = view_with_run c.me grid bidders (run_of_core c)
 
--- the numbers that are sent to a server in a round of a run, by the lower and by the higher peer
-abbrev pub round_seen : Setup → Point → ℕ → List ℕ × List ℕ
-round_seen o server t = (message o (peer server Low) server t, message o (peer server High) server t)
-
--- those that are sent to it in each of so many rounds
-abbrev pub rounds_seen : Setup → Point → ℕ → List (List ℕ × List ℕ)
-rounds_seen o server rounds = each (round_seen o server) rounds
-
--- the view of a server of a run of so many rounds, with a grid, bidders, and the mask and coefficient words of the server
+-- the view of a server of a run of so many rounds, with a grid, bidders, and the mask and coefficient words of the
+-- server
 abbrev pub view_of_run : Setup → Point → ℕ → Grid → List Seen → List ℕ → List ℕ → Viewed
-view_of_run o server rounds grid bidders masks coefficients = record {
-  server = server;
-  grid = grid;
-  bidders = bidders;
-  masks = masks;
-  coefficients = coefficients;
-  rounds = rounds_seen o server rounds;
-}
+view_of_run o server rounds grid bidders masks coefficients =
+    view_with_run server grid bidders (run_seen o server rounds masks coefficients)

@@ -1,5 +1,6 @@
 -- Transcripts: a view in one binary file.
-use Rattle.std.specs.Prelude.{ℕ, zero, suc, ◌-◌, ◌*◌, ◌/◌, ◌≤◌, ◌++◌, min, nat_eq, Bool, true, false, if◌then◌else◌, List, [], ◌∷◌, length, codes, Option, None, Some, Ok, Err, All, IfSome}
+use Rattle.std.specs.Prelude.{ℕ, zero, suc, ◌-◌, ◌*◌, ◌/◌, ◌≤◌, ◌++◌, min, nat_eq, Bool, true, false, if◌then◌else◌}
+use Rattle.std.specs.Prelude.{List, [], ◌∷◌, length, codes, Option, None, Some, Ok, Err, All, IfSome}
 use Rattle.std.specs.List.{flat_map, starts_with}
 use Rattle.beet_field.specs.Field.{p, IsElement}
 use Rattle.beet_field.specs.Point.{number_of}
@@ -22,11 +23,12 @@ use Rattle.beet_bids.specs.declared.outcomes.Policy.{Policy}
 use Rattle.beet_bids.specs.declared.outcomes.Policy.TheVariants.{Price, Volume, Full}
 use Rattle.beet_book.specs.declared.book_file.TheConstants.{MOST_PRODUCT}
 use Rattle.beet_plan.specs.Kept.{words_kept, masks_kept, coefficients_kept}
+use Rattle.beet_sharing.specs.Seen.{SeenRun}
 use Rattle.beet_view.specs.declared.reading.TheConstants.{MOST_ROUNDS}
 use Rattle.beet_view.specs.declared.quantities.Course.{Course}
 use Rattle.beet_view.specs.declared.quantities.Course.TheVariants.{Falling, Rising}
 use Rattle.beet_view.specs.declared.view.Seen.{Seen}
-use Rattle.beet_view.specs.Views.{Viewed}
+use Rattle.beet_view.specs.Views.{Viewed, run_in}
 
 -- whether a transcript tells the policy of the auction: it tells all but Volume
 abbrev pub tells_policy : Policy → Bool
@@ -85,7 +87,6 @@ form_in bytes =
     else if starts_with nat_eq bytes (magic true) then Ok (true, 8)
     else Err (at_offset 0 BAD_MAGIC)
 
--- a server
 unfoldable pub server_at : List ℕ → Part Point
 server_at bytes at = do
   number ← number_at bytes (from_to 1 3) at
@@ -190,9 +191,9 @@ numbers_bytes numbers = flat_map number_bytes numbers
 abbrev pub counted_bytes : {A : Type 0} → (A → List ℕ) → List A → List ℕ
 counted_bytes item_bytes items = number_bytes (length items) ++ flat_map item_bytes items
 
--- the bytes of a grid
 abbrev pub grid_bytes : Grid → List ℕ
-grid_bytes grid = numbers_bytes (grid.base ∷ grid.tick ∷ grid.prices ∷ number_of_gates grid.gates ∷ policy_field grid.policy)
+grid_bytes grid =
+    numbers_bytes (grid.base ∷ grid.tick ∷ grid.prices ∷ number_of_gates grid.gates ∷ policy_field grid.policy)
 
 -- the bytes of the curve and the words of a known bidder
 abbrev pub own_bytes : Option (Curve × List ℕ) → List ℕ
@@ -207,15 +208,18 @@ seen_bytes seen = number_bytes (mark_of seen.known) ++ (numbers_bytes seen.point
 abbrev pub round_bytes : List ℕ × List ℕ → List ℕ
 round_bytes round = counted_bytes number_bytes round.0 ++ counted_bytes number_bytes round.1
 
--- the bytes of a view
+-- the bytes of what a server sees of a run: its words of both kinds, and the rounds
+abbrev pub run_bytes : SeenRun → List ℕ
+run_bytes run =
+    counted_bytes number_bytes run.masks
+    ++ (counted_bytes number_bytes run.coefficients ++ counted_bytes round_bytes run.rounds)
+
 abbrev pub view_bytes : Viewed → List ℕ
 view_bytes view =
     magic (tells_policy view.grid.policy) ++ (number_bytes (number_of view.server)
     ++ (grid_bytes view.grid
     ++ (counted_bytes seen_bytes view.bidders
-    ++ (counted_bytes number_bytes view.masks
-    ++ (counted_bytes number_bytes view.coefficients
-    ++ counted_bytes round_bytes view.rounds)))))
+    ++ run_bytes (run_in view))))
 
 -- one number or more, as many as a message may have
 abbrev pub IsMessage : List ℕ → Type 0

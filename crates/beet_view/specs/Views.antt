@@ -1,5 +1,6 @@
 -- What one server sees of an auction.
-use Rattle.std.specs.Prelude.{◌≡◌, ◌≢◌, ℕ, ◌*◌, ◌^◌, ◌<◌, ◌≤◌, List, length, slice_get, Option, Some, option_and_then, option_map, MatchOption, All}
+use Rattle.std.specs.Prelude.{◌≡◌, ◌≢◌, ℕ, ◌*◌, ◌^◌, ◌<◌, ◌≤◌, List, length, slice_get, Option, Some, option_and_then}
+use Rattle.std.specs.Prelude.{option_map, MatchOption, All}
 use Rattle.beet_field.specs.declared.point.Point.{Point}
 use Rattle.beet_bids.specs.Grids.{Grid}
 use Rattle.beet_bids.specs.Curves.{IsOfGrid}
@@ -7,6 +8,7 @@ use Rattle.beet_words.specs.declared.bundle.TheConstants.{MOST_BIDDERS}
 use Rattle.beet_round.specs.Sides.{side_of}
 use Rattle.beet_round.specs.declared.sides.Side.{Side}
 use Rattle.beet_round.specs.declared.sides.Side.TheVariants.{Low, High}
+use Rattle.beet_sharing.specs.Seen.{SeenRun}
 use Rattle.beet_view.specs.declared.view.Seen.{Seen}
 
 -- the server, its grid, the bidders, its tapes, and in each round the numbers from its lower and from its higher peer
@@ -17,6 +19,21 @@ pub record Viewed : Type 0 where
   pub masks : List ℕ
   pub coefficients : List ℕ
   pub rounds : List (List ℕ × List ℕ)
+
+-- the view of a server that has seen so much of a run, with a grid and bidders
+abbrev pub view_with_run : Point → Grid → List Seen → SeenRun → Viewed
+view_with_run server grid bidders run = record {
+  server = server;
+  grid = grid;
+  bidders = bidders;
+  masks = run.masks;
+  coefficients = run.coefficients;
+  rounds = run.rounds;
+}
+
+-- what a view tells of a run
+abbrev pub run_in : Viewed → SeenRun
+run_in view = record { masks = view.masks; coefficients = view.coefficients; rounds = view.rounds }
 
 -- a bidder at a server: two points for each price, and a curve of the grid exactly where the server knows the bidder
 pub record IsSeenAt (server : Point) (grid : Grid) (seen : Seen) : Type 0 where

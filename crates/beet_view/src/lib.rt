@@ -9,6 +9,6 @@ mod view;
 mod writing;
 
 pub use reading::{MOST_ROUNDS, read_view};
-pub use running::view_of;
-pub use view::{Seen, View};
-pub use writing::write_view;
+pub use running::{run_view, view_of};
+pub use view::{RunView, Seen, View};
+pub use writing::{push_run, write_view};

@@ -5,11 +5,13 @@ ghost use Rattle.beet_forms.specs.Faults.{Answers};
 ghost use Rattle.beet_forms.specs.declared.faults.TheConstants.{LONGEST_FILE};
 ghost use Rattle.beet_words.specs.Fields.{times, counted_at};
 ghost use Rattle.beet_bids.specs.Grids.{IsGrid};
-ghost use Rattle.beet_view.specs.Transcripts.{magic, from_to as allowed_from_to, gates_of, known_of, form_in, server_at, policy_at, grid_at, most_bidders, own_at, own_where_known, seen_at, round_at, view_in, view_bytes, FitsFile};
+ghost use Rattle.beet_view.specs.Transcripts.{magic, from_to as allowed_from_to, gates_of, known_of, form_in};
+ghost use Rattle.beet_view.specs.Transcripts.{server_at, policy_at, grid_at, most_bidders, own_at, own_where_known};
+ghost use Rattle.beet_view.specs.Transcripts.{seen_at, round_at, view_in, view_bytes, FitsFile};
 
 use crate::parts::{read_message, read_points};
 use crate::quantities::{Course, read_from_to};
-use crate::view::{Received, Seen, View};
+use crate::view::{Received, RunView, Seen, View};
 use beet_bids::{Curve, Grid, LARGEST_BASE, LARGEST_TICK, MOST_PRICES, Policy};
 use beet_book::MOST_PRODUCT;
 use beet_field::Point;
@@ -292,29 +294,32 @@ fn read_parts(alloc: Global, bytes: &[u8]) -> Result<View, ReadFault>
         server,
         grid,
         bidders,
-        masks,
-        coefficients,
-        rounds,
+        run: RunView {
+            masks,
+            coefficients,
+            rounds,
+        },
     })
 }
 
 /// The view of a transcript.
 ///
-/// After `BEETVW01`, or `BEETVW02` where the policy is not Volume, all is numbers of 8 bytes, the highest byte first: the
-/// server, the base, the tick and the number of prices, 0 for a chain of gates or 1 for a tree, after `BEETVW02` alone 0
-/// for the policy Price or 2 for Full, and the number of bidders. For each bidder: its mark, which is 0 or the number of
-/// the server that knows it, its buy points and its sell points; where the mark is the server, its buy and its sell
-/// quantities, and its words after their count. Then the mask words and the coefficient words, each after their count,
-/// the number of rounds, and for each round the numbers of the lower and then of the higher peer, each after their count.
+/// After `BEETVW01`, or `BEETVW02` where the policy is not Volume, all is numbers of 8 bytes, the highest byte first:
+/// the server, the base, the tick and the number of prices, 0 for a chain of gates or 1 for a tree, after `BEETVW02`
+/// alone 0 for the policy Price or 2 for Full, and the number of bidders. For each bidder: its mark, which is 0 or the
+/// number of the server that knows it, its buy points and its sell points; where the mark is the server, its buy and
+/// its sell quantities, and its words after their count. Then the mask words and the coefficient words, each after
+/// their count, the number of rounds, and for each round the numbers of the lower and then of the higher peer, each
+/// after their count.
 ///
-/// A transcript is refused at the first place from the left that breaks its format: for the reason 1 at 0 where it begins
-/// with neither text; for the reason 2 at a field that is cut off; for the reason 3 at a field with a number that is not
-/// allowed; for the reason 4 at the first byte after the last field. Allowed are 1 to 3 for the server; the limits of a
-/// grid; at most 2,000 bidders, and at most 500,000 where each is counted once for each price; 0 to 3 for a mark;
-/// points below the modulus; quantities below 2^48, where none that is bought is above and none that is sold is below
-/// the one before it; at most 2 words for each price and 8 more for a bidder; at most 2 mask words more than the search
-/// has comparisons; at most 512 coefficient words for each of as many, and 8 more; words below 2^61; at most 4,096
-/// rounds; 1 to 64 numbers below the modulus in a message.
+/// A transcript is refused at the first place from the left that breaks its format: for the reason 1 at 0 where it
+/// begins with neither text; for the reason 2 at a field that is cut off; for the reason 3 at a field with a number
+/// that is not allowed; for the reason 4 at the first byte after the last field. Allowed are 1 to 3 for the server; the
+/// limits of a grid; at most 2,000 bidders, and at most 500,000 where each is counted once for each price; 0 to 3 for a
+/// mark; points below the modulus; quantities below 2^48, where none that is bought is above and none that is sold is
+/// below the one before it; at most 2 words for each price and 8 more for a bidder; at most 2 mask words more than the
+/// search has comparisons; at most 512 coefficient words for each of as many, and 8 more; words below 2^61; at most
+/// 4,096 rounds; 1 to 64 numbers below the modulus in a message.
 ///
 /// The file is gone over once, and memory is taken for no more items than it can hold.
 pub fn read_view(alloc: Global, bytes: &[u8]) -> Result<View, ReadFault>

@@ -4,13 +4,15 @@ ghost use Rattle.std.specs.Prelude.{◌≡◌, ◌<◌, ◌≤◌, ◌^◌, true
 ghost use Rattle.beet_field.specs.declared.TheConstants.{MOST_NUMBERS};
 ghost use Rattle.beet_words.specs.declared.bundle.TheConstants.{MOST_BIDDERS};
 ghost use Rattle.beet_sharing.specs.Runs.{Setup, HasRounds};
+ghost use Rattle.beet_sharing.specs.Seen.{run_seen};
 ghost use Rattle.beet_delivery.specs.Events.{Delivered};
 ghost use Rattle.beet_server.specs.Cores.{has_ended};
 ghost use Rattle.beet_server.specs.Fits.{Fits};
 ghost use Rattle.beet_view.specs.Views.{IsSeenAt};
-ghost use Rattle.beet_view.specs.RunViews.{numbers_received, round_received, rounds_received, view_of_core, view_of_run};
+ghost use Rattle.beet_view.specs.RunViews.{numbers_received, round_received, rounds_received, run_of_core};
+ghost use Rattle.beet_view.specs.RunViews.{view_of_core, view_of_run};
 
-use crate::view::{Received, Seen, View};
+use crate::view::{Received, RunView, Seen, View};
 use arrayvec::ArrayVec;
 use beet_bids::Grid;
 use beet_field::{Fe, MOST_NUMBERS};
@@ -74,6 +76,21 @@ fn words_of(alloc: Global, words: &[Word]) -> Result<WordList, AllocError>
     Ok(WordList::of(words))
 }
 
+/// What a server has seen of its run, in memory of its own. Want of memory is the only error.
+pub fn run_view<S: Script>(alloc: Global, core: &ServerCore<S>) -> Result<RunView, AllocError>
+    ensures core { IfOk result (λ run. run ≡ run_of_core core.now) }
+    ensures run { (o : Setup) (x : Delivered) → Fits S.batch_of o x core.now
+        → IfOk result (λ run. run ≡ run_seen o core.now.me core.now.round core.now.masks.words
+        core.now.coefficients.words) }
+    ensures small { IfOk result (λ run. length run.rounds < 2 ^ 32) }
+{
+    Ok(RunView {
+        masks: words_of(alloc, core.masks().words())?,
+        coefficients: words_of(alloc, core.coefficients().words())?,
+        rounds: rounds_of(alloc, core)?,
+    })
+}
+
 /// The view of a server that has ended, with these bidders in their order, as it sees them. The view has the words and
 /// numbers in memory of its own. Want of memory is the only error.
 pub fn view_of<S: Script>(
@@ -96,8 +113,6 @@ pub fn view_of<S: Script>(
         server: core.me(),
         grid: *grid,
         bidders,
-        masks: words_of(alloc, core.masks().words())?,
-        coefficients: words_of(alloc, core.coefficients().words())?,
-        rounds: rounds_of(alloc, core)?,
+        run: run_view(alloc, core)?,
     })
 }

@@ -11,8 +11,8 @@ use beet_words::{FeList, Word, WordList};
 use std::marker::Model;
 
 /// A bidder at a server: the server that knows it, if there is one, its points at the server, for each price that of
-/// the quantity that it buys and then for each that of what it sells, and its curve and its words where it is the server
-/// itself that knows it.
+/// the quantity that it buys and then for each that of what it sells, and its curve and its words where it is the
+/// server itself that knows it.
 #[derive(Drop)]
 pub struct Seen {
     pub known: Option<Point>,
@@ -51,42 +51,48 @@ impl Received {
     }
 }
 
-/// What one server sees of an auction: the bidders as it sees them, its tapes of words, and the numbers that its peers
-/// sent it.
+/// What one server sees of a run of any script: its tapes of words, and the numbers that its peers sent it.
 #[derive(Drop)]
-pub struct View {
-    pub(crate) server: Point,
-    pub(crate) grid: Grid,
-    pub(crate) bidders: Vec<Seen>,
+pub struct RunView {
     pub(crate) masks: WordList,
     pub(crate) coefficients: WordList,
     pub(crate) rounds: Vec<Received>,
 }
 
+impl Model for RunView {
+    ghost use Rattle.beet_sharing.specs.Seen.{SeenRun};
+
+    ghost Value = { SeenRun };
+
+    ghost view = { λ a. record { masks = a.masks; coefficients = a.coefficients; rounds = a.rounds.items } };
+}
+
+impl RunView {
+    /// What came in each round.
+    pub(crate) fn received(&self) -> &[Received]
+        ensures { result.now ≡ self.now.rounds }
+    {
+        &self.rounds
+    }
+}
+
+/// What one server sees of an auction: the bidders as it sees them, and what it sees of the run.
+#[derive(Drop)]
+pub struct View {
+    pub(crate) server: Point,
+    pub(crate) grid: Grid,
+    pub(crate) bidders: Vec<Seen>,
+    pub(crate) run: RunView,
+}
+
 impl Model for View {
-    ghost use Rattle.beet_view.specs.Views.{Viewed, IsView};
+    ghost use Rattle.beet_view.specs.Views.{Viewed, IsView, view_with_run};
 
     ghost Value = { Viewed };
 
-    ghost view = { λ a.
-        record {
-          server = a.server;
-          grid = a.grid;
-          bidders = a.bidders.items;
-          masks = a.masks;
-          coefficients = a.coefficients;
-          rounds = a.rounds.items;
-        } };
+    ghost view = { λ a. view_with_run a.server a.grid a.bidders.items a.run };
 
-    ghost invariant = { λ a.
-        IsView (record {
-          server = a.server;
-          grid = a.grid;
-          bidders = a.bidders.items;
-          masks = a.masks;
-          coefficients = a.coefficients;
-          rounds = a.rounds.items;
-        }) };
+    ghost invariant = { λ a. IsView (view_with_run a.server a.grid a.bidders.items a.run) };
 }
 
 impl View {
@@ -120,28 +126,28 @@ impl View {
     pub fn masks(&self) -> &[Word]
         ensures { result.now ≡ self.now.masks }
     {
-        self.masks.as_slice()
+        self.run.masks.as_slice()
     }
 
     /// The coefficient tape of the server.
     pub fn coefficients(&self) -> &[Word]
         ensures { result.now ≡ self.now.coefficients }
     {
-        self.coefficients.as_slice()
+        self.run.coefficients.as_slice()
     }
 
     /// What came in each round.
     pub(crate) fn received(&self) -> &[Received]
         ensures { result.now ≡ self.now.rounds }
     {
-        &self.rounds
+        self.run.received()
     }
 
     /// How many rounds there were.
     pub fn rounds(&self) -> u32
         ensures { result ≡ length self.now.rounds }
     {
-        self.rounds.len() as u32
+        self.run.received().len() as u32
     }
 
     /// The numbers from this sender in this round, counted from 0, or none where there was no such round or the sender
@@ -150,7 +156,7 @@ impl View {
         ensures numbers { option_map (λ s. s.now) result ≡ numbers_of self.now round sender }
         ensures none { IsNone result ↔ ((length self.now.rounds ≤ round) ⊎ (sender ≡ self.now.server)) }
     {
-        let received = self.rounds.get(round as usize)?;
+        let received = self.run.received().get(round as usize)?;
         numbers_from(self.server, sender, received)
     }
 }

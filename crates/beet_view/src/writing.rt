@@ -5,12 +5,16 @@ ghost use Rattle.std.specs.List.{flat_map};
 ghost use Rattle.beet_field.specs.Field.{IsElement};
 ghost use Rattle.beet_forms.specs.declared.faults.TheConstants.{LONGEST_FILE};
 ghost use Rattle.beet_words.specs.Fields.{number_bytes};
+ghost use Rattle.beet_words.specs.Words.{IsWord};
 ghost use Rattle.beet_bids.specs.Grids.{IsGrid};
 ghost use Rattle.beet_view.specs.Views.{IsView};
-ghost use Rattle.beet_view.specs.Transcripts.{tells_policy, magic, mark_of, number_of_gates, policy_field, numbers_bytes, counted_bytes, grid_bytes, own_bytes, seen_bytes, round_bytes, view_bytes, view_in, FitsFile, HasElements, HasNumbers, AreNumbers};
+ghost use Rattle.beet_view.specs.Transcripts.{tells_policy, magic, mark_of, number_of_gates, policy_field};
+ghost use Rattle.beet_view.specs.Transcripts.{numbers_bytes, counted_bytes, grid_bytes, own_bytes, seen_bytes};
+ghost use Rattle.beet_view.specs.Transcripts.{round_bytes, run_bytes, view_bytes, view_in, FitsFile, HasElements};
+ghost use Rattle.beet_view.specs.Transcripts.{HasNumbers, AreNumbers};
 
 use crate::reading::magic;
-use crate::view::{Received, Seen, View};
+use crate::view::{Received, RunView, Seen, View};
 use beet_bids::{Grid, Policy};
 use beet_field::{Fe, Point};
 use beet_gates::Gates;
@@ -130,6 +134,21 @@ fn push_rounds(file: &mut Vec<u8>, rounds: &[Received]) -> Result<(), AllocError
     Ok(())
 }
 
+/// Appends what a server sees of a run.
+pub fn push_run(file: &mut Vec<u8>, run: &RunView) -> Result<(), AllocError>
+    ensures bytes { OnOk result (file.new.items ≡ file.old.items ++ run_bytes run.now) }
+    ensures masks { OnOk result (All IsWord run.now.masks) }
+    ensures coefficients { OnOk result (All IsWord run.now.coefficients) }
+    ensures rounds { OnOk result (All HasElements run.now.rounds) }
+{
+    push_list(file, &run.masks)?;
+    push_list(file, &run.coefficients)?;
+    let rounds = run.received();
+    push_number(file, rounds.len() as u64)?;
+    push_rounds(file, rounds)?;
+    Ok(())
+}
+
 /// The 8 bytes at the start, the server, the first four numbers of the grid and the four counts, each as long as a
 /// number.
 const NUMBERS_BESIDE: usize = 10;
@@ -192,10 +211,7 @@ fn push_view(file: &mut Vec<u8>, view: &View) -> Result<(), AllocError>
     push_grid(file, view.grid())?;
     push_number(file, view.bidders().len() as u64)?;
     push_bidders(file, view.bidders())?;
-    push_list(file, &view.masks)?;
-    push_list(file, &view.coefficients)?;
-    push_number(file, view.rounds() as u64)?;
-    push_rounds(file, view.received())?;
+    push_run(file, &view.run)?;
     Ok(())
 }
 

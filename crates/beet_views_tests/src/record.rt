@@ -1,8 +1,8 @@
 use crate::transcript::fault_of;
 use beet_errand::Reply;
 use beet_field::Point;
+use beet_job_record::record;
 use beet_link::FreeGate;
-use beet_record::record;
 use beet_store::{Held, MemoryShelf};
 use beet_view::{View, read_view};
 use std::alloc::Global;
@@ -18,11 +18,15 @@ const FILES: [(&str, &str); 6] = [
     ),
     (
         "s.srv",
-        "beet-servers,1\n1,seed,0101010101010101010101010101010101010101010101010101010101010101\n2,seed,0202020202020202020202020202020202020202020202020202020202020202\n3,seed,0303030303030303030303030303030303030303030303030303030303030303\n",
+        "beet-servers,1\n1,seed,0101010101010101010101010101010101010101010101010101010101010101\n\
+        2,seed,0202020202020202020202020202020202020202020202020202020202020202\n\
+        3,seed,0303030303030303030303030303030303030303030303030303030303030303\n",
     ),
     (
         "b.book",
-        "beet-book,1\nanna,0,anna.bid,seed,0a0a0a0a0a0a0a0a0a0a0a0a0a0a0a0a0a0a0a0a0a0a0a0a0a0a0a0a0a0a0a0a\nbo,0,bo.bid,seed,0b0b0b0b0b0b0b0b0b0b0b0b0b0b0b0b0b0b0b0b0b0b0b0b0b0b0b0b0b0b0b0b\ncarl,2,carl.bid,seed,0c0c0c0c0c0c0c0c0c0c0c0c0c0c0c0c0c0c0c0c0c0c0c0c0c0c0c0c0c0c0c0c\n",
+        "beet-book,1\nanna,0,anna.bid,seed,0a0a0a0a0a0a0a0a0a0a0a0a0a0a0a0a0a0a0a0a0a0a0a0a0a0a0a0a0a0a0a0a\n\
+        bo,0,bo.bid,seed,0b0b0b0b0b0b0b0b0b0b0b0b0b0b0b0b0b0b0b0b0b0b0b0b0b0b0b0b0b0b0b0b\n\
+        carl,2,carl.bid,seed,0c0c0c0c0c0c0c0c0c0c0c0c0c0c0c0c0c0c0c0c0c0c0c0c0c0c0c0c0c0c0c0c\n",
     ),
     ("anna.bid", "beet-bid,1\n100,45,0\n110,30,0\n115,10,0\n"),
     (

@@ -1,6 +1,6 @@
 //! What several tests ask of transcripts.
 
-use beet_forms::{Place, ReadFault};
+use beet_forms::{FaultPlace, ReadFault};
 use beet_view::read_view;
 use std::alloc::Global;
 use std::process::Abort;
@@ -10,7 +10,7 @@ pub(crate) fn fault_of(rt: &impl Abort, alloc: Global, bytes: &[u8]) -> Option<(
     assert!(rt; bytes.len() <= 100_000);
     match read_view(alloc, bytes).err()? {
         ReadFault::Bad {
-            place: Place::At(at),
+            place: FaultPlace::At(at),
             reason,
         } => Some((at, reason)),
         _ => None,

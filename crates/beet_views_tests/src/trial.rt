@@ -1,4 +1,4 @@
-use beet_trial::numbers_of_words;
+use beet_job_trial::numbers_of_words;
 use std::process::Abort;
 
 /// Two words, and the numbers that they are.

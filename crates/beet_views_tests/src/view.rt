@@ -145,7 +145,8 @@ fn expect_again(rt: &impl Abort, alloc: Global, file: &[u8], policy: Policy) {
     expect_written(rt, alloc, &view, file);
 }
 
-/// The small transcript in each form and in others, with its policy, or the offset and the reason that it is refused with.
+/// The small transcript in each form and in others, with its policy, or the offset and the reason that it is refused
+/// with.
 type InForm = (Form, Result<Policy, (u64, u32)>);
 
 const FORMS: [InForm; 11] = [
@@ -182,7 +183,8 @@ fn forms(rt: HostRuntime) {
     expect_forms(&rt, rt.alloc(), &FORMS);
 }
 
-/// Lengths of fronts of the small transcript in a form with a byte more, and the offset and the reason that they are refused with.
+/// Lengths of fronts of the small transcript in a form with a byte more, and the offset and the reason that they are
+/// refused with.
 type Front = (Form, usize, Option<(u64, u32)>);
 
 const FRONTS: [Front; 12] = [

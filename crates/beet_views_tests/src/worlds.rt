@@ -1,9 +1,11 @@
+use beet_auction_map::{
+    MapFault, agreement, enough, input_lines, map_bidders, map_masks, world_map,
+};
 use beet_bids::{Bidder, Book, Curve, Grid, Outcome, Policy};
 use beet_field::{Fe, P, Point, Trio};
 use beet_gates::Gates;
 use beet_turned::turn;
 use beet_words::{Word, WordList, Words, count_accepted};
-use beet_worlds::{MapFault, agreement, enough, input_lines, map_bidders, map_masks, world_map};
 use std::alloc::Global;
 use std::process::Abort;
 
@@ -171,7 +173,8 @@ fn differences(
     [alone, mapped]
 }
 
-/// Outcomes with the one price: the volume of 35 is that of the first bidder's book, and of 34 that of one that buys less.
+/// Outcomes with the one price: the volume of 35 is that of the first bidder's book, and of 34 that of one that buys
+/// less.
 const VOLUME: Outcome = Outcome::Price {
     place: 0,
     price: 100,
@@ -297,7 +300,8 @@ fn mapped_bidders(
     map_bidders(alloc, me, first, second, lists).expect(rt, "memory")
 }
 
-/// Whether these words of a bidder become those, for server `me`, where the bidder has another mark and curve in the second world.
+/// Whether these words of a bidder become those, for server `me`, where the bidder has another mark and curve in the
+/// second world.
 fn bidder_becomes(
     rt: &impl Abort,
     alloc: Global,
@@ -406,7 +410,8 @@ fn many_each(
     }
 }
 
-/// How many words there are: masks of server 1, coefficients of server 2 that are all ones and others, and words of the one bidder.
+/// How many words there are: masks of server 1, coefficients of server 2 that are all ones and others, and words of the
+/// one bidder.
 type Counts = (usize, usize, usize, usize);
 
 /// Words of these numbers; there are more than enough of the others.

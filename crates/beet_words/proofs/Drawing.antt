@@ -9,7 +9,8 @@ use Rattle.std.proofs.lemmas.List.{get_or-set_same, get_or-set_other, get_or-dro
 abbrev pub SameFront : ℕ → List ℕ → List ℕ → Type 0
 SameFront n xs ys = (k : ℕ) → k < n → get_or xs k 0 ≡ get_or ys k 0
 
-pub front-more : (n x : ℕ) (xs ys rest : List ℕ) → n < length xs → SameFront n xs ys → drop n ys ≡ x ∷ rest → SameFront (n + 1) (set xs n x) ys
+pub front-more : (n x : ℕ) (xs ys rest : List ℕ) → n < length xs → SameFront n xs ys → drop n ys ≡ x ∷ rest →
+    SameFront (n + 1) (set xs n x) ys
 front-more n x xs ys rest h same e = λ k lt. elim (cases_lt k n) [
   | inl low ↦ get_or-set_other xs n k x 0 (λ equal. omega (arith, equal)) ∙ same k low
   | inr high ↦

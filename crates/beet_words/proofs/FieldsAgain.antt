@@ -1,5 +1,6 @@
 -- Fields that stand in a file are read.
-use Rattle.std.proofs.Common.{◌≡◌, ℕ, ◌+◌, ◌^◌, ◌<◌, ◌≤◌, false, ltb, List, [], ◌∷◌, ◌++◌, length, take, drop, All, Ok, refl, sym, ap, ◌∙◌, append_assoc, arith}
+use Rattle.std.proofs.Common.{◌≡◌, ℕ, ◌+◌, ◌^◌, ◌<◌, ◌≤◌, false, ltb, List, [], ◌∷◌, ◌++◌, length, take, drop, All, Ok}
+use Rattle.std.proofs.Common.{refl, sym, ap, ◌∙◌, append_assoc, arith}
 use Rattle.std.specs.List.{flat_map}
 use Rattle.std.specs.Int.{w64, from_be_bytes}
 use Rattle.std.proofs.lemmas.Bool.{le-ltb}
@@ -34,7 +35,6 @@ StandsAt-right bytes at a b s = record {
   place = length-append s.front a ∙ ap (λ n. n + length a) s.place;
 }
 
--- the text is within the bytes
 pub StandsAt-within : (bytes : List ℕ) (at : ℕ) (text : List ℕ) → StandsAt bytes at text → at + length text ≤ length bytes
 StandsAt-within bytes at text s =
     omega (arith, ap length s.whole, length-append s.front (text ++ s.rest), length-append text s.rest, s.place)
@@ -75,6 +75,8 @@ times-parts bytes part text Fits [] at each all s =
     ap (λ n. Ok ([], n)) place
 times-parts bytes part text Fits (x ∷ xs) at each all s =
     let first = each x at (All-head Fits x xs all) (StandsAt-left bytes at (text x) (flat_map text xs) s) in
-    let others = times-parts bytes part text Fits xs (at + length (text x)) each (All-tail Fits x xs all) (StandsAt-right bytes at (text x) (flat_map text xs) s) in
-    let place : at + length (text x) + length (flat_map text xs) ≡ at + length (text x ++ flat_map text xs) = omega (arith, length-append (text x) (flat_map text xs)) in
+    let others = times-parts bytes part text Fits xs (at + length (text x)) each (All-tail Fits x xs all)
+    (StandsAt-right bytes at (text x) (flat_map text xs) s) in
+    let place : at + length (text x) + length (flat_map text xs) ≡ at + length (text x ++ flat_map text xs) =
+    omega (arith, length-append (text x) (flat_map text xs)) in
     rw (first, others) (ap (λ n. Ok (x ∷ xs, n)) place)

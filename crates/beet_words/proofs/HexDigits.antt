@@ -1,5 +1,7 @@
 -- Sixteen hexadecimal digits, read by a table and judged at once.
-use Rattle.std.proofs.Common.{◌≡◌, ℕ, zero, suc, ◌+◌, ◌*◌, ◌%◌, ◌^◌, ◌<◌, ◌≤◌, ◌==◌, ◌&&◌, if◌then◌else◌, Bool, true, List, [], ◌∷◌, length, get_or, Option, Some, None, unwrap_or, option_map, bit_or, Result, Ok, Err, is_some, refl, sym, ap, subst, ◌∙◌, arith, inl, inr}
+use Rattle.std.proofs.Common.{◌≡◌, ℕ, zero, suc, ◌+◌, ◌*◌, ◌%◌, ◌^◌, ◌<◌, ◌≤◌, ◌==◌, ◌&&◌, if◌then◌else◌, Bool, true}
+use Rattle.std.proofs.Common.{List, [], ◌∷◌, length, get_or, Option, Some, None, unwrap_or, option_map, bit_or, Result}
+use Rattle.std.proofs.Common.{Ok, Err, is_some, refl, sym, ap, subst, ◌∙◌, arith, inl, inr}
 use Rattle.std.specs.Int.{w64, from_be_bytes}
 use Rattle.std.specs.List.{AllPass}
 use Rattle.std.proofs.lemmas.Bool.{and_parts, cases_eq, eqb-true}
@@ -96,7 +98,10 @@ seen_small (c ∷ cs) n h all =
     let value : value_of c < 16 = digit_small (hex_digit_value c) here (λ v e. grind arith) in
     seen_small cs (bit_or n (value_of c)) (or_lt 4 n (value_of c) h value) (All-tail (λ x. is_hex_digit x ≡ true) c cs all)
 
-sixteen : (a b c d e f g h i j k l m n o p : ℕ) → from_be_bytes w64 ((a * 16 + b) ∷ (c * 16 + d) ∷ (e * 16 + f) ∷ (g * 16 + h) ∷ (i * 16 + j) ∷ (k * 16 + l) ∷ (m * 16 + n) ∷ (o * 16 + p) ∷ []) ≡ (((((((((((((((0 * 16 + a) * 16 + b) * 16 + c) * 16 + d) * 16 + e) * 16 + f) * 16 + g) * 16 + h) * 16 + i) * 16 + j) * 16 + k) * 16 + l) * 16 + m) * 16 + n) * 16 + o) * 16 + p
+sixteen : (a b c d e f g h i j k l m n o p : ℕ) → from_be_bytes w64 ((a * 16 + b) ∷ (c * 16 + d)
+    ∷ (e * 16 + f) ∷ (g * 16 + h) ∷ (i * 16 + j) ∷ (k * 16 + l) ∷ (m * 16 + n) ∷ (o * 16 + p) ∷ []) ≡
+    (((((((((((((((0 * 16 + a) * 16 + b) * 16 + c) * 16 + d) * 16 + e) * 16 + f) * 16 + g) * 16 + h) * 16 + i) * 16 + j)
+    * 16 + k) * 16 + l) * 16 + m) * 16 + n) * 16 + o) * 16 + p
 sixteen a b c d e f g h i j k l m n o p = omega arith
 
 number_of_pairs : (cs : List ℕ) → length cs ≡ 16 → from_be_bytes w64 (pairs cs) ≡ joined 0 cs
@@ -117,7 +122,9 @@ number_of_pairs (a ∷ b ∷ c ∷ d ∷ e ∷ f ∷ g ∷ h ∷ i ∷ j ∷ k �
 number_of_pairs (a ∷ b ∷ c ∷ d ∷ e ∷ f ∷ g ∷ h ∷ i ∷ j ∷ k ∷ l ∷ m ∷ n ∷ []) long = absurd (omega arith)
 number_of_pairs (a ∷ b ∷ c ∷ d ∷ e ∷ f ∷ g ∷ h ∷ i ∷ j ∷ k ∷ l ∷ m ∷ n ∷ o ∷ []) long = absurd (omega arith)
 number_of_pairs (a ∷ b ∷ c ∷ d ∷ e ∷ f ∷ g ∷ h ∷ i ∷ j ∷ k ∷ l ∷ m ∷ n ∷ o ∷ p ∷ q ∷ more) long = absurd (omega arith)
-number_of_pairs (a ∷ b ∷ c ∷ d ∷ e ∷ f ∷ g ∷ h ∷ i ∷ j ∷ k ∷ l ∷ m ∷ n ∷ o ∷ p ∷ []) long = sixteen (value_of a) (value_of b) (value_of c) (value_of d) (value_of e) (value_of f) (value_of g) (value_of h) (value_of i) (value_of j) (value_of k) (value_of l) (value_of m) (value_of n) (value_of o) (value_of p)
+number_of_pairs (a ∷ b ∷ c ∷ d ∷ e ∷ f ∷ g ∷ h ∷ i ∷ j ∷ k ∷ l ∷ m ∷ n ∷ o ∷ p ∷ []) long =
+    sixteen (value_of a) (value_of b) (value_of c) (value_of d) (value_of e) (value_of f) (value_of g) (value_of h)
+    (value_of i) (value_of j) (value_of k) (value_of l) (value_of m) (value_of n) (value_of o) (value_of p)
 
 -- so many digits write a number of so many digits
 joined_small : (cs : List ℕ) (n s : ℕ) → seen_of s cs < 16 → joined n cs < (n + 1) * 16 ^ length cs
@@ -128,12 +135,14 @@ joined_small (c ∷ cs) n s small =
     let digit : v < 16 = omega (arith, le_or_r s v, seen-ge (bit_or s v) cs) in
     let rest = joined_small cs (n * 16 + v) (bit_or s v) small in
     let step = mul-le (n * 16 + v + 1) x ((n + 1) * 16) x (omega arith) (omega arith) in
-    let power : (n + 1) * 16 * x ≡ (n + 1) * 16 ^ suc (length cs) = mul_assoc (n + 1) 16 x ∙ ap (λ y. (n + 1) * y) (sym (pow-succ' 16 (length cs))) in
+    let power : (n + 1) * 16 * x ≡ (n + 1) * 16 ^ suc (length cs) =
+    mul_assoc (n + 1) 16 x ∙ ap (λ y. (n + 1) * y) (sym (pow-succ' 16 (length cs))) in
     let bound : (n * 16 + v + 1) * x ≤ (n + 1) * 16 ^ suc (length cs) = subst (λ y. (n * 16 + v + 1) * x ≤ y) power step in
     omega (arith, rest, bound)
 
 -- sixteen digits have their number
-pub digits_good : (cs : List ℕ) (n : ℕ) → length cs ≡ 16 → seen_of 0 cs < 16 → n < 2 ^ 64 → n % 2 ^ 64 ≡ joined 0 cs % 2 ^ 64 → digits_of cs ≡ Some n
+pub digits_good : (cs : List ℕ) (n : ℕ) → length cs ≡ 16 → seen_of 0 cs < 16 → n < 2 ^ 64 →
+    n % 2 ^ 64 ≡ joined 0 cs % 2 ^ 64 → digits_of cs ≡ Some n
 digits_good cs n long small fits same =
     let bytes : decode_pairs 0 cs ≡ Ok (pairs cs) = decode_small 0 cs 0 (omega arith) small in
     let below : joined 0 cs < 2 ^ 64 = rw long at (joined_small cs 0 0 small) in

@@ -8,3 +8,5 @@ mod BundleParts
 pub mod BundleAgain
 mod Drawing
 pub mod DrawnFrom
+pub mod WordLists
+pub mod Putting

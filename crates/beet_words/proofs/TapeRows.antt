@@ -37,6 +37,10 @@ pub kept_more : (bytes words : List ℕ) (keep k : ℕ) →
     words ≡ take keep (map word_in (map (line_at bytes) (range_with_len 0 k))) →
     take keep (words ++ word_in (line_at bytes k) ∷ []) ≡ take keep (map word_in (map (line_at bytes) (range_with_len 0 (k + 1))))
 kept_more bytes words keep k e =
-    rw (e, map-range_with_len_more (line_at bytes) 0 k k (omega arith), map_push word_in (map (line_at bytes) (range_with_len 0 k)) (line_at bytes k)) (
+    rw (
+      e,
+      map-range_with_len_more (line_at bytes) 0 k k (omega arith),
+      map_push word_in (map (line_at bytes) (range_with_len 0 k)) (line_at bytes k),
+    ) (
     take_push keep (map word_in (map (line_at bytes) (range_with_len 0 k))) (word_in (line_at bytes k))
     )

@@ -1,5 +1,6 @@
 -- Reading parts one after another, as a loop does.
-use Rattle.std.proofs.Common.{◌≡◌, ℕ, zero, suc, ◌+◌, ◌-◌, ◌<◌, ◌≤◌, ◌||◌, nat_lt, if◌then◌else◌, Bool, true, false, List, [], ◌∷◌, ◌++◌, length, Ok, Err, IfOk, refl, sym, ap, ◌∙◌, append_assoc, arith}
+use Rattle.std.proofs.Common.{◌≡◌, ℕ, zero, suc, ◌+◌, ◌-◌, ◌<◌, ◌≤◌, ◌||◌, nat_lt, if◌then◌else◌, Bool, true, false}
+use Rattle.std.proofs.Common.{List, [], ◌∷◌, ◌++◌, length, Ok, Err, IfOk, refl, sym, ap, ◌∙◌, append_assoc, arith}
 use Rattle.std.proofs.lemmas.List.{append-nil}
 use Rattle.beet_forms.specs.declared.faults.ReadFault.{ReadFault}
 use Rattle.beet_forms.specs.declared.faults.ReadFault.TheVariants.{Bad, OutOfMemory}
@@ -36,7 +37,8 @@ onto-next part front count i at after value whole lt here so_far =
     sym one ∙ so_far
 
 -- a part with a fault ends it
-pub onto-fault : {A T U : Type 0} (part : Part A) (front : List A) (count i at : ℕ) (whole : Reading (List A × ℕ)) (seen : T → A × ℕ) (view : U → List A × ℕ) (fault : ReadFault) →
+pub onto-fault : {A T U : Type 0} (part : Part A) (front : List A) (count i at : ℕ) (whole : Reading (List A × ℕ))
+    (seen : T → A × ℕ) (view : U → List A × ℕ) (fault : ReadFault) →
     i < count →
     Answers seen (part at) (Err fault) →
     onto front (times (count - i) part at) ≡ whole →
@@ -77,8 +79,10 @@ length-times {A} part (suc n) at = first (part at) (length-times part n) where
 -- a number takes eight bytes
 pub number_at-after : (bytes : List ℕ) (allowed : Allowed) (at : ℕ) (read : ℕ × ℕ) → number_at bytes allowed at ≡ Ok read → read.1 ≡ at + 8
 number_at-after bytes allowed at read e =
-    by (nat_lt (length bytes) (at + 8)) (nat_lt (eight_bytes_at bytes at) allowed.low || nat_lt allowed.high (eight_bytes_at bytes at)) e where
-      by : (a b : Bool) → (if a then Err (at_offset at allowed.truncated) else if b then Err (at_offset at allowed.outside) else Ok (eight_bytes_at bytes at, at + 8)) ≡ Ok read →
+    by (nat_lt (length bytes) (at + 8))
+    (nat_lt (eight_bytes_at bytes at) allowed.low || nat_lt allowed.high (eight_bytes_at bytes at)) e where
+      by : (a b : Bool) → (if a then Err (at_offset at allowed.truncated) else if b then
+          Err (at_offset at allowed.outside) else Ok (eight_bytes_at bytes at, at + 8)) ≡ Ok read →
           read.1 ≡ at + 8
       by true b e = cc e
       by false true e = cc e

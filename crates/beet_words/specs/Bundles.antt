@@ -3,7 +3,8 @@ use Rattle.std.specs.Prelude.{ℕ, ◌≤◌, ◌++◌, List, length, codes, Ok,
 use Rattle.std.specs.List.{flat_map}
 use Rattle.beet_field.specs.declared.trio.Trio.{Trio}
 use Rattle.beet_forms.specs.Faults.{Reading}
-use Rattle.beet_words.specs.declared.bundle.TheConstants.{MOST_WORDS, MOST_BIDDERS, BAD_MAGIC, TRUNCATED, BAD_NUMBER, TRAILING}
+use Rattle.beet_words.specs.declared.bundle.TheConstants.{MOST_WORDS, MOST_BIDDERS, BAD_MAGIC, TRUNCATED, BAD_NUMBER}
+use Rattle.beet_words.specs.declared.bundle.TheConstants.{TRAILING}
 use Rattle.beet_words.specs.declared.fields.Allowed.{Allowed}
 use Rattle.beet_words.specs.Words.{IsWord, ones}
 use Rattle.beet_words.specs.Fields.{◌>>=◌, Part, number_bytes, number_at, times, counted_at, after_magic, ended}
@@ -65,7 +66,6 @@ list_bytes words = number_bytes (length words) ++ flat_map number_bytes words
 abbrev pub server_bytes : List ℕ → List ℕ → List ℕ
 server_bytes masks coefficients = list_bytes masks ++ list_bytes coefficients
 
--- the bytes of a bundle
 abbrev pub bundle_bytes : Words → List ℕ
 bundle_bytes words =
     magic ++ (number_bytes (length words.bidders)
@@ -77,7 +77,8 @@ bundle_bytes words =
 -- all numbers are words
 pub record AreWords (words : Words) : Type 0 where
   pub masks : All IsWord words.masks.one × All IsWord words.masks.two × All IsWord words.masks.three
-  pub coefficients : All IsWord words.coefficients.one × All IsWord words.coefficients.two × All IsWord words.coefficients.three
+  pub coefficients : All IsWord words.coefficients.one × All IsWord words.coefficients.two
+      × All IsWord words.coefficients.three
   pub bidders : All (λ list. All IsWord list) words.bidders
 
 -- the list may stand in a bundle

@@ -1,9 +1,10 @@
 -- Binary files: numbers of 8 bytes, the highest byte first, one after another.
-use Rattle.std.specs.Prelude.{ℕ, zero, suc, ◌+◌, ◌||◌, nat_eq, nat_lt, if◌then◌else◌, List, [], ◌∷◌, length, take, drop, Ok, Err}
+use Rattle.std.specs.Prelude.{ℕ, zero, suc, ◌+◌, ◌||◌, nat_eq, nat_lt, if◌then◌else◌, List, [], ◌∷◌, length, take, drop}
+use Rattle.std.specs.Prelude.{Ok, Err}
 use Rattle.std.specs.List.{starts_with}
 use Rattle.std.specs.Int.{w64, from_be_bytes, to_be_bytes}
 use Rattle.beet_forms.specs.Faults.{Fault, Reading}
-use Rattle.beet_forms.specs.declared.faults.Place.TheVariants.{At}
+use Rattle.beet_forms.specs.declared.faults.FaultPlace.TheVariants.{At}
 use Rattle.beet_words.specs.declared.fields.Allowed.{Allowed}
 
 -- the second step, with the value of the first, or the fault of the first

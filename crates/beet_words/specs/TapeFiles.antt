@@ -1,5 +1,6 @@
 -- A tape file: lines of 17 bytes, each the 16 hexadecimal digits of a word and a newline byte.
-use Rattle.std.specs.Prelude.{ℕ, ◌++◌, ◌+◌, ◌-◌, ◌*◌, ◌/◌, ◌^◌, ◌==◌, ◌&&◌, nat_lt, if◌then◌else◌, List, [], ◌∷◌, length, map, take, drop, slice_index, Option, Some, None, unwrap_or, option_map}
+use Rattle.std.specs.Prelude.{ℕ, ◌++◌, ◌+◌, ◌-◌, ◌*◌, ◌/◌, ◌^◌, ◌==◌, ◌&&◌, nat_lt, if◌then◌else◌, List, [], ◌∷◌}
+use Rattle.std.specs.Prelude.{length, map, take, drop, slice_index, Option, Some, None, unwrap_or, option_map}
 use Rattle.std.specs.List.{range_with_len, flat_map}
 use Rattle.std.specs.Int.{w64, from_be_bytes, to_be_bytes}
 use Rattle.hex.specs.Hex.{decode_of, encode_lower}
@@ -42,9 +43,9 @@ tape_of bytes keep =
     reading_of (first_fault 1 (map reason_against (lines_of bytes))) (take keep (map word_in (lines_of bytes)))
 
 -- the line of a word, in lower-case digits
-abbrev pub line_of : ℕ → List ℕ
-line_of word = encode_lower (to_be_bytes w64 word) ++ 10 ∷ []
+abbrev pub word_line : ℕ → List ℕ
+word_line word = encode_lower (to_be_bytes w64 word) ++ 10 ∷ []
 
 -- the bytes of a tape file of some words
 abbrev pub tape_bytes : List ℕ → List ℕ
-tape_bytes words = flat_map line_of words
+tape_bytes words = flat_map word_line words

@@ -6,7 +6,8 @@ ghost use Rattle.beet_forms.specs.Faults.{Answers};
 ghost use Rattle.beet_forms.specs.declared.faults.TheConstants.{LONGEST_FILE};
 ghost use Rattle.beet_words.specs.Words.{IsWord};
 ghost use Rattle.beet_words.specs.Fields.{times, number_bytes};
-ghost use Rattle.beet_words.specs.Bundles.{up_to as allowed_up_to, word_at, words_at, list_at, server_at, bundle_of, list_bytes, server_bytes, bundle_bytes, AreWords, FitsBundle};
+ghost use Rattle.beet_words.specs.Bundles.{up_to as allowed_up_to, word_at, words_at, list_at, server_at, bundle_of};
+ghost use Rattle.beet_words.specs.Bundles.{list_bytes, server_bytes, bundle_bytes, AreWords, FitsBundle};
 
 use crate::fields::{Allowed, push_number, read_end, read_magic, read_number};
 use crate::many::read_many;

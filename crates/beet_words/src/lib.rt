@@ -1,6 +1,7 @@
 //! Words of 61 bits, tapes of them, and the files and seeds that they come from.
 #![tactic(auto)]
 
+mod accepted;
 mod bundle;
 mod digits;
 mod fields;
@@ -11,6 +12,7 @@ mod tape;
 mod tape_file;
 mod word;
 
+pub use accepted::{numbers_in, put_back, word_of};
 pub use bundle::{
     BAD_MAGIC, BAD_NUMBER, MOST_BIDDERS, MOST_WORDS, TRAILING, TRUNCATED, WRONG_COUNT, Words,
     push_list, read_bundle, read_list, write_bundle,

@@ -19,9 +19,11 @@ pub fn read_many<T: Drop, F: Fn(usize) -> Result<(T, usize), ReadFault>>(
 ) -> Result<(Vec<T>, usize), ReadFault>
     requires at { at ≤ length bytes.now }
     requires callable { (from : ℕ) → from ≤ length bytes.now → F.pre read_one from }
-    requires within { (from : ℕ) (read : _) → from ≤ length bytes.now → F.post read_one from read → IfOk read (λ r. r.1 ≤ length bytes.now) }
+    requires within { (from : ℕ) (read : _) → from ≤ length bytes.now → F.post read_one from read →
+        IfOk read (λ r. r.1 ≤ length bytes.now) }
     ensures items { (part : Part T)
-        → ((from : ℕ) (read : _) → from ≤ length bytes.now → F.post read_one from read → Answers (λ r. r) (part from) read)
+        → ((from : ℕ) (read : _) → from ≤ length bytes.now → F.post read_one from read →
+        Answers (λ r. r) (part from) read)
         → Answers (λ read. (read.0.items, read.1)) (times count part at) result }
     ensures within { IfOk result (λ read. read.1 ≤ length bytes.now) }
 {

@@ -26,8 +26,8 @@ pub fn read_point(bytes: &[u8], allowed: Allowed, at: usize) -> Result<(Fe, usiz
     Ok((point, at))
 }
 
-/// So many numbers of the field, and the offset after the last. Room is taken at once for all that the file can hold, so
-/// that none is tested for where a number is put.
+/// So many numbers of the field, and the offset after the last. Room is taken at once for all that the file can hold,
+/// so that none is tested for where a number is put.
 pub fn read_points(
     alloc: Global,
     bytes: &[u8],

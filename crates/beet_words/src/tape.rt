@@ -29,7 +29,8 @@ impl Model for Tape {
 
     ghost view = { λ a. record { words = a.words; passed = a.place } };
 
-    ghost invariant = { λ a. (a.place ≤ length a.words) × (length a.words < 2 ^ 32) × (a.accepted_words ≡ length (accepted (drop a.place a.words))) };
+    ghost invariant = { λ a. (a.place ≤ length a.words) × (length a.words < 2 ^ 32)
+        × (a.accepted_words ≡ length (accepted (drop a.place a.words))) };
 }
 
 /// How many of the words are numbers of the field: all but those whose bits are all set.

@@ -1,9 +1,11 @@
 //! Tape files: lines of 16 hexadecimal digits and a newline byte, each a word.
 
-ghost use Rattle.std.specs.Prelude.{◌≡◌, ◌≤◌, ◌*◌, ◌++◌, ◌∷◌, [], ℕ, length, take, IfOk, OnOk, MatchResult, Ok, None, Some};
+ghost use Rattle.std.specs.Prelude.{◌≡◌, ◌≤◌, ◌*◌, ◌++◌, ◌∷◌, [], ℕ, length, take, IfOk, OnOk, MatchResult, Ok, None};
+ghost use Rattle.std.specs.Prelude.{Some};
 ghost use Rattle.beet_forms.specs.Faults.{Answers};
 ghost use Rattle.beet_forms.specs.declared.faults.TheConstants.{LONGEST_FILE};
-ghost use Rattle.beet_words.specs.TapeFiles.{tape_of, line_at, number_in, reason_against, word_in, line_of, tape_bytes};
+ghost use Rattle.beet_words.specs.TapeFiles.{tape_of, line_at, number_in, reason_against, word_in, word_line};
+ghost use Rattle.beet_words.specs.TapeFiles.{tape_bytes};
 ghost use Rattle.beet_words.specs.Words.{IsWord};
 
 use crate::digits::{DIGITS, read_digits, write_digits};
@@ -92,7 +94,7 @@ pub fn read_tape(alloc: Global, bytes: &[u8], keep: u32) -> Result<WordList, Rea
 
 /// Appends the line of a word.
 fn push_line(file: &mut Vec<u8>, word: Word) -> Result<(), AllocError>
-    ensures line { OnOk result (file.new.items ≡ file.old.items ++ line_of word) }
+    ensures line { OnOk result (file.new.items ≡ file.old.items ++ word_line word) }
     ensures below { IsWord word }
 {
     let mut line = [b'\n'; LINE];

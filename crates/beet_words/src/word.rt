@@ -1,6 +1,7 @@
 //! Words, and lists of words and of field numbers.
 
-ghost use Rattle.std.specs.Prelude.{◌≡◌, ◌↔◌, ◌≤◌, ◌<◌, ◌^◌, ◌/◌, ◌%◌, ◌++◌, ◌∷◌, [], length, take, IsNone, IfSome, IfOk, IsTrue, All, bit_xor, if◌then◌else◌, is_ok};
+ghost use Rattle.std.specs.Prelude.{◌≡◌, ◌↔◌, ◌≤◌, ◌<◌, ◌^◌, ◌/◌, ◌%◌, ◌++◌, ◌∷◌, [], length, take, IsNone, IfSome};
+ghost use Rattle.std.specs.Prelude.{IfOk, IsTrue, All, bit_xor, if◌then◌else◌, is_ok};
 ghost use Rattle.beet_words.specs.Words.{IsWord, ones};
 
 use beet_field::{Fe, P};

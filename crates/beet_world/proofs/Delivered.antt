@@ -1,5 +1,6 @@
 -- A message of a `World` is delivered.
-use Rattle.std.proofs.Common.{◌≡◌, ◌≢◌, ℕ, ◌+◌, ◌<◌, ◌≤◌, List, [], ◌∷◌, Bool, true, false, inl, inr, arith, refl, sym, ◌∙◌, ap, subst, length, slice_get, Some, Vec, Global, vec_capacity}
+use Rattle.std.proofs.Common.{◌≡◌, ◌≢◌, ℕ, ◌+◌, ◌<◌, ◌≤◌, List, [], ◌∷◌, Bool, true, false, inl, inr, arith, refl, sym}
+use Rattle.std.proofs.Common.{◌∙◌, ap, subst, length, slice_get, Some, Vec, Global, vec_capacity}
 use Rattle.std.proofs.lemmas.Bool.{false_from_ne_true}
 use Rattle.beet_field.specs.Trio.{member}
 use Rattle.beet_field.specs.declared.point.Point.{Point}
@@ -31,7 +32,8 @@ use Rattle.beet_world.specs.Missing.{is_missing, one_if, six, to_side}
 use Rattle.beet_world.proofs.TwoRounds.{missing-two}
 use Rattle.beet_world.specs.Marks.{mark_at, marked_to, with_mark}
 use Rattle.beet_world.specs.Worlds.{HoldsWorld, IsCoreOf, IsWorld, World, delivered_in, setup_in, rounds_in}
-use Rattle.beet_world.proofs.Happening.{at_round, counted, given-stands, is-delivered, may-give, sent-at, sent-there, there-sent, which, within, world-after}
+use Rattle.beet_world.proofs.Happening.{at_round, counted, given-stands, is-delivered, may-give, sent-at, sent-there}
+use Rattle.beet_world.proofs.Happening.{there-sent, which, within, world-after}
 
 -- the items of three lists
 abbrev pub items_of : Trio (Vec (List RoundMessage) Global) → Trio (List (List RoundMessage))
@@ -43,7 +45,8 @@ items-at sent Two = refl
 items-at sent Three = refl
 
 -- the message to the peer of a side, of both messages of a round
-picked : (o : Setup) (s : Point) (side : Side) (t : ℕ) → of_side side (message_of o s (peer s Low) t) (message_of o s (peer s High) t) ≡ message_of o s (peer s side) t
+picked : (o : Setup) (s : Point) (side : Side) (t : ℕ) →
+    of_side side (message_of o s (peer s Low) t) (message_of o s (peer s High) t) ≡ message_of o s (peer s side) t
 picked o s Low t = refl
 picked o s High t = refl
 
@@ -63,7 +66,8 @@ on-repeat : (x : Delivered) (s : Point) (round : ℕ) (side : Side) (t : ℕ) �
     verdict_on x s round side t ≡ (if nat_lt t round then Old else Repeat)
 on-repeat x s round side t there = rw there refl
 
-module _ {S : Type 0} (next : S → ℕ → List ℕ → Batch) (inputs most : S → ℕ) (bounds : Standing) (w : World S) (cores : Trio (Core S)) (sent : Trio (Vec (List RoundMessage) Global))
+module _ {S : Type 0} (next : S → ℕ → List ℕ → Batch) (inputs most : S → ℕ) (bounds : Standing) (w : World S)
+    (cores : Trio (Core S)) (sent : Trio (Vec (List RoundMessage) Global))
     (law : LawFrom (next w.start.one.script) bounds (most w.start.one.script) (start_of (inputs w.start.one.script)) [])
     (k : HoldsWorld next inputs most w cores sent) where
   has : HasRounds (setup_in next inputs most w) (rounds_in next inputs most w)
@@ -78,7 +82,8 @@ module _ {S : Type 0} (next : S → ℕ → List ℕ → Batch) (inputs most : S
   -- a message is sent exactly where it is among those of its sender
   pub is-there : (from : Point) (side : Side) (t : ℕ) → t < length (member sent from).items →
       is_sent (rounds_in next inputs most w) (delivered_in w) (to_side from side t) ≡ true
-  is-there from side t lt = there-sent next inputs most w cores (items_of sent) has i few from side t (subst (λ (l : List (List RoundMessage)). t < length l) (sym (items-at sent from)) lt)
+  is-there from side t lt = there-sent next inputs most w cores (items_of sent) has i few from side t
+      (subst (λ (l : List (List RoundMessage)). t < length l) (sym (items-at sent from)) lt)
 
   pub not-there : (from : Point) (side : Side) (t : ℕ) → length (member sent from).items ≤ t →
       is_sent (rounds_in next inputs most w) (delivered_in w) (to_side from side t) ≡ false
@@ -88,24 +93,28 @@ module _ {S : Type 0} (next : S → ℕ → List ℕ → Batch) (inputs most : S
 
   -- its mark is among the marks
   pub in-marks : (from : Point) (side : Side) (t : ℕ) → t < length (member sent from).items → mark_at from side t < length w.marks
-  in-marks from side t lt = within next inputs most w cores (items_of sent) has i few from side t (subst (λ (l : List (List RoundMessage)). t < length l) (sym (items-at sent from)) lt)
+  in-marks from side t lt = within next inputs most w cores (items_of sent) has i few from side t
+      (subst (λ (l : List (List RoundMessage)). t < length l) (sym (items-at sent from)) lt)
 
   -- a message that is not sent, or is delivered, is not missing, and each other is
   pub not-missing : (from : Point) (side : Side) (t : ℕ) → length (member sent from).items ≤ t →
       one_if (is_missing (rounds_in next inputs most w) (delivered_in w) (to_side from side t)) ≡ 0
   not-missing from side t le = rw (not-there from side t le) refl
 
-  pub is-marked : (from : Point) (side : Side) (t : ℕ) → t < length (member sent from).items → slice_index_or w.marks (mark_at from side t) false ≡ true →
+  pub is-marked : (from : Point) (side : Side) (t : ℕ) → t < length (member sent from).items →
+      slice_index_or w.marks (mark_at from side t) false ≡ true →
       one_if (is_missing (rounds_in next inputs most w) (delivered_in w) (to_side from side t)) ≡ 0
   is-marked from side t lt m = rw (is-there from side t lt, side_of-peer from side, m) refl
 
-  pub is-unmarked : (from : Point) (side : Side) (t : ℕ) → t < length (member sent from).items → slice_index_or w.marks (mark_at from side t) false ≡ false →
+  pub is-unmarked : (from : Point) (side : Side) (t : ℕ) → t < length (member sent from).items →
+      slice_index_or w.marks (mark_at from side t) false ≡ false →
       one_if (is_missing (rounds_in next inputs most w) (delivered_in w) (to_side from side t)) ≡ 1
   is-unmarked from side t lt m = rw (is-there from side t lt, side_of-peer from side, m) refl
 
   -- each message that was delivered was sent
   was : WasSent three (rounds_in next inputs most w) (delivered_in w)
-  was = subst (λ (x : Delivered). WasSent three (rounds_in next inputs most w) x) (sym i.reached) (was_sent three-is (rounds_in next inputs most w) i.events)
+  was = subst (λ (x : Delivered). WasSent three (rounds_in next inputs most w) x) (sym i.reached)
+      (was_sent three-is (rounds_in next inputs most w) i.events)
 
   -- the core of each server
   pub core-in : (s : Point) → IsCoreOf next inputs most w s (member cores s)
@@ -128,18 +137,21 @@ module _ {S : Type 0} (next : S → ℕ → List ℕ → Batch) (inputs most : S
   -- what is undelivered is of the round of the server that is behind, and of the next
   pub two-rounds : (behind : ℕ) (s : Point) → behind ≡ (member cores s).round → ((other : Point) → behind ≤ (member cores other).round) →
       undelivered (rounds_in next inputs most w) (delivered_in w)
-      ≡ six (is_missing (rounds_in next inputs most w) (delivered_in w)) behind + six (is_missing (rounds_in next inputs most w) (delivered_in w)) (behind + 1)
+      ≡ six (is_missing (rounds_in next inputs most w) (delivered_in w)) behind
+      + six (is_missing (rounds_in next inputs most w) (delivered_in w)) (behind + 1)
   two-rounds behind s is least =
       let at = at_round next inputs most w cores (items_of sent) has i few in
       let same : passed (rounds_in next inputs most w) (delivered_in w) s ≡ behind = sym (is ∙ at s) in
       missing-two (rounds_in next inputs most w) (delivered_in w) s was (λ other. omega (arith, same, least other, at other))
-      ∙ (λ j. six (is_missing (rounds_in next inputs most w) (delivered_in w)) (same j) + six (is_missing (rounds_in next inputs most w) (delivered_in w)) (same j + 1))
+      ∙ (λ j. six (is_missing (rounds_in next inputs most w) (delivered_in w)) (same j)
+      + six (is_missing (rounds_in next inputs most w) (delivered_in w)) (same j + 1))
 
   -- the same of a message to a server
   pub not-sent-to : (from to : Point) (side : Side) (t : ℕ) → to ≡ peer from side → length (member sent from).items ≤ t →
       is_sent (rounds_in next inputs most w) (delivered_in w) (record { from = from; to = to; round = t }) ≡ false
   not-sent-to from to side t e le =
-      (λ j. is_sent (rounds_in next inputs most w) (delivered_in w) (record { from = from; to = e j; round = t })) ∙ not-there from side t le
+      (λ j. is_sent (rounds_in next inputs most w) (delivered_in w) (record { from = from; to = e j; round = t }))
+      ∙ not-there from side t le
 
   pub sent-to : (from to : Point) (side : Side) (t : ℕ) → to ≡ peer from side → t < length (member sent from).items →
       is_sent (rounds_in next inputs most w) (delivered_in w) (record { from = from; to = to; round = t }) ≡ true
@@ -152,7 +164,8 @@ module _ {S : Type 0} (next : S → ℕ → List ℕ → Batch) (inputs most : S
   not-sent-event from to side t e le = rw (not-sent-to from to side t e le) refl
 
   -- a message that was delivered before is delivered again, with the verdict that its receiver's round tells
-  pub told-again : (from to : Point) (side : Side) (t : ℕ) → to ≡ peer from side → slice_index_or w.marks (mark_at from side t) false ≡ true →
+  pub told-again : (from to : Point) (side : Side) (t : ℕ) → to ≡ peer from side →
+      slice_index_or w.marks (mark_at from side t) false ≡ true →
       (v : Verdict) → v ≡ (if nat_lt t (member cores to).round then Old else Repeat) →
       (delivered_in w from to t ≡ true)
       × (DeliveredBy v ≡ event_of (rounds_in next inputs most w) (delivered_in w) (record { from = from; to = to; round = t }))
@@ -163,11 +176,15 @@ module _ {S : Type 0} (next : S → ℕ → List ℕ → Batch) (inputs most : S
       let there : delivered_in w from to t ≡ true = ap (λ (s : Option Side). marked_to w.marks from s t) named ∙ m in
       let sender : peer to back ≡ from = (λ j. peer (e j) back) ∙ (back_side from side).1 in
       let again : delivered_in w (peer to back) to t ≡ true = (λ j. delivered_in w (sender j) to t) ∙ there in
-      let back_is : side_of to from ≡ Some back = (λ j. side_of (e j) (sym (back_side from side).1 j)) ∙ side_of-peer (peer from side) back in
-      let at : (member cores to).round ≡ passed rounds (delivered_in w) to = at_round next inputs most w cores (items_of sent) has i few to in
+      let back_is : side_of to from ≡ Some back =
+      (λ j. side_of (e j) (sym (back_side from side).1 j)) ∙ side_of-peer (peer from side) back in
+      let at : (member cores to).round ≡ passed rounds (delivered_in w) to =
+      at_round next inputs most w cores (items_of sent) has i few to in
       let told : v ≡ verdict_on (delivered_in w) to (passed rounds (delivered_in w) to) back t =
-      is ∙ (λ j. if nat_lt t (at j) then Old else Repeat) ∙ sym (on-repeat (delivered_in w) to (passed rounds (delivered_in w) to) back t again) in
-      let sent : is_sent rounds (delivered_in w) (record { from = from; to = to; round = t }) ≡ true = was (record { from = from; to = to; round = t }) there in
+      is ∙ (λ j. if nat_lt t (at j) then Old else Repeat)
+      ∙ sym (on-repeat (delivered_in w) to (passed rounds (delivered_in w) to) back t again) in
+      let sent : is_sent rounds (delivered_in w) (record { from = from; to = to; round = t }) ≡ true =
+      was (record { from = from; to = to; round = t }) there in
       (there, rw (sent, back_is) (ap DeliveredBy told))
 
   -- each server may be given a message
@@ -177,7 +194,8 @@ module _ {S : Type 0} (next : S → ℕ → List ℕ → Batch) (inputs most : S
       let script : most (member cores s).script ≡ most w.start.one.script = ap most (k.script s) in
       let count : length (member sent s).items ≡ taken (member cores s).round (member cores s).handed =
       ap length (sym (items-at sent s)) ∙ counted next inputs most w cores (items_of sent) has i few s in
-      let rounds = round_most next (setup_in next inputs most w) (delivered_in w) (member cores s) (rounds_in next inputs most w) has c.fits in
+      let rounds = round_most next (setup_in next inputs most w) (delivered_in w) (member cores s)
+      (rounds_in next inputs most w) has c.fits in
       record {
         quiet = c.quiet;
         room = omega (arith, script, k.room s);
@@ -193,7 +211,8 @@ module _ {S : Type 0} (next : S → ℕ → List ℕ → Batch) (inputs most : S
         by false e = le
 
   module _ (from : Point) (side : Side) (t : ℕ) (lt : t < length (member sent from).items) (to : Point) (is_to : to ≡ peer from side)
-      (m : RoundMessage) (m_is : (low high : RoundMessage) → slice_get (member sent from).items t ≡ Some (low ∷ high ∷ []) → m ≡ of_side side low high) where
+      (m : RoundMessage) (m_is : (low high : RoundMessage) →
+      slice_get (member sent from).items t ≡ Some (low ∷ high ∷ []) → m ≡ of_side side low high) where
     lt' : t < length (member (items_of sent) from)
     lt' = subst (λ (l : List (List RoundMessage)). t < length l) (sym (items-at sent from)) lt
 
@@ -208,15 +227,20 @@ module _ {S : Type 0} (next : S → ℕ → List ℕ → Batch) (inputs most : S
     back = (back_side from side).0
 
     -- the message may be given
-    pub gives : MayGive next (setup_in next inputs most w) (delivered_in w) (rounds_in next inputs most w) (back_side from side).0 t (member cores to) (member sent to).items m
+    pub gives : MayGive next (setup_in next inputs most w) (delivered_in w) (rounds_in next inputs most w)
+        (back_side from side).0 t (member cores to) (member sent to).items m
     gives =
-        subst (λ (r : Point). MayGive next (setup_in next inputs most w) (delivered_in w) (rounds_in next inputs most w) (back_side from side).0 t (member cores r) (member sent r).items m) (sym is_to)
-        (subst (λ (l : List (List RoundMessage)). MayGive next (setup_in next inputs most w) (delivered_in w) (rounds_in next inputs most w) (back_side from side).0 t (member cores (peer from side)) l m)
+        subst (λ (r : Point). MayGive next (setup_in next inputs most w) (delivered_in w) (rounds_in next inputs most w)
+        (back_side from side).0 t (member cores r) (member sent r).items m) (sym is_to)
+        (subst (λ (l : List (List RoundMessage)). MayGive next (setup_in next inputs most w) (delivered_in w)
+        (rounds_in next inputs most w) (back_side from side).0 t (member cores (peer from side)) l m)
         (items-at sent (peer from side))
-        (may-give next inputs most w cores (items_of sent) has i few from side t lt' m (back_side from side).0 m-is (back_side from side).1))
+        (may-give next inputs most w cores (items_of sent) has i few from side t lt' m (back_side from side).0 m-is
+        (back_side from side).1))
 
     -- the set is that of the event
-    pub delivered : delivered_in (record w { marks = with_mark w.marks from side t }) ≡ deliver (rounds_in next inputs most w) (delivered_in w) (record { from = from; to = to; round = t })
+    pub delivered : delivered_in (record w { marks = with_mark w.marks from side t })
+        ≡ deliver (rounds_in next inputs most w) (delivered_in w) (record { from = from; to = to; round = t })
     delivered =
         is-delivered next inputs most w cores (items_of sent) has i few from side t lt'
         ∙ (λ j. deliver (rounds_in next inputs most w) (delivered_in w) (record { from = from; to = sym is_to j; round = t }))
@@ -228,33 +252,50 @@ module _ {S : Type 0} (next : S → ℕ → List ℕ → Batch) (inputs most : S
     side-is = (λ j. side_of (is_to j) (sym (back_side from side).1 j)) ∙ side_of-peer (peer from side) (back_side from side).0
 
     -- the event is that it is delivered with this verdict
-    pub told-event : (v : Verdict) → v ≡ verdict_on (delivered_in w) (member cores to).me (member cores to).round (back_side from side).0 t →
+    pub told-event : (v : Verdict) →
+        v ≡ verdict_on (delivered_in w) (member cores to).me (member cores to).round (back_side from side).0 t →
         DeliveredBy v ≡ event_of (rounds_in next inputs most w) (delivered_in w) (record { from = from; to = to; round = t })
     told-event v is =
         let at = at_round next inputs most w cores (items_of sent) has i few to in
-        let told : v ≡ verdict_on (delivered_in w) to (passed (rounds_in next inputs most w) (delivered_in w) to) (back_side from side).0 t =
+        let told : v ≡ verdict_on (delivered_in w) to (passed (rounds_in next inputs most w) (delivered_in w) to)
+        (back_side from side).0 t =
         is ∙ (λ j. verdict_on (delivered_in w) ((i.standing to).name j) (at j) (back_side from side).0 t) in
         rw (sent-to from to side t is_to lt, side-is) (ap DeliveredBy told)
 
     -- the `World` holds after it
     pub holds-after : (cores' : Trio (Core S)) (sent' : Trio (Vec (List RoundMessage) Global)) (v : Verdict) →
         ((s : Point) → s ≢ to → (member cores' s ≡ member cores s) × (member sent' s ≡ member sent s)) →
-        vec_capacity (member sent' to) ≡ vec_capacity (member sent to) → Keeps (member cores to) (member cores' to) → is_quiet next (member cores' to) ≡ true →
-        IsGiven next (setup_in next inputs most w) (delivered_in w) (rounds_in next inputs most w) (back_side from side).0 t (member cores to) (member cores' to) (member sent' to).items v →
+        vec_capacity (member sent' to) ≡ vec_capacity (member sent to) → Keeps (member cores to) (member cores' to) →
+        is_quiet next (member cores' to) ≡ true →
+        IsGiven next (setup_in next inputs most w) (delivered_in w) (rounds_in next inputs most w)
+        (back_side from side).0 t (member cores to) (member cores' to) (member sent' to).items v →
         HoldsWorld next inputs most (record w { marks = with_mark w.marks from side t }) cores' sent'
     holds-after cores' sent' v others capacity keeps quiet given =
         let r = peer from side in
-        let keeps' : Keeps (member cores r) (member cores' r) = subst (λ (q : Point). Keeps (member cores q) (member cores' q)) is_to keeps in
+        let keeps' : Keeps (member cores r) (member cores' r) =
+        subst (λ (q : Point). Keeps (member cores q) (member cores' q)) is_to keeps in
         let quiet' : is_quiet next (member cores' r) ≡ true = subst (λ (q : Point). is_quiet next (member cores' q) ≡ true) is_to quiet in
-        let given' : IsGiven next (setup_in next inputs most w) (delivered_in w) (rounds_in next inputs most w) (back_side from side).0 t (member cores r) (member cores' r) (member sent' r).items v =
-        subst (λ (q : Point). IsGiven next (setup_in next inputs most w) (delivered_in w) (rounds_in next inputs most w) (back_side from side).0 t (member cores q) (member cores' q) (member sent' q).items v) is_to given in
-        let stands = given-stands next inputs most w cores (items_of sent) has i few from side t lt' (back_side from side).0 (member cores' r) (member sent' r).items v (back_side from side).1 keeps' quiet' given' in
+        let given' : IsGiven next (setup_in next inputs most w) (delivered_in w) (rounds_in next inputs most w)
+        (back_side from side).0 t (member cores r) (member cores' r) (member sent' r).items v =
+        subst (λ (q : Point). IsGiven next (setup_in next inputs most w) (delivered_in w) (rounds_in next inputs most w)
+        (back_side from side).0 t (member cores q) (member cores' q) (member sent' q).items v) is_to given in
+        let stands = given-stands next inputs most w cores (items_of sent) has i few from side t lt' (back_side from
+        side).0 (member cores' r) (member sent' r).items v (back_side from side).1 keeps' quiet' given' in
         record {
           is_world = world-after next inputs most w cores (items_of sent) has i few from side t lt' cores' (items_of sent') stands
               (items-at sent' r ∙ given'.sends)
-              (λ s other. let e = others s (λ q. other (q ∙ is_to)) in (e.0, items-at sent' s ∙ ap (λ (q : Vec (List RoundMessage) Global). q.items) e.1 ∙ sym (items-at sent s)));
+              (λ s other. let e = others s (λ q. other (q ∙ is_to)) in (
+                e.0,
+                items-at sent' s ∙ ap (λ (q : Vec (List RoundMessage) Global). q.items) e.1 ∙ sym (items-at sent s),
+              ));
           room = λ s. elim (which s to) [
-            | inl it ↦ omega (arith, k.room s, ap (λ (q : Point). vec_capacity (member sent' q)) it, capacity, ap (λ (q : Point). vec_capacity (member sent q)) it)
+            | inl it ↦ omega (
+              arith,
+              k.room s,
+              ap (λ (q : Point). vec_capacity (member sent' q)) it,
+              capacity,
+              ap (λ (q : Point). vec_capacity (member sent q)) it,
+            )
             | inr other ↦ omega (arith, k.room s, ap (λ (q : Vec (List RoundMessage) Global). vec_capacity q) (others s other).1)
           ];
           script = λ s. elim (which s to) [
@@ -266,7 +307,8 @@ module _ {S : Type 0} (next : S → ℕ → List ℕ → Batch) (inputs most : S
             | inr other ↦ ap (λ (q : Core S). q.masks.words) (others s other).0 ∙ k.masks s
           ];
           coefficients = λ s. elim (which s to) [
-            | inl it ↦ (λ j. (member cores' (it j)).coefficients.words) ∙ keeps.coefficients ∙ (λ j. (member cores (sym it j)).coefficients.words) ∙ k.coefficients s
+            | inl it ↦ (λ j. (member cores' (it j)).coefficients.words) ∙ keeps.coefficients
+                ∙ (λ j. (member cores (sym it j)).coefficients.words) ∙ k.coefficients s
             | inr other ↦ ap (λ (q : Core S). q.coefficients.words) (others s other).0 ∙ k.coefficients s
           ];
         }

@@ -26,7 +26,8 @@ module _ {S : Type 0} (next : S → ℕ → List ℕ → Batch) (inputs most : S
     pub quiet : is_quiet next new ≡ true
     pub fits : (o : Setup) (x : Delivered) → Fits next o x old → Fits next o x new
     pub sends : (o : Setup) (x : Delivered) → Fits next o x old → [] ≡ sent_by o old → sent ≡ sent_by o new
-    pub going : (o : Setup) (x : Delivered) (rounds : ℕ) → HasRounds o rounds → Fits next o x old → (old.handed ≡ true → old.round < rounds) →
+    pub going : (o : Setup) (x : Delivered) (rounds : ℕ) → HasRounds o rounds → Fits next o x old →
+        (old.handed ≡ true → old.round < rounds) →
         new.handed ≡ true → new.round < rounds
 
   -- a fresh core has handed out no messages
@@ -48,9 +49,11 @@ module _ {S : Type 0} (next : S → ℕ → List ℕ → Batch) (inputs most : S
     none_sent : (s : Point) → [] ≡ sent_by (setup_of next inputs start) (member start s)
     none_sent s =
         let none = none-taken (member start s) (is_fresh start f s) in
-        sym (ap (each (messages_from (setup_of next inputs start) (member start s).me)) none ∙ each-zero (messages_from (setup_of next inputs start) (member start s).me))
+        sym (ap (each (messages_from (setup_of next inputs start) (member start s).me)) none
+        ∙ each-zero (messages_from (setup_of next inputs start) (member start s).me))
 
-    idle : (s : Point) → (member start s).handed ≡ true → (member start s).round < rounds_among (setup_of next inputs start) (most start.one.script)
+    idle : (s : Point) → (member start s).handed ≡ true →
+        (member start s).round < rounds_among (setup_of next inputs start) (most start.one.script)
     idle s e = absurd (true≢false (sym e ∙ ap (λ (k : Core S). k.handed) (is_fresh start f s)))
 
     pub world-begins : IsWorld next inputs most (record { start = start; marks = unmarked (most start.one.script) }) cores sent

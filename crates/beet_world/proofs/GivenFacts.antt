@@ -1,5 +1,6 @@
 -- What a message given to a core, and what it hands out then, makes of it.
-use Rattle.std.proofs.Common.{◌≡◌, ℕ, ◌+◌, ◌<◌, ◌≤◌, List, [], ◌∷◌, ◌++◌, Bool, true, false, true≢false, inl, inr, arith, refl, sym, ◌∙◌, ap, subst, ◌||◌}
+use Rattle.std.proofs.Common.{◌≡◌, ℕ, ◌+◌, ◌<◌, ◌≤◌, List, [], ◌∷◌, ◌++◌, Bool, true, false, true≢false, inl, inr}
+use Rattle.std.proofs.Common.{arith, refl, sym, ◌∙◌, ap, subst, ◌||◌}
 use Rattle.std.proofs.lemmas.Bool.{cases_Bool, cases_eq}
 use Rattle.beet_gates.specs.Each.{each}
 use Rattle.beet_gates.specs.declared.Batch.{Batch}
@@ -34,14 +35,16 @@ module _ {S : Type 0} (next : S → ℕ → List ℕ → Batch) where
 
   -- they are sent
   pub sends-more : (o : Setup) (c d : Core S) → c.handed ≡ false → Moves c d → d.me ≡ c.me →
-      each (messages_from o d.me) (taken d.round d.handed) ≡ each (messages_from o c.me) (taken c.round c.handed) ++ messages_from o c.me c.round ∷ []
+      each (messages_from o d.me) (taken d.round d.handed)
+      ≡ each (messages_from o c.me) (taken c.round c.handed) ++ messages_from o c.me c.round ∷ []
   sends-more o c d idle moves me =
       let count : taken c.round c.handed ≡ c.round = ap (taken c.round) idle in
       (λ i. each (messages_from o (me i)) (taken-more c d idle moves i)) ∙ each-more (messages_from o c.me) (taken c.round c.handed)
       ∙ ap (λ n. each (messages_from o c.me) (taken c.round c.handed) ++ messages_from o c.me n ∷ []) count
 
   -- a core that has handed out the messages of its round has not ended
-  pub goes-more : (o : Setup) (x : Delivered) (c d : Core S) (rounds : ℕ) → HasRounds o rounds → Fits next o x c → has_ended next c ≡ false → Moves c d →
+  pub goes-more : (o : Setup) (x : Delivered) (c d : Core S) (rounds : ℕ) → HasRounds o rounds → Fits next o x c →
+      has_ended next c ≡ false → Moves c d →
       d.handed ≡ true → d.round < rounds
   goes-more o x c d rounds h f on (inr (not, round, handed)) e =
       let most = round_most next o x c rounds h f in
@@ -64,7 +67,8 @@ module _ {S : Type 0} (next : S → ℕ → List ℕ → Batch) where
     by false false q on = absurd (true≢false (sym q))
 
   -- it takes nothing from the tapes
-  pub given-taken : (c d : Core S) (m : RoundMessage) (v : Verdict) → is_quiet next c ≡ true → Takes c d m v → taken d.round d.handed ≡ taken c.round c.handed
+  pub given-taken : (c d : Core S) (m : RoundMessage) (v : Verdict) → is_quiet next c ≡ true → Takes c d m v →
+      taken d.round d.handed ≡ taken c.round c.handed
   given-taken c d m v q g = elim (cases_Bool (has_ended next c)) [
     | inl end ↦ ap (λ k. taken k.round k.handed) (g.ended end)
     | inr on ↦
@@ -75,14 +79,16 @@ module _ {S : Type 0} (next : S → ℕ → List ℕ → Batch) where
         ]
   ]
 
-  pub given-going : (c d : Core S) (m : RoundMessage) (v : Verdict) (rounds : ℕ) → Takes c d m v → (c.handed ≡ true → c.round < rounds) → d.handed ≡ true → d.round < rounds
+  pub given-going : (c d : Core S) (m : RoundMessage) (v : Verdict) (rounds : ℕ) → Takes c d m v →
+      (c.handed ≡ true → c.round < rounds) → d.handed ≡ true → d.round < rounds
   given-going c d m v rounds g before handed = elim (cases_Bool (has_ended next c)) [
     | inl end ↦ subst (λ (k : Core S). k.round < rounds) (sym (g.ended end)) (before (sym (ap (λ k. k.handed) (g.ended end)) ∙ handed))
     | inr on ↦
         let a = g.going on in
         elim (ready_or v) [
           | inl ready ↦ absurd (true≢false (sym handed ∙ ap (λ k. k.handed) (a.passes ready)))
-          | inr other ↦ subst (λ (k : Core S). k.round < rounds) (sym (a.waits other)) (before (sym (ap (λ k. k.handed) (a.waits other)) ∙ handed))
+          | inr other ↦ subst (λ (k : Core S). k.round < rounds) (sym (a.waits other))
+              (before (sym (ap (λ k. k.handed) (a.waits other)) ∙ handed))
         ]
   ]
 
@@ -92,14 +98,18 @@ module _ {S : Type 0} (next : S → ℕ → List ℕ → Batch) where
   given-sends o c d m v q g me = λ i. each (messages_from o (me i)) (given-taken c d m v q g i)
 
   -- a message is given to a core, which then hands out all that it has to
-  pub given-all : (o : Setup) (x : Delivered) (rounds : ℕ) (s : Side) (t : ℕ) (c d e : Core S) (sent sent' : List (List RoundMessage)) (m : RoundMessage) (v : Verdict) →
+  pub given-all : (o : Setup) (x : Delivered) (rounds : ℕ) (s : Side) (t : ℕ) (c d e : Core S)
+      (sent sent' : List (List RoundMessage)) (m : RoundMessage) (v : Verdict) →
       is_quiet next c ≡ true → Takes c d m v → d.me ≡ c.me →
-      ((o : Setup) (x : Delivered) (s : Side) (t : ℕ) → Fits next o x c → m ≡ message_of o (peer c.me s) c.me t → IsRound o t → t ≤ c.round + 1 →
+      ((o : Setup) (x : Delivered) (s : Side) (t : ℕ) → Fits next o x c → m ≡ message_of o (peer c.me s) c.me t →
+      IsRound o t → t ≤ c.round + 1 →
       Fits next o (with_triple x (record { from = peer c.me s; to = c.me; round = t })) d) →
-      ((o : Setup) (x : Delivered) (s : Side) (t : ℕ) → Fits next o x c → m ≡ message_of o (peer c.me s) c.me t → IsRound o t → t ≤ c.round + 1 → v ≡ verdict_on x c.me c.round s t) →
+      ((o : Setup) (x : Delivered) (s : Side) (t : ℕ) → Fits next o x c → m ≡ message_of o (peer c.me s) c.me t →
+      IsRound o t → t ≤ c.round + 1 → v ≡ verdict_on x c.me c.round s t) →
       ((o : Setup) (x : Delivered) → Fits next o x d → Fits next o x e) →
       ((o : Setup) (x : Delivered) → Fits next o x d → sent ≡ sent_by o d → sent' ≡ sent_by o e) →
-      ((o : Setup) (x : Delivered) (rounds : ℕ) → HasRounds o rounds → Fits next o x d → (d.handed ≡ true → d.round < rounds) → e.handed ≡ true → e.round < rounds) →
+      ((o : Setup) (x : Delivered) (rounds : ℕ) → HasRounds o rounds → Fits next o x d →
+      (d.handed ≡ true → d.round < rounds) → e.handed ≡ true → e.round < rounds) →
       MayGive next o x rounds s t c sent m → IsGiven next o x rounds s t c e sent' v
   given-all o x rounds s t c d e sent sent' m v quiet takes me fits told out sends going may =
       let y : Delivered = with_triple x (record { from = peer c.me s; to = c.me; round = t }) in

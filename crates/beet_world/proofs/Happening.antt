@@ -1,5 +1,6 @@
 -- What an event makes of a `World`.
-use Rattle.std.proofs.Common.{◌≡◌, ◌≢◌, ℕ, ◌+◌, ◌<◌, ◌≤◌, List, [], ◌∷◌, ◌++◌, Bool, true, false, true≢false, inl, inr, arith, refl, sym, ◌∙◌, ap, subst, ◌||◌, ◌⊎◌, length, length-set, slice_get, Some}
+use Rattle.std.proofs.Common.{◌≡◌, ◌≢◌, ℕ, ◌+◌, ◌<◌, ◌≤◌, List, [], ◌∷◌, ◌++◌, Bool, true, false, true≢false, inl, inr}
+use Rattle.std.proofs.Common.{arith, refl, sym, ◌∙◌, ap, subst, ◌||◌, ◌⊎◌, length, length-set, slice_get, Some}
 use Rattle.std.proofs.lemmas.Bool.{cases_Bool, not_from_false}
 use Rattle.beet_field.specs.Trio.{member}
 use Rattle.beet_field.specs.declared.point.Point.{Point}
@@ -31,12 +32,14 @@ which s t = elim (cases_Bool (same s t)) [
   | inr other ↦ inr (not_same s t other)
 ]
 
-module _ {S : Type 0} (next : S → ℕ → List ℕ → Batch) (inputs most : S → ℕ) (w : World S) (cores : Trio (Core S)) (sent : Trio (List (List RoundMessage)))
+module _ {S : Type 0} (next : S → ℕ → List ℕ → Batch) (inputs most : S → ℕ) (w : World S) (cores : Trio (Core S))
+    (sent : Trio (List (List RoundMessage)))
     (h : HasRounds (setup_in next inputs most w) (rounds_in next inputs most w)) (i : IsWorld next inputs most w cores sent)
     (few : rounds_in next inputs most w ≤ most w.start.one.script) where
   -- how many rounds' messages a server has sent
   pub counted : (s : Point) → length (member sent s) ≡ taken (member cores s).round (member cores s).handed
-  counted s = ap length (i.sent_all s) ∙ length-each (messages_from (setup_in next inputs most w) (member cores s).me) (taken (member cores s).round (member cores s).handed)
+  counted s = ap length (i.sent_all s) ∙ length-each (messages_from (setup_in next inputs most w) (member cores s).me)
+      (taken (member cores s).round (member cores s).handed)
 
   -- the rounds that a server has passed
   pub at_round : (s : Point) → (member cores s).round ≡ passed (rounds_in next inputs most w) (delivered_in w) s
@@ -84,12 +87,14 @@ module _ {S : Type 0} (next : S → ℕ → List ℕ → Batch) (inputs most : S
   close s side t lt =
       let is = there-sent s side t lt in
       let p = sent_parts three-is (rounds_in next inputs most w) (delivered_in w) (to_side s side t) is in
-      let was = subst (λ (x : Delivered). WasSent three (rounds_in next inputs most w) x) (sym i.reached) (was_sent three-is (rounds_in next inputs most w) i.events) in
+      let was = subst (λ (x : Delivered). WasSent three (rounds_in next inputs most w) x) (sym i.reached)
+      (was_sent three-is (rounds_in next inputs most w) i.events) in
       let q = near three-is (rounds_in next inputs most w) (delivered_in w) was (to_side s side t) is in
       ((is_round (setup_in next inputs most w) (rounds_in next inputs most w) t h).1 p.1.0, omega (arith, q, at_round (peer s side)))
 
   -- the messages that were sent in a round
-  pub sent-at : (s : Point) (t : ℕ) → t < length (member sent s) → slice_get (member sent s) t ≡ Some (messages_from (setup_in next inputs most w) s t)
+  pub sent-at : (s : Point) (t : ℕ) → t < length (member sent s) →
+      slice_get (member sent s) t ≡ Some (messages_from (setup_in next inputs most w) s t)
   sent-at s t lt =
       let c = member cores s in
       ap (λ l. slice_get l t) (i.sent_all s)
@@ -109,12 +114,16 @@ module _ {S : Type 0} (next : S → ℕ → List ℕ → Batch) (inputs most : S
     pub set-after : delivered_in (record w { marks = with_mark w.marks from side t }) ≡ with_triple (delivered_in w) (to_side from side t)
     set-after = set-with_mark w.marks from side t within
 
-    pub is-delivered : delivered_in (record w { marks = with_mark w.marks from side t }) ≡ deliver (rounds_in next inputs most w) (delivered_in w) (to_side from side t)
-    is-delivered = set-after ∙ sym (deliver_sent three-is (rounds_in next inputs most w) (delivered_in w) (to_side from side t) (there-sent from side t lt))
+    pub is-delivered : delivered_in (record w { marks = with_mark w.marks from side t })
+        ≡ deliver (rounds_in next inputs most w) (delivered_in w) (to_side from side t)
+    is-delivered = set-after ∙ sym (deliver_sent three-is (rounds_in next inputs most w) (delivered_in w)
+        (to_side from side t) (there-sent from side t lt))
 
     -- the message may be given to its receiver, for which it comes from the other side
-    pub may-give : (m : RoundMessage) (back : Side) → m ≡ message_of (setup_in next inputs most w) from (peer from side) t → peer (peer from side) back ≡ from →
-        MayGive next (setup_in next inputs most w) (delivered_in w) (rounds_in next inputs most w) back t (member cores (peer from side)) (member sent (peer from side)) m
+    pub may-give : (m : RoundMessage) (back : Side) →
+        m ≡ message_of (setup_in next inputs most w) from (peer from side) t → peer (peer from side) back ≡ from →
+        MayGive next (setup_in next inputs most w) (delivered_in w) (rounds_in next inputs most w) back t
+        (member cores (peer from side)) (member sent (peer from side)) m
     may-give m back is other =
         let c = i.standing (peer from side) in
         let near = close from side t lt in
@@ -132,11 +141,16 @@ module _ {S : Type 0} (next : S → ℕ → List ℕ → Batch) (inputs most : S
     -- the receiver then stands in the `World` after the event
     pub given-stands : (back : Side) (d : Core S) (sent' : List (List RoundMessage)) (v : Verdict) → peer (peer from side) back ≡ from →
         Keeps (member cores (peer from side)) d → is_quiet next d ≡ true →
-        IsGiven next (setup_in next inputs most w) (delivered_in w) (rounds_in next inputs most w) back t (member cores (peer from side)) d sent' v →
+        IsGiven next (setup_in next inputs most w) (delivered_in w) (rounds_in next inputs most w) back t
+        (member cores (peer from side)) d sent' v →
         StandsIn next inputs most (record w { marks = with_mark w.marks from side t }) (peer from side) d
     given-stands back d sent' v other keeps quiet g =
         let c = i.standing (peer from side) in
-        let e1 : with_triple (delivered_in w) (record { from = peer (member cores (peer from side)).me back; to = (member cores (peer from side)).me; round = t })
+        let e1 : with_triple (delivered_in w) (record {
+          from = peer (member cores (peer from side)).me back;
+          to = (member cores (peer from side)).me;
+          round = t;
+        })
         ≡ with_triple (delivered_in w) (record { from = peer (peer from side) back; to = peer from side; round = t }) =
         λ k. with_triple (delivered_in w) (record { from = peer (c.name k) back; to = c.name k; round = t }) in
         let e2 : with_triple (delivered_in w) (record { from = peer (peer from side) back; to = peer from side; round = t })
@@ -150,13 +164,15 @@ module _ {S : Type 0} (next : S → ℕ → List ℕ → Batch) (inputs most : S
         }
 
     -- a server that did not get it fits as before
-    other-stands : (s : Point) → s ≢ peer from side → StandsIn next inputs most (record w { marks = with_mark w.marks from side t }) s (member cores s)
+    other-stands : (s : Point) → s ≢ peer from side →
+        StandsIn next inputs most (record w { marks = with_mark w.marks from side t }) s (member cores s)
     other-stands s other =
         let c = i.standing s in
         record {
           name = c.name;
           fits = subst (λ (x : Delivered). Fits next (setup_in next inputs most w) x (member cores s)) (sym set-after)
-              (away next (setup_in next inputs most w) (delivered_in w) (member cores s) (to_side from side t) (λ e. other (sym (e ∙ c.name))) c.fits);
+              (away next (setup_in next inputs most w) (delivered_in w) (member cores s) (to_side from side t)
+              (λ e. other (sym (e ∙ c.name))) c.fits);
           quiet = c.quiet;
           going = c.going;
         }
@@ -170,8 +186,10 @@ module _ {S : Type 0} (next : S → ℕ → List ℕ → Batch) (inputs most : S
     world-after cores' sent' given sends others = record {
       fresh = i.fresh;
       standing = λ s. elim (which s (peer from side)) [
-        | inl it ↦ subst (λ (k : Point). StandsIn next inputs most (record w { marks = with_mark w.marks from side t }) k (member cores' k)) (sym it) given
-        | inr other ↦ subst (λ (c : Core S). StandsIn next inputs most (record w { marks = with_mark w.marks from side t }) s c) (sym (others s other).0) (other-stands s other)
+        | inl it ↦ subst (λ (k : Point). StandsIn next inputs most
+            (record w { marks = with_mark w.marks from side t }) k (member cores' k)) (sym it) given
+        | inr other ↦ subst (λ (c : Core S). StandsIn next inputs most
+            (record w { marks = with_mark w.marks from side t }) s c) (sym (others s other).0) (other-stands s other)
       ];
       sent_all = λ s. elim (which s (peer from side)) [
         | inl it ↦ subst (λ (k : Point). member sent' k ≡ sent_by (setup_in next inputs most w) (member cores' k)) (sym it) sends

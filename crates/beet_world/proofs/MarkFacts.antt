@@ -1,5 +1,6 @@
 -- Marks of delivered messages.
-use Rattle.std.proofs.Common.{◌≡◌, ◌≢◌, ℕ, ◌+◌, ◌*◌, ◌-◌, ◌<◌, ◌≤◌, List, length, Option, Some, None, Bool, true, false, true≢false, inl, inr, arith, refl, sym, ◌∙◌, ap, ◌==◌, ◌&&◌, ◌||◌}
+use Rattle.std.proofs.Common.{◌≡◌, ◌≢◌, ℕ, ◌+◌, ◌*◌, ◌-◌, ◌<◌, ◌≤◌, List, length, Option, Some, None, Bool, true, false}
+use Rattle.std.proofs.Common.{true≢false, inl, inr, arith, refl, sym, ◌∙◌, ap, ◌==◌, ◌&&◌, ◌||◌}
 use Rattle.std.specs.Prelude.{slice_index_or, replicate}
 use Rattle.std.proofs.lemmas.Bool.{cases_eq, cases_lt, and_parts, or_cases, or_left, or_right, eq-eqb, eqb-true}
 use Rattle.std.proofs.lemmas.List.{get_or-set_same, get_or-set_other, get_or-replicate, length-replicate}
@@ -75,8 +76,10 @@ module _ (marks : List Bool) (from : Point) (side : Side) (round : ℕ) (within 
   e = record { from = from; to = peer from side; round = round }
 
   -- the mark at the place of the message, and another
-  here : (f : Point) (s : Side) (r : ℕ) → mark_at f s r ≡ mark_at from side round → slice_index_or (with_mark marks from side round) (mark_at f s r) false ≡ true
-  here f s r same = ap (λ k. slice_index_or (with_mark marks from side round) k false) same ∙ get_or-set_same marks (mark_at from side round) true false within
+  here : (f : Point) (s : Side) (r : ℕ) → mark_at f s r ≡ mark_at from side round →
+      slice_index_or (with_mark marks from side round) (mark_at f s r) false ≡ true
+  here f s r same = ap (λ k. slice_index_or (with_mark marks from side round) k false) same
+      ∙ get_or-set_same marks (mark_at from side round) true false within
 
   there : (f : Point) (s : Side) (r : ℕ) → mark_at f s r ≢ mark_at from side round →
       slice_index_or (with_mark marks from side round) (mark_at f s r) false ≡ slice_index_or marks (mark_at f s r) false
@@ -85,7 +88,8 @@ module _ (marks : List Bool) (from : Point) (side : Side) (round : ℕ) (within 
   is_it : (f t : Point) (s : Side) (r : ℕ) → side_of f t ≡ Some s → mark_at f s r ≡ mark_at from side round →
       (same f from && same t (peer from side) && (r == round)) ≡ true
   is_it f t s r named place =
-      let p = one_place (number_of f) (number_of from) (place_of s) (place_of side) r round (point_low f) (point_high f) (point_low from) (point_high from) (side_small s) (side_small side) place in
+      let p = one_place (number_of f) (number_of from) (place_of s) (place_of side) r round (point_low f) (point_high f)
+      (point_low from) (point_high from) (side_small s) (side_small side) place in
       let f' : f ≡ from = point_is f from p.1 in
       let s' : s ≡ side = side_is s side p.2 in
       let t' : t ≡ peer from side = sym (peer-side f t s named) ∙ (λ i. peer (f' i) (s' i)) in
@@ -100,9 +104,11 @@ module _ (marks : List Bool) (from : Point) (side : Side) (round : ℕ) (within 
   ]
 
   from_set : (f t : Point) (s : Option Side) (r : ℕ) → side_of f t ≡ s →
-      (marked_to marks f s r || (same f from && same t (peer from side) && (r == round))) ≡ true → marked_to (with_mark marks from side round) f s r ≡ true
+      (marked_to marks f s r || (same f from && same t (peer from side) && (r == round))) ≡ true →
+      marked_to (with_mark marks from side round) f s r ≡ true
   from_set f t None r named there_is =
-      let both = and_parts (same f from) (same t (peer from side)) (and_parts (same f from && same t (peer from side)) (r == round) there_is).0 in
+      let both = and_parts (same f from) (same t (peer from side))
+      (and_parts (same f from && same t (peer from side)) (r == round) there_is).0 in
       let f' : f ≡ from = same_is f from both.0 in
       let t' : t ≡ peer from side = same_is t (peer from side) both.1 in
       let moved : side_of f t ≡ side_of from (peer from side) = λ i. side_of (f' i) (t' i) in
@@ -124,7 +130,8 @@ module _ (marks : List Bool) (from : Point) (side : Side) (round : ℕ) (within 
   ]
 
   -- one mark more is one message more
-  pub set-with_mark : set_of (with_mark marks from side round) ≡ with_triple (set_of marks) (record { from = from; to = peer from side; round = round })
+  pub set-with_mark : set_of (with_mark marks from side round)
+      ≡ with_triple (set_of marks) (record { from = from; to = peer from side; round = round })
   set-with_mark = λ i f t r. bool_same
       (marked_to (with_mark marks from side round) f (side_of f t) r)
       (marked_to marks f (side_of f t) r || (same f from && same t (peer from side) && (r == round)))

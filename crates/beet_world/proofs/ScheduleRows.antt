@@ -1,5 +1,6 @@
 -- The rows of a schedule, one after another.
-use Rattle.std.proofs.Common.{append_assoc, ◌≡◌, ℕ, ◌+◌, List, [], ◌∷◌, ◌++◌, ◌==◌, Bool, true, false, if◌then◌else◌, drop, Some, None, Ok, Err, refl, sym, ap, ◌∙◌}
+use Rattle.std.proofs.Common.{append_assoc, ◌≡◌, ℕ, ◌+◌, List, [], ◌∷◌, ◌++◌, ◌==◌, Bool, true, false, if◌then◌else◌}
+use Rattle.std.proofs.Common.{drop, Some, None, Ok, Err, refl, sym, ap, ◌∙◌}
 use Rattle.std.specs.Prelude.{Option, Result, codes}
 use Rattle.std.specs.List.{filter_map}
 use Rattle.std.specs.Option.{ok_or}
@@ -13,18 +14,21 @@ use Rattle.beet_world.specs.Schedules.{delivery_in, delivery_at, reason_against,
 -- a delivery is read only where the row has one
 has-delivery : (number : ℕ) (row : Row) (delivery : Delivery) → delivery_at number row ≡ Ok delivery → delivery_in row ≡ Some delivery
 has-delivery number row delivery e = cases (number == ONE_DELIVERY_TOO_MANY) (delivery_in row) e where
-  cases : (last : Bool) (read : Option Delivery) → if◌then◌else◌ {A = Result Delivery ℕ} last (Err TOO_MANY_DELIVERIES) (ok_or read BAD_DELIVERY) ≡ Ok delivery → read ≡ Some delivery
+  cases : (last : Bool) (read : Option Delivery) → if◌then◌else◌ {A = Result Delivery ℕ} last (Err TOO_MANY_DELIVERIES)
+      (ok_or read BAD_DELIVERY) ≡ Ok delivery → read ≡ Some delivery
   cases true read f = cc f
   cases false None f = cc f
   cases false (Some other) f = let same : other ≡ delivery = cc f in ap Some same
 
 -- the rows after one with a delivery
-pub rest-accepted : (number : ℕ) (row : Row) (rows more : List Row) (delivery : Delivery) → rows ≡ row ∷ more → delivery_at number row ≡ Ok delivery →
+pub rest-accepted : (number : ℕ) (row : Row) (rows more : List Row) (delivery : Delivery) → rows ≡ row ∷ more →
+    delivery_at number row ≡ Ok delivery →
     first_row_fault reason_against (number + 1) more ≡ first_row_fault reason_against number rows
 rest-accepted number row rows more delivery is e = rw (is, e) refl
 
 -- the deliveries up to a row with one
-pub deliveries-more : (deliveries : List Delivery) (number : ℕ) (row : Row) (rows more all : List Row) (delivery : Delivery) → rows ≡ row ∷ more →
+pub deliveries-more : (deliveries : List Delivery) (number : ℕ) (row : Row) (rows more all : List Row)
+    (delivery : Delivery) → rows ≡ row ∷ more →
     delivery_at number row ≡ Ok delivery → deliveries ++ filter_map delivery_in rows ≡ filter_map delivery_in all →
     (deliveries ++ delivery ∷ []) ++ filter_map delivery_in more ≡ filter_map delivery_in all
 deliveries-more deliveries number row rows more all delivery is e so_far =
@@ -32,9 +36,11 @@ deliveries-more deliveries number row rows more all delivery is e so_far =
     ∙ (sym (rw (is, has-delivery number row delivery e) refl) ∙ so_far)
 
 -- behind the header a schedule is its deliveries
-pub schedule-begun : (rows rest : List Row) → begins_with rows (codes "beet-schedule" ∷ codes "1" ∷ []) ≡ true → rest ≡ drop 1 rows → schedule_in rows ≡ deliveries_of rest
+pub schedule-begun : (rows rest : List Row) → begins_with rows (codes "beet-schedule" ∷ codes "1" ∷ []) ≡ true →
+    rest ≡ drop 1 rows → schedule_in rows ≡ deliveries_of rest
 schedule-begun rows rest begun is = rw (begun, is) refl
 
 -- without its first row a schedule is refused
-pub no-schedule : (rows : List Row) → begins_with rows (codes "beet-schedule" ∷ codes "1" ∷ []) ≡ false → schedule_in rows ≡ Err (at_row 1 BAD_DELIVERY)
+pub no-schedule : (rows : List Row) → begins_with rows (codes "beet-schedule" ∷ codes "1" ∷ []) ≡ false →
+    schedule_in rows ≡ Err (at_row 1 BAD_DELIVERY)
 no-schedule rows begun = rw begun refl

@@ -1,5 +1,6 @@
 -- Undelivered messages are of two rounds at most: that of the server that is behind, and the next.
-use Rattle.std.proofs.Common.{◌≡◌, ◌≢◌, ℕ, zero, suc, ◌+◌, ◌≤◌, Bool, true, false, inl, inr, arith, refl, sym, ◌∙◌, ap, ◌&&◌, ◌==◌, not, nat_lt, nat_le, length, cond}
+use Rattle.std.proofs.Common.{◌≡◌, ◌≢◌, ℕ, zero, suc, ◌+◌, ◌≤◌, Bool, true, false, inl, inr, arith, refl, sym, ◌∙◌, ap}
+use Rattle.std.proofs.Common.{◌&&◌, ◌==◌, not, nat_lt, nat_le, length, cond}
 use Rattle.std.specs.Prelude.{count_by, filter, min}
 use Rattle.beet_field.specs.Trio.{member}
 use Rattle.std.specs.List.{range_with_len, flat_map}
@@ -66,7 +67,8 @@ module _ (p : Triple → Bool) (m : ℕ) (none : (t : ℕ) → t ≢ m → t ≢
       ∙ omega (arith, at_two a, among n (a + 1), seen_more (of_round p) a n m, seen_more (of_round p) a n (m + 1))
 
   -- all that pass are of these two rounds
-  pub of-two : (rounds : ℕ) → ((t : ℕ) → rounds ≤ t → of_round p t ≡ 0) → length (filter p (all_triples rounds)) ≡ of_round p m + of_round p (m + 1)
+  pub of-two : (rounds : ℕ) → ((t : ℕ) → rounds ≤ t → of_round p t ≡ 0) →
+      length (filter p (all_triples rounds)) ≡ of_round p m + of_round p (m + 1)
   of-two rounds past = length-filter p (all_triples rounds) ∙ among rounds 0 ∙ (λ i. within m i + within (m + 1) i) where
     within : (t : ℕ) → seen (of_round p) 0 rounds t ≡ of_round p t
     within t = elim (cases_lt t rounds) [
@@ -77,13 +79,16 @@ module _ (p : Triple → Bool) (m : ℕ) (none : (t : ℕ) → t ≢ m → t ≢
 round-six : (p : Triple → Bool) (t : ℕ) → of_round p t ≡ six p t
 round-six p t = omega arith
 
-none_of_six : (p : Triple → Bool) (t : ℕ) → ((from to : Point) → same from to ≡ false → p (record { from = from; to = to; round = t }) ≡ false) → of_round p t ≡ 0
+none_of_six : (p : Triple → Bool) (t : ℕ) →
+    ((from to : Point) → same from to ≡ false → p (record { from = from; to = to; round = t }) ≡ false) →
+    of_round p t ≡ 0
 none_of_six p t none =
     round-six p t
     ∙ rw (none One Two refl, none One Three refl, none Two One refl, none Two Three refl, none Three One refl, none Three Two refl) refl
 
 -- where one server is behind or level with the others, what is undelivered is of its round or of the next
-pub missing-two : (rounds : ℕ) (x : Delivered) (behind : Point) → WasSent three rounds x → ((s : Point) → passed rounds x behind ≤ passed rounds x s) →
+pub missing-two : (rounds : ℕ) (x : Delivered) (behind : Point) → WasSent three rounds x →
+    ((s : Point) → passed rounds x behind ≤ passed rounds x s) →
     undelivered rounds x ≡ six (is_missing rounds x) (passed rounds x behind) + six (is_missing rounds x) (passed rounds x behind + 1)
 missing-two rounds x behind was least =
     let m = passed rounds x behind in
@@ -99,12 +104,12 @@ missing-two rounds x behind was least =
           omega (arith, p.1.1, one_apart rounds x was from behind, le, other, more)))
     ]))
     rounds
-    (λ t past. none_of_six (is_missing rounds x) t (λ from to apart. and_left (is_sent rounds x (record { from = from; to = to; round = t })) (not (x from to t))
+    (λ t past. none_of_six (is_missing rounds x) t
+    (λ from to apart. and_left (is_sent rounds x (record { from = from; to = to; round = t })) (not (x from to t))
     (false_from_ne_true (is_sent rounds x (record { from = from; to = to; round = t })) (λ is.
     let p = sent_parts three-is rounds x (record { from = from; to = to; round = t }) is in omega (arith, p.1.0, past)))))
     ∙ (λ i. round-six (is_missing rounds x) m i + round-six (is_missing rounds x) (m + 1) i)
 
--- the least of three
 pub least-of : (a b c : ℕ) → (s : Point) × (min (min a b) c ≡ member (record { one = a; two = b; three = c }) s)
     × (min (min a b) c ≤ a) × (min (min a b) c ≤ b) × (min (min a b) c ≤ c)
 least-of a b c = elim (cases_lt a b) [

@@ -1,5 +1,6 @@
 -- What is known when a message of a run is given to a server, and after it.
-use Rattle.std.specs.Prelude.{◌≡◌, ◌+◌, ◌<◌, ◌≤◌, ℕ, List, true, Vec, vec_capacity, length, Option, Some, None, if◌then◌else◌}
+use Rattle.std.specs.Prelude.{◌≡◌, ◌+◌, ◌<◌, ◌≤◌, ℕ, List, true, Vec, vec_capacity, length, Option, Some, None}
+use Rattle.std.specs.Prelude.{if◌then◌else◌}
 use Rattle.std.specs.Global.{Global}
 use Rattle.beet_round.specs.declared.sides.Side.TheVariants.{Low, High}
 use Rattle.beet_world.specs.declared.world.Event.{Event}
@@ -19,7 +20,8 @@ use Rattle.beet_sharing.specs.Runs.{HasRounds, Setup}
 use Rattle.beet_world.specs.Worlds.{sent_by}
 
 module _ {S : Type 0} (next : S → ℕ → List ℕ → Batch) (o : Setup) (x : Set) (rounds : ℕ) (s : Side) (t : ℕ) where
-  -- the message of the round t of a run comes from the other server of this side, at most one round early, to a core that fits the run
+  -- the message of the round t of a run comes from the other server of this side, at most one round early, to a core
+  -- that fits the run
   pub record MayGive (c : Core S) (sent : List (List RoundMessage)) (m : RoundMessage) : Type 0 where
     pub has_rounds : HasRounds o rounds
     pub fits : Fits next o x c
@@ -29,7 +31,8 @@ module _ {S : Type 0} (next : S → ℕ → List ℕ → Batch) (o : Setup) (x :
     pub near : t ≤ c.round + 1
     pub is_message : m ≡ message_of o (peer c.me s) c.me t
 
-  -- the core fits with this message more, what it has sent is that of the run, and the set and its round told the verdict
+  -- the core fits with this message more, what it has sent is that of the run, and the set and its round told the
+  -- verdict
   pub record IsGiven (old new : Core S) (sent : List (List RoundMessage)) (v : Verdict) : Type 0 where
     pub fits : Fits next o (with_triple x (record { from = peer old.me s; to = old.me; round = t })) new
     pub going : new.handed ≡ true → new.round < rounds
@@ -42,13 +45,15 @@ of_side Low low high = low
 of_side High low high = high
 
 -- a core has nothing to hand out, and there is room for the messages of all its rounds
-pub record MayTakeMessages {S : Type 0} (next : S → ℕ → List ℕ → Batch) (rounds : ℕ) (c : Core S) (sent : Vec (List RoundMessage) Global) : Type 0 where
+pub record MayTakeMessages {S : Type 0} (next : S → ℕ → List ℕ → Batch) (rounds : ℕ) (c : Core S)
+    (sent : Vec (List RoundMessage) Global) : Type 0 where
   pub quiet : is_quiet next c ≡ true
   pub room : rounds ≤ vec_capacity sent
   pub counted : length sent.items ≡ taken c.round c.handed
   pub within : length sent.items ≤ rounds
 
--- the verdict of a server in a round on a message of the run; one from the server itself is a stranger's, and none is sent
+-- the verdict of a server in a round on a message of the run; one from the server itself is a stranger's, and none is
+-- sent
 abbrev pub verdict_from : Set → Point → ℕ → Option Side → ℕ → Verdict
 verdict_from x s round None t = Stranger
 verdict_from x s round (Some side) t = verdict_on x s round side t
@@ -56,4 +61,5 @@ verdict_from x s round (Some side) t = verdict_on x s round side t
 -- what becomes of a message: not sent, or delivered with the verdict of its receiver, which is at its passed rounds
 abbrev pub event_of : ℕ → Set → Triple → Event
 event_of rounds x e =
-    if is_sent rounds x e then Delivered (verdict_from x e.to (passed rounds x e.to) (side_of e.to e.from) e.round) else NotSent
+    if is_sent rounds x e then
+    Delivered (verdict_from x e.to (passed rounds x e.to) (side_of e.to e.from) e.round) else NotSent

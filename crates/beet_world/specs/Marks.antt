@@ -1,5 +1,6 @@
 -- A set of delivered messages as marks, six for each round: by round, sender and receiver.
-use Rattle.std.specs.Prelude.{ℕ, ◌+◌, ◌*◌, ◌-◌, List, Option, Some, None, Bool, true, false, slice_index_or, slice_set, replicate}
+use Rattle.std.specs.Prelude.{ℕ, ◌+◌, ◌*◌, ◌-◌, List, Option, Some, None, Bool, true, false, slice_index_or, slice_set}
+use Rattle.std.specs.Prelude.{replicate}
 use Rattle.beet_field.specs.Point.{number_of}
 use Rattle.beet_field.specs.declared.point.Point.{Point}
 use Rattle.beet_round.specs.Sides.{place_of, side_of}

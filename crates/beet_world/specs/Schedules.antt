@@ -10,7 +10,8 @@ use Rattle.beet_forms.specs.declared.decimals.NumberFault.{NumberFault}
 use Rattle.beet_forms.specs.Faults.{Reading, at_row, reading_of, first_row_fault}
 use Rattle.beet_forms.specs.Numbers.{number_of}
 use Rattle.beet_forms.specs.Rows.{rows_of, begins_with, three_of}
-use Rattle.beet_world.specs.declared.schedule.TheConstants.{BAD_DELIVERY, TOO_MANY_DELIVERIES, ONE_DELIVERY_TOO_MANY, LATEST_ROUND}
+use Rattle.beet_world.specs.declared.schedule.TheConstants.{BAD_DELIVERY, TOO_MANY_DELIVERIES, ONE_DELIVERY_TOO_MANY}
+use Rattle.beet_world.specs.declared.schedule.TheConstants.{LATEST_ROUND}
 use Rattle.beet_world.specs.declared.schedule.Delivery.{Delivery}
 
 -- the delivery of a row's parts, or none where a part is none or the sender is the receiver
@@ -30,7 +31,8 @@ delivery_in row = delivery_of_fields (three_of row)
 
 -- the delivery of the row with this number, or the first reason against the row: it is one too many, or not of its form
 abbrev pub delivery_at : ℕ → Row → Result Delivery ℕ
-delivery_at number row = if number == ONE_DELIVERY_TOO_MANY then Err TOO_MANY_DELIVERIES else ok_or (delivery_in row) BAD_DELIVERY
+delivery_at number row =
+    if number == ONE_DELIVERY_TOO_MANY then Err TOO_MANY_DELIVERIES else ok_or (delivery_in row) BAD_DELIVERY
 
 -- the reason against the row with this number
 abbrev pub reason_against : ℕ → Row → Option ℕ
@@ -43,7 +45,8 @@ deliveries_of rows = reading_of (first_row_fault reason_against 2 rows) (filter_
 -- what the rows of a schedule read as
 abbrev pub schedule_in : List Row → Reading (List Delivery)
 schedule_in rows =
-    if begins_with rows (codes "beet-schedule" ∷ codes "1" ∷ []) then deliveries_of (drop 1 rows) else Err (at_row 1 BAD_DELIVERY)
+    if begins_with rows (codes "beet-schedule" ∷ codes "1" ∷ []) then deliveries_of (drop 1 rows)
+    else Err (at_row 1 BAD_DELIVERY)
 
 -- what a schedule file reads as
 abbrev pub schedule_of : List ℕ → Reading (List Delivery)

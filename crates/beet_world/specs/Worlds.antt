@@ -36,7 +36,6 @@ abbrev pub sent_by : {S : Type 0} → Setup → Core S → List (List RoundMessa
 sent_by o c = each (messages_from o c.me) (taken c.round c.handed)
 
 module _ {S : Type 0} (next : S → ℕ → List ℕ → Batch) (inputs most : S → ℕ) where
-  -- the setup of a `World`
   abbrev pub setup_in : World S → Setup
   setup_in w = setup_of next inputs w.start
 
@@ -51,8 +50,9 @@ module _ {S : Type 0} (next : S → ℕ → List ℕ → Batch) (inputs most : S
     pub quiet : is_quiet next c ≡ true
     pub going : c.handed ≡ true → c.round < rounds_in w
 
-  -- the core of a server in a `World`: it has the script and the words that it began with, fits what was delivered, has nothing
-  -- left to hand out, is at the rounds that its server has passed, and at most one ahead of each other; some list of events led there
+  -- the core of a server in a `World`: it has the script and the words that it began with, fits what was delivered, has
+  -- nothing left to hand out, is at the rounds that its server has passed, and at most one ahead of each other; some
+  -- list of events led there
   pub record IsCoreOf (w : World S) (s : Point) (c : Core S) : Type 0 where
     pub name : c.me ≡ s
     pub script : c.script ≡ w.start.one.script
@@ -62,7 +62,8 @@ module _ {S : Type 0} (next : S → ℕ → List ℕ → Batch) (inputs most : S
     pub quiet : is_quiet next c ≡ true
     pub going : c.handed ≡ true → c.round < rounds_in w
     pub round : c.round ≡ passed (rounds_in w) (delivered_in w) s
-    pub near : (other : Point) → passed (rounds_in w) (delivered_in w) s ≤ passed (rounds_in w) (delivered_in w) other + 1
+    pub near : (other : Point) →
+        passed (rounds_in w) (delivered_in w) s ≤ passed (rounds_in w) (delivered_in w) other + 1
     pub events : List Triple
     pub reached : delivered_in w ≡ after (rounds_in w) events
 
@@ -76,7 +77,8 @@ module _ {S : Type 0} (next : S → ℕ → List ℕ → Batch) (inputs most : S
     pub room : length w.marks ≡ 6 * most w.start.one.script
 
   -- what it keeps, with room for the messages of all rounds, and each server's script and words
-  pub record HoldsWorld (w : World S) (cores : Trio (Core S)) (sent : Trio (Vec (List RoundMessage) Global)) : Type 0 where
+  pub record HoldsWorld (w : World S) (cores : Trio (Core S))
+      (sent : Trio (Vec (List RoundMessage) Global)) : Type 0 where
     pub is_world : IsWorld w cores (record { one = sent.one.items; two = sent.two.items; three = sent.three.items })
     pub room : (s : Point) → most w.start.one.script ≤ vec_capacity (member sent s)
     pub script : (s : Point) → (member cores s).script ≡ w.start.one.script

@@ -2,7 +2,7 @@
 
 ghost use Rattle.std.specs.Prelude.{◌≡◌, ◌+◌, ℕ};
 ghost use Rattle.beet_field.specs.Trio.{member};
-ghost use Rattle.beet_field.specs.declared.point.Point.{Point as Server};
+ghost use Rattle.beet_field.specs.declared.point.Point.{Point};
 ghost use Rattle.beet_round.specs.Sides.{peer};
 ghost use Rattle.beet_round.specs.declared.sides.Side.TheVariants.{Low, High};
 ghost use Rattle.beet_server.specs.Answers.{Keeps};
@@ -21,7 +21,7 @@ use beet_server::ServerCore;
 fn take_both<S: Script>(core: &mut ServerCore<S>, low: &RoundMessage, high: &RoundMessage)
     requires { MayTake S.batch_of core.old low.now high.now }
     ensures keeps { Keeps core.old core.new }
-    ensures passed { (o : Setup) (t : ℕ) (s : Server) → IsRound o t
+    ensures passed { (o : Setup) (t : ℕ) (s : Point) → IsRound o t
         → HasHanded S.batch_of o t (all_delivered t) s core.old
         → low.now ≡ message_of o (peer s Low) s t → high.now ≡ message_of o (peer s High) s t
         → IsAtRound S.batch_of o (t + 1) s core.new }
@@ -34,7 +34,7 @@ fn take_both<S: Script>(core: &mut ServerCore<S>, low: &RoundMessage, high: &Rou
 /// delivered.
 fn exchange<S: Script>(cores: &mut Trio<ServerCore<S>>, sent: &mut Trio<ToPeers>)
     requires { MayPass S.batch_of cores.old }
-    ensures keeps { (s : Server) → Keeps (member cores.old s) (member cores.new s) }
+    ensures keeps { (s : Point) → Keeps (member cores.old s) (member cores.new s) }
     ensures passed { (o : Setup) (t : ℕ) → IsRound o t → AreAtRound S.batch_of o t cores.old
         → AreAtRound S.batch_of o (t + 1) cores.new }
 {

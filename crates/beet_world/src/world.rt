@@ -1,15 +1,16 @@
 //! Three servers, the messages that they have sent, and which of these were delivered.
 
-ghost use Rattle.std.specs.Prelude.{◌≡◌, ◌≢◌, ◌↔◌, ◌<◌, ◌≤◌, ◌^◌, ◌*◌, ◌+◌, IfOk, IfSome, IsNone, Some, true, false, List, [], ◌∷◌, ℕ, if◌then◌else◌, length, nat_lt, slice_get, vec_capacity};
+ghost use Rattle.std.specs.Prelude.{◌≡◌, ◌≢◌, ◌↔◌, ◌<◌, ◌≤◌, ◌^◌, ◌*◌, ◌+◌, IfOk, IfSome, IsNone, Some, true, false};
+ghost use Rattle.std.specs.Prelude.{List, [], ◌∷◌, ℕ, if◌then◌else◌, length, nat_lt, slice_get, vec_capacity};
 ghost use Rattle.beet_field.specs.Trio.{member};
-ghost use Rattle.beet_field.specs.declared.point.Point.{Point as Server};
 ghost use Rattle.beet_round.specs.Sides.{peer};
 ghost use Rattle.beet_round.specs.declared.mailbox.Verdict.TheVariants.{Old, Repeat};
 ghost use Rattle.beet_round.specs.declared.message.RoundMessage.{RoundMessage as Message};
 ghost use Rattle.beet_round.specs.declared.sides.Side.{Side as SideOf};
 ghost use Rattle.beet_server.specs.Answers.{Keeps};
 ghost use Rattle.beet_server.specs.Cores.{AreFresh, is_quiet};
-ghost use Rattle.beet_delivery.specs.Events.{Delivered, after_from, deliver, has, passed, undelivered as undelivered_in};
+ghost use Rattle.beet_delivery.specs.Events.{Delivered, after_from, deliver, has, passed};
+ghost use Rattle.beet_delivery.specs.Events.{undelivered as undelivered_in};
 ghost use Rattle.beet_sharing.specs.Runs.{Setup};
 ghost use Rattle.beet_world.specs.Happens.{IsGiven, MayGive, MayTakeMessages, event_of, of_side};
 ghost use Rattle.beet_world.specs.Marks.{mark_at, unmarked};
@@ -106,7 +107,7 @@ fn give_to<S: Script>(
 ) -> Verdict
     requires { MayTakeMessages S.batch_of (S.rounds_of (member cores.old to).script)
         (member cores.old to) (member sent.old to) }
-    ensures others { (s : Server) → s ≢ to → (member cores.new s ≡ member cores.old s)
+    ensures others { (s : Point) → s ≢ to → (member cores.new s ≡ member cores.old s)
         × (member sent.new s ≡ member sent.old s) }
     ensures capacity { vec_capacity (member sent.new to) ≡ vec_capacity (member sent.old to) }
     ensures keeps { Keeps (member cores.old to) (member cores.new to) }
@@ -137,8 +138,8 @@ fn verdict_on_repeat(passed: u32, round: u32) -> Verdict
 
 /// Room for the messages of so many rounds of each server, and a mark for each message, none set.
 fn room(alloc: Global, rounds: u32) -> Result<(Trio<Vec<[RoundMessage; 2]>>, Vec<bool>), AllocError>
-    ensures none { IfOk result (λ room. (s : Server) → (member room.0 s).items ≡ []) }
-    ensures capacity { IfOk result (λ room. (s : Server)
+    ensures none { IfOk result (λ room. (s : Point) → (member room.0 s).items ≡ []) }
+    ensures capacity { IfOk result (λ room. (s : Point)
         → rounds ≤ vec_capacity (member room.0 s)) }
     ensures marks { IfOk result (λ room. room.1.items ≡ unmarked rounds) }
 {
@@ -187,7 +188,8 @@ impl<S: Script> World<S> {
         self.cores.get(at)
     }
 
-    /// The verdict of the receiver on a message that was delivered before, which changes nothing, or `None` where it was not.
+    /// The verdict of the receiver on a message that was delivered before, which changes nothing, or `None` where it
+    /// was not.
     fn repeated(&self, from: Point, to: Point, side: Side, round: u32) -> Option<Verdict>
         requires side { to ≡ peer from side }
         ensures there { IfSome result (λ v.
@@ -298,7 +300,7 @@ impl<S: Script> World<S> {
             ≡ undelivered_in (rounds_in S.batch_of S.inputs_of S.rounds_of self.now)
             (delivered_in self.now) }
         ensures few { result ≤ 12 }
-        ensures ended { result ≡ 0 → (s : Server)
+        ensures ended { result ≡ 0 → (s : Point)
             → passed (rounds_in S.batch_of S.inputs_of S.rounds_of self.now)
             (delivered_in self.now) s
             ≡ rounds_in S.batch_of S.inputs_of S.rounds_of self.now }

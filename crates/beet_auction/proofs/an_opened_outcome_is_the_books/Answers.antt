@@ -9,9 +9,12 @@ use Rattle.beet_auction.proofs.an_opened_outcome_is_the_books.Goals as goal
 
 pub returns-clause-ends : goal.returns-clause-ends
 returns-clause-ends c = λ grid farmers masks coefficients b m.
-    book-ends (book_with grid farmers) (book_setup grid farmers masks coefficients) (slopes_of grid farmers) b m refl (book-lines grid farmers b)
+    book-ends (book_with grid farmers) (book_setup grid farmers masks coefficients) (slopes_of grid farmers) b m refl
+    (book-lines grid farmers b)
 
 pub returns-clause-always : goal.returns-clause-always
 returns-clause-always c = λ grid farmers masks coefficients b m.
-    ends-always (auction_over grid) (book_setup grid farmers masks coefficients) (book_rounds (book_with grid farmers) masks) (book_finish (book_with grid farmers) masks)
-    (book-ends (book_with grid farmers) (book_setup grid farmers masks coefficients) (slopes_of grid farmers) b m refl (book-lines grid farmers b))
+    ends-always (auction_over grid) (book_setup grid farmers masks coefficients)
+    (book_rounds (book_with grid farmers) masks) (book_finish (book_with grid farmers) masks)
+    (book-ends (book_with grid farmers) (book_setup grid farmers masks coefficients) (slopes_of grid farmers) b m refl
+    (book-lines grid farmers b))

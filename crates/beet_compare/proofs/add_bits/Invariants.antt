@@ -7,6 +7,7 @@ use Rattle.beet_compare.proofs.add_bits.Given as goal
 
 abbrev pub invariant-loop-k : goal.invariant-loop-k
 invariant-loop-k l = record {
-  so_far : l.lets.items ≡ each (by_turns (λ k. one_term 0 (1 - bit_at l.c k, l.mask + 366 + k)) (λ k. same_let (bit_at l.c k) (l.mask + 366 + k))) (2 * l.k);
+  so_far : l.lets.items ≡ each (by_turns (λ k. one_term 0 (1 - bit_at l.c k, l.mask + 366 + k))
+      (λ k. same_let (bit_at l.c k) (l.mask + 366 + k))) (2 * l.k);
   count : length l.lets.items ≡ 2 * l.k;
 }

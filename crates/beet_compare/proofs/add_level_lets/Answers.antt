@@ -18,5 +18,6 @@ returns g c =
     let rule : ℕ × ℕ → Linear = λ place. two_terms 0 (1, wire_of c.args.less place.1) (1, c.args.products + place.0) in
     let list = c.level_pairs.result in
     let whole : take c.loop-low.low-index list ≡ list =
-    take_all c.loop-low.low-index list (omega (arith, c.loop-low-test.false, ap length c.level_pairs.ensures, length-each places_of_pair g.row.K)) in
+    take_all c.loop-low.low-index list
+    (omega (arith, c.loop-low-test.false, ap length c.level_pairs.ensures, length-each places_of_pair g.row.K)) in
     c.loop-low.invariant.so_far ∙ ap (map rule) (whole ∙ c.level_pairs.ensures) ∙ map-each rule places_of_pair g.row.K

@@ -16,7 +16,8 @@ loop-i-preserved g c =
     let h : ℕ → ℕ × ℕ = λ i. (same (2 * i + 1), same (2 * i)) in
     let i = c.loop-i.i in
     let place : get_or c.level_pairs-places.result i (0, 0) ≡ places_of_pair i =
-    ap (λ (l : List (ℕ × ℕ)). get_or l i (0, 0)) c.level_pairs-places.ensures ∙ get_or-each places_of_pair g.row.K i (0, 0) c.loop-i-test.true in
+    ap (λ (l : List (ℕ × ℕ)). get_or l i (0, 0)) c.level_pairs-places.ensures
+    ∙ get_or-each places_of_pair g.row.K i (0, 0) c.loop-i-test.true in
     let first : ℕ × ℕ = (c.wire.result, c.wire-in-loop-i.result) in
     let second : ℕ × ℕ = (c.wire-in-loop-i-2.result, c.wire-in-loop-i-3.result) in
     let x : first ≡ f i = rw (c.wire.ensures, c.wire-in-loop-i.ensures, place) refl in

@@ -54,7 +54,8 @@ returns-in-3 c =
     let d : first + 273 ≡ before = omega arith in
     let e : first + 318 ≡ free = omega arith in
     rw c.in-3.is (c.set_level-in-3.ensures ∙ rw c.level_less-in-3.ensures
-    (table.level-told 8 4 (wire_of (level_less first (first + 273) 15)) (table.less_two first) (table.less_three first) (table.same_three first)
+    (table.level-told 8 4 (wire_of (level_less first (first + 273) 15)) (table.less_two first) (table.less_three first)
+    (table.same_three first)
     (wire_of (level_less first (first + 318) 8)) (wire_of (level_same first (first + 318) 8)) (first + 318) free e
     (λ k l. table.less-all first 31 (first + 273) before d (table.less_one first) refl k)
     (λ k l. table.less-told first 16 (first + 318) free e (table.less_two first) k l)
@@ -68,7 +69,8 @@ returns-in-4 c =
     let d : first + 318 ≡ before = omega arith in
     let e : first + 342 ≡ free = omega arith in
     rw c.in-4.is (c.set_level-in-4.ensures ∙ rw c.level_less-in-4.ensures
-    (table.level-told 4 2 (wire_of (level_less first (first + 318) 8)) (table.less_three first) (table.less_four first) (table.same_four first)
+    (table.level-told 4 2 (wire_of (level_less first (first + 318) 8)) (table.less_three first) (table.less_four first)
+    (table.same_four first)
     (wire_of (level_less first (first + 342) 4)) (wire_of (level_same first (first + 342) 4)) (first + 342) free e
     (λ k l. table.less-told first 16 (first + 318) before d (table.less_two first) k l)
     (λ k l. table.less-told first 8 (first + 342) free e (table.less_three first) k l)
@@ -82,7 +84,8 @@ returns-in-5 c =
     let d : first + 342 ≡ before = omega arith in
     let e : first + 354 ≡ free = omega arith in
     rw c.in-5.is (c.set_level-in-5.ensures ∙ rw c.level_less-in-5.ensures
-    (table.level-told 2 1 (wire_of (level_less first (first + 342) 4)) (table.less_four first) (table.less_five first) (table.same_five first)
+    (table.level-told 2 1 (wire_of (level_less first (first + 342) 4)) (table.less_four first) (table.less_five first)
+    (table.same_five first)
     (wire_of (level_less first (first + 354) 2)) (wire_of (level_same first (first + 354) 2)) (first + 354) free e
     (λ k l. table.less-told first 8 (first + 342) before d (table.less_three first) k l)
     (λ k l. table.less-told first 4 (first + 354) free e (table.less_four first) k l)

@@ -12,4 +12,5 @@ returns-in-1-to-59 c =
     rw (chain-next c.args.batch.now.lets.items c.args.bits c.args.step low high) (search rules)
 
 pub returns-in_default : goal.returns-in_default
-returns-in_default c = let past : 61 ≤ c.args.step = omega arith in rw (chain-past c.args.batch.now.lets.items c.args.bits c.args.step past) (search rules)
+returns-in_default c = let past : 61 ≤ c.args.step = omega arith in
+    rw (chain-past c.args.batch.now.lets.items c.args.bits c.args.step past) (search rules)

@@ -1,8 +1,8 @@
 use Rattle.std.proofs.Common.{rules}
-use Rattle.beet_envelopes.specs.Seal.{seal_job}
-use Rattle.beet_envelopes.specs.SourceWords.{named_source}
-use Rattle.beet_record.specs.Records.{record_job}
-use Rattle.beet_rehearse.specs.Rehearse.{rehearse_job}
+use Rattle.beet_job_envelopes.specs.Seal.{seal_job}
+use Rattle.beet_job_envelopes.specs.SourceWords.{named_source}
+use Rattle.beet_job_record.specs.Records.{record_job}
+use Rattle.beet_job_rehearse.specs.Rehearse.{rehearse_job}
 use Rattle.beet_app.specs.Jobs.{Auditing}
 use Rattle.beet_app.proofs.Running.{answers_job, done_ends, named_job}
 use Rattle.beet_app.proofs.jobs.do_four.Goals as goal
@@ -14,11 +14,13 @@ returns-in_ok-source g c =
 
 pub returns-then-eq-2 : goal.returns-then-eq-2
 returns-then-eq-2 g c =
-    answers_job (rehearse_job c.args.first.now c.args.second.now c.args.third.now c.args.fourth.now) _ (search rules) c.rehearse.ensures.done c.rehearse.ensures.reads
+    answers_job (rehearse_job c.args.first.now c.args.second.now c.args.third.now c.args.fourth.now) _
+    (search rules) c.rehearse.ensures.done c.rehearse.ensures.reads
 
 pub returns-then-eq-3 : goal.returns-then-eq-3
 returns-then-eq-3 g c =
-    answers_job (record_job c.args.first.now c.args.second.now c.args.third.now c.args.fourth.now) _ (search rules) c.record.ensures.done c.record.ensures.reads
+    answers_job (record_job c.args.first.now c.args.second.now c.args.third.now c.args.fourth.now) _
+    (search rules) c.record.ensures.done c.record.ensures.reads
 
 pub returns-then-eq-4 : goal.returns-then-eq-4
 returns-then-eq-4 g c =

@@ -1,6 +1,6 @@
 use Rattle.std.proofs.Common.{rules}
-use Rattle.beet_clear.specs.Clear.{clear_job}
-use Rattle.beet_envelopes.specs.Open.{open_job}
+use Rattle.beet_job_clear.specs.Clear.{clear_job}
+use Rattle.beet_job_envelopes.specs.Open.{open_job}
 use Rattle.beet_app.proofs.Running.{answers_job}
 use Rattle.beet_app.proofs.jobs.do_three.Goals as goal
 
@@ -10,4 +10,5 @@ returns-then-eq g c =
 
 pub returns-then-eq-2 : goal.returns-then-eq-2
 returns-then-eq-2 g c =
-    answers_job (open_job c.args.first.now c.args.second.now c.args.third.now) _ (search rules) c.open_envelopes.ensures.done c.open_envelopes.ensures.reads
+    answers_job (open_job c.args.first.now c.args.second.now c.args.third.now) _
+    (search rules) c.open_envelopes.ensures.done c.open_envelopes.ensures.reads

@@ -1,6 +1,6 @@
 use Rattle.std.proofs.Common.{rules}
-use Rattle.beet_tally.specs.Tally.{tally_job}
-use Rattle.beet_trial.specs.Trial.{trial_job}
+use Rattle.beet_job_tally.specs.Tally.{tally_job}
+use Rattle.beet_job_trial.specs.Trial.{trial_job}
 use Rattle.beet_app.proofs.Running.{answers_job, done_ends}
 use Rattle.beet_app.proofs.jobs.do_two.Goals as goal
 

@@ -6,9 +6,17 @@ use Rattle.beet_audit.proofs.PointFacts.{both-sides}
 use Rattle.beet_audit.proofs.VerdictFacts.{exits}
 use Rattle.beet_audit.proofs.bidders.check_bidder.Goals as goal
 
+pub check_known-requires-clause-bidder : goal.check_known-requires-clause-bidder
+check_known-requires-clause-bidder c = record {
+  lengths = c.requires.lengths;
+  there = c.requires.bidder;
+  over = c.requires.prices;
+}
+
 pub returns-in_err-check_lines-clause-bidder : goal.returns-in_err-check_lines-clause-bidder
 returns-in_err-check_lines-clause-bidder c =
-    exits (OneBidder c.args.prices c.args.views.now c.args.bidder) _ _ c.from_residual.ensures.1 (λ ne. inl (c.in_err-check_lines.ensures.lines ne))
+    exits (OneBidder c.args.prices c.args.views.now c.args.bidder) _ _ c.from_residual.ensures.1
+    (λ ne. inl (c.in_err-check_lines.ensures.lines ne))
 
 pub returns-in_err-check_lines-2-clause-bidder : goal.returns-in_err-check_lines-2-clause-bidder
 returns-in_err-check_lines-2-clause-bidder c =
@@ -18,17 +26,31 @@ returns-in_err-check_lines-2-clause-bidder c =
 pub returns-in_err-check_monotone-clause-bidder : goal.returns-in_err-check_monotone-clause-bidder
 returns-in_err-check_monotone-clause-bidder c =
     exits (OneBidder c.args.prices c.args.views.now c.args.bidder) _ _ c.from_residual-in_err-check_monotone.ensures.1
-    (λ ne. inr (c.in_ok-check_lines.ensures.lines, inr (c.in_ok-check_lines-2.ensures.lines, inl (c.in_err-check_monotone.ensures ne))))
+    (λ ne.
+    inr (
+      c.in_ok-check_lines.ensures.lines,
+      inr (c.in_ok-check_lines-2.ensures.lines, inl (c.in_err-check_monotone.ensures.monotone ne)),
+    ))
 
 pub returns-in_err-check_known-clause-bidder : goal.returns-in_err-check_known-clause-bidder
 returns-in_err-check_known-clause-bidder c =
     exits (OneBidder c.args.prices c.args.views.now c.args.bidder) _ _ c.from_residual-in_err-check_known.ensures.1
-    (λ ne. inr (c.in_ok-check_lines.ensures.lines, inr (c.in_ok-check_lines-2.ensures.lines, inr (c.in_ok-check_monotone.ensures, c.in_err-check_known.ensures ne))))
+    (λ ne.
+    inr (
+      c.in_ok-check_lines.ensures.lines,
+      inr (
+        c.in_ok-check_lines-2.ensures.lines,
+        inr (c.in_ok-check_monotone.ensures.monotone, c.in_err-check_known.ensures ne),
+      ),
+    ))
 
 pub returns-clause-bidder : goal.returns-clause-bidder
-returns-clause-bidder c =
-    (c.in_ok-check_lines.ensures.lines, (c.in_ok-check_lines-2.ensures.lines, (c.in_ok-check_monotone.ensures, c.in_ok-check_known.ensures)))
+returns-clause-bidder c = (
+  c.in_ok-check_lines.ensures.lines,
+  (c.in_ok-check_lines-2.ensures.lines, (c.in_ok-check_monotone.ensures.monotone, c.in_ok-check_known.ensures)),
+)
 
 pub returns-clause-elements : goal.returns-clause-elements
 returns-clause-elements c =
-    both-sides (λ m. AreElements (points_on (points_of_bidder c.args.views.now c.args.bidder) m)) c.args.prices c.in_ok-check_lines.ensures.elements c.in_ok-check_lines-2.ensures.elements
+    both-sides (λ m. AreElements (points_on (points_of_bidder c.args.views.now c.args.bidder) m)) c.args.prices
+    c.in_ok-check_lines.ensures.elements c.in_ok-check_lines-2.ensures.elements

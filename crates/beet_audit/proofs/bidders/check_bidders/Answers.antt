@@ -13,7 +13,8 @@ check_bidder-requires-clause-lengths c =
     let views = c.args.views.now in
     let i = c.loop-bidder.bidder in
     let lt : i < length views.one.bidders = omega (arith, c.loop-bidder-test.true, c.loop-bidder.invariant.end) in
-    subst (λ n. HasLengths (points_of_bidder views i) (2 * n)) (sym c.prices-prices.ensures.value) (have-lengths c.args.grid.now views c.requires.fit c.requires.limits i lt)
+    subst (λ n. HasLengths (points_of_bidder views i) (2 * n)) (sym c.prices-prices.ensures.value)
+    (have-lengths c.args.grid.now views c.requires.fit c.requires.limits i lt)
 
 pub returns-in_err-check_bidder-clause-bidders : goal.returns-in_err-check_bidder-clause-bidders
 returns-in_err-check_bidder-clause-bidders c =
@@ -35,7 +36,8 @@ loop-bidder-preserved c =
       prices = inv.prices;
       end = inv.end;
       right = below_next (λ k. OneBidder prices views k None) c.loop-bidder.bidder inv.right c.in_ok-check_bidder.ensures.bidder;
-      elements = below_next (λ k. (n : ℕ) → n < 2 * prices → AreElements (points_on (points_of_bidder views k) n)) c.loop-bidder.bidder inv.elements
+      elements = below_next (λ k. (n : ℕ) → n < 2 * prices → AreElements (points_on (points_of_bidder views k) n))
+          c.loop-bidder.bidder inv.elements
           c.in_ok-check_bidder.ensures.elements;
     }
 

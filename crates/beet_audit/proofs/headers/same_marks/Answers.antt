@@ -25,6 +25,7 @@ returns-then-ne c =
 pub returns : goal.returns
 returns c =
     let past = c.loop-i-test.false in (
-      λ t. marks-same c.args.first.now c.args.bidders.now c.loop-i.invariant.many (λ k d lt. c.loop-i.invariant.same k d (omega (arith, lt, past))),
+      λ t. marks-same c.args.first.now c.args.bidders.now c.loop-i.invariant.many
+          (λ k d lt. c.loop-i.invariant.same k d (omega (arith, lt, past))),
       λ e. search rules,
     )

@@ -1,25 +1,26 @@
 use Rattle.std.proofs.Common.{rules, refl, IsTrue}
 use Rattle.beet_field.specs.declared.point.Point.TheVariants.{One, Two, Three}
 use Rattle.beet_audit.proofs.knowing.check_known.Goals as goal
-use Rattle.beet_audit.proofs.knowing.check_known.Goals.{else-one-via-then-one+then-two+else-three, else-one-via-then-one+else-two, else-one-via-else-one}
+use Rattle.beet_audit.proofs.knowing.check_known.Goals.{else-one-via-then-one+then-two+else-three}
+use Rattle.beet_audit.proofs.knowing.check_known.Goals.{else-one-via-then-one+else-two, else-one-via-else-one}
 
 pub knows-requires-clause-bidder : goal.knows-requires-clause-bidder
-knows-requires-clause-bidder c = c.requires.bidder One
+knows-requires-clause-bidder c = c.requires.bidder.there One
 
 pub knows-requires-clause-prices : goal.knows-requires-clause-prices
-knows-requires-clause-prices c = c.requires.prices One
+knows-requires-clause-prices c = c.requires.bidder.over One
 
 pub knows-requires-2-clause-bidder : goal.knows-requires-2-clause-bidder
-knows-requires-2-clause-bidder c = c.requires.bidder Two
+knows-requires-2-clause-bidder c = c.requires.bidder.there Two
 
 pub knows-requires-2-clause-prices : goal.knows-requires-2-clause-prices
-knows-requires-2-clause-prices c = c.requires.prices Two
+knows-requires-2-clause-prices c = c.requires.bidder.over Two
 
 pub knows-requires-3-clause-bidder : goal.knows-requires-3-clause-bidder
-knows-requires-3-clause-bidder c = c.requires.bidder Three
+knows-requires-3-clause-bidder c = c.requires.bidder.there Three
 
 pub knows-requires-3-clause-prices : goal.knows-requires-3-clause-prices
-knows-requires-3-clause-prices c = c.requires.prices Three
+knows-requires-3-clause-prices c = c.requires.bidder.over Three
 
 pub returns-else-one : goal.returns-else-one
 returns-else-one c = λ ne. (

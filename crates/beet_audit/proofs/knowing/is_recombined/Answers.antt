@@ -4,7 +4,8 @@ use Rattle.beet_bids.specs.Curves.{Curve}
 use Rattle.beet_audit.specs.Audits.{points_of_bidder, value_at}
 use Rattle.beet_audit.proofs.PointFacts.{curve-same}
 use Rattle.beet_audit.proofs.knowing.is_recombined.Goals as goal
-use Rattle.beet_audit.proofs.knowing.is_recombined.Goals.{then-buy-value_at-via-then-buy-value_at, then-buy-value_at-via-else-buy-value_at+then-sell-value_at}
+use Rattle.beet_audit.proofs.knowing.is_recombined.Goals.{then-buy-value_at-via-then-buy-value_at}
+use Rattle.beet_audit.proofs.knowing.is_recombined.Goals.{then-buy-value_at-via-else-buy-value_at+then-sell-value_at}
 
 pub returns-then-buy-value_at : goal.returns-then-buy-value_at
 returns-then-buy-value_at c =
@@ -15,12 +16,14 @@ returns-then-buy-value_at c =
       λ e. elim c.then-buy-value_at.branch [
         | then-buy-value_at-via-then-buy-value_at w ↦
             let same : c.buy.result ≡ c.value_at.result =
-            c.buy.ensures.value ∙ ap (λ (x : Curve). slice_index x.buy k) e ∙ item-each (value_at points) c.args.prices k lt ∙ sym c.value_at.ensures in
+            c.buy.ensures.value ∙ ap (λ (x : Curve). slice_index x.buy k) e
+            ∙ item-each (value_at points) c.args.prices k lt ∙ sym c.value_at.ensures in
             let other = w.if-buy-value_at.true in
             search rules
         | then-buy-value_at-via-else-buy-value_at+then-sell-value_at w ↦
             let same : w.sell.result ≡ w.value_at-else-buy-value_at.result =
-            w.sell.ensures.value ∙ ap (λ (x : Curve). slice_index x.sell k) e ∙ item-each (λ (n : ℕ). value_at points (c.args.prices + n)) c.args.prices k lt
+            w.sell.ensures.value ∙ ap (λ (x : Curve). slice_index x.sell k) e
+            ∙ item-each (λ (n : ℕ). value_at points (c.args.prices + n)) c.args.prices k lt
             ∙ sym w.value_at-else-buy-value_at.ensures in
             let other = w.if-sell-value_at.true in
             search rules

@@ -10,5 +10,6 @@ use Rattle.beet_audit.proofs.messages.check_messages.Given as goal
 abbrev pub invariant-loop-round : goal.invariant-loop-round
 invariant-loop-round l = record {
   end : l.round-end ≡ l.cores.one.round;
-  right : (o : Setup) (rounds : ℕ) → ((s : Point) → IsAtRound auction_batch o rounds s (member l.cores s)) → (k : ℕ) → k < l.round → k < rounds → RoundMessages o l.views k None;
+  right : (o : Setup) (rounds : ℕ) → ((s : Point) → IsAtRound auction_batch o rounds s (member l.cores s)) → (k : ℕ) →
+      k < l.round → k < rounds → RoundMessages o l.views k None;
 }

@@ -17,7 +17,8 @@ returns-in_err-lines-clause-reads c =
     let header = c.in_ok-begins_with.ensures in
     let p = err_from_is_err_and c.from_residual-in_err-lines.result c.from_residual-in_err-lines.ensures.1 in
     rw (p.1, p.2)
-    (file_refused {T = Vec Line Global} c.args.grid.now c.args.rows.now c.begins_with.new.self _ (λ v. v.items) c.in_err-lines.field-0.0 (sym header.0 ∙ same) (header.1 same) c.in_err-lines.ensures.reads)
+    (file_refused {T = Vec Line Global} c.args.grid.now c.args.rows.now c.begins_with.new.self _
+    (λ v. v.items) c.in_err-lines.field-0.0 (sym header.0 ∙ same) (header.1 same) c.in_err-lines.ensures.reads)
 
 pub returns : goal.returns
 returns c =

@@ -9,5 +9,6 @@ loop-place-preserved c =
     let off : is_reached c.args.book.now c.loop-place.place ≡ false = lt-leb _ _ (omega arith) in
     record {
       end = c.loop-place.invariant.end;
-      rest = find-range_more (is_reached c.args.book.now) c.loop-place.place c.prices-place-end.result (omega arith) off ∙ c.loop-place.invariant.rest;
+      rest = find-range_more (is_reached c.args.book.now) c.loop-place.place c.prices-place-end.result (omega arith) off
+          ∙ c.loop-place.invariant.rest;
     }

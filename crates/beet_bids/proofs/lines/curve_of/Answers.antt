@@ -22,13 +22,16 @@ loop-i-preserved c =
     let end : ℕ = begin_at c.args.grid.now c.args.lines.now (c.loop-i.i + 1) in
     let rise = begin_rises c.args.grid.now c.args.lines.now c.loop-i.i nothing c.requires c.loop-i-test.true in
     let held = λ (place : ℕ) (low : from ≤ place) (high : place < end).
-    held_between c.args.grid.now c.args.lines.now c.loop-i.i place (record { price = 0; buy = 0; sell = 0 }) c.requires (omega arith) c.loop-i-test.true low high in
+    held_between c.args.grid.now c.args.lines.now c.loop-i.i place (record { price = 0; buy = 0; sell = 0 }) c.requires
+    (omega arith) c.loop-i-test.true low high in
     record {
       buy = rw (c.in_ok-resize.ensures.items, c.begin-end.ensures)
-          (filled (λ (place : ℕ). (held_line c.args.grid.now c.args.lines.now place).buy) c.loop-i.buy.items (vec_len c.loop-i.buy) from end _ (search rules) c.loop-i.invariant.buy rise
+          (filled (λ (place : ℕ). (held_line c.args.grid.now c.args.lines.now place).buy) c.loop-i.buy.items
+          (vec_len c.loop-i.buy) from end _ (search rules) c.loop-i.invariant.buy rise
           (λ place low high. ap (λ (line : Line). line.buy) (held place low high)));
       sell = rw (c.in_ok-resize-2.ensures.items, c.begin-end.ensures)
-          (filled (λ (place : ℕ). (held_line c.args.grid.now c.args.lines.now place).sell) c.loop-i.sell.items (vec_len c.loop-i.sell) from end _ (search rules) c.loop-i.invariant.sell rise
+          (filled (λ (place : ℕ). (held_line c.args.grid.now c.args.lines.now place).sell) c.loop-i.sell.items
+          (vec_len c.loop-i.sell) from end _ (search rules) c.loop-i.invariant.sell rise
           (λ place low high. ap (λ (line : Line). line.sell) (held place low high)));
     }
 

@@ -18,7 +18,8 @@ deal_next-requires-clause-word c = some-left c.args.tape.now c.loop-place.tape c
 
 pub deal_next-requires-in-loop-place-2-clause-word : goal.deal_next-requires-in-loop-place-2-clause-word
 deal_next-requires-in-loop-place-2-clause-word c =
-    some-left c.args.tape.now c.loop-place-2.tape (c.prices-prices.result + c.loop-place-2.place) c.loop-place-2.invariant.drawn (omega arith)
+    some-left c.args.tape.now c.loop-place-2.tape
+    (c.prices-prices.result + c.loop-place-2.place) c.loop-place-2.invariant.drawn (omega arith)
 
 pub loop-place-preserved : goal.loop-place-preserved
 loop-place-preserved c =
@@ -26,10 +27,12 @@ loop-place-preserved c =
     let inv = c.loop-place.invariant in
     let place = c.loop-place.place in
     let count = length-append curve.buy curve.sell in
-    let value : c.buy.result ≡ get_or (quantities curve) place 0 = c.buy.ensures.value ∙ sym (get_or_append_left curve.buy curve.sell 0 place (omega arith)) in
+    let value : c.buy.result ≡ get_or (quantities curve) place 0 =
+    c.buy.ensures.value ∙ sym (get_or_append_left curve.buy curve.sell 0 place (omega arith)) in
     record {
       room = search rules;
-      points = collected-more (quantities curve) c.args.tape.now c.loop-place.tape c.deal_next.new.tape c.loop-place.columns c.deal_next.new.columns
+      points = collected-more (quantities curve) c.args.tape.now c.loop-place.tape c.deal_next.new.tape
+          c.loop-place.columns c.deal_next.new.columns
           place c.buy.result inv.points inv.drawn c.deal_next.ensures.points value (omega arith) (omega arith);
       drawn = c.deal_next.ensures.drawn ∙ ap (λ t. drawn_from t 1) inv.drawn ∙ drawn-again c.args.tape.now place 1;
     }
@@ -43,12 +46,14 @@ loop-place-2-preserved c =
     let turn = c.deal_next-in-loop-place-2 in
     let count = length-append curve.buy curve.sell in
     let later : get_or (quantities curve) (prices + place) 0 ≡ get_or curve.sell place 0 =
-    ap (λ n. get_or (quantities curve) (n + place) 0) (c.prices-prices.ensures.value ∙ sym c.requires.of_grid.buy_length) ∙ get_or-append-add curve.buy curve.sell place 0 in
+    ap (λ n. get_or (quantities curve) (n + place) 0) (c.prices-prices.ensures.value
+    ∙ sym c.requires.of_grid.buy_length) ∙ get_or-append-add curve.buy curve.sell place 0 in
     let value : c.sell.result ≡ get_or (quantities curve) (prices + place) 0 = c.sell.ensures.value ∙ sym later in
     let next : prices + (place + 1) ≡ prices + place + 1 = omega arith in
     record {
       room = search rules;
-      points = rw next (collected-more (quantities curve) c.args.tape.now c.loop-place-2.tape turn.new.tape c.loop-place-2.columns turn.new.columns
+      points = rw next (collected-more (quantities curve) c.args.tape.now c.loop-place-2.tape turn.new.tape
+          c.loop-place-2.columns turn.new.columns
           (prices + place) c.sell.result inv.points inv.drawn turn.ensures.points value (omega arith) (omega arith));
       drawn = rw next (turn.ensures.drawn ∙ ap (λ t. drawn_from t 1) inv.drawn ∙ drawn-again c.args.tape.now (prices + place) 1);
     }
@@ -66,12 +71,14 @@ pub of-requires : goal.of-requires
 of-requires c =
     let curve = c.args.curve.now in
     let count = length-append curve.buy curve.sell in
-    dealt-lengths (quantities curve) (left_of c.args.tape.now) c.into_points.result (2 * c.args.grid.now.prices) (omega arith) (omega arith) (all-points c)
+    dealt-lengths (quantities curve) (left_of c.args.tape.now) c.into_points.result (2 * c.args.grid.now.prices)
+    (omega arith) (omega arith) (all-points c)
 
 pub returns-clause-dealt : goal.returns-clause-dealt
 returns-clause-dealt c =
     let curve = c.args.curve.now in
-    let count : c.prices-prices.result + c.loop-place-2.place ≡ length (quantities curve) = omega (arith, length-append curve.buy curve.sell) in
+    let count : c.prices-prices.result + c.loop-place-2.place ≡ length (quantities curve) =
+    omega (arith, length-append curve.buy curve.sell) in
     record {
       points = c.of.ensures ∙ all-points c.before;
       drawn = rw (← count) c.loop-place-2.invariant.drawn;
@@ -87,4 +94,5 @@ pub returns-clause-lengths : goal.returns-clause-lengths
 returns-clause-lengths c =
     let curve = c.args.curve.now in
     let count = length-append curve.buy curve.sell in
-    dealt-lengths (quantities curve) (left_of c.args.tape.now) c.of.result (2 * c.args.grid.now.prices) (omega arith) (omega arith) (c.of.ensures ∙ all-points c.before)
+    dealt-lengths (quantities curve) (left_of c.args.tape.now) c.of.result (2 * c.args.grid.now.prices) (omega arith)
+    (omega arith) (c.of.ensures ∙ all-points c.before)

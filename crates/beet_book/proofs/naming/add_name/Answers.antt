@@ -11,5 +11,7 @@ either false b = refl
 pub returns-clause-names : goal.returns-clause-names
 returns-clause-names c = λ text.
     let bytes : string_bytes c.in_ok-name.name ≡ c.args.name.now = search rules in
-    let after = btree_set_updates_text (string_bytes c.in_ok-name.name) c.args.names.now c.insert.new.self true c.in-Ok.ensures.updates text in
-    after ∙ either (bytes_eq (string_bytes c.in_ok-name.name) text) (contains_text c.args.names.now text) ∙ ap (λ b. bytes_eq b text || contains_text c.args.names.now text) bytes
+    let after = btree_set_updates_text (string_bytes c.in_ok-name.name) c.args.names.now c.insert.new.self true
+    c.in-Ok.ensures.updates text in
+    after ∙ either (bytes_eq (string_bytes c.in_ok-name.name) text) (contains_text c.args.names.now text)
+    ∙ ap (λ b. bytes_eq b text || contains_text c.args.names.now text) bytes

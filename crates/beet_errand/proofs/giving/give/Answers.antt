@@ -14,13 +14,15 @@ returns-in_err-put_file g c =
 
 pub loop-file-preserved : goal.loop-file-preserved
 loop-file-preserved g c = record {
-  taken = c.in_ok-put_file.ensures.cause.taken ∙ c.loop-file.invariant.taken;
-  given = put_more c.args.files.now c.loop-file.file-index c.file-item.result c.args.text.now _ _ _ c.loop-file-test.true c.file-item.is c.loop-file.invariant.given
+  taken = c.in_ok-put_file.ensures.cause.count ∙ c.loop-file.invariant.taken;
+  given = put_more c.args.files.now c.loop-file.file-index c.file-item.result c.args.text.now _ _ _
+      c.loop-file-test.true c.file-item.is c.loop-file.invariant.given
       c.in_ok-put_file.ensures.content;
 }
 
 pub returns : goal.returns
 returns g c = record {
   cause = cause_since _ _ _ _ c.loop-file.invariant.taken c.say.ensures.cause;
-  calls = said_last c.args.files.now c.loop-file.file-index c.args.text.now _ _ _ _ (omega arith) c.loop-file.invariant.given c.say.ensures.content;
+  calls = said_last c.args.files.now c.loop-file.file-index c.args.text.now _ _ _ _
+      (omega arith) c.loop-file.invariant.given c.say.ensures.content;
 }

@@ -8,7 +8,8 @@ returns-in_err-name-2-clause-entry c =
     let fields = c.in-Some in
     let p = err_from_is_err_and c.from_residual-in_err-name-2.result c.from_residual-in_err-name-2.ensures.1 in
     rw (p.1, p.2)
-    (entry-answers c.args.number c.args.row.now fields.name.now fields.one.now fields.two.now fields.three.now c.in_ok-name.name (Err c.in_err-name-2.field-0.0) fields.ensures c.in_ok-name.ensures
+    (entry-answers c.args.number c.args.row.now fields.name.now fields.one.now fields.two.now fields.three.now
+    c.in_ok-name.name (Err c.in_err-name-2.field-0.0) fields.ensures c.in_ok-name.ensures
     (rw c.in_err-name-2.ensures at (c.read_envelopes.ensures c.in_ok-name.name)))
 
 pub returns-clause-entry : goal.returns-clause-entry

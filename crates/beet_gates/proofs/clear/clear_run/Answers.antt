@@ -8,20 +8,23 @@ use Rattle.beet_gates.proofs.clear.clear_run.Goals as goal
 pub loop-done-init : goal.loop-done-init
 loop-done-init g c =
     let script = g.S.Script in
-    let bounds = bounds_of (script.wires_of c.args.script.now) (script.masks_of c.args.script.now) (script.coefficients_of c.args.script.now) in
+    let bounds = bounds_of (script.wires_of c.args.script.now) (script.masks_of c.args.script.now)
+    (script.coefficients_of c.args.script.now) in
     let law = rw (← c.requires.inputs, ← c.rounds-rounds.ensures) at (g.met.S.Script.lawful c.args.script.now) in
     let whole : c.rounds-rounds.result - 0 ≡ c.rounds-rounds.result = omega arith in
     record {
       end = c.rounds-rounds.ensures;
       underway = rw (whole, c.in_ok-run.ensures)
-          (begins (script.batch_of c.args.script.now) (deals_of c.args.masks.now) bounds c.args.inputs.now 3 c.rounds-rounds.result (by-three c.args.masks.now) law);
+          (begins (script.batch_of c.args.script.now) (deals_of c.args.masks.now) bounds c.args.inputs.now 3
+          c.rounds-rounds.result (by-three c.args.masks.now) law);
       placed = rw c.in_ok-run.ensures c.begin-place.ensures;
     }
 
 pub loop-done-preserved : goal.loop-done-preserved
 loop-done-preserved g c =
     let script = g.S.Script in
-    let bounds = bounds_of (script.wires_of c.args.script.now) (script.masks_of c.args.script.now) (script.coefficients_of c.args.script.now) in
+    let bounds = bounds_of (script.wires_of c.args.script.now) (script.masks_of c.args.script.now)
+    (script.coefficients_of c.args.script.now) in
     let left = c.rounds-rounds.result - (c.loop-done.done + 1) in
     let e : c.rounds-rounds.result - c.loop-done.done ≡ suc left = omega arith in
     let is : c.refill.new.batch ≡ script.batch_of c.args.script.now c.loop-done.done c.loop-done.run.opened =
@@ -36,13 +39,15 @@ loop-done-preserved g c =
           (goes-on (script.batch_of c.args.script.now) (deals_of c.args.masks.now) bounds c.args.inputs.now
           c.loop-done.done c.loop-done.run c.refill.new.batch is left (rw e at c.loop-done.invariant.underway) more);
       placed = rw (c.in_ok-step.ensures, o.2)
-          (g.met.S.Script.goes_on c.args.script.now c.loop-done.done (c.loop-done.done + 1) c.loop-done.run.opened o.0 c.refill.new.place here (omega arith));
+          (g.met.S.Script.goes_on c.args.script.now c.loop-done.done
+          (c.loop-done.done + 1) c.loop-done.run.opened o.0 c.refill.new.place here (omega arith));
     }
 
 pub step-requires-clause-words : goal.step-requires-clause-words
 step-requires-clause-words g c =
     let script = g.S.Script in
-    let bounds = bounds_of (script.wires_of c.args.script.now) (script.masks_of c.args.script.now) (script.coefficients_of c.args.script.now) in
+    let bounds = bounds_of (script.wires_of c.args.script.now) (script.masks_of c.args.script.now)
+    (script.coefficients_of c.args.script.now) in
     let is : c.refill.new.batch ≡ script.batch_of c.args.script.now c.loop-done.done c.loop-done.run.opened =
     rw c.opened.ensures at c.refill.ensures.batch in
     let there = words-there (script.batch_of c.args.script.now) (deals_of c.args.masks.now) bounds c.args.inputs.now
@@ -51,4 +56,5 @@ step-requires-clause-words g c =
 
 pub refill-requires : goal.refill-requires
 refill-requires g c =
-    subst (λ opened. g.S.Script.is_at c.args.script.now c.loop-done.done opened c.loop-done.place) (sym c.opened.ensures) c.loop-done.invariant.placed
+    subst (λ opened. g.S.Script.is_at c.args.script.now c.loop-done.done opened c.loop-done.place)
+    (sym c.opened.ensures) c.loop-done.invariant.placed

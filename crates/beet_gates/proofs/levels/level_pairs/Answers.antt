@@ -10,7 +10,8 @@ pub returns : goal.returns
 unfolding each
 returns g c =
     let at = c.loop-i in
-    fill_by_all places_of_pair at.pairs g.row.K (0, 0) at.invariant.count (λ k l. at.invariant.so_far k (omega (arith, l, c.loop-i-test.false)))
+    fill_by_all places_of_pair at.pairs g.row.K (0, 0) at.invariant.count
+    (λ k l. at.invariant.so_far k (omega (arith, l, c.loop-i-test.false)))
 
 pub loop-i-preserved : goal.loop-i-preserved
 loop-i-preserved g c =

@@ -11,7 +11,8 @@ loop-i-init g c = rw c.in_ok-totals.ensures (collects_none _ _ _ _)
 
 pub returns-in_err-farmer : goal.returns-in_err-farmer
 returns-in_err-farmer g c =
-    exits c.from_residual-in_err-farmer.ensures.1 (stopped_at _ _ _ c.loop-i.i _ _ _ _ _ _ (omega arith) c.index-entries-i.is c.list_of-given.ensures
+    exits c.from_residual-in_err-farmer.ensures.1
+    (stopped_at _ _ _ c.loop-i.i _ _ _ _ _ _ (omega arith) c.index-entries-i.is c.list_of-given.ensures
     c.loop-i.invariant _ (rw c.auction_wants-wanted.ensures at c.in_err-farmer.ensures.reads))
 
 pub loop-i-preserved : goal.loop-i-preserved

@@ -8,9 +8,11 @@ returns-in_err-entries-clause-reads g c = exits c.from_residual.ensures.1 (stopp
 pub returns-in_err-check_product-clause-reads : goal.returns-in_err-check_product-clause-reads
 returns-in_err-check_product-clause-reads g c =
     let count : c.len.result ≡ length c.in_ok-entries.entries.items = omega arith in
-    exits c.from_residual-in_err-check_product.ensures.1 (bind c.in_ok-entries.ensures.reads (tested (rw count at c.in_err-check_product.ensures.tests)))
+    exits c.from_residual-in_err-check_product.ensures.1
+    (bind c.in_ok-entries.ensures.reads (tested (rw count at c.in_err-check_product.ensures.tests)))
 
 pub returns-clause-reads : goal.returns-clause-reads
 returns-clause-reads g c =
     let count : c.len.result ≡ length c.in_ok-entries.entries.items = omega arith in
-    bind c.in_ok-entries.ensures.reads (passed (rw count at c.in_ok-check_product.ensures.tests) (rw c.as_slice.ensures.value at c.read_bids.ensures.reads))
+    bind c.in_ok-entries.ensures.reads (passed (rw count at c.in_ok-check_product.ensures.tests)
+    (rw c.as_slice.ensures.value at c.read_bids.ensures.reads))

@@ -9,7 +9,8 @@ returns-in_err-bidders-clause-reads g c = exits c.from_residual.ensures.1 no_mem
 
 pub returns-in_err-curve-clause-reads : goal.returns-in_err-curve-clause-reads
 returns-in_err-curve-clause-reads g c =
-    exits c.from_residual-in_err-curve.ensures.1 (bids_stopped_at _ _ c.loop-entry.entry-index _ _ _ _ _ (omega arith) c.entry-item.is c.loop-entry.invariant.kept _
+    exits c.from_residual-in_err-curve.ensures.1
+    (bids_stopped_at _ _ c.loop-entry.entry-index _ _ _ _ _ (omega arith) c.entry-item.is c.loop-entry.invariant.kept _
     (rw c.as_str.ensures at c.in_err-curve.ensures.reads))
 
 pub loop-entry-init : goal.loop-entry-init
@@ -23,7 +24,8 @@ pub loop-entry-preserved : goal.loop-entry-preserved
 loop-entry-preserved g c =
     let inv = c.loop-entry.invariant in
     record {
-      kept = bids_at _ _ c.loop-entry.entry-index _ _ _ _ _ (omega arith) c.entry-item.is inv.kept c.in_ok-curve.curve _ c.in_ok-curve.ensures.of_grid
+      kept = bids_at _ _ c.loop-entry.entry-index _ _ _ _ _
+          (omega arith) c.entry-item.is inv.kept c.in_ok-curve.curve _ c.in_ok-curve.ensures.of_grid
           (rw c.as_str.ensures at c.in_ok-curve.ensures.reads) c.push_reserved.ensures.items;
       count = search rules;
       room = omega (arith, inv.room, c.push_reserved.ensures.capacity);
@@ -31,4 +33,5 @@ loop-entry-preserved g c =
 
 pub returns-clause-reads : goal.returns-clause-reads
 returns-clause-reads g c =
-    bids_all c.loop-entry.entry-index (λ book. book.bidders) c.in-Some.book (ap (λ (b : Book). b.bidders) c.in-Some.ensures.made.1) (omega arith) c.loop-entry.invariant.kept
+    bids_all c.loop-entry.entry-index (λ book. book.bidders) c.in-Some.book
+    (ap (λ (b : Book). b.bidders) c.in-Some.ensures.made.1) (omega arith) c.loop-entry.invariant.kept

@@ -2,4 +2,5 @@ use Rattle.beet_errand.proofs.Frame.{bind, judges}
 use Rattle.beet_load.proofs.farmers.read_curve.Goals as goal
 
 pub returns-clause-reads : goal.returns-clause-reads
-returns-clause-reads g c = bind c.in_ok-bytes.ensures.reads (judges _ _ _ _ (rw c.as_slice.ensures.value at c.read_bid.ensures.reads) c.judge.ensures)
+returns-clause-reads g c = bind c.in_ok-bytes.ensures.reads
+    (judges _ _ _ _ (rw c.as_slice.ensures.value at c.read_bid.ensures.reads) c.judge.ensures)

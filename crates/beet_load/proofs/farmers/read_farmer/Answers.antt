@@ -8,7 +8,8 @@ returns-in_err-curve-clause-reads g c = exits c.from_residual.ensures.1 (stopped
 
 pub returns-in_err-tape-clause-reads : goal.returns-in_err-tape-clause-reads
 returns-in_err-tape-clause-reads g c =
-    exits c.from_residual-in_err-tape.ensures.1 (bind (rw c.as_str.ensures at c.in_ok-curve.ensures.reads) (stopped c.in_err-tape.ensures.reads))
+    exits c.from_residual-in_err-tape.ensures.1
+    (bind (rw c.as_str.ensures at c.in_ok-curve.ensures.reads) (stopped c.in_err-tape.ensures.reads))
 
 pub returns-clause-reads : goal.returns-clause-reads
 returns-clause-reads g c =

@@ -3,10 +3,12 @@ use Rattle.std.specs.Prelude.{codes, decimal, string_bytes}
 use Rattle.beet_load.proofs.farmers.too_few_line.Goals as goal
 
 -- nine parts, one after another
-in-a-row : (a b c d e f g h i : List ℕ) → a ++ (b ++ (c ++ (d ++ (e ++ (f ++ (g ++ (h ++ i))))))) ≡ a ++ b ++ c ++ d ++ e ++ f ++ g ++ h ++ i
+in-a-row : (a b c d e f g h i : List ℕ) →
+    a ++ (b ++ (c ++ (d ++ (e ++ (f ++ (g ++ (h ++ i))))))) ≡ a ++ b ++ c ++ d ++ e ++ f ++ g ++ h ++ i
 in-a-row a b c d e f g h i = simp append_assoc
 
 pub returns : goal.returns
 returns c =
     rw (← c.in_ok-of.ensures) (ap (λ v. v.items) c.into_bytes.ensures.value
-    ∙ (c.in_ok-line.ensures.ok ∙ in-a-row (codes "too few words: ") (string_bytes c.in_ok-of.of) (codes "bidder ") (decimal c.args.number) (codes " ") (decimal c.args.held) (codes " of ") (decimal c.args.wanted) (10 ∷ [])))
+    ∙ (c.in_ok-line.ensures.ok ∙ in-a-row (codes "too few words: ") (string_bytes c.in_ok-of.of) (codes "bidder ")
+    (decimal c.args.number) (codes " ") (decimal c.args.held) (codes " of ") (decimal c.args.wanted) (10 ∷ [])))

@@ -8,7 +8,8 @@ loop-i-init g c = rw c.new-farmers.ensures (keeps_none _ _ _ _)
 
 pub returns-in_err-farmer : goal.returns-in_err-farmer
 returns-in_err-farmer g c =
-    exits c.from_residual.ensures.1 (keeps_stopped_at _ _ _ c.loop-i.i _ _ _ _ _ _ (omega arith) c.index-entries-i.is c.list_of-given.ensures c.loop-i.invariant _
+    exits c.from_residual.ensures.1 (keeps_stopped_at _ _ _ c.loop-i.i _ _ _ _ _ _
+    (omega arith) c.index-entries-i.is c.list_of-given.ensures c.loop-i.invariant _
     c.in_err-farmer.ensures.reads)
 
 pub returns-in_err-push : goal.returns-in_err-push
@@ -19,7 +20,8 @@ returns-in_err-push g c =
 pub loop-i-preserved : goal.loop-i-preserved
 loop-i-preserved g c =
     let farmer = c.in_ok-farmer.ensures in
-    keeps_at _ _ _ c.loop-i.i _ _ _ _ _ _ (omega arith) c.index-entries-i.is c.list_of-given.ensures c.loop-i.invariant _ (shown farmer.reads (record {
+    keeps_at _ _ _ c.loop-i.i _ _ _ _ _ _ (omega arith) c.index-entries-i.is c.list_of-given.ensures c.loop-i.invariant
+    _ (shown farmer.reads (record {
       is_farmer = record { curve = farmer.curve; of_grid = farmer.of_grid; words = record { enough = farmer.enough; kept = farmer.cut } };
       kept = c.in_ok-push.ensures;
     }))

@@ -20,7 +20,8 @@ pub returns-in-Ok : goal.returns-in-Ok
 unfolding rest_errand
 returns-in-Ok g c =
     (bind (rw c.auction_wants-wanted.ensures at c.in_ok-words.ensures.reads)
-    (bound (rw c.lists_in.ensures at c.in-Ok.ensures) (λ farmers are. given (subst (λ (servers : Trio ServerWords). IsKeptOf (record { grid = c.args.grid.now; servers = servers; inputs = c.inputs.result })
+    (bound (rw c.lists_in.ensures at c.in-Ok.ensures) (λ farmers are. given (subst (λ (servers : Trio ServerWords).
+    IsKeptOf (record { grid = c.args.grid.now; servers = servers; inputs = c.inputs.result })
     (record { grid = c.args.grid.now; servers = c.in_ok-words.words.servers; farmers = farmers }))
     (sym c.into_servers.ensures)
     (kept_of_all c.args.grid.now _ _ _ farmers _ c.requires are c.inputs.ensures.points)))))

@@ -7,11 +7,13 @@ returns-in_err-one-clause-reads g c = exits c.from_residual.ensures.1 (stopped c
 
 pub returns-in_err-one-2-clause-reads : goal.returns-in_err-one-2-clause-reads
 returns-in_err-one-2-clause-reads g c =
-    exits c.from_residual-in_err-one-2.ensures.1 (bind c.in_ok-one.ensures.reads (stopped (handed c.in_err-one-2.ensures c.read_server-2.ensures.reads)))
+    exits c.from_residual-in_err-one-2.ensures.1
+    (bind c.in_ok-one.ensures.reads (stopped (handed c.in_err-one-2.ensures c.read_server-2.ensures.reads)))
 
 pub returns-in_err-one-3-clause-reads : goal.returns-in_err-one-3-clause-reads
 returns-in_err-one-3-clause-reads g c =
-    exits c.from_residual-in_err-one-3.ensures.1 (bind c.in_ok-one.ensures.reads (bind (handed c.in_ok-one-2.ensures.1 c.read_server-2.ensures.reads)
+    exits c.from_residual-in_err-one-3.ensures.1
+    (bind c.in_ok-one.ensures.reads (bind (handed c.in_ok-one-2.ensures.1 c.read_server-2.ensures.reads)
     (stopped (handed c.in_err-one-3.ensures c.read_server-3.ensures.reads))))
 
 pub returns-clause-reads : goal.returns-clause-reads

@@ -14,11 +14,13 @@ pub returns-in_err-check_product : goal.returns-in_err-check_product
 unfolding limited_errand setting_errand rest_errand
 returns-in_err-check_product g c =
     exits c.from_residual-in_err-check_product.ensures.1 (bind {rest = limited_rest None 0 c.args.book.now} c.in_ok-setting.ensures
-    (for_setting (limited_rest None 0 c.args.book.now) c.setting.view_is (tested (rw c.as_slice-entries.ensures.value at c.in_err-check_product.ensures.tests))))
+    (for_setting (limited_rest None 0 c.args.book.now) c.setting.view_is
+    (tested (rw c.as_slice-entries.ensures.value at c.in_err-check_product.ensures.tests))))
 
 pub returns : goal.returns
 unfolding limited_errand setting_errand rest_errand
 returns g c =
     bind {rest = limited_rest None 0 c.args.book.now} c.in_ok-setting.ensures
-    (for_setting (limited_rest None 0 c.args.book.now) c.setting.view_is (passed (rw c.as_slice-entries.ensures.value at c.in_ok-check_product.ensures.tests)
+    (for_setting (limited_rest None 0 c.args.book.now) c.setting.view_is
+    (passed (rw c.as_slice-entries.ensures.value at c.in_ok-check_product.ensures.tests)
     (rw c.as_slice-entries.ensures.value at c.load_whole_rest-whole.ensures)))

@@ -8,6 +8,7 @@ abbrev pub invariant-loop-t : goal.invariant-loop-t
 invariant-loop-t g l = record {
   first : l.here ≡ shared_at (begin_in (g.S.Script.batch_of l.script) l.first l.drawn) l.t;
   second : l.there ≡ shared_at (begin_in (g.S.Script.batch_of l.script) l.second l.numbers) l.t;
-  mapped : GateMapped l.me l.t (begin_in (g.S.Script.batch_of l.script) l.first l.drawn) (begin_in (g.S.Script.batch_of l.script) l.second l.numbers);
+  mapped : GateMapped l.me l.t (begin_in (g.S.Script.batch_of l.script) l.first l.drawn)
+      (begin_in (g.S.Script.batch_of l.script) l.second l.numbers);
   placed : g.S.Script.is_at l.script l.t l.here.opened l.place;
 }

@@ -1,7 +1,7 @@
 use Rattle.std.proofs.Common.{◌≡◌, ◌++◌, ap, ◌∙◌, arith, append-nil, append_assoc}
 use Rattle.beet_gates.specs.Each.{each}
 use Rattle.beet_gates.proofs.EachFacts.{each-zero, each-more}
-use Rattle.beet_sharing.specs.Runs.{draws_in}
+use Rattle.beet_gates.specs.Draws.{draws_in}
 use Rattle.beet_map.specs.Steps.{hidden_line}
 use Rattle.beet_map.proofs.wires.append_hidden.Goals as goal
 

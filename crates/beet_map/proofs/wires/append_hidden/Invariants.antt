@@ -1,6 +1,6 @@
 use Rattle.std.proofs.Common.{◌≡◌, ◌++◌}
 use Rattle.beet_gates.specs.Each.{each}
-use Rattle.beet_sharing.specs.Runs.{draws_in}
+use Rattle.beet_gates.specs.Draws.{draws_in}
 use Rattle.beet_map.specs.Steps.{hidden_line}
 use Rattle.beet_map.proofs.wires.append_hidden.Given as goal
 

@@ -10,8 +10,10 @@ loop-linear-preserved c =
     let i = c.loop-linear.linear-index in
     let lt : i < length lets = omega arith in
     let behind = rw (← c.linear-item.is) at (drop_more lets i c.linear-item.result lt) in
-    rw (c.in_ok-push.ensures.items, c.evaluate-point.ensures, c.as_slice.ensures.value) (sym (ap (with_lets c.loop-linear.wires.items) behind) ∙ c.loop-linear.invariant)
+    rw (c.in_ok-push.ensures.items, c.evaluate-point.ensures, c.as_slice.ensures.value)
+    (sym (ap (with_lets c.loop-linear.wires.items) behind) ∙ c.loop-linear.invariant)
 
 pub returns : goal.returns
 returns c =
-    sym (ap (with_lets c.loop-linear.wires.items) (drop_all c.loop-linear.linear-index c.args.lets.now (omega arith))) ∙ c.loop-linear.invariant
+    sym (ap (with_lets c.loop-linear.wires.items) (drop_all c.loop-linear.linear-index c.args.lets.now (omega arith)))
+    ∙ c.loop-linear.invariant

@@ -22,4 +22,5 @@ loop-pair-preserved c =
     }
 
 pub returns : goal.returns
-returns c = c.loop-pair.invariant.so_far ∙ ap (map (product_of c.args.wires.now)) (take_all c.loop-pair.pair-index c.args.pairs.now c.loop-pair-test.false)
+returns c = c.loop-pair.invariant.so_far
+    ∙ ap (map (product_of c.args.wires.now)) (take_all c.loop-pair.pair-index c.args.pairs.now c.loop-pair-test.false)

@@ -15,6 +15,7 @@ returns-clause-tied g c =
           one_two.put_there one_three.put_there one_two.taken_back one_three.taken_back;
       two = begins script.batch_of script.inputs_of script.rounds_of start c.requires.fresh Two c.station-2.result c.station-2.ensures refl
           one_two.put_back two_three.put_there one_two.taken_there two_three.taken_back;
-      three = begins script.batch_of script.inputs_of script.rounds_of start c.requires.fresh Three c.station-3.result c.station-3.ensures refl
+      three = begins script.batch_of script.inputs_of script.rounds_of start c.requires.fresh Three c.station-3.result
+          c.station-3.ensures refl
           one_three.put_back two_three.put_back one_three.taken_there two_three.taken_there;
     }

@@ -7,7 +7,8 @@ use Rattle.beet_station.proofs.station.hear.Goals.{After-deliver-verdict}
 use Rattle.beet_station.proofs.station.hear.Goals as goal
 
 -- the core has heard the message that was taken
-heard : (g : Over) (c : After-deliver-verdict g) → HasHeard g.S.Script.batch_of c.args.core.now c.deliver-verdict.new.self c.args.from.now c.deliver-verdict.result
+heard : (g : Over) (c : After-deliver-verdict g) →
+    HasHeard g.S.Script.batch_of c.args.core.now c.deliver-verdict.new.self c.args.from.now c.deliver-verdict.result
 heard g c = record {
   message = c.deref.result.now;
   is_next = subst (IsNext c.args.from.now) (sym c.deref.ensures) c.wait-message.ensures.0;

@@ -55,7 +55,8 @@ hear-low-requires g c =
     let law = g.met.S.Script.lawful first in
     let x = c.args.station.now in
     let o = setup_of script.batch_of script.inputs_of start in
-    quiet script.batch_of script.inputs_of script.rounds_of bounds start law c.args.me x c.requires.tied c.requires.going c.hand_out.new.self
+    quiet script.batch_of script.inputs_of script.rounds_of bounds start law c.args.me x c.requires.tied
+    c.requires.going c.hand_out.new.self
     (c.hand_out.ensures.fits o (all_delivered x.core.round) c.requires.tied.stands.fits) c.hand_out.ensures.keeps c.hand_out.ensures.moves
 
 pub hear-high-requires : goal.hear-high-requires
@@ -67,7 +68,8 @@ hear-high-requires g c =
     let law = g.met.S.Script.lawful first in
     let x = c.args.station.now in
     let o = setup_of script.batch_of script.inputs_of start in
-    quiet-still script.batch_of script.inputs_of script.rounds_of bounds start law c.args.me x c.requires.tied c.requires.going c.hand_out.new.self
+    quiet-still script.batch_of script.inputs_of script.rounds_of bounds start law c.args.me x c.requires.tied
+    c.requires.going c.hand_out.new.self
     (c.hand_out.ensures.fits o (all_delivered x.core.round) c.requires.tied.stands.fits) c.hand_out.ensures.keeps c.hand_out.ensures.moves
     c.hear-low.new.core c.hear-low.result.0 c.hear-low.ensures.heard c.hear-low.ensures.keeps
 
@@ -80,15 +82,23 @@ returns-clause-tied g c =
     let law = g.met.S.Script.lawful first in
     let x = c.args.station.now in
     let o = setup_of script.batch_of script.inputs_of start in
-    steps script.batch_of script.inputs_of script.rounds_of bounds start law c.args.me x c.requires.tied c.requires.going c.hand_out.new.self
+    steps script.batch_of script.inputs_of script.rounds_of bounds start law c.args.me x c.requires.tied
+    c.requires.going c.hand_out.new.self
     (c.hand_out.ensures.fits o (all_delivered x.core.round) c.requires.tied.stands.fits) c.hand_out.ensures.keeps c.hand_out.ensures.moves
     c.hear-low.new.core c.hear-low.result.0 c.hear-low.ensures.heard c.hear-low.ensures.keeps
-    (record { core = c.hear-high.new.core; to_low = c.put.new.self; to_high = c.put-2.new.self; from_low = c.hear-low.new.from; from_high = c.hear-high.new.from })
+    (record {
+      core = c.hear-high.new.core;
+      to_low = c.put.new.self;
+      to_high = c.put-2.new.self;
+      from_low = c.hear-low.new.from;
+      from_high = c.hear-high.new.from;
+    })
     c.hear-high.result.0 c.hear-high.ensures.heard c.hear-high.ensures.keeps
     c.put.ensures c.put-2.ensures c.hear-low.ensures.taken c.hear-high.ensures.taken
 
 -- the round is passed once the second message is heard
-passed : (g : Over) (c : After-behind g) → IsAtRound g.S.Script.batch_of (setup_of g.S.Script.batch_of g.S.Script.inputs_of c.args.run.now.value) (c.args.station.now.core.round + 1) c.args.me c.hear-high.new.core
+passed : (g : Over) (c : After-behind g) → IsAtRound g.S.Script.batch_of (setup_of g.S.Script.batch_of
+    g.S.Script.inputs_of c.args.run.now.value) (c.args.station.now.core.round + 1) c.args.me c.hear-high.new.core
 passed g c =
     let script = g.S.Script in
     let start = c.args.run.now.value in
@@ -97,17 +107,20 @@ passed g c =
     let law = g.met.S.Script.lawful first in
     let x = c.args.station.now in
     let o = setup_of script.batch_of script.inputs_of start in
-    passes script.batch_of script.inputs_of script.rounds_of bounds start law c.args.me x c.requires.tied c.requires.going c.hand_out.new.self
+    passes script.batch_of script.inputs_of script.rounds_of bounds start law c.args.me x c.requires.tied
+    c.requires.going c.hand_out.new.self
     (c.hand_out.ensures.fits o (all_delivered x.core.round) c.requires.tied.stands.fits) c.hand_out.ensures.keeps c.hand_out.ensures.moves
     c.hear-low.new.core c.hear-low.result.0 c.hear-low.ensures.heard c.hear-low.ensures.keeps
     c.hear-high.new.core c.hear-high.result.0 c.hear-high.ensures.heard c.hear-high.ensures.keeps
 
 -- what is told is what the round opens
-opened : (g : Over) (c : After-behind g) → c.behind.result.now ≡ opened_in (setup_of g.S.Script.batch_of g.S.Script.inputs_of c.args.run.now.value) c.args.station.now.core.round
+opened : (g : Over) (c : After-behind g) → c.behind.result.now
+    ≡ opened_in (setup_of g.S.Script.batch_of g.S.Script.inputs_of c.args.run.now.value) c.args.station.now.core.round
 opened g c =
     let script = g.S.Script in
     let x = c.args.station.now.core in
-    opened-is script.batch_of (setup_of script.batch_of script.inputs_of c.args.run.now.value) x.round c.args.me x c.hear-high.new.core c.requires.tied.stands (passed g c)
+    opened-is script.batch_of (setup_of script.batch_of script.inputs_of c.args.run.now.value) x.round c.args.me x
+    c.hear-high.new.core c.requires.tied.stands (passed g c)
     c.opened-before.result.now c.opened.result.now c.behind.result.now c.opened-before.ensures c.opened.ensures c.behind.ensures
 
 -- the round is one of the run
@@ -119,7 +132,8 @@ within g c =
     let first = start.one.script in
     let bounds = bounds_of (script.wires_of first) (script.masks_of first) (script.coefficients_of first) in
     let x = c.args.station.now.core in
-    below script.batch_of script.inputs_of script.rounds_of bounds start (g.met.S.Script.lawful first) (all_delivered x.round) x c.requires.tied.stands.fits c.requires.going
+    below script.batch_of script.inputs_of script.rounds_of bounds start (g.met.S.Script.lawful first)
+    (all_delivered x.round) x c.requires.tied.stands.fits c.requires.going
 
 pub tell-requires-clause-few : goal.tell-requires-clause-few
 tell-requires-clause-few g c =
@@ -133,7 +147,8 @@ tell-requires-clause-few g c =
     let law = g.met.S.Script.lawful first in
     let on = (is_round o (rounds_from script.batch_of script.inputs_of script.rounds_of start) t
     (has-rounds script.batch_of script.inputs_of script.rounds_of bounds start law)).1 (within g at) in
-    subst (λ (l : List ℕ). length l ≤ MOST_NUMBERS) (sym (opened g at)) (opens-few o bounds (script.rounds_of first) (script.inputs_of first) t law on)
+    subst (λ (l : List ℕ). length l ≤ MOST_NUMBERS) (sym (opened g at))
+    (opens-few o bounds (script.rounds_of first) (script.inputs_of first) t law on)
 
 pub tell-requires-clause-next : goal.tell-requires-clause-next
 tell-requires-clause-next g c =
@@ -142,7 +157,8 @@ tell-requires-clause-next g c =
     let at = (goal.at.tell-requires-clause-next g c).After-behind in
     let x = c.args.station.now.core in (
       notes_left script.batch_of script.inputs_of script.rounds_of start c.args.me (x.round + 1),
-      tells (setup_of script.batch_of script.inputs_of start) (rounds_from script.batch_of script.inputs_of script.rounds_of start) c.args.me x.round c.round.result
+      tells (setup_of script.batch_of script.inputs_of start)
+          (rounds_from script.batch_of script.inputs_of script.rounds_of start) c.args.me x.round c.round.result
           c.behind.result.now (Awaits (g.K.Sink.due c.args.sink.now)) (within g at) c.round.ensures (opened g at) c.requires.told,
     )
 
@@ -152,7 +168,9 @@ returns-clause-told g c =
     let start = c.args.run.now.value in
     let at = (goal.at.returns-clause-told g c).After-behind in
     let x = c.args.station.now.core in
-    subst (λ r. Awaits (g.K.Sink.due c.tell.new.self) (notes_left script.batch_of script.inputs_of script.rounds_of start c.args.me r)) (sym (passed g at).round)
+    subst (λ r. Awaits (g.K.Sink.due c.tell.new.self)
+    (notes_left script.batch_of script.inputs_of script.rounds_of start c.args.me r)) (sym (passed g at).round)
     (c.tell.ensures.told (notes_left script.batch_of script.inputs_of script.rounds_of start c.args.me (x.round + 1))
-    (tells (setup_of script.batch_of script.inputs_of start) (rounds_from script.batch_of script.inputs_of script.rounds_of start) c.args.me x.round c.round.result
+    (tells (setup_of script.batch_of script.inputs_of start)
+    (rounds_from script.batch_of script.inputs_of script.rounds_of start) c.args.me x.round c.round.result
     c.behind.result.now (Awaits (g.K.Sink.due c.args.sink.now)) (within g at) c.round.ensures (opened g at) c.requires.told))

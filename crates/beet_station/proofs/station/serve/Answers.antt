@@ -15,7 +15,8 @@ returns-then-ended-clause-ended g c =
     let start = c.args.run.now.value in
     let first = start.one.script in
     let bounds = bounds_of (script.wires_of first) (script.masks_of first) (script.coefficients_of first) in
-    all-passed script.batch_of script.inputs_of script.rounds_of bounds start (g.met.S.Script.lawful first) c.args.me c.loop.station c.loop.invariant.tied
+    all-passed script.batch_of script.inputs_of script.rounds_of bounds start
+    (g.met.S.Script.lawful first) c.args.me c.loop.station c.loop.invariant.tied
     (sym c.ended.ensures ∙ c.if-ended.true)
 
 pub returns-then-ended-clause-told : goal.returns-then-ended-clause-told
@@ -28,6 +29,7 @@ returns-then-ended-clause-told g c =
     let rounds = rounds_from script.batch_of script.inputs_of script.rounds_of start in
     let x = c.loop.station.core in
     let over = sym c.ended.ensures ∙ c.if-ended.true in
-    let last = (ended_at script.batch_of o (all_delivered x.round) x rounds (has-rounds script.batch_of script.inputs_of script.rounds_of bounds start (g.met.S.Script.lawful first))
+    let last = (ended_at script.batch_of o (all_delivered x.round) x rounds
+    (has-rounds script.batch_of script.inputs_of script.rounds_of bounds start (g.met.S.Script.lawful first))
     c.loop.invariant.tied.stands.fits).0 over in
     subst (Awaits (g.K.Sink.due c.loop.sink)) (no-note o rounds c.args.me x.round last) c.loop.invariant.told

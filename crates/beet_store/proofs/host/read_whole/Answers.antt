@@ -8,7 +8,8 @@ loop-turn-preserved g c =
     let size : length c.read.new.buf ≡ c.wanted-want.result = omega (arith, length-take {A = ℕ}) in
     let some : c.in-Ok.count ≤ length c.read.new.buf = omega (arith, c.in-Ok.ensures.bound.0) in
     record {
-      consumed = rw c.in_ok-extend_from_slice.ensures.items (read_front _ _ _ _ _ _ _ some c.loop-turn.invariant.consumed c.in-Ok.ensures.bytes.0);
+      consumed = rw c.in_ok-extend_from_slice.ensures.items
+          (read_front _ _ _ _ _ _ _ some c.loop-turn.invariant.consumed c.in-Ok.ensures.bytes.0);
       within = omega arith;
       turns = omega (arith, length-append {A = ℕ}, length-take {A = ℕ}, c.in_ok-extend_from_slice.ensures.len);
       piece = omega (arith, length-append {A = ℕ}, length-drop {A = ℕ});
@@ -48,7 +49,8 @@ returns-then-len-limit-clause-read g c =
     let some : c.in-Ok.count ≤ length c.read.new.buf = omega (arith, c.in-Ok.ensures.bound.0) in
     record {
       bytes = c.extend_from_slice.new.self.items;
-      consumed = rw c.in_ok-extend_from_slice.ensures.items (read_front _ _ _ _ _ _ _ some c.loop-turn.invariant.consumed c.in-Ok.ensures.bytes.0);
+      consumed = rw c.in_ok-extend_from_slice.ensures.items
+          (read_front _ _ _ _ _ _ _ some c.loop-turn.invariant.consumed c.in-Ok.ensures.bytes.0);
       within = omega (arith, length-append {A = ℕ}, length-take {A = ℕ}, c.in_ok-extend_from_slice.ensures.len);
       whole = omega arith;
     }

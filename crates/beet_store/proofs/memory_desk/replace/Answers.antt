@@ -17,7 +17,8 @@ returns-in-Some-clause-others c = λ other apart.
 pub returns-clause-file : goal.returns-clause-file
 returns-clause-file c =
     rw (c.in_ok-push.ensures.items, c.in_ok-bytes.ensures.items) (
-    added_file c.args.files.now.items _ c.args.name.now c.in_ok-name.ensures.ok (rw c.as_slice.ensures.value at c.in_default.ensures.missing))
+    added_file c.args.files.now.items _ c.args.name.now c.in_ok-name.ensures.ok
+    (rw c.as_slice.ensures.value at c.in_default.ensures.missing))
 
 pub returns-clause-others : goal.returns-clause-others
 returns-clause-others c = λ other apart.

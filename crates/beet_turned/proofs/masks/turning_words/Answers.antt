@@ -6,9 +6,11 @@ pub loop-i-preserved : goal.loop-i-preserved
 loop-i-preserved c =
     let inv = c.loop-i.invariant in
     let more = turned-more c.args.losses.now c.args.masks.now c.as_slice-words.result.now c.loop-i.turned c.push.new.self
-    c.loop-i.i c.loop-i.rejected c.count_rejected-rejected.result c.mask-mask.result c.index-words-i.result c.word_for.result c.loss_for-loss.result
+    c.loop-i.i c.loop-i.rejected c.count_rejected-rejected.result c.mask-mask.result c.index-words-i.result
+    c.word_for.result c.loss_for-loss.result
     (omega arith) (record { count = inv.count; rejected_is = inv.rejected; few = inv.few; turns = inv.turns })
-    c.mask-mask.ensures.mask c.index-words-i.is c.loss_for-loss.ensures c.word_for.ensures c.in_ok-push.ensures c.count_rejected-rejected.ensures in
+    c.mask-mask.ensures.mask c.index-words-i.is c.loss_for-loss.ensures c.word_for.ensures c.in_ok-push.ensures
+    c.count_rejected-rejected.ensures in
     record { count = more.count; rejected = more.rejected_is; few = more.few; turns = more.turns }
 
 pub returns-clause-length : goal.returns-clause-length

@@ -12,7 +12,8 @@ returns-in_err-number-clause-numbers c =
     let given = err_from_is_err_and c.from_residual.result c.from_residual.ensures.1 in
     rw (given.1, given.2) (
     onto-fault part c.loop-k.numbers.items c.args.count c.loop-k._k c.loop-k.next (times c.args.count part c.args.at)
-    (λ read. read) (λ (read : ArrayVec ℕ × ℕ). (read.0.items, read.1)) c.in_err-number.field-0.0 c.loop-k-test.true c.in_err-number.ensures.point c.loop-k.invariant.read
+    (λ read. read) (λ (read : ArrayVec ℕ × ℕ). (read.0.items, read.1)) c.in_err-number.field-0.0 c.loop-k-test.true
+    c.in_err-number.ensures.point c.loop-k.invariant.read
     )
 
 pub loop-k-preserved : goal.loop-k-preserved

@@ -8,8 +8,10 @@ pub unreachable-requires : goal.unreachable-requires
 unreachable-requires c =
     let bytes = c.args.bytes.now in
     let prices = c.prices-prices.result in
-    let buy = quantities_at-are bytes Falling prices (start_of Falling) c.args.at (c.in_ok-buy.buy.items, c.in_ok-buy.at) c.in_ok-buy.ensures.quantities in
-    let sell = quantities_at-are bytes Rising prices (start_of Rising) c.in_ok-buy.at (c.in_ok-sell.sell.items, c.in_ok-sell.at) c.in_ok-sell.ensures.quantities in
+    let buy = quantities_at-are bytes Falling prices (start_of Falling) c.args.at
+    (c.in_ok-buy.buy.items, c.in_ok-buy.at) c.in_ok-buy.ensures.quantities in
+    let sell = quantities_at-are bytes Rising prices (start_of Rising) c.in_ok-buy.at
+    (c.in_ok-sell.sell.items, c.in_ok-sell.at) c.in_ok-sell.ensures.quantities in
     c.in_default.ensures (
       record { buy_length = buy.many ∙ c.prices-prices.ensures.value; sell_length = sell.many ∙ c.prices-prices.ensures.value },
       record {

@@ -9,13 +9,16 @@ use Rattle.beet_view.proofs.writing.push_bidders.Goals as goal
 pub loop-seen-preserved : goal.loop-seen-preserved
 loop-seen-preserved c = record {
   file = grind (arith, common_steps);
-  numbers = All-more HasNumbers c.args.bidders.now c.loop-seen.seen-index c.seen-item.result c.loop-seen-test.true c.loop-seen.invariant.numbers (rw (← c.seen-item.is) c.in_ok-push_seen.ensures.numbers);
+  numbers = All-more HasNumbers c.args.bidders.now c.loop-seen.seen-index c.seen-item.result c.loop-seen-test.true
+      c.loop-seen.invariant.numbers (rw (← c.seen-item.is) c.in_ok-push_seen.ensures.numbers);
 }
 
 pub returns-clause-numbers : goal.returns-clause-numbers
 returns-clause-numbers c =
-    subst (λ bidders. All HasNumbers bidders) (take_all c.loop-seen.seen-index c.args.bidders.now c.loop-seen-test.false) c.loop-seen.invariant.numbers
+    subst (λ bidders. All HasNumbers bidders)
+    (take_all c.loop-seen.seen-index c.args.bidders.now c.loop-seen-test.false) c.loop-seen.invariant.numbers
 
 pub returns-clause-bytes : goal.returns-clause-bytes
 returns-clause-bytes c =
-    c.loop-seen.invariant.file ∙ ap (λ items. c.args.file.now.items ++ flat_map seen_bytes items) (take_all c.loop-seen.seen-index c.args.bidders.now c.loop-seen-test.false)
+    c.loop-seen.invariant.file ∙ ap (λ items. c.args.file.now.items ++ flat_map seen_bytes items)
+    (take_all c.loop-seen.seen-index c.args.bidders.now c.loop-seen-test.false)

@@ -10,4 +10,5 @@ loop-number-preserved c = record { file = grind (arith, common_steps) }
 
 pub returns : goal.returns
 returns c =
-    c.loop-number.invariant.file ∙ ap (λ items. c.args.file.now.items ++ flat_map number_bytes items) (take_all c.loop-number.number-index c.args.numbers.now c.loop-number-test.false)
+    c.loop-number.invariant.file ∙ ap (λ items. c.args.file.now.items ++ flat_map number_bytes items)
+    (take_all c.loop-number.number-index c.args.numbers.now c.loop-number-test.false)

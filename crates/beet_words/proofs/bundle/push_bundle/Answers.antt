@@ -12,7 +12,11 @@ appended a b c d e f g = simp append_assoc
 pub returns-clause-bytes : goal.returns-clause-bytes
 returns-clause-bytes c =
     let file = c.args.file.now.items in
-    let seen : Words = record { masks = c.words.inside.masks; coefficients = c.words.inside.coefficients; bidders = c.words.inside.bidders.items } in
+    let seen : Words = record {
+      masks = c.words.inside.masks;
+      coefficients = c.words.inside.coefficients;
+      bidders = c.words.inside.bidders.items;
+    } in
     let whole : c.push_server-3.new.file.items ++ flat_map list_bytes c.as_slice-bidders.result.now ≡ file ++ bundle_bytes seen =
     rw (
       c.in_ok-push_server-3.ensures.bytes,
@@ -23,7 +27,8 @@ returns-clause-bytes c =
       c.as_slice-bidders.ensures.value,
     )
     (appended file magic (number_bytes (length seen.bidders)) (server_bytes seen.masks.one seen.coefficients.one)
-    (server_bytes seen.masks.two seen.coefficients.two) (server_bytes seen.masks.three seen.coefficients.three) (flat_map list_bytes seen.bidders)) in
+    (server_bytes seen.masks.two seen.coefficients.two) (server_bytes seen.masks.three seen.coefficients.three)
+    (flat_map list_bytes seen.bidders)) in
     let pushed = on_ok_weaker c.push_lists.result (λ last. last ∙ whole) c.push_lists.ensures.bytes in
     subst (λ (words : Words). OnOk c.push_lists.result (c.push_lists.new.file.items ≡ file ++ bundle_bytes words)) c.words.view_is pushed
 
@@ -32,7 +37,11 @@ returns-clause-words c =
     let one = c.in_ok-push_server.ensures in
     let two = c.in_ok-push_server-2.ensures in
     let three = c.in_ok-push_server-3.ensures in
-    let seen : Words = record { masks = c.words.inside.masks; coefficients = c.words.inside.coefficients; bidders = c.words.inside.bidders.items } in
+    let seen : Words = record {
+      masks = c.words.inside.masks;
+      coefficients = c.words.inside.coefficients;
+      bidders = c.words.inside.bidders.items;
+    } in
     let are : OnOk c.push_lists.result (AreWords seen) =
     on_ok_weaker c.push_lists.result (λ bidders. record {
       masks = (one.masks, two.masks, three.masks);

@@ -11,7 +11,9 @@ loop-list-preserved c =
     let i = c.loop-list.list-index in
     let list = c.list-item.result in
     record {
-      file = bytes-more list_bytes lists i list c.args.file.now.items c.loop-list.file.items _ c.loop-list-test.true c.loop-list.invariant.file
+      file = bytes-more list_bytes lists i list c.args.file.now.items c.loop-list.file.items _ c.loop-list-test.true
+          c.loop-list.invariant.file
           (rw (← c.list-item.is) c.in_ok-push_list.ensures.bytes);
-      words = All-more (λ list. All IsWord list) lists i list c.loop-list-test.true c.loop-list.invariant.words (rw (← c.list-item.is) c.in_ok-push_list.ensures.words);
+      words = All-more (λ list. All IsWord list) lists i list c.loop-list-test.true c.loop-list.invariant.words
+          (rw (← c.list-item.is) c.in_ok-push_list.ensures.words);
     }

@@ -17,7 +17,8 @@ pub returns-in_err-count : goal.returns-in_err-count
 unfolding bundle_of
 returns-in_err-count c =
     let p = err_from_is_err_and c.from_residual-in_err-count.result c.from_residual-in_err-count.ensures.1 in
-    let count = subst (λ allowed. Answers (λ (read : ℕ × ℕ). read) (number_at c.args.bytes.now allowed c.in_ok-at.at) (Err c.in_err-count.field-0.0))
+    let count = subst (λ allowed. Answers (λ (read : ℕ × ℕ). read) (number_at c.args.bytes.now allowed c.in_ok-at.at)
+    (Err c.in_err-count.field-0.0))
     c.up_to.ensures c.in_err-count.ensures.number in
     rw (c.in_ok-at.ensures.magic, p.1, p.2)
     (first-fault _ _ (λ (read : ℕ × ℕ). read) (λ (words : Words). words) c.in_err-count.field-0.0 count)
@@ -57,7 +58,8 @@ returns-in_err-servers c =
     let three = rw c.in_ok-one-3.ensures.1 at c.read_server-3.ensures.lists in
     let bidders = rw c.in_err-servers.ensures at c.read_lists.ensures.lists in
     rw (after_servers c.args.bytes.now _ _ _ _ _ _ _ _ _ c.in_ok-at.ensures.magic count c.in_ok-one.ensures.lists two three, p.1, p.2)
-    (first-fault _ _ (λ (read : Vec (List ℕ) Global × ℕ). (read.0.items, read.1)) (λ (words : Words). words) c.in_err-servers.field-0.0 bidders)
+    (first-fault _ _ (λ (read : Vec (List ℕ) Global × ℕ). (read.0.items, read.1))
+    (λ (words : Words). words) c.in_err-servers.field-0.0 bidders)
 
 pub returns-in_err-words : goal.returns-in_err-words
 returns-in_err-words c =
@@ -67,7 +69,12 @@ returns-in_err-words c =
     let three = rw c.in_ok-one-3.ensures.1 at c.read_server-3.ensures.lists in
     let bidders = rw c.in_ok-servers.ensures.1 at c.read_lists.ensures.lists in
     let end = rw c.in_err-words.ensures at c.read_end.ensures in
-    rw (after_servers c.args.bytes.now _ _ _ _ _ _ _ _ _ c.in_ok-at.ensures.magic count c.in_ok-one.ensures.lists two three, bidders, p.1, p.2)
+    rw (
+      after_servers c.args.bytes.now _ _ _ _ _ _ _ _ _ c.in_ok-at.ensures.magic count c.in_ok-one.ensures.lists two three,
+      bidders,
+      p.1,
+      p.2,
+    )
     (first-fault _ _ (λ (done : Unit {0}). done) (λ (words : Words). words) c.in_err-words.field-0.0 end)
 
 pub returns : goal.returns

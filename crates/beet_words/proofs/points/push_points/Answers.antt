@@ -11,5 +11,6 @@ loop-point-preserved c =
     let below : IsElement c.point-item.result = omega (arith, c.value.ensures.value, c.value.ensures.below) in
     record {
       file = grind (arith, common_steps);
-      points = All-more IsElement points i c.point-item.result c.loop-point-test.true c.loop-point.invariant.points (rw (← c.point-item.is) below);
+      points = All-more IsElement points i c.point-item.result c.loop-point-test.true c.loop-point.invariant.points
+          (rw (← c.point-item.is) below);
     }

@@ -10,20 +10,23 @@ returns-in_err-point-clause-points c =
     let given = err_from_is_err_and c.from_residual-in_err-point.result c.from_residual-in_err-point.ensures.1 in
     rw (given.1, given.2) (
     onto-fault part c.loop-k.points.items c.args.count c.loop-k._k c.loop-k.next (times c.args.count part c.args.at)
-    (λ read. read) (λ (read : List ℕ × ℕ). read) c.in_err-point.field-0.0 c.loop-k-test.true c.in_err-point.ensures.point c.loop-k.invariant.read
+    (λ read. read) (λ (read : List ℕ × ℕ). read) c.in_err-point.field-0.0 c.loop-k-test.true
+    c.in_err-point.ensures.point c.loop-k.invariant.read
     )
 
 pub push_reserved-requires : goal.push_reserved-requires
 push_reserved-requires c =
     let i = c.loop-k.invariant in
-    let after = number_at-after c.args.bytes.now c.args.allowed c.loop-k.next (c.in_ok-point.point, c.in_ok-point.after) c.in_ok-point.ensures.point in
+    let after = number_at-after c.args.bytes.now c.args.allowed c.loop-k.next
+    (c.in_ok-point.point, c.in_ok-point.after) c.in_ok-point.ensures.point in
     omega (arith, after, c.in_ok-point.ensures.within, i.place, i.put, i.room, c.loop-k-test.true)
 
 pub loop-k-preserved : goal.loop-k-preserved
 loop-k-preserved c =
     let i = c.loop-k.invariant in
     let part = number_at c.args.bytes.now c.args.allowed in
-    let after = number_at-after c.args.bytes.now c.args.allowed c.loop-k.next (c.in_ok-point.point, c.in_ok-point.after) c.in_ok-point.ensures.point in
+    let after = number_at-after c.args.bytes.now c.args.allowed c.loop-k.next
+    (c.in_ok-point.point, c.in_ok-point.after) c.in_ok-point.ensures.point in
     let put = c.push_reserved.ensures in
     record {
       read = rw put.items (

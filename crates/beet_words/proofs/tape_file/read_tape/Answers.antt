@@ -7,8 +7,10 @@ use Rattle.beet_words.proofs.tape_file.read_tape.Goals as goal
 pub returns-in-Err : goal.returns-in-Err
 returns-in-Err c =
     let bytes = c.args.bytes.now in
-    let bad = first_fault-bad bytes c.loop-k.k c.div_ceil-count.result c.in-Err.reason c.loop-k-test.true (rw c.line.ensures at c.in-Err.ensures) in
-    rw c.at_row.ensures (ap (λ fault. reading_of fault (take c.args.keep (map word_in (lines_of bytes)))) (sym c.loop-k.invariant.judged ∙ bad))
+    let bad = first_fault-bad bytes c.loop-k.k c.div_ceil-count.result c.in-Err.reason c.loop-k-test.true
+    (rw c.line.ensures at c.in-Err.ensures) in
+    rw c.at_row.ensures (ap (λ fault. reading_of fault (take c.args.keep (map word_in (lines_of bytes))))
+    (sym c.loop-k.invariant.judged ∙ bad))
 
 pub loop-k-preserved : goal.loop-k-preserved
 loop-k-preserved c =

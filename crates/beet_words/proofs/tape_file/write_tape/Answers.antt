@@ -2,7 +2,7 @@ use Rattle.std.proofs.Common.{[], All, ap, subst, ◌∙◌, arith}
 use Rattle.std.proofs.lemmas.List.{take_all}
 use Rattle.std.proofs.lemmas.List.Elements.{All-more}
 use Rattle.beet_words.specs.Words.{IsWord}
-use Rattle.beet_words.specs.TapeFiles.{line_of, tape_bytes}
+use Rattle.beet_words.specs.TapeFiles.{word_line, tape_bytes}
 use Rattle.beet_words.proofs.Appending.{bytes-more}
 use Rattle.beet_words.proofs.TapeAgain.{tape_of-tape_bytes}
 use Rattle.beet_words.proofs.tape_file.write_tape.Goals as goal
@@ -19,9 +19,10 @@ loop-word-preserved c =
     let i = c.loop-word.word-index in
     let word = c.word-item.result in
     record {
-      file = bytes-more line_of words i word [] c.loop-word.file.items _ c.loop-word-test.true c.loop-word.invariant.file
+      file = bytes-more word_line words i word [] c.loop-word.file.items _ c.loop-word-test.true c.loop-word.invariant.file
           (rw (← c.word-item.is) c.in_ok-push_line.ensures.line);
-      below = All-more IsWord words i word c.loop-word-test.true c.loop-word.invariant.below (rw (← c.word-item.is) c.in_ok-push_line.ensures.below);
+      below = All-more IsWord words i word c.loop-word-test.true c.loop-word.invariant.below
+          (rw (← c.word-item.is) c.in_ok-push_line.ensures.below);
     }
 
 pub returns-clause-bytes : goal.returns-clause-bytes

@@ -7,9 +7,11 @@ use Rattle.beet_world.proofs.giving.hand_out.Goals as goal
 pub push_reserved-requires : goal.push_reserved-requires
 push_reserved-requires g c =
     let next = g.S.Script.batch_of in
-    let busy : is_quiet next c.loop-turn.core ≡ false = false_from_ne_true (is_quiet next c.loop-turn.core) (λ e. true≢false (c.in-Some.ensures.quiet.1 e)) in
+    let busy : is_quiet next c.loop-turn.core ≡ false =
+    false_from_ne_true (is_quiet next c.loop-turn.core) (λ e. true≢false (c.in-Some.ensures.quiet.1 e)) in
     let more : length c.loop-turn.sent.items < g.S.Script.rounds_of c.loop-turn.core.script =
-    room-for next c.loop-turn.core (length c.loop-turn.sent.items) (g.S.Script.rounds_of c.loop-turn.core.script) busy c.loop-turn.invariant.counted c.in-Some.ensures.within in
+    room-for next c.loop-turn.core (length c.loop-turn.sent.items)
+    (g.S.Script.rounds_of c.loop-turn.core.script) busy c.loop-turn.invariant.counted c.in-Some.ensures.within in
     let same = ap g.S.Script.rounds_of c.loop-turn.invariant.keeps.script in
     omega (arith, more, same, c.requires.room, c.loop-turn.invariant.capacity, c.loop-turn.sent.ok)
 
@@ -20,12 +22,14 @@ pub loop-turn-preserved : goal.loop-turn-preserved
 loop-turn-preserved g c =
     let next = g.S.Script.batch_of in
     let inv = c.loop-turn.invariant in
-    let busy : is_quiet next c.loop-turn.core ≡ false = false_from_ne_true (is_quiet next c.loop-turn.core) (λ e. true≢false (c.in-Some.ensures.quiet.1 e)) in
+    let busy : is_quiet next c.loop-turn.core ≡ false =
+    false_from_ne_true (is_quiet next c.loop-turn.core) (λ e. true≢false (c.in-Some.ensures.quiet.1 e)) in
     let both = loud next c.loop-turn.core busy in
     let moves = c.in-Some.ensures.moves in
     let keeps = c.in-Some.ensures.keeps in
     let more : length c.loop-turn.sent.items < g.S.Script.rounds_of c.loop-turn.core.script =
-    room-for next c.loop-turn.core (length c.loop-turn.sent.items) (g.S.Script.rounds_of c.loop-turn.core.script) busy inv.counted c.in-Some.ensures.within in
+    room-for next c.loop-turn.core (length c.loop-turn.sent.items)
+    (g.S.Script.rounds_of c.loop-turn.core.script) busy inv.counted c.in-Some.ensures.within in
     let same = ap g.S.Script.rounds_of inv.keeps.script in
     let pushed : length c.push_reserved.new.self.items ≡ length c.loop-turn.sent.items + 1 =
     ap length c.push_reserved.ensures.items ∙ length-append c.loop-turn.sent.items (c.in-Some.messages ∷ []) in

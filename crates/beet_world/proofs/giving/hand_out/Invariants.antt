@@ -17,7 +17,9 @@ invariant-loop-turn g l =
       pushed : length l.sent.items ≡ length l.fn.sent.items + l._turn;
       within : length l.sent.items ≤ g.S.Script.rounds_of l.fn.core.script;
       fits : (o : Setup) (x : Delivered) → Fits next o x l.fn.core → Fits next o x l.core;
-      sends : (o : Setup) (x : Delivered) → Fits next o x l.fn.core → l.fn.sent.items ≡ sent_by o l.fn.core → l.sent.items ≡ sent_by o l.core;
-      going : (o : Setup) (x : Delivered) (rounds : ℕ) → HasRounds o rounds → Fits next o x l.fn.core → (l.fn.core.handed ≡ true → l.fn.core.round < rounds)
+      sends : (o : Setup) (x : Delivered) → Fits next o x l.fn.core → l.fn.sent.items ≡ sent_by o l.fn.core →
+          l.sent.items ≡ sent_by o l.core;
+      going : (o : Setup) (x : Delivered) (rounds : ℕ) → HasRounds o rounds → Fits next o x l.fn.core →
+          (l.fn.core.handed ≡ true → l.fn.core.round < rounds)
           → l.core.handed ≡ true → l.core.round < rounds;
     }

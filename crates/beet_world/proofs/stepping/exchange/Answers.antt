@@ -30,7 +30,8 @@ hand_out-requires-3 g c =
     let r = c.requires in loud-then g.S.Script.batch_of r.o r.t Three c.args.cores.now.three (r.stand Three) r.is_round
 
 -- what each server may take, once all three have handed out their messages
-module _ (g : Over) (c : After-hand_out-3 g) (o : Setup) (t : ℕ) (is : IsRound o t) (stand : AreAtRound g.S.Script.batch_of o t c.args.cores.now) where
+module _ (g : Over) (c : After-hand_out-3 g) (o : Setup) (t : ℕ) (is : IsRound o t)
+    (stand : AreAtRound g.S.Script.batch_of o t c.args.cores.now) where
   abbrev next : g.row.S.Denot → ℕ → List ℕ → Batch
   next = g.S.Script.batch_of
 
@@ -79,7 +80,8 @@ returns-clause-passed g c = λ o t is stand.
     let one = may-one g sent o t is stand in
     let two = may-two g sent o t is stand in
     let three = may-three g sent o t is stand in
-    let new : Trio (Core g.row.S.Denot) = record { one = c.take_both.new.core; two = c.take_both-2.new.core; three = c.take_both-3.new.core } in
+    let new : Trio (Core g.row.S.Denot) =
+    record { one = c.take_both.new.core; two = c.take_both-2.new.core; three = c.take_both-3.new.core } in
     by_point (λ s. IsAtRound g.S.Script.batch_of o (t + 1) s (member new s))
     (c.take_both.ensures.passed o t One is one.waits one.is_low one.is_high)
     (c.take_both-2.ensures.passed o t Two is two.waits two.is_low two.is_high)

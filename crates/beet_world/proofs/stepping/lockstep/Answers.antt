@@ -16,7 +16,8 @@ loop-round-init g c =
 pub exchange-requires : goal.exchange-requires
 exchange-requires g c =
     let script = g.S.Script in
-    may-pass script.batch_of script.inputs_of script.rounds_of (setup_of script.batch_of script.inputs_of c.args.cores) c.loop-round._round c.loop-round.cores c.loop-round.invariant.stand
+    may-pass script.batch_of script.inputs_of script.rounds_of (setup_of script.batch_of script.inputs_of c.args.cores)
+    c.loop-round._round c.loop-round.cores c.loop-round.invariant.stand
     (sym c.ended.ensures ∙ c.if-ended.false)
 
 pub loop-round-preserved : goal.loop-round-preserved
@@ -24,7 +25,8 @@ loop-round-preserved g c =
     let script = g.S.Script in
     let o = setup_of script.batch_of script.inputs_of c.args.cores in
     let inv = c.loop-round.invariant in
-    let on = goes-on script.batch_of script.inputs_of script.rounds_of o c.loop-round._round c.loop-round.cores inv.stand (sym c.ended.ensures ∙ c.if-ended.false) in
+    let on = goes-on script.batch_of script.inputs_of script.rounds_of o c.loop-round._round c.loop-round.cores
+    inv.stand (sym c.ended.ensures ∙ c.if-ended.false) in
     record {
       end = inv.end;
       stand = c.exchange.ensures.passed o c.loop-round._round on inv.stand;
@@ -44,8 +46,10 @@ returns-then-ended g c =
     let law = g.met.S.Script.lawful first in
     let inv = c.loop-round.invariant in
     let over = sym c.ended.ensures ∙ c.if-ended.true in
-    have-ended script.batch_of script.inputs_of script.rounds_of bounds c.args.cores c.loop-round.cores c.loop-round._round c.requires law inv.stand
-    (at-the-end script.batch_of script.inputs_of script.rounds_of bounds c.args.cores c.loop-round.cores c.loop-round._round law inv.stand over) inv.keeps
+    have-ended script.batch_of script.inputs_of script.rounds_of bounds c.args.cores c.loop-round.cores
+    c.loop-round._round c.requires law inv.stand
+    (at-the-end script.batch_of script.inputs_of script.rounds_of bounds c.args.cores c.loop-round.cores
+    c.loop-round._round law inv.stand over) inv.keeps
 
 pub returns : goal.returns
 returns g c =
@@ -54,6 +58,9 @@ returns g c =
     let bounds = bounds_of (script.wires_of first) (script.masks_of first) (script.coefficients_of first) in
     let law = g.met.S.Script.lawful first in
     let inv = c.loop-round.invariant in
-    let all : c.loop-round._round ≡ script.rounds_of first = omega (arith, c.loop-round-test.false, c.loop-round.auto._round-end, inv.end) in
-    have-ended script.batch_of script.inputs_of script.rounds_of bounds c.args.cores c.loop-round.cores c.loop-round._round c.requires law inv.stand
-    (at-the-most script.batch_of script.inputs_of script.rounds_of bounds c.args.cores c.loop-round.cores c.loop-round._round law inv.stand all) inv.keeps
+    let all : c.loop-round._round ≡ script.rounds_of first =
+    omega (arith, c.loop-round-test.false, c.loop-round.auto._round-end, inv.end) in
+    have-ended script.batch_of script.inputs_of script.rounds_of bounds c.args.cores c.loop-round.cores
+    c.loop-round._round c.requires law inv.stand
+    (at-the-most script.batch_of script.inputs_of script.rounds_of bounds c.args.cores c.loop-round.cores
+    c.loop-round._round law inv.stand all) inv.keeps

@@ -7,7 +7,8 @@ deliver-requires-2 g c =
     let d = c.deliver.ensures in
     record {
       sent = quiet-then g.S.Script.batch_of r.o r.t (with_low r.s r.t) r.s c.deliver.new.self
-          (low-taken g.S.Script.batch_of r.o r.t r.s c.args.core.now c.deliver.new.self c.args.low.now c.deliver.result r.waits r.is_round d.verdict d.fits d.keeps.me r.is_low);
+          (low-taken g.S.Script.batch_of r.o r.t r.s c.args.core.now c.deliver.new.self c.args.low.now c.deliver.result
+          r.waits r.is_round d.verdict d.fits d.keeps.me r.is_low);
     }
 
 pub returns-clause-passed : goal.returns-clause-passed

@@ -4,7 +4,8 @@ use Rattle.beet_load.proofs.keeping.Farmers.into_parts.Goals as goal
 
 pub returns-clause-bidders : goal.returns-clause-bidders
 returns-clause-bidders c =
-    farmers-bidders c.self.inside.bidders.items c.self.inside.words.items c.self.invariant ∙ ap (map (λ farmer. farmer.bidder)) c.self.view_is
+    farmers-bidders c.self.inside.bidders.items c.self.inside.words.items c.self.invariant
+    ∙ ap (map (λ farmer. farmer.bidder)) c.self.view_is
 
 pub returns-clause-words : goal.returns-clause-words
 returns-clause-words c =

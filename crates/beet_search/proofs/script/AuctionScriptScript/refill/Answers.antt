@@ -10,13 +10,15 @@ pub returns-then-step-length-clause-batch : goal.returns-then-step-length-clause
 returns-then-step-length-clause-batch c =
     let place = c.loop-place.place in
     let short : c.args.done - place.before < plan_length (plan_at place.walk) = omega (arith, c.length-length.ensures) in
-    c.refill.ensures ∙ sym (batch-here (auction_plan c.args.self.now) c.args.done c.args.opened.now (plan_at place.walk) place.before place.read c.loop-place.invariant.there.there c.loop-place-test.true short)
+    c.refill.ensures ∙ sym (batch-here (auction_plan c.args.self.now) c.args.done c.args.opened.now
+    (plan_at place.walk) place.before place.read c.loop-place.invariant.there.there c.loop-place-test.true short)
 
 pub returns-clause-batch : goal.returns-clause-batch
 returns-clause-batch c =
     let place = c.loop-place.place in
     c.refill-2.ensures
-    ∙ sym (batch-last (auction_plan c.args.self.now) c.args.done c.args.opened.now (plan_at place.walk) place.before place.read c.loop-place.invariant.there.there c.loop-place-test.false)
+    ∙ sym (batch-last (auction_plan c.args.self.now) c.args.done c.args.opened.now
+    (plan_at place.walk) place.before place.read c.loop-place.invariant.there.there c.loop-place-test.false)
 
 pub loop-place-preserved : goal.loop-place-preserved
 loop-place-preserved c =
@@ -25,6 +27,7 @@ loop-place-preserved c =
     record {
       there =
           rw c.length-length.ensures
-          (walks-on c.args.self.now c.args.done c.args.opened.now place c.loop-place.invariant.there c.index-opened-place.result c.loop-place-test.true c.index-opened-place.is
+          (walks-on c.args.self.now c.args.done c.args.opened.now place c.loop-place.invariant.there
+          c.index-opened-place.result c.loop-place-test.true c.index-opened-place.is
           past c.after-place.result c.after-place.ensures.fits c.after-place.ensures.plan);
     }

@@ -12,4 +12,5 @@ returns-else-self-eq0-clause-plan c =
     let one : c.args.product ≡ 1 = omega (arith, c.value.ensures.value) in
     facts.stage-is (record w { first = w.first + c.mask_wires.result; spare = w.spare - 1 }) Search c.requires.search
     ∙ ap (λ (k : ℕ). search_plan g w.policy w.prices w.left w.lo w.hi (w.spare - 1) (w.first + k)) c.mask_wires.ensures
-    ∙ facts.again-plan g w.policy w.prices w.left w.lo w.hi w.spare w.first c.requires.open.0 c.requires.open.1 c.args.product one c.if-self-eq0.false
+    ∙ facts.again-plan g w.policy w.prices w.left w.lo w.hi w.spare w.first c.requires.open.0 c.requires.open.1
+    c.args.product one c.if-self-eq0.false

@@ -10,7 +10,8 @@ returns-then-is_open c = sym (facts.finish-open c.args.self.now c.in-Search.is c
 pub returns-else-is_open : goal.returns-else-is_open
 returns-else-is_open c =
     c.finish_end.ensures
-    ∙ sym (ap (λ (p : Plan Finish). plan_finish p []) (facts.closed-at c.args.self.now c.in-Search.is c.is_open.result c.is_open.ensures c.if-is_open.false))
+    ∙ sym (ap (λ (p : Plan Finish). plan_finish p [])
+    (facts.closed-at c.args.self.now c.in-Search.is c.is_open.result c.is_open.ensures c.if-is_open.false))
 
 pub returns-in-Masked : goal.returns-in-Masked
 returns-in-Masked c = elim c.in-Masked.is [

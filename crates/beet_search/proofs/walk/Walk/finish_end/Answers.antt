@@ -12,14 +12,17 @@ pub returns-in-Some-Price : goal.returns-in-Some-Price
 returns-in-Some-Price c =
     let h = c.in-Some-Price.ensures in
     ap Some c.price_with.ensures
-    ∙ sym (ap (λ (p : Plan Finish). plan_finish p []) (facts.end-shows _ _ _ PriceAlone (sym c.in-Some-Price.field-0-is ∙ h.1) h.0) ∙ facts.ended-finish _)
+    ∙ sym (ap (λ (p : Plan Finish). plan_finish p [])
+    (facts.end-shows _ _ _ PriceAlone (sym c.in-Some-Price.field-0-is ∙ h.1) h.0) ∙ facts.ended-finish _)
 
 pub returns-in-Some-Volume : goal.returns-in-Some-Volume
 returns-in-Some-Volume c =
     let h = c.in-Some-Volume.ensures in
-    sym (ap (λ (p : Plan Finish). plan_finish p []) (facts.end-shows _ _ _ Volume (sym c.in-Some-Volume.field-0-is ∙ h.1) h.0) ∙ facts.last-finish _ 0 _)
+    sym (ap (λ (p : Plan Finish). plan_finish p [])
+    (facts.end-shows _ _ _ Volume (sym c.in-Some-Volume.field-0-is ∙ h.1) h.0) ∙ facts.last-finish _ 0 _)
 
 pub returns-in-Some-Full : goal.returns-in-Some-Full
 returns-in-Some-Full c =
     let h = c.in-Some-Full.ensures in
-    sym (ap (λ (p : Plan Finish). plan_finish p []) (facts.end-shows _ _ _ Full (sym c.in-Some-Full.field-0-is ∙ h.1) h.0) ∙ facts.last-finish _ 1 _)
+    sym (ap (λ (p : Plan Finish). plan_finish p [])
+    (facts.end-shows _ _ _ Full (sym c.in-Some-Full.field-0-is ∙ h.1) h.0) ∙ facts.last-finish _ 1 _)

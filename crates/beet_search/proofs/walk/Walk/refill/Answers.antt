@@ -5,12 +5,14 @@ use Rattle.beet_search.proofs.WalkFacts as facts
 use Rattle.beet_search.proofs.walk.Walk.refill.Goals as goal
 
 pub returns-then-is_open : goal.returns-then-is_open
-returns-then-is_open c = rw (facts.batch-open c.args.self.now c.in-Search.is c.is_open.result c.is_open.ensures c.if-is_open.true c.args.step) c.refill_mask.ensures
+returns-then-is_open c = rw (facts.batch-open c.args.self.now c.in-Search.is c.is_open.result c.is_open.ensures
+    c.if-is_open.true c.args.step) c.refill_mask.ensures
 
 pub returns-else-is_open : goal.returns-else-is_open
 returns-else-is_open c =
     c.refill_end.ensures
-    ∙ sym (ap (λ (p : Plan Finish). plan_batch p c.args.step []) (facts.closed-at c.args.self.now c.in-Search.is c.is_open.result c.is_open.ensures c.if-is_open.false))
+    ∙ sym (ap (λ (p : Plan Finish). plan_batch p c.args.step [])
+    (facts.closed-at c.args.self.now c.in-Search.is c.is_open.result c.is_open.ensures c.if-is_open.false))
 
 pub returns-then-step-eq0 : goal.returns-then-step-eq0
 returns-then-step-eq0 c = rw (facts.batch-masked c.args.self.now c.in-Masked.is c.args.step, c.if-step-eq0.true) (search rules)
@@ -24,7 +26,8 @@ returns-then-step-compare_rounds c = rw (facts.batch-borrow c.args.self.now c.in
     (rw add-one at c.refill_comparison-then-step-compare_rounds.ensures)
 
 pub returns-else-step-compare_rounds : goal.returns-else-step-compare_rounds
-returns-else-step-compare_rounds c = rw (facts.past-borrow c.args.self.now c.in-Borrow.c c.in-Borrow.is c.args.step (omega (arith, c.compare_rounds.ensures)))
+returns-else-step-compare_rounds c = rw (facts.past-borrow c.args.self.now c.in-Borrow.c c.in-Borrow.is c.args.step
+    (omega (arith, c.compare_rounds.ensures)))
     c.set_end-else-step-compare_rounds.ensures
 
 pub returns-in-Supply : goal.returns-in-Supply

@@ -4,7 +4,8 @@ use Rattle.beet_search.proofs.WalkFacts as facts
 use Rattle.beet_search.proofs.walk.Walk.refill_end.Goals as goal
 
 pub returns-then-step-gt0 : goal.returns-then-step-gt0
-returns-then-step-gt0 c = rw (facts.end-later c.args.self.now.policy c.args.self.now.prices c.args.self.now.lo c.args.step c.if-step-gt0.true) (search rules)
+returns-then-step-gt0 c = rw (facts.end-later c.args.self.now.policy c.args.self.now.prices c.args.self.now.lo
+    c.args.step c.if-step-gt0.true) (search rules)
 
 pub returns-in-Some-Volume : goal.returns-in-Some-Volume
 returns-in-Some-Volume c =

@@ -5,7 +5,6 @@ use Rattle.beet_field.specs.declared.point.Point.{Point}
 use Rattle.beet_words.specs.Tapes.{drawn_from, left_of}
 use Rattle.beet_words.proofs.DrawnFrom.{left-drawn}
 use Rattle.beet_gates.specs.Scripts.{deals_in, size_of}
-use Rattle.beet_sharing.specs.Runs.{draws_in}
 use Rattle.beet_sharing.specs.Steps.{numbers_for}
 use Rattle.beet_server.proofs.Soundness.{enough, hands-sound, in-wires, small-act, still-going, words-left}
 use Rattle.beet_gates.specs.Clear.{is_end, product_of}
@@ -13,11 +12,13 @@ use Rattle.beet_gates.specs.declared.Act.{Act}
 use Rattle.beet_gates.specs.declared.Act.TheVariants.{Deal, Mul, Reveal, End}
 use Rattle.beet_gates.proofs.EachFacts.{length-each}
 use Rattle.beet_gates.specs.declared.Batch.{Batch}
+use Rattle.beet_gates.specs.Draws.{draws_in}
 use Rattle.beet_server.specs.Steps.{Work, batch_of, handing}
 use Rattle.beet_server.proofs.engine.Engine.hand_out.Goals as goal
 
 -- a message has the size of its batch
-length-numbers_for : (a : Act) (points : List ℕ) (word : ℕ) (drawn : List ℕ) (to : Point) → length (numbers_for a points word drawn to) ≡ size_of a
+length-numbers_for : (a : Act) (points : List ℕ) (word : ℕ) (drawn : List ℕ) (to : Point) →
+    length (numbers_for a points word drawn to) ≡ size_of a
 length-numbers_for Deal points word drawn to = length-each _ _ ∙ length-each (bit_at word) 61
 length-numbers_for (Mul pairs) points word drawn to = length-each _ _ ∙ length-map pairs.items (product_of points)
 length-numbers_for (Reveal shown) points word drawn to = length-map shown.items _
@@ -41,8 +42,10 @@ returns-clause-work g c =
     let act = ap (λ (b : Batch). b.act) c.self.invariant.0.coming in
     let dealt = c.put_numbers.ensures.dealt ∙ ap (λ (a : Act). record e.masks { passed = e.masks.passed + deals_in a }) act in
     let drawn = c.put_numbers.ensures.drawn ∙ ap (λ (a : Act). drawn_from e.coefficients (draws_in a)) act in
-    let own = c.put_numbers.ensures.own ∙ ap (λ l. numbers_for e.batch.act l (slice_index e.masks.words e.masks.passed) (take (draws_in e.batch.act) (left_of e.coefficients)) e.me) c.as_slice.ensures.value
-    ∙ ap (λ (a : Act). numbers_for a e.wires.items (slice_index e.masks.words e.masks.passed) (take (draws_in a) (left_of e.coefficients)) e.me) act in
+    let own = c.put_numbers.ensures.own ∙ ap (λ l. numbers_for e.batch.act l (slice_index e.masks.words e.masks.passed)
+    (take (draws_in e.batch.act) (left_of e.coefficients)) e.me) c.as_slice.ensures.value
+    ∙ ap (λ (a : Act). numbers_for a e.wires.items (slice_index e.masks.words e.masks.passed)
+    (take (draws_in a) (left_of e.coefficients)) e.me) act in
     (λ i. record {
       me = e.me;
       script = e.script;
@@ -70,5 +73,7 @@ pub returns-clause-within : goal.returns-clause-within
 returns-clause-within g c =
     let s = c.self.invariant.0 in
     let goes : is_end c.self.inside.batch.act ≡ false =
-    ap (λ (b : Batch). is_end b.act) s.coming ∙ ap (λ (w : Work g.row.S.Denot). is_end (batch_of g.S.Script.batch_of w).act) c.self.view_is ∙ c.requires.goes in
-    subst (λ (w : Work g.row.S.Denot). w.round < g.S.Script.rounds_of w.script) c.self.view_is (still-going 3 1 _ _ _ _ _ _ _ _ _ _ _ _ s goes)
+    ap (λ (b : Batch). is_end b.act) s.coming
+    ∙ ap (λ (w : Work g.row.S.Denot). is_end (batch_of g.S.Script.batch_of w).act) c.self.view_is ∙ c.requires.goes in
+    subst (λ (w : Work g.row.S.Denot). w.round < g.S.Script.rounds_of w.script) c.self.view_is
+    (still-going 3 1 _ _ _ _ _ _ _ _ _ _ _ _ s goes)

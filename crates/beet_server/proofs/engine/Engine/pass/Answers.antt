@@ -16,7 +16,8 @@ module _ (g : Over) (c : After-absorb g) where
 
   goes-on : is_end c.self.inside.batch.act ≡ false
   goes-on =
-      ap (λ (b : Batch). is_end b.act) c.self.invariant.0.coming ∙ ap (λ (w : Work g.row.S.Denot). is_end (batch_of g.S.Script.batch_of w).act) c.self.view_is
+      ap (λ (b : Batch). is_end b.act) c.self.invariant.0.coming
+      ∙ ap (λ (w : Work g.row.S.Denot). is_end (batch_of g.S.Script.batch_of w).act) c.self.view_is
       ∙ c.requires.goes
 
   abbrev new_numbers : List ℕ
@@ -31,32 +32,39 @@ refill-requires g c =
     let after = (goal.at.refill-requires g c).After-absorb in
     subst (λ opened. g.S.Script.is_at c.self.inside.script (c.self.inside.round + 1) opened c.self.inside.place)
     (sym (c.as_slice.ensures.value ∙ c.absorb.ensures.opened))
-    (g.met.S.Script.goes_on c.self.inside.script c.self.inside.round (c.self.inside.round + 1) c.self.inside.opened.items (new_numbers g after)
+    (g.met.S.Script.goes_on c.self.inside.script c.self.inside.round
+    (c.self.inside.round + 1) c.self.inside.opened.items (new_numbers g after)
     c.self.inside.place c.self.invariant.2 (omega arith))
 
 pub append_lets-requires-clause-below : goal.append_lets-requires-clause-below
 append_lets-requires-clause-below g c =
     let after = (goal.at.append_lets-requires-clause-below g c).After-absorb in
-    let batch_is = c.refill.ensures.batch ∙ ap (λ l. g.S.Script.batch_of c.self.inside.script (c.self.inside.round + 1) l) c.as_slice.ensures.value in
+    let batch_is = c.refill.ensures.batch
+    ∙ ap (λ l. g.S.Script.batch_of c.self.inside.script (c.self.inside.round + 1) l) c.as_slice.ensures.value in
     let lets_are = c.as_slice-2.ensures.value ∙ ap (λ (b : Batch). b.lets.items) batch_is in
-    rw lets_are (next-lets 3 1 _ _ _ _ _ _ _ _ _ _ _ _ c.self.invariant.0 (is-handed g after) (goes-on g after) _ _ (new_numbers g after) c.absorb.ensures.wires_count
+    rw lets_are (next-lets 3 1 _ _ _ _ _ _ _ _ _ _ _ _ c.self.invariant.0 (is-handed g after) (goes-on g after) _ _
+    (new_numbers g after) c.absorb.ensures.wires_count
     c.absorb.ensures.opened (count g after))
 
 pub append_lets-requires-clause-room : goal.append_lets-requires-clause-room
 append_lets-requires-clause-room g c =
     let after = (goal.at.append_lets-requires-clause-room g c).After-absorb in
-    let batch_is = c.refill.ensures.batch ∙ ap (λ l. g.S.Script.batch_of c.self.inside.script (c.self.inside.round + 1) l) c.as_slice.ensures.value in
+    let batch_is = c.refill.ensures.batch
+    ∙ ap (λ l. g.S.Script.batch_of c.self.inside.script (c.self.inside.round + 1) l) c.as_slice.ensures.value in
     let lets_are = c.as_slice-2.ensures.value ∙ ap (λ (b : Batch). b.lets.items) batch_is in
     rw (lets_are, c.absorb.ensures.wires_capacity)
-    (next-room 3 1 _ _ _ _ _ _ _ _ _ _ _ _ c.self.invariant.0 (is-handed g after) (goes-on g after) _ _ (new_numbers g after) c.absorb.ensures.wires_count
+    (next-room 3 1 _ _ _ _ _ _ _ _ _ _ _ _ c.self.invariant.0 (is-handed g after) (goes-on g after) _ _
+    (new_numbers g after) c.absorb.ensures.wires_count
     c.absorb.ensures.opened (count g after))
 
 pub invariant_of-self : goal.invariant_of-self
 invariant_of-self g c =
     let after = (goal.at.invariant_of-self g c).After-absorb in
-    let batch_is = c.refill.ensures.batch ∙ ap (λ l. g.S.Script.batch_of c.self.inside.script (c.self.inside.round + 1) l) c.as_slice.ensures.value in (
+    let batch_is = c.refill.ensures.batch
+    ∙ ap (λ l. g.S.Script.batch_of c.self.inside.script (c.self.inside.round + 1) l) c.as_slice.ensures.value in (
       rw (c.append_lets.ensures.capacity, c.absorb.ensures.wires_capacity, c.absorb.ensures.opened_capacity)
-          (passes-sound 3 1 _ _ _ _ _ _ _ _ _ _ _ _ c.self.invariant.0 (is-handed g after) (goes-on g after) _ _ (new_numbers g after) c.absorb.ensures.wires_count
+          (passes-sound 3 1 _ _ _ _ _ _ _ _ _ _ _ _ c.self.invariant.0 (is-handed g after) (goes-on g after) _ _
+          (new_numbers g after) c.absorb.ensures.wires_count
           c.absorb.ensures.opened (count g after)
           _ _ batch_is (c.append_lets.ensures.wires ∙ ap (λ l. with_lets c.absorb.new.wires.items l) c.as_slice-2.ensures.value)),
       ap length c.clear.ensures,

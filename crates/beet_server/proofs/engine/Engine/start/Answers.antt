@@ -7,7 +7,8 @@ use Rattle.beet_server.proofs.engine.Engine.start.Goals as goal
 
 pub append_all-requires : goal.append_all-requires
 append_all-requires g c =
-    let room = first-room 3 1 _ (bounds_of (g.S.Script.wires_of c.args.script) (g.S.Script.masks_of c.args.script) (g.S.Script.coefficients_of c.args.script)) _ _ (g.met.S.Script.lawful c.args.script) in
+    let room = first-room 3 1 _ (bounds_of (g.S.Script.wires_of c.args.script) (g.S.Script.masks_of c.args.script)
+    (g.S.Script.coefficients_of c.args.script)) _ _ (g.met.S.Script.lawful c.args.script) in
     let none : length c.args.wires.items ≡ 0 = ap length c.requires.wires.0 in
     record { room = omega (arith, room, none, c.requires.wires.1, c.requires.inputs) }
 
@@ -16,11 +17,13 @@ append_lets-requires-clause-below g c =
     let lets_are = c.as_slice.ensures.value ∙ ap (λ (b : Batch). b.lets.items) c.next-batch.ensures in
     let count : length c.append_all.new.list.items ≡ g.S.Script.inputs_of c.args.script =
     ap length (c.append_all.ensures.items ∙ ap (λ l. l ++ c.args.inputs.now) c.requires.wires.0) ∙ c.requires.inputs in
-    rw (lets_are, count) (first-lets 3 1 _ (bounds_of (g.S.Script.wires_of c.args.script) (g.S.Script.masks_of c.args.script) (g.S.Script.coefficients_of c.args.script)) _ _ (g.met.S.Script.lawful c.args.script))
+    rw (lets_are, count) (first-lets 3 1 _ (bounds_of (g.S.Script.wires_of c.args.script) (g.S.Script.masks_of
+    c.args.script) (g.S.Script.coefficients_of c.args.script)) _ _ (g.met.S.Script.lawful c.args.script))
 
 pub append_lets-requires-clause-room : goal.append_lets-requires-clause-room
 append_lets-requires-clause-room g c =
-    let room = first-room 3 1 _ (bounds_of (g.S.Script.wires_of c.args.script) (g.S.Script.masks_of c.args.script) (g.S.Script.coefficients_of c.args.script)) _ _ (g.met.S.Script.lawful c.args.script) in
+    let room = first-room 3 1 _ (bounds_of (g.S.Script.wires_of c.args.script) (g.S.Script.masks_of c.args.script)
+    (g.S.Script.coefficients_of c.args.script)) _ _ (g.met.S.Script.lawful c.args.script) in
     let lets_are : length c.as_slice.result.now ≡ length (g.S.Script.batch_of c.args.script 0 []).lets.items =
     ap length (c.as_slice.ensures.value ∙ ap (λ (b : Batch). b.lets.items) c.next-batch.ensures) in
     let count : length c.append_all.new.list.items ≡ g.S.Script.inputs_of c.args.script =
@@ -37,8 +40,10 @@ invariant_of-result g c =
           (g.S.Script.rounds_of c.args.script) (g.S.Script.inputs_of c.args.script) (g.met.S.Script.lawful c.args.script)
           _ c.args.inputs.now _ _ _ _ _ _ c.next-batch.ensures c.requires.inputs
           (c.append_lets.ensures.wires ∙ ap (λ l. with_lets c.append_all.new.list.items l) lets_are
-          ∙ ap (λ l. with_lets l c.next-batch.result.lets.items) (c.append_all.ensures.items ∙ ap (λ l. l ++ c.args.inputs.now) c.requires.wires.0))
-          c.requires.opened.0 c.requires.masks_start c.requires.words (omega (arith, c.requires.numbers)) wires_fit c.requires.opened.1 c.requires.counted,
+          ∙ ap (λ l. with_lets l c.next-batch.result.lets.items)
+          (c.append_all.ensures.items ∙ ap (λ l. l ++ c.args.inputs.now) c.requires.wires.0))
+          c.requires.opened.0 c.requires.masks_start c.requires.words
+          (omega (arith, c.requires.numbers)) wires_fit c.requires.opened.1 c.requires.counted,
       ap length c.new.ensures,
       rw c.requires.opened.0 c.begin-place.ensures,
     )

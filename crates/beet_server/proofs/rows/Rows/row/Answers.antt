@@ -14,7 +14,12 @@ between-requires-clause-end c =
     let count = length-shown c.args.self.now c.self.inside.items.items c.self.inside.ends.items _ _ _ c.self.view_is in
     let below = c.requires in
     let end = c.end_at-end.ensures ∙ ap (λ l. slice_index l 0) c.as_slice.ensures.value in
-    omega (arith, end, ap length c.as_slice-then-k-eq0.ensures.value, end-le 0 c.self.inside.ends.items (length c.self.inside.items.items) 0 c.self.invariant (omega arith))
+    omega (
+      arith,
+      end,
+      ap length c.as_slice-then-k-eq0.ensures.value,
+      end-le 0 c.self.inside.ends.items (length c.self.inside.items.items) 0 c.self.invariant (omega arith),
+    )
 
 pub end_at-start-requires : goal.end_at-start-requires
 end_at-start-requires c =
@@ -65,4 +70,5 @@ returns c =
     let a = (goal.at.returns c).After-end_at-end-2 in
     let row = next-row c.self.inside.items.items 0 (ends a) (before a) (there a) in
     ap (λ l. Some l) (c.between-2.ensures ∙ rw (start a, end a, c.as_slice-4.ensures.value) refl) ∙ sym row
-    ∙ ap (slice_get (rows_of c.self.inside.items.items 0 (ends a))) (sym (is-after a)) ∙ ap (λ (v : Rows). slice_get v.rows c.args.k) c.self.view_is
+    ∙ ap (slice_get (rows_of c.self.inside.items.items 0 (ends a))) (sym (is-after a))
+    ∙ ap (λ (v : Rows). slice_get v.rows c.args.k) c.self.view_is

@@ -27,18 +27,21 @@ returns-in-Ready g c =
     let goes = sym c.ended.ensures ∙ c.if-ended.false in
     let quiet = ap (λ (v : Core g.row.S.Denot). is_quiet next v) c.self.view_is ∙ c.requires.sent in
     let handed = handed-first c.self.inside.engine.handed (has_ended next old) quiet goes in
-    let fits = after-ready next old c.offer-verdict.new.self c.args.m.now c.self.invariant.me c.self.invariant.round c.in-Ready.ensures handed goes in
+    let fits = after-ready next old c.offer-verdict.new.self c.args.m.now c.self.invariant.me c.self.invariant.round
+    c.in-Ready.ensures handed goes in
     record {
-      keeps = rw c.turn.ensures (subst (λ (v : Core g.row.S.Denot). Keeps v new) c.self.view_is (record { me = refl; script = refl; masks = refl; coefficients = refl }));
+      keeps = rw c.turn.ensures (subst (λ (v : Core g.row.S.Denot). Keeps v new) c.self.view_is
+          (record { me = refl; script = refl; masks = refl; coefficients = refl }));
       masks = rw c.turn.ensures (ap (λ (v : Core g.row.S.Denot). v.masks) c.self.view_is);
       coefficients = rw c.turn.ensures (ap (λ (v : Core g.row.S.Denot). v.coefficients) c.self.view_is);
       ended = λ e. absurd (true≢false (sym e ∙ ap (λ (v : Core g.row.S.Denot). has_ended next v) (sym c.self.view_is) ∙ goes));
-      verdict = λ _. subst (λ (v : Core g.row.S.Denot). Answers next v c.turn.new.self c.args.m.now c.offer-verdict.result) c.self.view_is (record {
-        box = c.offer-verdict.new.self;
-        judged = c.offer-verdict.ensures;
-        waits = λ other. absurd (other c.in-Ready.is);
-        passes = λ _. c.turn.ensures;
-      });
+      verdict = λ _. subst (λ (v : Core g.row.S.Denot).
+          Answers next v c.turn.new.self c.args.m.now c.offer-verdict.result) c.self.view_is (record {
+            box = c.offer-verdict.new.self;
+            judged = c.offer-verdict.ensures;
+            waits = λ other. absurd (other c.in-Ready.is);
+            passes = λ _. c.turn.ensures;
+          });
       fits = subst (λ (v : Core g.row.S.Denot). FitsAfter next c.args.self.now v c.args.m.now) (sym c.turn.ensures)
           (subst (λ (v : Core g.row.S.Denot). FitsAfter next v new c.args.m.now) c.self.view_is fits);
       told = subst (λ (v : Core g.row.S.Denot). ToldAfter next v c.args.m.now c.offer-verdict.result) c.self.view_is
@@ -55,7 +58,8 @@ returns-in_default g c =
     let quiet = ap (λ (v : Core g.row.S.Denot). is_quiet next v) c.self.view_is ∙ c.requires.sent in
     let handed = handed-first c.self.inside.engine.handed (has_ended next old) quiet goes in
     record {
-      keeps = subst (λ (v : Core g.row.S.Denot). Keeps v new) c.self.view_is (record { me = refl; script = refl; masks = refl; coefficients = refl });
+      keeps = subst (λ (v : Core g.row.S.Denot). Keeps v new) c.self.view_is
+          (record { me = refl; script = refl; masks = refl; coefficients = refl });
       masks = ap (λ (v : Core g.row.S.Denot). v.masks) c.self.view_is;
       coefficients = ap (λ (v : Core g.row.S.Denot). v.coefficients) c.self.view_is;
       ended = λ e. absurd (true≢false (sym e ∙ ap (λ (v : Core g.row.S.Denot). has_ended next v) (sym c.self.view_is) ∙ goes));

@@ -14,12 +14,23 @@ use Rattle.beet_server.proofs.server.ServerCore.hand_out.Goals.{After-address-2}
 use Rattle.beet_server.proofs.server.ServerCore.hand_out.Goals as goal
 
 -- what was handed out is what the core sends
-hands : (g : Over) (c : After-address-2 g) → c.address.new.message ∷ c.address-2.new.message ∷ [] ≡ messages_out g.S.Script.batch_of c.args.self.now
+hands : (g : Over) (c : After-address-2 g) →
+    c.address.new.message ∷ c.address-2.new.message ∷ [] ≡ messages_out g.S.Script.batch_of c.args.self.now
 hands g c =
     let next = g.S.Script.batch_of in
     subst (λ (v : Core g.row.S.Denot). c.address.new.message ∷ c.address-2.new.message ∷ [] ≡ messages_out next v) c.self.view_is
-    (λ i. (c.address.ensures ∙ (λ j. record { from = c.me-me.ensures j; to = peer (c.me-me.ensures j) Low; round = c.round-round.ensures j; numbers = record { items = c.hand_out.ensures.low j } })) i
-    ∷ (c.address-2.ensures ∙ (λ j. record { from = c.me-me.ensures j; to = peer (c.me-me.ensures j) High; round = c.round-round.ensures j; numbers = record { items = c.hand_out.ensures.high j } })) i
+    (λ i. (c.address.ensures ∙ (λ j. record {
+      from = c.me-me.ensures j;
+      to = peer (c.me-me.ensures j) Low;
+      round = c.round-round.ensures j;
+      numbers = record { items = c.hand_out.ensures.low j };
+    })) i
+    ∷ (c.address-2.ensures ∙ (λ j. record {
+      from = c.me-me.ensures j;
+      to = peer (c.me-me.ensures j) High;
+      round = c.round-round.ensures j;
+      numbers = record { items = c.hand_out.ensures.high j };
+    })) i
     ∷ [])
 
 -- of a core that fits a run these are the run's messages

@@ -23,7 +23,8 @@ pub returns-clause-fresh : goal.returns-clause-fresh
 returns-clause-fresh g c =
     let next = g.S.Script.batch_of in
     let is = started next c.args.me c.args.script c.args.inputs c.args.masks c.args.coefficients
-    c.start-engine.result c.in_ok-received.received.messages c.new-mail.result c.size.result (rw c.as_slice.ensures at c.start-engine.ensures)
+    c.start-engine.result c.in_ok-received.received.messages c.new-mail.result c.size.result
+    (rw c.as_slice.ensures at c.start-engine.ensures)
     (ap (λ (k : KeptMessages). k.messages) c.in_ok-received.ensures.received) c.new-mail.ensures c.size.ensures.size in
     subst (λ (v : Core g.row.S.Denot). IsFresh next g.S.Script.inputs_of v) (sym is)
     (is-fresh next c.args.me c.args.script c.args.inputs c.args.masks c.args.coefficients c.requires.masks c.requires.coefficients
@@ -33,7 +34,8 @@ pub returns-clause-fits : goal.returns-clause-fits
 returns-clause-fits g c o opens =
     let next = g.S.Script.batch_of in
     let is = started next c.args.me c.args.script c.args.inputs c.args.masks c.args.coefficients
-    c.start-engine.result c.in_ok-received.received.messages c.new-mail.result c.size.result (rw c.as_slice.ensures at c.start-engine.ensures)
+    c.start-engine.result c.in_ok-received.received.messages c.new-mail.result c.size.result
+    (rw c.as_slice.ensures at c.start-engine.ensures)
     (ap (λ (k : KeptMessages). k.messages) c.in_ok-received.ensures.received) c.new-mail.ensures c.size.ensures.size in
     subst (λ (v : Core g.row.S.Denot). Fits next o nothing v) (sym is)
     (begins next c.args.me c.args.script c.args.inputs c.args.masks c.args.coefficients c.requires.masks c.requires.coefficients o opens)

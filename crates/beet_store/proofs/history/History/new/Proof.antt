@@ -48,7 +48,8 @@ module _ {M : Type 1} {𝓤 : Ura M} (𝓛 : Logic 𝓤) (at_mem : Memory → SP
   walks : (C : Calls 𝓤 H) (Λ : Loops 𝓤 H) → Walks 𝓛 ended stayed (WpFn 𝓤 H C Λ function) held
   walks C Λ z =
       let made : (History.the_row).Denot = record { so_far = none_recorded } in
-      qed 𝓛 ((raw (alive 𝓛 ended.signature z.0.0 z.0.1) ⊛ ‵ (owns (types_at ended.signature.params z.0.0) z.0.3 z.0.4)) ∷ raw ((held z.0.0 z.0.3).requires z.1) ∷ []) ∵
+      qed 𝓛 ((raw (alive 𝓛 ended.signature z.0.0 z.0.1) ⊛ ‵ (owns (types_at ended.signature.params z.0.0) z.0.3 z.0.4))
+      ∷ raw ((held z.0.0 z.0.3).requires z.1) ∷ []) ∵
       keep ! (0 ∷ []) $ split ! $ move ! (1 ∷ []) $ drop ! $
       enter ! C Λ function [] ((walk_of 𝓛 ended stayed held).post z) $ alloc_all ! (λ l. pass_all ! refl tt $
       sets ! (agg ! (no_more !)) refl (tt, tt) $

@@ -25,7 +25,8 @@ loop-number-preserved c =
     let same : words ≡ tape.words = search rules in
     let within : k < length c.loop-number.numbers = omega arith in
     let next : drop k left ≡ found.result.0 ∷ accepted (drop found.result.1 words) = sym inv.left ∙ found.ensures.next in
-    let one : Draws (record { words = words; passed = c.loop-number.place }) (record { words = words; passed = found.result.1 }) found.result.0 = record {
+    let one : Draws (record { words = words; passed = c.loop-number.place })
+    (record { words = words; passed = found.result.1 }) found.result.0 = record {
       words = refl;
       next = found.ensures.next;
       forward = found.ensures.forward;
@@ -33,7 +34,8 @@ loop-number-preserved c =
       at_word = found.ensures.at_word;
       accepted_word = found.ensures.accepted_word;
     } in
-    let again = draws-one _ _ found.result.0 (subst (λ ws. Draws (record { words = ws; passed = c.loop-number.place }) (record { words = ws; passed = found.result.1 }) found.result.0) same one) in
+    let again = draws-one _ _ found.result.0 (subst (λ ws. Draws (record { words = ws; passed = c.loop-number.place })
+    (record { words = ws; passed = found.result.1 }) found.result.0) same one) in
     record {
       same_length = search rules;
       filled = front-more k found.result.0 c.loop-number.numbers left _ within inv.filled next;
@@ -45,4 +47,5 @@ loop-number-preserved c =
 pub returns-clause-numbers : goal.returns-clause-numbers
 returns-clause-numbers c =
     let inv = c.loop-number.invariant in
-    front-whole (length c.args.numbers.now) c.loop-number.numbers (left_of c.args.self.now) inv.same_length c.requires (λ k h. inv.filled k (omega arith))
+    front-whole (length c.args.numbers.now) c.loop-number.numbers (left_of c.args.self.now) inv.same_length c.requires
+    (λ k h. inv.filled k (omega arith))

@@ -8,7 +8,8 @@ use Rattle.beet_delivery.proofs.ThreeServers.{three-is}
 use Rattle.beet_world.specs.Happens.{event_of}
 use Rattle.beet_world.specs.Worlds.{World, delivered_in, rounds_in}
 use Rattle.beet_world.specs.declared.world.Event.TheVariants.{Delivered as DeliveredBy, NotSent}
-use Rattle.beet_world.proofs.Delivered.{back_side, delivered, gives, holds-after, mark-within, may-take, not-sent-event, not-sent-to, told-event}
+use Rattle.beet_world.proofs.Delivered.{back_side, delivered, gives, holds-after, mark-within, may-take, not-sent-event}
+use Rattle.beet_world.proofs.Delivered.{not-sent-to, told-event}
 use Rattle.beet_world.proofs.world.World.give_copy.Given.{Over}
 use Rattle.beet_world.proofs.world.World.give_copy.Goals.{After-sent_message, In-Some}
 use Rattle.beet_world.proofs.world.World.give_copy.Goals as goal
@@ -36,7 +37,8 @@ pub returns-in_default-clause-event : goal.returns-in_default-clause-event
 returns-in_default-clause-event g c =
     let script = g.S.Script in
     let asks = (goal.at.returns-in_default-clause-event g c).After-sent_message in
-    subst (λ (v : World g.row.S.Denot). NotSent ≡ event_of (rounds_in script.batch_of script.inputs_of script.rounds_of v) (delivered_in v) (asked g asks)) c.self.view_is
+    subst (λ (v : World g.row.S.Denot). NotSent ≡ event_of
+    (rounds_in script.batch_of script.inputs_of script.rounds_of v) (delivered_in v) (asked g asks)) c.self.view_is
     (not-sent-event script.batch_of script.inputs_of script.rounds_of (limits g asks) (seen g asks) c.self.inside.cores c.self.inside.sent
     (g.met.S.Script.lawful _) c.self.invariant c.args.from c.args.to c.args.side c.args.round c.requires
     (c.in_default.ensures.none.0 refl))
@@ -45,8 +47,10 @@ pub returns-in_default-clause-delivered : goal.returns-in_default-clause-deliver
 returns-in_default-clause-delivered g c =
     let script = g.S.Script in
     let asks = (goal.at.returns-in_default-clause-delivered g c).After-sent_message in
-    subst (λ (v : World g.row.S.Denot). delivered_in v ≡ deliver (rounds_in script.batch_of script.inputs_of script.rounds_of v) (delivered_in v) (asked g asks)) c.self.view_is
-    (sym (deliver_unsent three-is (rounds_in script.batch_of script.inputs_of script.rounds_of (seen g asks)) (delivered_in (seen g asks)) (asked g asks)
+    subst (λ (v : World g.row.S.Denot). delivered_in v ≡ deliver
+    (rounds_in script.batch_of script.inputs_of script.rounds_of v) (delivered_in v) (asked g asks)) c.self.view_is
+    (sym (deliver_unsent three-is (rounds_in script.batch_of script.inputs_of script.rounds_of (seen g asks))
+    (delivered_in (seen g asks)) (asked g asks)
     (not-sent-to script.batch_of script.inputs_of script.rounds_of (limits g asks) (seen g asks) c.self.inside.cores c.self.inside.sent
     (g.met.S.Script.lawful _) c.self.invariant c.args.from c.args.to c.args.side c.args.round c.requires
     (c.in_default.ensures.none.0 refl))))
@@ -62,7 +66,8 @@ pub index_mut-requires : goal.index_mut-requires
 index_mut-requires g c =
     let script = g.S.Script in
     let asks = (goal.at.index_mut-requires g c).After-sent_message in
-    let within = mark-within script.batch_of script.inputs_of script.rounds_of (limits g asks) (seen g asks) c.self.inside.cores c.self.inside.sent
+    let within = mark-within script.batch_of script.inputs_of script.rounds_of (limits g asks)
+    (seen g asks) c.self.inside.cores c.self.inside.sent
     (g.met.S.Script.lawful _) c.self.invariant c.args.from c.args.side c.args.round (sent-there g (goal.at.index_mut-requires g c).In-Some)
     c.args.to c.requires c.in-Some.message c.in-Some.ensures.message in
     omega (arith, within, c.mark_place.ensures, c.self.inside.marks.ok)
@@ -87,11 +92,14 @@ pub returns-clause-delivered : goal.returns-clause-delivered
 returns-clause-delivered g c =
     let script = g.S.Script in
     let asks = (goal.at.returns-clause-delivered g c).After-sent_message in
-    let is = delivered script.batch_of script.inputs_of script.rounds_of (limits g asks) (seen g asks) c.self.inside.cores c.self.inside.sent
-    (g.met.S.Script.lawful _) c.self.invariant c.args.from c.args.side c.args.round (sent-there g (goal.at.returns-clause-delivered g c).In-Some)
+    let is = delivered script.batch_of script.inputs_of script.rounds_of (limits g asks)
+    (seen g asks) c.self.inside.cores c.self.inside.sent
+    (g.met.S.Script.lawful _) c.self.invariant c.args.from c.args.side c.args.round
+    (sent-there g (goal.at.returns-clause-delivered g c).In-Some)
     c.args.to c.requires c.in-Some.message c.in-Some.ensures.message in
     rw c.mark_place.ensures
-    (is ∙ ap (λ (v : World g.row.S.Denot). deliver (rounds_in script.batch_of script.inputs_of script.rounds_of v) (delivered_in v) (asked g asks)) c.self.view_is)
+    (is ∙ ap (λ (v : World g.row.S.Denot). deliver (rounds_in script.batch_of script.inputs_of script.rounds_of v)
+    (delivered_in v) (asked g asks)) c.self.view_is)
 
 pub returns-clause-event : goal.returns-clause-event
 returns-clause-event g c =
@@ -102,7 +110,8 @@ returns-clause-event g c =
     (g.met.S.Script.lawful _) c.self.invariant c.args.from c.args.side c.args.round there c.args.to c.requires
     c.in-Some.message c.in-Some.ensures.message in
     let given = c.give_to-verdict.ensures.given _ _ _ (back_side c.args.from c.args.side).0 c.args.round may in
-    subst (λ (v : World g.row.S.Denot). DeliveredBy c.give_to-verdict.result ≡ event_of (rounds_in script.batch_of script.inputs_of script.rounds_of v) (delivered_in v) (asked g asks)) c.self.view_is
+    subst (λ (v : World g.row.S.Denot). DeliveredBy c.give_to-verdict.result ≡ event_of
+    (rounds_in script.batch_of script.inputs_of script.rounds_of v) (delivered_in v) (asked g asks)) c.self.view_is
     (told-event script.batch_of script.inputs_of script.rounds_of (limits g asks) (seen g asks) c.self.inside.cores c.self.inside.sent
     (g.met.S.Script.lawful _) c.self.invariant c.args.from c.args.side c.args.round there c.args.to c.requires
     c.in-Some.message c.in-Some.ensures.message c.give_to-verdict.result given.told)

@@ -45,8 +45,10 @@ pub returns-then-round-len-clause-missing : goal.returns-then-round-len-clause-m
 returns-then-round-len-clause-missing g c =
     let script = g.S.Script in
     let after = (goal.at.returns-then-round-len-clause-missing g c).After-len in
-    subst (λ (v : World g.row.S.Denot). 0 ≡ one_if (is_missing (rounds_in script.batch_of script.inputs_of script.rounds_of v) (delivered_in v) (to_side c.args.from c.args.side c.args.round))) c.self.view_is
-    (sym (not-missing script.batch_of script.inputs_of script.rounds_of (limits g after) (seen g after) c.self.inside.cores c.self.inside.sent
+    subst (λ (v : World g.row.S.Denot). 0 ≡ one_if (is_missing (rounds_in script.batch_of script.inputs_of
+    script.rounds_of v) (delivered_in v) (to_side c.args.from c.args.side c.args.round))) c.self.view_is
+    (sym (not-missing script.batch_of script.inputs_of script.rounds_of (limits g after)
+    (seen g after) c.self.inside.cores c.self.inside.sent
     (g.met.S.Script.lawful _) c.self.invariant c.args.from c.args.side c.args.round (omega (arith, long g after, c.if-round-len.true))))
 
 pub returns-then-index-clause-missing : goal.returns-then-index-clause-missing
@@ -55,9 +57,11 @@ returns-then-index-clause-missing g c =
     let after = (goal.at.returns-then-index-clause-missing g c).After-len in
     let lt : c.args.round < length (member c.self.inside.sent c.args.from).items = omega (arith, long g after, c.if-round-len.false) in
     let mark : slice_index_or c.self.inside.marks.items (mark_at c.args.from c.args.side c.args.round) false ≡ true =
-    get_or_default c.self.inside.marks.items (mark_at c.args.from c.args.side c.args.round) false c.index.result.now (within g after (omega (arith, c.if-round-len.false)))
+    get_or_default c.self.inside.marks.items (mark_at c.args.from c.args.side c.args.round) false c.index.result.now
+    (within g after (omega (arith, c.if-round-len.false)))
     ∙ ap (λ k. get_or c.self.inside.marks.items k c.index.result.now) (sym c.mark_place.ensures) ∙ sym c.index.ensures ∙ c.if-index.true in
-    subst (λ (v : World g.row.S.Denot). 0 ≡ one_if (is_missing (rounds_in script.batch_of script.inputs_of script.rounds_of v) (delivered_in v) (to_side c.args.from c.args.side c.args.round))) c.self.view_is
+    subst (λ (v : World g.row.S.Denot). 0 ≡ one_if (is_missing (rounds_in script.batch_of script.inputs_of
+    script.rounds_of v) (delivered_in v) (to_side c.args.from c.args.side c.args.round))) c.self.view_is
     (sym (is-marked script.batch_of script.inputs_of script.rounds_of (limits g after) (seen g after) c.self.inside.cores c.self.inside.sent
     (g.met.S.Script.lawful _) c.self.invariant c.args.from c.args.side c.args.round lt mark))
 
@@ -68,6 +72,8 @@ returns-clause-missing g c =
     let lt : c.args.round < length (member c.self.inside.sent c.args.from).items = omega (arith, long g after, c.if-round-len.false) in
     let inside = within g after (omega (arith, c.if-round-len.false)) in
     let mark : slice_index_or c.self.inside.marks.items (mark_at c.args.from c.args.side c.args.round) false ≡ false = search rules in
-    subst (λ (v : World g.row.S.Denot). 1 ≡ one_if (is_missing (rounds_in script.batch_of script.inputs_of script.rounds_of v) (delivered_in v) (to_side c.args.from c.args.side c.args.round))) c.self.view_is
-    (sym (is-unmarked script.batch_of script.inputs_of script.rounds_of (limits g after) (seen g after) c.self.inside.cores c.self.inside.sent
+    subst (λ (v : World g.row.S.Denot). 1 ≡ one_if (is_missing (rounds_in script.batch_of script.inputs_of
+    script.rounds_of v) (delivered_in v) (to_side c.args.from c.args.side c.args.round))) c.self.view_is
+    (sym (is-unmarked script.batch_of script.inputs_of script.rounds_of (limits g after)
+    (seen g after) c.self.inside.cores c.self.inside.sent
     (g.met.S.Script.lawful _) c.self.invariant c.args.from c.args.side c.args.round lt mark))

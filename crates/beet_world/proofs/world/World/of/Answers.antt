@@ -24,7 +24,13 @@ pub hand_out-requires-2 : goal.hand_out-requires-2
 hand_out-requires-2 g c =
     let none : length c.in-Ok.room.0.two.items ≡ 0 = ap length (c.in-Ok.ensures.none Two) in
     record {
-      room = omega (arith, c.in-Ok.ensures.capacity Two, c.rounds.ensures, ap g.S.Script.rounds_of c.script.ensures, ap g.S.Script.rounds_of c.requires.script_two);
+      room = omega (
+        arith,
+        c.in-Ok.ensures.capacity Two,
+        c.rounds.ensures,
+        ap g.S.Script.rounds_of c.script.ensures,
+        ap g.S.Script.rounds_of c.requires.script_two,
+      );
       counted = none ∙ sym (none-taken g.S.Script.batch_of g.S.Script.inputs_of g.S.Script.rounds_of c.args.cores.two c.requires.two.1);
       within = omega (arith, none);
     }
@@ -33,7 +39,13 @@ pub hand_out-requires-3 : goal.hand_out-requires-3
 hand_out-requires-3 g c =
     let none : length c.in-Ok.room.0.three.items ≡ 0 = ap length (c.in-Ok.ensures.none Three) in
     record {
-      room = omega (arith, c.in-Ok.ensures.capacity Three, c.rounds.ensures, ap g.S.Script.rounds_of c.script.ensures, ap g.S.Script.rounds_of c.requires.script_three);
+      room = omega (
+        arith,
+        c.in-Ok.ensures.capacity Three,
+        c.rounds.ensures,
+        ap g.S.Script.rounds_of c.script.ensures,
+        ap g.S.Script.rounds_of c.requires.script_three,
+      );
       counted = none ∙ sym (none-taken g.S.Script.batch_of g.S.Script.inputs_of g.S.Script.rounds_of c.args.cores.three c.requires.three.1);
       within = omega (arith, none);
     }
@@ -48,26 +60,52 @@ invariant_of-result g c =
     let o = setup_of next script.inputs_of start in
     let bounds = bounds_of (script.wires_of first) (script.masks_of first) (script.coefficients_of first) in
     let h = (lawful-rounds o bounds (script.rounds_of first) (script.inputs_of first) (g.met.S.Script.lawful first)).0 in
-    let cores : Trio (Core g.row.S.Denot) = record { one = c.hand_out.new.core; two = c.hand_out-2.new.core; three = c.hand_out-3.new.core } in
-    let sent : Trio (List (List RoundMessage)) = record { one = c.hand_out.new.sent.items; two = c.hand_out-2.new.sent.items; three = c.hand_out-3.new.sent.items } in
-    let vecs : Trio (Vec (List RoundMessage) Global) = record { one = c.hand_out.new.sent; two = c.hand_out-2.new.sent; three = c.hand_out-3.new.sent } in
+    let cores : Trio (Core g.row.S.Denot) =
+    record { one = c.hand_out.new.core; two = c.hand_out-2.new.core; three = c.hand_out-3.new.core } in
+    let sent : Trio (List (List RoundMessage)) = record {
+      one = c.hand_out.new.sent.items;
+      two = c.hand_out-2.new.sent.items;
+      three = c.hand_out-3.new.sent.items;
+    } in
+    let vecs : Trio (Vec (List RoundMessage) Global) =
+    record { one = c.hand_out.new.sent; two = c.hand_out-2.new.sent; three = c.hand_out-3.new.sent } in
     let one = c.hand_out.ensures in
     let two = c.hand_out-2.ensures in
     let three = c.hand_out-3.ensures in
     let rounds : c.rounds.result ≡ script.rounds_of first = c.rounds.ensures ∙ ap script.rounds_of c.script.ensures in
     let marks : c.in-Ok.room.1.items ≡ unmarked (script.rounds_of first) = c.in-Ok.ensures.marks ∙ ap unmarked rounds in
     let out = by_point (λ s. HasHandedOut next script.inputs_of script.rounds_of (member start s) (member cores s) (member sent s))
-    (record { keeps = one.keeps; quiet = one.quiet; fits = one.fits; going = one.going; sends = λ o x k e. one.sends o x k (c.in-Ok.ensures.none One ∙ e) })
-    (record { keeps = two.keeps; quiet = two.quiet; fits = two.fits; going = two.going; sends = λ o x k e. two.sends o x k (c.in-Ok.ensures.none Two ∙ e) })
-    (record { keeps = three.keeps; quiet = three.quiet; fits = three.fits; going = three.going; sends = λ o x k e. three.sends o x k (c.in-Ok.ensures.none Three ∙ e) }) in
+    (record {
+      keeps = one.keeps;
+      quiet = one.quiet;
+      fits = one.fits;
+      going = one.going;
+      sends = λ o x k e. one.sends o x k (c.in-Ok.ensures.none One ∙ e);
+    })
+    (record {
+      keeps = two.keeps;
+      quiet = two.quiet;
+      fits = two.fits;
+      going = two.going;
+      sends = λ o x k e. two.sends o x k (c.in-Ok.ensures.none Two ∙ e);
+    })
+    (record {
+      keeps = three.keeps;
+      quiet = three.quiet;
+      fits = three.fits;
+      going = three.going;
+      sends = λ o x k e. three.sends o x k (c.in-Ok.ensures.none Three ∙ e);
+    }) in
     rw (c.of-start.ensures, marks) (record {
       is_world = world-begins next script.inputs_of script.rounds_of start cores sent f h out;
       room = by_point (λ s. script.rounds_of first ≤ vec_capacity (member vecs s))
           (omega (arith, rounds, one.capacity, c.in-Ok.ensures.capacity One))
           (omega (arith, rounds, two.capacity, c.in-Ok.ensures.capacity Two))
           (omega (arith, rounds, three.capacity, c.in-Ok.ensures.capacity Three));
-      script = by_point (λ s. (member cores s).script ≡ first) one.keeps.script (two.keeps.script ∙ f.script_two) (three.keeps.script ∙ f.script_three);
+      script = by_point (λ s. (member cores s).script ≡ first) one.keeps.script (two.keeps.script ∙ f.script_two)
+          (three.keeps.script ∙ f.script_three);
       masks = by_point (λ s. (member cores s).masks.words ≡ (member start s).masks.words) one.keeps.masks two.keeps.masks three.keeps.masks;
-      coefficients = by_point (λ s. (member cores s).coefficients.words ≡ (member start s).coefficients.words) one.keeps.coefficients two.keeps.coefficients
+      coefficients = by_point (λ s. (member cores s).coefficients.words ≡ (member start s).coefficients.words)
+          one.keeps.coefficients two.keeps.coefficients
           three.keeps.coefficients;
     })

@@ -16,6 +16,8 @@ returns-then-delivered-clause-event g c =
     let limits = bounds_of (script.wires_of first) (script.masks_of first) (script.coefficients_of first) in
     let marked : slice_index_or c.self.inside.marks.items (mark_at c.args.from c.args.side c.args.round) false ≡ true = search rules in
     let told = told-again script.batch_of script.inputs_of script.rounds_of limits seen c.self.inside.cores c.self.inside.sent
-    (g.met.S.Script.lawful _) c.self.invariant c.args.from c.args.to c.args.side c.args.round c.requires.side marked c.verdict_on_repeat.result (search rules) in
-    subst (λ (v : World g.row.S.Denot). DeliveredBy c.verdict_on_repeat.result ≡ event_of (rounds_in script.batch_of script.inputs_of script.rounds_of v) (delivered_in v)
+    (g.met.S.Script.lawful _) c.self.invariant c.args.from c.args.to c.args.side c.args.round c.requires.side marked
+    c.verdict_on_repeat.result (search rules) in
+    subst (λ (v : World g.row.S.Denot). DeliveredBy c.verdict_on_repeat.result
+    ≡ event_of (rounds_in script.batch_of script.inputs_of script.rounds_of v) (delivered_in v)
     (record { from = c.args.from; to = c.args.to; round = c.args.round })) c.self.view_is told.1

@@ -26,12 +26,16 @@ returns-clause-count g c =
     c.min-behind.ensures ∙ (λ i. min ((c.min.ensures ∙ (λ j. min (c.round.ensures j) (c.round-2.ensures j))) i) (c.round-3.ensures i)) in
     let least = least-of cores.one.round cores.two.round cores.three.round in
     let at : behind ≡ (member cores least.0).round =
-    is ∙ least.1 ∙ by_point (λ s. member (record { one = cores.one.round; two = cores.two.round; three = cores.three.round }) s ≡ (member cores s).round) refl refl refl least.0 in
+    is ∙ least.1
+    ∙ by_point (λ s. member (record { one = cores.one.round; two = cores.two.round; three = cores.three.round }) s
+    ≡ (member cores s).round) refl refl refl least.0 in
     let two = two-rounds next script.inputs_of script.rounds_of bounds w cores c.self.inside.sent law c.self.invariant behind least.0 at
-    (by_point (λ s. behind ≤ (member cores s).round) (omega (arith, is, least.2)) (omega (arith, is, least.3)) (omega (arith, is, least.4))) in
+    (by_point (λ s. behind ≤ (member cores s).round) (omega (arith, is, least.2)) (omega (arith, is, least.3))
+    (omega (arith, is, least.4))) in
     (λ i. c.missing_of.ensures.missing i + c.missing_of-2.ensures.missing i)
     ∙ sym (subst (λ (v : World g.row.S.Denot). undelivered (rounds_in next script.inputs_of script.rounds_of v) (delivered_in v)
-    ≡ six (is_missing (rounds_in next script.inputs_of script.rounds_of v) (delivered_in v)) behind + six (is_missing (rounds_in next script.inputs_of script.rounds_of v) (delivered_in v)) (behind + 1)) c.self.view_is two)
+    ≡ six (is_missing (rounds_in next script.inputs_of script.rounds_of v) (delivered_in v)) behind + six
+    (is_missing (rounds_in next script.inputs_of script.rounds_of v) (delivered_in v)) (behind + 1)) c.self.view_is two)
 
 pub returns-clause-ended : goal.returns-clause-ended
 returns-clause-ended g c = λ none.

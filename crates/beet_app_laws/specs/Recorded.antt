@@ -1,0 +1,56 @@
+-- What a run has recorded of its shelf and its desk, whatever else these tell.
+use Rattle.std.specs.Prelude.{◌≡◌, ◌⊎◌, ◌++◌, ℕ, List, Option, Some, None}
+use Rattle.beet_store.specs.Desks.{DeskTold}
+use Rattle.beet_store.specs.Files.{Fetch, Told}
+use Rattle.beet_errand.specs.Errands.{Answer, Errand, Ends, Step, refuses}
+use Rattle.beet_errand.specs.Fetches.{Leads}
+use Rattle.beet_errand.specs.Records.{calls_of}
+use Rattle.beet_errand.specs.Statuses.{code_of}
+use Rattle.beet_errand.specs.Texts.{usage_text}
+use Rattle.beet_errand.specs.declared.answer.Refusal.TheVariants.{Usage}
+use Rattle.beet_job_worlds.specs.Answering.{ShowsTheSame}
+use Rattle.beet_job_worlds.specs.Ending.{compared_errand}
+use Rattle.beet_job_worlds.specs.Reading.{both_errand, first_book, second_book, words_read}
+use Rattle.beet_job_audit.specs.Ending.{TellsFinding}
+use Rattle.beet_job_audit.specs.Reading.{read_errand}
+use Rattle.beet_app.specs.Jobs.{Job, Answering, Comparing, Auditing}
+
+-- these fetches lead through a step to a value, whatever comes next, and the answer shows this of it
+pub record LeadsToShow {A : Type 0} (step : Step A) (shows : A → Answer → Type 0)
+    (fetches : List Fetch) (answer : Answer) : Type 0 where
+  pub value : A
+  pub leads : (next : A → Errand) → Leads fetches (step next) (next value)
+  pub shown : shows value answer
+
+-- these fetches lead a step to its own end, whatever would come next
+abbrev pub LeadsToStop : {A : Type 0} → Step A → List Fetch → Answer → Type 0
+LeadsToStop {A = A} step fetches answer = (next : A → Errand) → Leads fetches (step next) (Ends answer)
+
+-- these fetches lead the job that words name to this answer; where they name none, it is the usage line. Of a job that
+-- compares two worlds or audits transcripts they lead through all that it reads, and the answer shows what no errand
+-- computes; or to a refusal on the way
+abbrev pub LeadsJob : Option Job → List Fetch → Answer → Type 0
+LeadsJob None fetches answer = Leads fetches (refuses Usage usage_text) (Ends answer)
+LeadsJob (Some (Answering errand)) fetches answer = Leads fetches errand (Ends answer)
+LeadsJob (Some (Comparing auction servers book1 book2 s out)) fetches answer =
+    LeadsToShow (both_errand auction servers book1 book2)
+    (λ both answer. ShowsTheSame s out (first_book both) (words_read both) (second_book both) answer) fetches answer
+    ⊎ LeadsToStop (compared_errand auction servers book1 book2 s) fetches answer
+LeadsJob (Some (Auditing auction one two three)) fetches answer =
+    LeadsToShow (read_errand auction one two three) TellsFinding fetches answer
+    ⊎ LeadsToStop (read_errand auction one two three) fetches answer
+
+-- what the shelf was asked and answered leads to an answer, whose status is the exit status, and what the desk was
+-- given is this answer: each of its files by one put, in order, its text by one say, and nothing else
+pub record RecordsBy (leads_to : List Fetch → Answer → Type 0) (old now : Told) (desk desk_now : DeskTold)
+    (status : ℕ) : Type 0 where
+  pub fetches : List Fetch
+  pub recorded : now.fetches ≡ old.fetches ++ fetches
+  pub answer : Answer
+  pub leads : leads_to fetches answer
+  pub code : status ≡ code_of answer.status
+  pub calls : desk_now.calls ≡ desk.calls ++ calls_of answer.files answer.text
+
+-- so it is of the job that words name
+abbrev pub RecordsJob : Option Job → Told → Told → DeskTold → DeskTold → ℕ → Type 0
+RecordsJob job old now desk desk_now status = RecordsBy (LeadsJob job) old now desk desk_now status

@@ -1,0 +1,10 @@
+use Rattle.std.proofs.Common.{◌≡◌, ℕ, ◌<◌, ◌≤◌, length, get_or}
+use Rattle.beet_field.specs.Field.{add_of}
+use Rattle.beet_auction_map.proofs.inputs.add_numbers.Given as goal
+
+abbrev pub invariant-loop-i : goal.invariant-loop-i
+invariant-loop-i l = record {
+  same_length : length l.sums ≡ length l.fn.sums;
+  before : (k : ℕ) → k < l.i → get_or l.sums k 0 ≡ add_of (get_or l.fn.sums k 0) (get_or l.fn.numbers k 0);
+  after : (k : ℕ) → l.i ≤ k → get_or l.sums k 0 ≡ get_or l.fn.sums k 0;
+}

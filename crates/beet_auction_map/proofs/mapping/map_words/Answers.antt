@@ -1,0 +1,42 @@
+use Rattle.std.proofs.Common.{◌≡◌, ◌≤◌, ◌*◌, length, sym, ap, subst, ◌∙◌}
+use Rattle.std.specs.Prelude.{All}
+use Rattle.beet_words.specs.Words.{IsWord, accepted}
+use Rattle.beet_auction_map.specs.MappedBidders.{BiddersMapped}
+use Rattle.beet_auction_map.specs.Worlds.{WorldsMapped}
+use Rattle.beet_auction_map.proofs.Drawn.{all-drawn}
+use Rattle.beet_auction_map.proofs.mapping.map_words.Goals as goal
+
+pub map_bidders-requires-clause-enough : goal.map_bidders-requires-clause-enough
+map_bidders-requires-clause-enough c =
+    let wanted = 2 * c.args.first.now.grid.prices in
+    let same : c.as_slice.result.now ≡ c.args.words.now.bidders = c.as_slice.ensures.value ∙ (λ i. (c.words.view_is i).bidders) in
+    subst (λ l. All (λ list. wanted ≤ length (accepted list)) l) (sym same)
+    (all-drawn wanted c.args.words.now.bidders c.requires.enough.bidders)
+
+pub map_for_servers-requires-clause-count : goal.map_for_servers-requires-clause-count
+map_for_servers-requires-clause-count c =
+    let same : c.as_slice.result.now ≡ c.args.words.now.bidders = c.as_slice.ensures.value ∙ (λ i. (c.words.view_is i).bidders) in
+    ap length c.as_slice-2.ensures.value ∙ c.in_ok-bidders.ensures.count ∙ ap length same
+
+pub map_for_servers-requires-clause-mapped : goal.map_for_servers-requires-clause-mapped
+map_for_servers-requires-clause-mapped c =
+    let first = c.args.first.now in
+    let same : c.as_slice.result.now ≡ c.args.words.now.bidders = c.as_slice.ensures.value ∙ (λ i. (c.words.view_is i).bidders) in
+    subst (λ l. BiddersMapped c.args.me first.bidders c.args.words.now.bidders c.args.second.now.bidders l) (sym c.as_slice-2.ensures.value)
+    (subst (λ l. BiddersMapped c.args.me first.bidders l c.args.second.now.bidders c.in_ok-bidders.bidders.items) same
+    c.in_ok-bidders.ensures.mapped)
+
+pub map_for_servers-requires-clause-below : goal.map_for_servers-requires-clause-below
+map_for_servers-requires-clause-below c =
+    let same : c.as_slice.result.now ≡ c.args.words.now.bidders = c.as_slice.ensures.value ∙ (λ i. (c.words.view_is i).bidders) in
+    subst (All (λ list. All IsWord list)) same c.in_ok-bidders.ensures.below
+
+pub map_for_servers-requires-clause-words : goal.map_for_servers-requires-clause-words
+map_for_servers-requires-clause-words c =
+    subst (All (λ list. All IsWord list)) (sym c.as_slice-2.ensures.value) c.in_ok-bidders.ensures.words
+
+pub returns : goal.returns
+returns c =
+    subst (λ lists. WorldsMapped c.args.me c.args.first.now c.args.words.now c.args.second.now
+    (record { masks = c.in_ok-masks.masks; coefficients = c.in_ok-masks.coefficients; bidders = lists }))
+    c.as_slice-2.ensures.value c.in_ok-masks.ensures

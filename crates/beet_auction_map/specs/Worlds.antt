@@ -1,0 +1,51 @@
+-- All that is said of the words of the second world.
+use Rattle.std.specs.Prelude.{◌≡◌, ℕ, List}
+use Rattle.beet_field.specs.declared.point.Point.{Point}
+use Rattle.beet_field.specs.declared.trio.Trio.{Trio}
+use Rattle.beet_words.specs.Bundles.{Words}
+use Rattle.beet_bids.specs.Books.{Book}
+use Rattle.beet_bids.specs.Grids.{Grid}
+use Rattle.beet_plan.specs.Auction.{auction_batch, most_masks, most_rounds, auction_over}
+use Rattle.beet_delivery.specs.Events.{Triple}
+use Rattle.beet_sharing.specs.Runs.{HasRounds}
+use Rattle.beet_map_laws.specs.Pairs.{GoTogether}
+use Rattle.beet_map.specs.Refused.{LookSame}
+use Rattle.beet_map.specs.Secrets.{Secrets}
+use Rattle.beet_auction_map.specs.Enough.{AreEnough}
+use Rattle.beet_auction_map.specs.MappedWords.{IsOnlyFirst, IsOnlySecond, Mapped}
+use Rattle.beet_auction.specs.Setups.{setup_for, rounds_for}
+use Rattle.beet_auction_map.specs.Moments.{SameAfter}
+use Rattle.beet_auction_map.specs.ViewsWith.{view_with}
+
+-- a server cannot tell two worlds of an auction by its inputs, its mask words and what is opened
+abbrev pub LookSameIn : Grid → Point → Secrets → Secrets → Type 0
+LookSameIn grid me w w' =
+    LookSame (auction_batch (auction_over grid)) (most_rounds (auction_over grid))
+    (most_masks (auction_over grid)) me w w'
+
+-- coefficient words of two worlds of an auction that go with each other, and with no others
+abbrev pub GoTogetherIn : Grid → Point → Secrets → Secrets → Trio (List ℕ) → Trio (List ℕ) → Type 0
+GoTogetherIn grid me w w' words words' =
+    GoTogether (auction_batch (auction_over grid)) (most_rounds (auction_over grid)) me w w' words words'
+
+-- at every moment server s has and does the same in both worlds
+abbrev pub AlwaysSame : Point → Book → Words → Book → Words → Type 0
+AlwaysSame s first words second words' =
+    (es : List Triple) →
+    SameAfter s (setup_for first words) (rounds_for first words) (setup_for second words') (rounds_for second words') es
+
+-- the run of a book with these words has its rounds: its end comes after them, and not before
+abbrev pub Ends : Book → Words → Type 0
+Ends book words = HasRounds (setup_for book words) (rounds_for book words)
+
+-- words of two worlds: mapped in the one way there is, enough for the second book, and server s cannot tell which is
+-- which
+pub record WorldsMapped (s : Point) (first : Book) (words : Words) (second : Book) (words' : Words) : Type 0 where
+  pub mapped : Mapped s first words second words'
+  pub enough : AreEnough second words'
+  pub ends : Ends first words
+  pub ends' : Ends second words'
+  pub looks : view_with second words' s ≡ view_with first words s
+  pub moments : AlwaysSame s first words second words'
+  pub only : IsOnlySecond s first words second words'
+  pub back : IsOnlyFirst s first words second words'

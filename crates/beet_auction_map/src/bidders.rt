@@ -1,0 +1,102 @@
+//! Bidders' words of the second world.
+
+ghost use Rattle.std.specs.Prelude.{◌≡◌, ◌<◌, ◌≤◌, ◌*◌, length, IfOk, OnOk, All};
+ghost use Rattle.beet_words.specs.Words.{IsWord, accepted};
+ghost use Rattle.beet_bids.specs.Curves.{IsOfGrid, quantity};
+ghost use Rattle.beet_book.specs.Dealing.{quantities};
+ghost use Rattle.beet_mapped.specs.Dealers.{DealerMapped};
+ghost use Rattle.beet_auction_map.specs.Agreement.{marks_of};
+ghost use Rattle.beet_auction_map.specs.MappedBidders.{BiddersMapped, party_of};
+
+use beet_bids::{Bidder, Book, Curve, Grid};
+use beet_field::{Fe, Point};
+use beet_mapped::move_dealer;
+use beet_words::WordList;
+use std::alloc::{AllocError, Global};
+
+/// The n-th quantity of a curve: what is bought at each place, and then what is sold.
+fn quantity_of(grid: &Grid, curve: &Curve, n: u32) -> Fe
+    requires of_grid { IsOfGrid grid.now curve.now }
+    requires place { n < 2 * grid.now.prices }
+    ensures { result ≡ quantity curve.now n }
+{
+    let prices = grid.prices();
+    let amount = if n < prices {
+        curve.buy(n)
+    } else {
+        curve.sell(n - prices)
+    };
+    Fe::reduce(amount as u128)
+}
+
+/// The quantities of a curve: what is bought at each place, and then what is sold.
+fn quantities_of(alloc: Global, grid: &Grid, curve: &Curve) -> Result<Vec<Fe>, AllocError>
+    requires { IsOfGrid grid.now curve.now }
+    ensures { IfOk result (λ numbers. numbers.items ≡ quantities curve.now) }
+{
+    let count = 2 * grid.prices();
+    let mut numbers = Vec::with_capacity(alloc, count as usize)?;
+    for n in 0..count {
+        numbers.push(quantity_of(grid, curve, n))?;
+    }
+    Ok(numbers)
+}
+
+/// The words of a bidder in the second world.
+fn words_in_second(
+    alloc: Global,
+    me: Point,
+    grid: &Grid,
+    first: &Bidder,
+    second: &Bidder,
+    words: &WordList,
+) -> Result<WordList, AllocError>
+    requires mark { second.now.known ≡ first.now.known }
+    requires first { IsOfGrid grid.now first.now.curve }
+    requires second { IsOfGrid grid.now second.now.curve }
+    requires enough { 2 * grid.now.prices ≤ length (accepted words.now) }
+    ensures mapped { IfOk result (λ mapped. DealerMapped me
+        (record { party = party_of first.now; words = words.now })
+        (record { party = party_of second.now; words = mapped })) }
+    ensures below { OnOk result (All IsWord words.now) }
+    ensures words { IfOk result (λ mapped. All IsWord mapped) }
+{
+    let was = quantities_of(alloc, grid, &first.curve)?;
+    let becomes = quantities_of(alloc, grid, &second.curve)?;
+    move_dealer(
+        alloc,
+        me,
+        first.known,
+        was.as_slice(),
+        becomes.as_slice(),
+        words,
+    )
+}
+
+/// The bidders' words of the second world, with which server `me` holds the same points as with these in the first.
+pub fn map_bidders(
+    alloc: Global,
+    me: Point,
+    first: &Book,
+    second: &Book,
+    words: &[WordList],
+) -> Result<Vec<WordList>, AllocError>
+    requires grids { second.now.grid ≡ first.now.grid }
+    requires marks { marks_of second.now ≡ marks_of first.now }
+    requires count { length words.now ≡ length first.now.bidders }
+    requires enough { All (λ list. 2 * first.now.grid.prices ≤ length (accepted list)) words.now }
+    ensures count { IfOk result (λ mapped. length mapped.items ≡ length words.now) }
+    ensures mapped { IfOk result (λ mapped.
+        BiddersMapped me first.now.bidders words.now second.now.bidders mapped.items) }
+    ensures below { OnOk result (All (λ list. All IsWord list) words.now) }
+    ensures words { IfOk result (λ mapped. All (λ list. All IsWord list) mapped.items) }
+{
+    let grid = first.grid();
+    let bidders = first.bidders();
+    let others = second.bidders();
+    let mut mapped = Vec::with_capacity(alloc, words.len())?;
+    for i in 0..words.len() {
+        mapped.push(words_in_second(alloc, me, grid, &bidders[i], &others[i], &words[i])?)?;
+    }
+    Ok(mapped)
+}

@@ -1,7 +1,0 @@
-use Rattle.beet_auditor.proofs.AuditSteps.{refused-told}
-use Rattle.beet_auditor.proofs.answering.answer_views.Goals as goal
-
-pub returns-in-Err-clause-answers : goal.returns-in-Err-clause-answers
-returns-in-Err-clause-answers c =
-    refused-told c.args.read.now c.in-Err.fault c.refusal.result c.in-Err.ensures.found c.in-Err.ensures.one_run c.refusal.ensures.refuses
-    c.refusal.ensures.memory

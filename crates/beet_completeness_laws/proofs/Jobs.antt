@@ -1,0 +1,273 @@
+-- What is right for a job leads it to its end, job by job.
+use Rattle.std.proofs.Common.{◌≡◌, ◌∷◌, ◌==◌, ◌≤◌, ◌+◌, ℕ, Bool, true, false, List, [], length, Option, Some, None}
+use Rattle.std.proofs.Common.{if◌then◌else◌, refl, sym, ap, ◌∙◌}
+use Rattle.std.specs.Prelude.{◌||◌, codes, option_map}
+use Rattle.std.proofs.lemmas.Bool.{eq-eqb}
+use Rattle.std.proofs.lemmas.List.Elements.{All-head, All-tail}
+use Rattle.beet_field.specs.Point.{server_of}
+use Rattle.beet_field.specs.declared.point.Point.{Point}
+use Rattle.beet_field.specs.declared.point.Point.TheVariants.{One, Two, Three}
+use Rattle.beet_field.specs.declared.trio.Trio.{Trio}
+use Rattle.beet_store.specs.Files.{File}
+use Rattle.beet_store.specs.Desks.{DeskTold}
+use Rattle.beet_forms.specs.Names.{is_name_of}
+use Rattle.beet_words.specs.Words.{accepted}
+use Rattle.beet_bids.specs.AuctionFiles.{auction_of}
+use Rattle.beet_bids.specs.BidFiles.{bid_of}
+use Rattle.beet_bids.specs.Grids.{Grid}
+use Rattle.beet_bids.specs.Outcomes.{outcome_of}
+use Rattle.beet_bids.specs.declared.auction_file.TheConstants.{AUCTION_LIMIT}
+use Rattle.beet_bids.specs.declared.bid_file.TheConstants.{BID_LIMIT}
+use Rattle.beet_bids.specs.declared.outcomes.Outcome.{Outcome}
+use Rattle.beet_bids.specs.declared.outcomes.Outcome.TheVariants.{Price, No}
+use Rattle.beet_book.specs.BookFiles.{book_of}
+use Rattle.beet_book.specs.Farmers.{BidderWithWords, book_with}
+use Rattle.beet_book.specs.PointSums.{inputs_at}
+use Rattle.beet_book.specs.ServerFiles.{servers_of}
+use Rattle.beet_book.specs.declared.book_file.TheConstants.{BOOK_LIMIT}
+use Rattle.beet_book.specs.declared.entries.BidderSource.{BidderSource}
+use Rattle.beet_book.specs.declared.server_file.TheConstants.{SERVERS_LIMIT}
+use Rattle.beet_farmer.specs.Lists.{list_of}
+use Rattle.beet_farmer.specs.declared.list_file.TheConstants.{LIST_LIMIT}
+use Rattle.beet_plan.specs.Auction.{auction_over}
+use Rattle.beet_plan.specs.Runs.{finish_of}
+use Rattle.beet_delivery.specs.Events.{Delivered, after, passed}
+use Rattle.beet_auction.specs.Endings.{book_rounds}
+use Rattle.beet_world.specs.Schedules.{schedule_of}
+use Rattle.beet_world.specs.Worlds.{named_in}
+use Rattle.beet_world.specs.declared.schedule.Delivery.{Delivery}
+use Rattle.beet_world.specs.declared.schedule.TheConstants.{SCHEDULE_LIMIT}
+use Rattle.beet_auction_map.specs.declared.agreeing.MapFault.{MapFault}
+use Rattle.beet_errand.specs.Errands.{Errand, answers, reads}
+use Rattle.beet_errand.specs.declared.answer.Status.TheVariants.{Done, MasksSpent as Spent}
+use Rattle.beet_load.specs.Counts.{counts_of, words_wanted}
+use Rattle.beet_load.specs.Wanted.{wanted_of}
+use Rattle.beet_load.specs.Farmers.{farmers_errand}
+use Rattle.beet_load.specs.Loading.{AuctionWithBidders, loaded_errand}
+use Rattle.beet_load.specs.Servers.{HaveEnough, ServerWords, all_words_errand, enough_of_all, masks_of}
+use Rattle.beet_load.specs.Wholes.{limited_errand}
+use Rattle.beet_load.proofs.Farming.{words_pass}
+use Rattle.beet_load.proofs.ServerSteps.{counts_pass}
+use Rattle.beet_job_tally.specs.Tally.{one_price, tally_errand, tally_job}
+use Rattle.beet_job_clear.specs.Clear.{clear_errand}
+use Rattle.beet_job_rehearse.specs.Rehearse.{is_spent, rehearsal_status, rehearse_errand}
+use Rattle.beet_job_rehearse.specs.Standings.{rehearsal_of}
+use Rattle.beet_job_rehearse.specs.declared.standing.Standing.TheVariants.{Ended, Waiting}
+use Rattle.beet_job_record.specs.Records.{record_errand}
+use Rattle.beet_job_envelopes.specs.Gather.{bidders_errand}
+use Rattle.beet_job_envelopes.specs.Open.{entries_job, open_errand, open_job}
+use Rattle.beet_job_envelopes.specs.Seal.{own_words_errand, seal_errand, seal_job}
+use Rattle.beet_job_envelopes.specs.SealedBooks.{HaveWords}
+use Rattle.beet_job_trial.specs.Adding.{enough_of_each}
+use Rattle.beet_job_trial.specs.Rules.{trial_book, trial_farmers, trial_grid, trial_servers}
+use Rattle.beet_job_trial.specs.Trial.{trial_errand}
+use Rattle.beet_job_worlds.specs.Differences.{difference_between}
+use Rattle.beet_job_worlds.specs.Ending.{compared_errand, unless_differing}
+use Rattle.beet_job_worlds.specs.Reading.{Both, both_errand, first_book, second_book, words_read}
+use Rattle.beet_job_worlds.proofs.DifferenceFacts.{no-difference}
+use Rattle.beet_app.specs.Jobs.{Answering, Auditing, Comparing, Job, are_names, seal_of}
+use Rattle.beet_app_laws.specs.Dues.{status_of_first}
+use Rattle.beet_completeness_laws.specs.Complete.{CanAudit, CanCompare, CanOpen, CanRehearse, CanClear, CanSeal, CanTally}
+use Rattle.beet_completeness_laws.specs.Complete.{CanRunTrial}
+use Rattle.beet_completeness_laws.specs.WithoutFault.{IsDoneOrShort, RunsWithoutFault}
+use Rattle.beet_completeness_laws.proofs.Audits.{audit-done}
+use Rattle.beet_completeness_laws.proofs.Leading.{IsDoneOver, book-done, book-ends, done-or-short, passes, passes-both}
+use Rattle.beet_completeness_laws.proofs.Leading.{passes-done, points-done, then-done}
+
+-- ---- errands
+
+module _ (files : List File) where
+  tally-done : (auction list : List ℕ) → CanTally files auction list → IsDoneOver files (tally_errand auction list)
+  unfolding tally_job
+  tally-done auction list can =
+      then-done files (reads auction AUCTION_LIMIT auction_of) can.grid _ can.grid_read (
+      passes-done files (one_price auction can.grid) _ (rw (eq-eqb can.grid.prices 1 can.one_price) refl) (
+      then-done files (reads list BOOK_LIMIT book_of) can.entries _ can.entries_read (
+      then-done files (farmers_errand (wanted_of None can.grid) can.grid None [] can.entries) can.farmers _
+      can.farmers_read refl)))
+
+  clear-done : (auction servers list : List ℕ) → CanClear files (loaded_errand auction servers list) →
+      IsDoneOver files (clear_errand auction servers list)
+  clear-done auction servers list can =
+      then-done files (loaded_errand auction servers list) can.loaded _ can.loaded_read
+      (book-done (book_with can.loaded.grid can.loaded.farmers) (masks_of can.loaded.servers) can.masks)
+
+  record-done : (auction servers list out : List ℕ) → CanClear files (limited_errand auction servers list) →
+      IsDoneOver files (record_errand auction servers list out)
+  record-done auction servers list out can =
+      then-done files (limited_errand auction servers list) can.loaded _ can.loaded_read
+      (book-done (book_with can.loaded.grid can.loaded.farmers) (masks_of can.loaded.servers) can.masks)
+
+  seal-done : (auction bid source out : List ℕ) (can : CanSeal files auction bid source) →
+      IsDoneOver files (seal_errand auction bid can.from out)
+  unfolding seal_job
+  seal-done auction bid source out can =
+      then-done files (reads auction AUCTION_LIMIT auction_of) can.grid _ can.grid_read (
+      then-done files (reads bid BID_LIMIT (bid_of can.grid)) can.curve _ can.curve_read (
+      then-done files (own_words_errand can.grid can.from) can.words _ can.words_read refl))
+
+  open-done : (auction servers list : List ℕ) → CanOpen files auction servers list →
+      IsDoneOver files (open_errand auction servers list)
+  unfolding open_job entries_job
+  open-done auction servers list can =
+      then-done files (reads auction AUCTION_LIMIT auction_of) can.grid _ can.grid_read (
+      then-done files (reads servers SERVERS_LIMIT servers_of) can.sources _ can.sources_read (
+      then-done files (reads list LIST_LIMIT list_of) can.entries _ can.entries_read (
+      then-done files (all_words_errand (wanted_of None can.grid) None can.sources) can.words _ can.words_read (
+      then-done files (bidders_errand can.grid [] can.entries) can.bidders _ can.bidders_read
+      (points-done (auction_over can.grid) (inputs_at can.grid.prices can.bidders)
+      (masks_of can.words.servers) can.masks)))))
+
+  -- ---- a rehearsal
+
+  not-spent : (o : Outcome) (ended : Bool) (round : ℕ) →
+      is_spent (if ended then Ended (finish_of o) else Waiting round) ≡ false
+  not-spent (Price place price volume supply) true round = refl
+  not-spent No true round = refl
+  not-spent o false round = refl
+
+  stands-done : (o : Outcome) (rounds : ℕ) (x : Delivered) →
+      Done ≡ rehearsal_status (rehearsal_of (finish_of o) rounds x)
+  stands-done o rounds x =
+      let one = not-spent o (passed rounds x One == rounds) (passed rounds x One) in
+      let two = not-spent o (passed rounds x Two == rounds) (passed rounds x Two) in
+      let three = not-spent o (passed rounds x Three == rounds) (passed rounds x Three) in
+      λ i. if sym one i || sym two i || sym three i then Spent else Done
+
+  rehearse-done : (auction servers list name : List ℕ) (loaded : AuctionWithBidders) (schedule : List Delivery) →
+      CanRehearse files auction servers list name loaded schedule →
+      IsDoneOver files (rehearse_errand auction servers list name)
+  rehearse-done auction servers list name loaded schedule can =
+      let book = book_with loaded.grid loaded.farmers in
+      let masks = masks_of loaded.servers in
+      let rounds = book_rounds book masks in
+      let delivered = after rounds (named_in schedule) in
+      then-done files (loaded_errand auction servers list) loaded _ can.loaded_read (
+      then-done files (reads name SCHEDULE_LIMIT schedule_of) schedule _ can.schedule_read
+      (stands-done (outcome_of book) rounds delivered
+      ∙ ap (λ finish. rehearsal_status (rehearsal_of finish rounds delivered)) (sym (book-ends book masks can.masks))))
+
+  -- ---- a trial
+
+  servers-pass : (grid : Grid) (servers : Trio ServerWords) → HaveEnough (counts_of grid) servers →
+      (next : Errand) → enough_of_all
+      (wanted_of None grid) servers next ≡ next
+  servers-pass grid servers h next =
+      (counts_pass (wanted_of None grid) 1 servers.one h.one.coefficients h.one.masks).passes _
+      ∙ (counts_pass (wanted_of None grid) 2 servers.two h.two.coefficients h.two.masks).passes _
+      ∙ (counts_pass (wanted_of None grid) 3 servers.three h.three.coefficients h.three.masks).passes next
+
+  farmers-pass : (grid : Grid) (number : ℕ) (farmers : List BidderWithWords) → HaveWords grid farmers → (next : Errand) →
+      enough_of_each grid number farmers next ≡ next
+  farmers-pass grid number [] h next = refl
+  farmers-pass grid number (farmer ∷ farmers) h next =
+      let enough : BidderWithWords → Type 0 = λ farmer. words_wanted grid ≤ length (accepted farmer.words) in
+      (words_pass None number (words_wanted grid) farmer.words (All-head enough farmer farmers h)).passes _
+      ∙ farmers-pass grid (number + 1) farmers (All-tail enough farmer farmers h) next
+
+  trial-done : (first second : List ℕ) (can : CanRunTrial first second) →
+      IsDoneOver files (trial_errand can.bidders can.prices)
+  trial-done first second can =
+      let grid = trial_grid can.prices in
+      let servers = trial_servers grid in
+      let farmers = trial_farmers grid can.bidders in
+      passes-done files (enough_of_all (wanted_of None grid) servers) _ (servers-pass grid servers can.servers _) (
+      passes-done files (enough_of_each grid 1 farmers) _ (farmers-pass grid 1 farmers can.farmers _)
+      (book-done (trial_book grid can.bidders) (masks_of servers) can.masks))
+
+  -- ---- two worlds
+
+  compared-done : (auction servers list1 list2 server : List ℕ)
+      (can : CanCompare files auction servers list1 list2 server) →
+      IsDoneOver files (compared_errand auction servers list1 list2 can.s (λ both. answers (status_of_first both) []))
+  compared-done auction servers list1 list2 server can =
+      let both : Both = can.both in
+      let difference = difference_between can.s (first_book both) (second_book both) in
+      then-done files (both_errand auction servers list1 list2) both _ can.both_read (
+      passes-done files (unless_differing difference) (answers (status_of_first both) [])
+      (ap (λ (d : Option MapFault). unless_differing d (answers (status_of_first both) []))
+      (no-difference can.s (first_book both) (second_book both) can.agree))
+      (book-done (first_book both) (words_read both).masks can.masks))
+
+-- ---- jobs
+
+module _ (files : List File) (given now : DeskTold) (status : ℕ) where
+  pub tally : (auction list : List ℕ) → RunsWithoutFault (codes "tally" ∷ auction ∷ list ∷ []) files given now status →
+      CanTally files auction list → IsDoneOrShort status
+  tally auction list w can =
+      let job = Some (Answering (tally_errand auction list)) in
+      done-or-short _ files given now status w job (passes (are_names (auction ∷ list ∷ [])) job w.job w.named)
+      (tally-done files auction list can)
+
+  pub clear : (auction servers list : List ℕ) →
+      RunsWithoutFault (codes "clear" ∷ auction ∷ servers ∷ list ∷ []) files given now status →
+      CanClear files (loaded_errand auction servers list) → IsDoneOrShort status
+  clear auction servers list w can =
+      let job = Some (Answering (clear_errand auction servers list)) in
+      done-or-short _ files given now status w job
+      (passes (are_names (auction ∷ servers ∷ list ∷ [])) job w.job w.named)
+      (clear-done files auction servers list can)
+
+  pub opened : (auction servers list : List ℕ) →
+      RunsWithoutFault (codes "open" ∷ auction ∷ servers ∷ list ∷ []) files given now status →
+      CanOpen files auction servers list → IsDoneOrShort status
+  opened auction servers list w can =
+      let job = Some (Answering (open_errand auction servers list)) in
+      done-or-short _ files given now status w job
+      (passes (are_names (auction ∷ servers ∷ list ∷ [])) job w.job w.named)
+      (open-done files auction servers list can)
+
+  pub rehearse : (auction servers list name : List ℕ) (loaded : AuctionWithBidders) (schedule : List Delivery) →
+      RunsWithoutFault (codes "rehearse" ∷ auction ∷ servers ∷ list ∷ name ∷ []) files given now status →
+      CanRehearse files auction servers list name loaded schedule → IsDoneOrShort status
+  rehearse auction servers list name loaded schedule w can =
+      let job = Some (Answering (rehearse_errand auction servers list name)) in
+      done-or-short _ files given now status w job
+      (passes-both (are_names (auction ∷ servers ∷ name ∷ [])) (is_name_of list) job w.job w.named)
+      (rehearse-done files auction servers list name loaded schedule can)
+
+  pub recorded : (auction servers list out : List ℕ) →
+      RunsWithoutFault (codes "record" ∷ auction ∷ servers ∷ list ∷ out ∷ []) files given now status →
+      CanClear files (limited_errand auction servers list) → IsDoneOrShort status
+  recorded auction servers list out w can =
+      let job = Some (Answering (record_errand auction servers list out)) in
+      done-or-short _ files given now status w job
+      (passes-both (are_names (auction ∷ servers ∷ out ∷ [])) (is_name_of list) job w.job w.named)
+      (record-done files auction servers list out can)
+
+  pub audit : (auction one two three : List ℕ) →
+      RunsWithoutFault (codes "audit" ∷ auction ∷ one ∷ two ∷ three ∷ []) files given now status →
+      CanAudit files auction one two three → IsDoneOrShort status
+  audit auction one two three w can =
+      let job = Some (Auditing auction one two three) in
+      done-or-short _ files given now status w job
+      (passes-both (are_names (auction ∷ one ∷ three ∷ [])) (is_name_of two) job w.job w.named)
+      (audit-done files auction one two three can)
+
+  pub seal : (auction bid source out : List ℕ) →
+      RunsWithoutFault (codes "seal" ∷ auction ∷ bid ∷ source ∷ out ∷ []) files given now status →
+      CanSeal files auction bid source → IsDoneOrShort status
+  seal auction bid source out w can =
+      let job_from : BidderSource → Job = λ from. Answering (seal_errand auction bid from out) in
+      done-or-short _ files given now status w (Some (job_from can.from))
+      (passes (are_names (auction ∷ bid ∷ out ∷ [])) (seal_of auction bid source out) w.job w.named
+      ∙ ap (option_map job_from) can.from_is)
+      (seal-done files auction bid source out can)
+
+  pub trial : (first second : List ℕ) → RunsWithoutFault (codes "trial" ∷ first ∷ second ∷ []) files given now status →
+      CanRunTrial first second → IsDoneOrShort status
+  trial first second w can =
+      let job_of_sizes : ℕ × ℕ → Job = λ sizes. Answering (trial_errand sizes.0 sizes.1) in
+      done-or-short _ files given now status w (Some (job_of_sizes (can.bidders, can.prices)))
+      (ap (option_map job_of_sizes) can.sizes)
+      (trial-done files first second can)
+
+  pub worlds : (auction servers list1 list2 server out : List ℕ) →
+      RunsWithoutFault (codes "worlds" ∷ auction ∷ servers ∷ list1 ∷ list2 ∷ server ∷ out ∷ []) files given now status →
+      CanCompare files auction servers list1 list2 server → IsDoneOrShort status
+  worlds auction servers list1 list2 server out w can =
+      let job_at : Point → Job = λ s. Comparing auction servers list1 list2 s out in
+      done-or-short _ files given now status w (Some (job_at can.s))
+      (passes (are_names (auction ∷ servers ∷ list1 ∷ list2 ∷ out ∷ []))
+      (option_map job_at (server_of server)) w.job w.named ∙ ap (option_map job_at) can.server_is)
+      (compared-done files auction servers list1 list2 server can)

@@ -1,0 +1,138 @@
+-- What is right for a job over these files: each file that it reads is held, in its grammar and within its limits, and
+-- tapes hold the words that are wanted, so that the job reads a value; and its masks suffice.
+use Rattle.std.specs.Prelude.{◌≡◌, ℕ, List, [], length, None, Some, false}
+use Rattle.beet_field.specs.Point.{server_of}
+use Rattle.beet_field.specs.declared.point.Point.{Point}
+use Rattle.beet_field.specs.declared.trio.Trio.{Trio}
+use Rattle.beet_field.specs.Trio.{of_each}
+use Rattle.beet_store.specs.Files.{File}
+use Rattle.beet_bids.specs.AuctionFiles.{auction_of}
+use Rattle.beet_bids.specs.BidFiles.{bid_of}
+use Rattle.beet_bids.specs.Books.{Book}
+use Rattle.beet_bids.specs.Curves.{Curve}
+use Rattle.beet_bids.specs.Grids.{Grid}
+use Rattle.beet_bids.specs.Outcomes.{clearing_place}
+use Rattle.beet_bids.specs.declared.auction_file.TheConstants.{AUCTION_LIMIT}
+use Rattle.beet_bids.specs.declared.bid_file.TheConstants.{BID_LIMIT}
+use Rattle.beet_book.specs.BookFiles.{book_of}
+use Rattle.beet_book.specs.Farmers.{BidderWithWords, book_with}
+use Rattle.beet_book.specs.PointSums.{inputs_at}
+use Rattle.beet_book.specs.ServerFiles.{servers_of}
+use Rattle.beet_book.specs.declared.book_file.TheConstants.{BOOK_LIMIT}
+use Rattle.beet_book.specs.declared.entries.BidderSource.{BidderSource}
+use Rattle.beet_book.specs.declared.entries.Entry.{Entry}
+use Rattle.beet_book.specs.declared.server_file.TheConstants.{SERVERS_LIMIT}
+use Rattle.beet_book.specs.declared.sources.Servers.{Servers}
+use Rattle.beet_farmer.specs.Lists.{list_of}
+use Rattle.beet_farmer.specs.declared.list_file.ListEntry.{ListEntry}
+use Rattle.beet_farmer.specs.declared.list_file.TheConstants.{LIST_LIMIT}
+use Rattle.beet_plan.specs.Auction.{auction_over}
+use Rattle.beet_masking.specs.Masks.{is_spent, mask_at}
+use Rattle.beet_plan.specs.Search.{path}
+use Rattle.beet_auction.specs.AnyPoints.{points_place}
+use Rattle.beet_auction_map.specs.Agreement.{Agree}
+use Rattle.beet_world.specs.Schedules.{schedule_of}
+use Rattle.beet_world.specs.declared.schedule.Delivery.{Delivery}
+use Rattle.beet_world.specs.declared.schedule.TheConstants.{SCHEDULE_LIMIT}
+use Rattle.beet_errand.specs.Errands.{Step, reads}
+use Rattle.beet_load.specs.Counts.{counts_of}
+use Rattle.beet_load.specs.Wanted.{wanted_of}
+use Rattle.beet_load.specs.Farmers.{farmers_errand}
+use Rattle.beet_load.specs.Loading.{AuctionWithBidders, loaded_errand}
+use Rattle.beet_load.specs.Servers.{AllWords, HaveEnough, all_words_errand, masks_of}
+use Rattle.beet_job_envelopes.specs.Gather.{bidders_errand}
+use Rattle.beet_job_envelopes.specs.Seal.{own_words_errand}
+use Rattle.beet_job_envelopes.specs.SealedBooks.{HaveWords}
+use Rattle.beet_job_envelopes.specs.SourceWords.{source_word}
+use Rattle.beet_job_trial.specs.Rules.{trial_book, trial_farmers, trial_grid, trial_servers}
+use Rattle.beet_job_trial.specs.Sizes.{sizes_of}
+use Rattle.beet_audit.specs.Audits.{recombined_book}
+use Rattle.beet_audit.specs.OneRuns.{OneRun}
+use Rattle.beet_job_audit.specs.Reading.{read_errand}
+use Rattle.beet_job_audit.specs.declared.reading.ReadViews.{ReadViews}
+use Rattle.beet_job_worlds.specs.Reading.{Both, both_errand, first_book, second_book, words_read}
+use Rattle.beet_errand.specs.Overs.{ReadsTo}
+
+-- the masks suffice for a search among so many prices that ends at a place: of as many as it makes comparisons, and the
+-- spare ones, no more are rejected than are spare
+abbrev pub MasksSuffice : ℕ → ℕ → Trio (List ℕ) → Type 0
+MasksSuffice prices place masks = is_spent (mask_at masks) (length (path prices place)) ≡ false
+
+-- so it is for the auction of a book
+abbrev pub MasksSufficeFor : Book → Trio (List ℕ) → Type 0
+MasksSufficeFor book masks = MasksSuffice book.grid.prices (clearing_place book) masks
+
+-- `tally`: the auction has one price, and its book is read with its bidders
+pub record CanTally (files : List File) (auction book : List ℕ) : Type 0 where
+  pub grid : Grid
+  pub grid_read : ReadsTo files (reads auction AUCTION_LIMIT auction_of) grid
+  pub one_price : grid.prices ≡ 1
+  pub entries : List Entry
+  pub entries_read : ReadsTo files (reads book BOOK_LIMIT book_of) entries
+  pub farmers : List BidderWithWords
+  pub farmers_read : ReadsTo files (farmers_errand (wanted_of None grid) grid None [] entries) farmers
+
+-- `clear` and `record`: by this step an auction is read with its servers and its book, and the masks suffice
+pub record CanClear (files : List File) (step : Step AuctionWithBidders) : Type 0 where
+  pub loaded : AuctionWithBidders
+  pub loaded_read : ReadsTo files step loaded
+  pub masks : MasksSufficeFor (book_with loaded.grid loaded.farmers) (masks_of loaded.servers)
+
+-- `rehearse`: so it is, and a schedule is read
+pub record CanRehearse (files : List File) (auction servers book name : List ℕ) (loaded : AuctionWithBidders)
+    (schedule : List Delivery) : Type 0 where
+  pub loaded_read : ReadsTo files (loaded_errand auction servers book) loaded
+  pub masks : MasksSufficeFor (book_with loaded.grid loaded.farmers) (masks_of loaded.servers)
+  pub schedule_read : ReadsTo files (reads name SCHEDULE_LIMIT schedule_of) schedule
+
+-- `seal`: the auction, the bid, and words of the farmer that are enough are read
+pub record CanSeal (files : List File) (auction bid source : List ℕ) : Type 0 where
+  pub grid : Grid
+  pub grid_read : ReadsTo files (reads auction AUCTION_LIMIT auction_of) grid
+  pub curve : Curve
+  pub curve_read : ReadsTo files (reads bid BID_LIMIT (bid_of grid)) curve
+  pub from : BidderSource
+  pub from_is : source_word source ≡ Some from
+  pub words : List ℕ
+  pub words_read : ReadsTo files (own_words_errand grid from) words
+
+-- `open`: the auction, its servers with their words, and the envelopes of a list are read, and the masks suffice for
+-- their points
+pub record CanOpen (files : List File) (auction servers list : List ℕ) : Type 0 where
+  pub grid : Grid
+  pub grid_read : ReadsTo files (reads auction AUCTION_LIMIT auction_of) grid
+  pub sources : Servers
+  pub sources_read : ReadsTo files (reads servers SERVERS_LIMIT servers_of) sources
+  pub entries : List ListEntry
+  pub entries_read : ReadsTo files (reads list LIST_LIMIT list_of) entries
+  pub words : AllWords
+  pub words_read : ReadsTo files (all_words_errand (wanted_of None grid) None sources) words
+  pub bidders : List (Trio (List ℕ))
+  pub bidders_read : ReadsTo files (bidders_errand grid [] entries) bidders
+  pub masks : MasksSuffice grid.prices (points_place (auction_over grid) (inputs_at grid.prices bidders))
+      (masks_of words.servers)
+
+-- `trial`: the words are two sizes, the seeds of the rule give words that are enough, and the masks suffice
+pub record CanRunTrial (first second : List ℕ) : Type 0 where
+  pub bidders : ℕ
+  pub prices : ℕ
+  pub sizes : sizes_of first second ≡ Some (bidders, prices)
+  pub servers : HaveEnough (counts_of (trial_grid prices)) (trial_servers (trial_grid prices))
+  pub farmers : HaveWords (trial_grid prices) (trial_farmers (trial_grid prices) bidders)
+  pub masks : MasksSufficeFor (trial_book (trial_grid prices) bidders) (masks_of (trial_servers (trial_grid prices)))
+
+-- `worlds`: two books are read, they agree for the server, and the masks suffice
+pub record CanCompare (files : List File) (auction servers book1 book2 server : List ℕ) : Type 0 where
+  pub s : Point
+  pub server_is : server_of server ≡ Some s
+  pub both : Both
+  pub both_read : ReadsTo files (both_errand auction servers book1 book2) both
+  pub agree : Agree s (first_book both) (second_book both)
+  pub masks : MasksSufficeFor (first_book both) (words_read both).masks
+
+-- `audit`: three transcripts are read that are of one run, and its masks suffice
+pub record CanAudit (files : List File) (auction one two three : List ℕ) : Type 0 where
+  pub read : ReadViews
+  pub views_read : ReadsTo files (read_errand auction one two three) read
+  pub one_run : OneRun read.grid read.views
+  pub masks : MasksSufficeFor (recombined_book read.grid read.views) (of_each (λ view. view.masks) read.views)

@@ -1,0 +1,27 @@
+//! The job `audit`.
+
+ghost use Rattle.beet_errand.specs.Tasks.{DoesTask};
+ghost use Rattle.beet_job_audit.specs.Ending.{audit_task};
+
+use crate::answering::answer_views;
+use crate::reading::read_views;
+use beet_errand::{Reply, Stop};
+use beet_store::Shelf;
+use std::alloc::Global;
+
+/// Tells how the run ended of which three transcripts are the views, those of servers 1, 2 and 3; or refuses them by
+/// the first thing that is wrong. The messages in the transcripts are compared with those of the run, and nothing is
+/// taken from them.
+pub fn audit_files<S: Shelf>(
+    alloc: Global,
+    shelf: &mut S,
+    auction: &str,
+    one: &str,
+    two: &str,
+    three: &str,
+) -> Result<Reply, Stop>
+    ensures { DoesTask (audit_task auction.now one.now two.now three.now) (S.seen shelf.old) (S.seen shelf.new) result }
+{
+    let read = read_views(alloc, shelf, auction, one, two, three)?;
+    answer_views(alloc, &read)
+}

@@ -1,0 +1,54 @@
+//! Reading an auction and three transcripts.
+
+ghost use Rattle.beet_forms.specs.declared.faults.TheConstants.{LONGEST_FILE};
+ghost use Rattle.beet_errand.specs.Errands.{reads};
+ghost use Rattle.beet_errand.specs.Fetches.{Reads};
+ghost use Rattle.beet_view.specs.Transcripts.{view_in};
+ghost use Rattle.beet_job_audit.specs.Reading.{read_errand};
+
+use beet_bids::Grid;
+use beet_errand::{Stop, fetch_file, judge};
+use beet_field::Trio;
+use beet_forms::{LONGEST_FILE, beside};
+use beet_load::read_grid;
+use beet_store::Shelf;
+use beet_view::{View, read_view};
+use std::alloc::Global;
+
+/// The grid of an auction, and three views that are held against it.
+#[derive(Drop)]
+pub struct ReadViews {
+    pub grid: Grid,
+    pub views: Trio<View>,
+}
+
+/// The view of a transcript.
+fn read_transcript<S: Shelf>(alloc: Global, shelf: &mut S, name: &str) -> Result<View, Stop>
+    ensures { Reads (λ view. view) (S.seen shelf.old) (S.seen shelf.new)
+        (reads name.now LONGEST_FILE view_in) result }
+{
+    let bytes = fetch_file(alloc, shelf, name, LONGEST_FILE)?;
+    judge(alloc, name, read_view(alloc, bytes.as_slice()))
+}
+
+/// The auction and the transcripts, each judged before the next is fetched.
+pub(crate) fn read_views<S: Shelf>(
+    alloc: Global,
+    shelf: &mut S,
+    auction: &str,
+    one: &str,
+    two: &str,
+    three: &str,
+) -> Result<ReadViews, Stop>
+    ensures { Reads (λ read. read) (S.seen shelf.old) (S.seen shelf.new)
+        (read_errand auction.now one.now two.now three.now) result }
+{
+    let grid = read_grid(alloc, shelf, auction)?;
+    let one = read_transcript(alloc, shelf, one)?;
+    let (one, two) = beside(one, read_transcript(alloc, shelf, two))?;
+    let ((one, two), three) = beside((one, two), read_transcript(alloc, shelf, three))?;
+    Ok(ReadViews {
+        grid,
+        views: Trio { one, two, three },
+    })
+}

@@ -1,0 +1,10 @@
+use Rattle.std.proofs.Common.{◌≡◌, drop}
+use Rattle.beet_job_envelopes.specs.Gather.{Gathered}
+use Rattle.beet_job_envelopes.proofs.gathering.add_bidders.Given as goal
+
+abbrev pub invariant-loop-entry : goal.invariant-loop-entry
+invariant-loop-entry g l = record {
+  prices : l.totals.prices ≡ l.fn.grid.prices;
+  gathered : Gathered l.fn.grid l.fn.entries (drop l.entry-index l.fn.entries) (g.S.Shelf.seen l.fn.shelf)
+      (g.S.Shelf.seen l.shelf) l.totals;
+}

@@ -1,0 +1,105 @@
+//! The job `open`.
+
+ghost use Rattle.std.specs.Prelude.{IfOk};
+ghost use Rattle.beet_farmer.specs.Lists.{list_of};
+ghost use Rattle.beet_errand.specs.Errands.{reads};
+ghost use Rattle.beet_errand.specs.Fetches.{IsDone, Reads};
+ghost use Rattle.beet_job_envelopes.specs.Open.{entries_job, open_job};
+ghost use Rattle.beet_farmer.specs.declared.list_file.TheConstants.{LIST_LIMIT};
+
+use crate::gathering::add_bidders;
+use beet_auction_run::run_auction;
+use beet_bids::Grid;
+use beet_book::Servers;
+use beet_errand::{Reply, Stop, fetch_file, judge};
+use beet_farmer::{LIST_LIMIT, ListEntry, read_list};
+use beet_link::Gate;
+use beet_load::{AllWords, auction_wants, read_grid, read_sources, read_words};
+use beet_run::outcome_reply;
+use beet_store::Shelf;
+use std::alloc::Global;
+use std::sync::Wait;
+use std::thread::Threads;
+
+/// The bidders of a list file.
+fn read_entries<S: Shelf>(alloc: Global, shelf: &mut S, name: &str) -> Result<Vec<ListEntry>, Stop>
+    ensures { Reads (λ entries. entries.items) (S.seen shelf.old) (S.seen shelf.new)
+        (reads name.now LIST_LIMIT list_of) result }
+{
+    let bytes = fetch_file(alloc, shelf, name, LIST_LIMIT)?;
+    judge(alloc, name, read_list(alloc, bytes.as_slice()))
+}
+
+/// The outcome of the bids in the envelopes of these entries, and the rounds in which three servers find it.
+fn open_entries<S: Shelf, R: Threads + Wait + Sync, G: Gate>(
+    rt: &R,
+    alloc: Global,
+    shelf: &mut S,
+    grid: &Grid,
+    sources: &Servers,
+    entries: &[ListEntry],
+    gate: &G,
+) -> Result<Reply, Stop>
+    ensures done { IfOk result (λ reply. IsDone reply.status) }
+    ensures reads { Reads (λ reply. reply) (S.seen shelf.old) (S.seen shelf.new)
+        (entries_job grid.now sources.now entries.now) result }
+{
+    let words = read_words(alloc, shelf, &auction_wants(None, grid), sources, None)?;
+    let totals = match add_bidders(alloc, shelf, grid, entries) {
+        Ok(totals) => totals,
+        Err(stop) => {
+            // One call lets them go: else the proof of this way out goes through each of their parts.
+            drop(words);
+            return Err(stop);
+        }
+    };
+    let AllWords { servers, bidders } = words;
+    drop(bidders);
+    let (finish, rounds) = run_auction(rt, alloc, grid, totals.inputs(), servers, gate)?;
+    Ok(outcome_reply(alloc, grid, finish, rounds)?)
+}
+
+/// The outcome of the bids in the envelopes of a list file, and the rounds in which three servers find it.
+fn open_list<S: Shelf, R: Threads + Wait + Sync, G: Gate>(
+    rt: &R,
+    alloc: Global,
+    shelf: &mut S,
+    grid: &Grid,
+    sources: &Servers,
+    list: &str,
+    gate: &G,
+) -> Result<Reply, Stop>
+    ensures done { IfOk result (λ reply. IsDone reply.status) }
+    ensures reads { Reads (λ reply. reply) (S.seen shelf.old) (S.seen shelf.new)
+        (λ next. reads list.now LIST_LIMIT list_of (λ entries. entries_job grid.now sources.now entries next)) result }
+{
+    let entries = read_entries(alloc, shelf, list)?;
+    let opened = open_entries(rt, alloc, shelf, grid, sources, entries.as_slice(), gate);
+    // One call lets them go: else the proof of this way out goes through each of their parts.
+    drop(entries);
+    opened
+}
+
+/// The outcome of the bids in the envelopes of a list, and the rounds in which three servers find it, in threads and
+/// under the gate where `run_servers` says so. The points in the envelopes need not lie on lines. Where they were
+/// sealed, `sealed_books_open_their_outcome` says that each file is within its limit and is read, that the bidders of
+/// the list have the points that were sealed, and that the outcome is that of their book.
+pub fn open_envelopes<S: Shelf, R: Threads + Wait + Sync, G: Gate>(
+    rt: &R,
+    alloc: Global,
+    shelf: &mut S,
+    auction: &str,
+    servers: &str,
+    list: &str,
+    gate: &G,
+) -> Result<Reply, Stop>
+    ensures done { IfOk result (λ reply. IsDone reply.status) }
+    ensures reads { Reads (λ reply. reply) (S.seen shelf.old) (S.seen shelf.new)
+        (open_job auction.now servers.now list.now) result }
+{
+    let grid = read_grid(alloc, shelf, auction)?;
+    let sources = read_sources(alloc, shelf, servers)?;
+    let opened = open_list(rt, alloc, shelf, &grid, &sources, list, gate);
+    drop(sources);
+    opened
+}

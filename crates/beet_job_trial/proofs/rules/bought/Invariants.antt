@@ -1,0 +1,6 @@
+use Rattle.std.proofs.Common.{◌≡◌, ◌*◌, ◌-◌, map}
+use Rattle.std.specs.List.{range_with_len}
+use Rattle.beet_job_trial.proofs.rules.bought.Given as goal
+
+abbrev pub invariant-loop-place : goal.invariant-loop-place
+invariant-loop-place l = l.quantities.items ≡ map (λ k. l.weight * (l.prices - k)) (range_with_len 0 l.place)

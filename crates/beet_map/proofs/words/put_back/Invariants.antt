@@ -1,5 +1,0 @@
-use Rattle.beet_map.proofs.WordLists.{Back}
-use Rattle.beet_map.proofs.words.put_back.Given as goal
-
-abbrev pub invariant-loop-word : goal.invariant-loop-word
-invariant-loop-word l = Back l.words l.numbers l.back l.word-index l.place

@@ -1,0 +1,67 @@
+-- What the statements of commands tell apart.
+use Rattle.std.proofs.Common.{◌≡◌, ℕ, List, [], ◌∷◌, get_or, ap, sym, ◌∙◌}
+use Rattle.std.proofs.lemmas.List.{append_cancel_left}
+use Rattle.beet_field.specs.declared.point.Point.{Point}
+use Rattle.beet_field.specs.declared.point.Point.TheVariants.{One, Two, Three}
+use Rattle.beet_field.specs.declared.trio.Trio.{Trio}
+use Rattle.beet_store.specs.Desks.{DeskTold}
+use Rattle.beet_store.specs.Files.{File}
+use Rattle.beet_bids.specs.AuctionFiles.{auction_of}
+use Rattle.beet_bids.specs.Grids.{Grid}
+use Rattle.beet_bids.specs.declared.auction_file.TheConstants.{AUCTION_LIMIT}
+use Rattle.beet_errand.specs.Errands.{Answer, answers, file_for, reads}
+use Rattle.beet_errand.specs.Overs.{ReadsTo}
+use Rattle.beet_errand.specs.Records.{calls_of}
+use Rattle.beet_errand.specs.declared.answer.Refusal.TheVariants.{ReadFault}
+use Rattle.beet_errand.specs.declared.answer.Status.TheVariants.{Done, Refused}
+use Rattle.beet_errand.proofs.Records.{all_recorded}
+use Rattle.beet_app_laws.proofs.Recorded.{same-given}
+use Rattle.beet_program_laws.specs.Again.{PutsFor}
+use Rattle.beet_program_laws.specs.Commands.{Seals, Tallies}
+
+-- no grid is read of no files
+no-grid : (auction : List ℕ) (grid : Grid) → ReadsTo [] (reads auction AUCTION_LIMIT auction_of) grid → ⊥
+no-grid auction grid read =
+    let same : Refused ReadFault ≡ Done = ap (λ (x : Answer). x.status) (read (λ grid. answers Done [])) in
+    cc
+
+pub no-tally : (auction book : List ℕ) (status : ℕ) (desk desk_now : DeskTold) →
+    Tallies [] auction book status desk desk_now → ⊥
+no-tally auction book status desk desk_now t = no-grid auction t.grid t.grid_read
+
+pub no-seal : (auction bid source out : List ℕ) (status : ℕ) (desk desk_now : DeskTold) →
+    Seals [] auction bid source out status desk desk_now → ⊥
+no-seal auction bid source out status desk desk_now t = no-grid auction t.grid t.grid_read
+
+module _ (out : List ℕ) (desk desk_now : DeskTold) where
+  abbrev files_of : Trio (List ℕ) → List File
+  files_of t = (file_for out One, t.one) ∷ (file_for out Two, t.two) ∷ (file_for out Three, t.three) ∷ []
+
+  -- a record of calls tells the files
+  same-files : (s : Point) (seen other : List ℕ) (p : PutsFor s seen out desk desk_now)
+      (q : PutsFor s other out desk desk_now) →
+      files_of p.transcripts ≡ files_of q.transcripts
+  same-files s seen other p q =
+      let a = all_recorded desk desk_now (files_of p.transcripts) p.text p.gives in
+      let b = all_recorded desk desk_now (files_of q.transcripts) q.text q.gives in
+      let calls = append_cancel_left desk.calls (calls_of (files_of p.transcripts) p.text)
+      (calls_of (files_of q.transcripts) q.text) (sym a ∙ b) in
+      (same-given (files_of p.transcripts) (files_of q.transcripts) p.text q.text calls).0
+
+  same-one : (t u : Trio (List ℕ)) → files_of t ≡ files_of u → t.one ≡ u.one
+  same-one t u e = ap (λ (l : List File). (get_or l 0 ([], [])).1) e
+
+  same-two : (t u : Trio (List ℕ)) → files_of t ≡ files_of u → t.two ≡ u.two
+  same-two t u e = ap (λ (l : List File). (get_or l 1 ([], [])).1) e
+
+  same-three : (t u : Trio (List ℕ)) → files_of t ≡ files_of u → t.three ≡ u.three
+  same-three t u e = ap (λ (l : List File). (get_or l 2 ([], [])).1) e
+
+  pub one-transcript : (s : Point) (seen other : List ℕ) → PutsFor s seen out desk desk_now →
+      PutsFor s other out desk desk_now → seen ≡ other
+  one-transcript One seen other p q =
+      sym p.own ∙ same-one p.transcripts q.transcripts (same-files One seen other p q) ∙ q.own
+  one-transcript Two seen other p q =
+      sym p.own ∙ same-two p.transcripts q.transcripts (same-files Two seen other p q) ∙ q.own
+  one-transcript Three seen other p q =
+      sym p.own ∙ same-three p.transcripts q.transcripts (same-files Three seen other p q) ∙ q.own

@@ -1,0 +1,11 @@
+use Rattle.beet_program_laws.proofs.Telling.{no-seal, no-tally, one-transcript}
+use Rattle.beet_program_laws.proofs.the_statements_tell_runs_apart.Goals as goal
+
+pub returns-clause-tally : goal.returns-clause-tally
+returns-clause-tally c = no-tally
+
+pub returns-clause-seal : goal.returns-clause-seal
+returns-clause-seal c = no-seal
+
+pub returns-clause-again : goal.returns-clause-again
+returns-clause-again c = λ out desk desk_now s seen other p q. one-transcript out desk desk_now s seen other p q

@@ -1,5 +1,0 @@
-use Rattle.beet_rehearse.proofs.AllEnded.{all-ended}
-use Rattle.beet_rehearse.proofs.laws.nothing_undelivered_tells_the_end.Goals as goal
-
-pub returns : goal.returns
-returns c = all-ended

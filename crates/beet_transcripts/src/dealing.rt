@@ -1,0 +1,366 @@
+//! What the bidders of a book deal, and what each server sees of them.
+
+ghost use Rattle.std.specs.Prelude.{◌≡◌, ◌≤◌, ◌++◌, ◌∷◌, [], IfOk, OnOk, All, List, Option, length, map, false, true};
+ghost use Rattle.beet_field.specs.Trio.{member};
+ghost use Rattle.std.specs.Thread.{IsSync};
+ghost use Rattle.beet_bids.specs.Curves.{IsOfGrid};
+ghost use Rattle.beet_bids.specs.Grids.{Grid as Lattice};
+ghost use Rattle.beet_book.specs.Farmers.{BidderWithWords, book_inputs, farmers_of};
+ghost use Rattle.beet_load.specs.Counts.{counts_of};
+ghost use Rattle.beet_load.specs.Wholes.{CanDeal};
+ghost use Rattle.beet_view.specs.BookViews.{seen_at, own_at, seen_with};
+ghost use Rattle.beet_transcripts.specs.DealtBooks.{CanDealAll, HasDealt, shows};
+
+use beet_bids::{Bidder, Book, Curve, Grid};
+use beet_book::{FEWEST_FOR_TWO, Totals, deal_bidder, workers};
+use beet_field::{Point, Trio};
+use beet_forms::beside;
+use beet_load::front;
+use beet_plan::words_kept;
+use beet_view::Seen;
+use beet_words::{FeList, WordList};
+use std::alloc::{AllocError, Global};
+use std::marker::{Model, Sync};
+use std::thread::{Threads, join};
+
+/// The bidders, in their order, as each server sees them.
+#[derive(Drop)]
+pub struct SeenByAll {
+    one: Vec<Seen>,
+    two: Vec<Seen>,
+    three: Vec<Seen>,
+}
+
+impl Model for SeenByAll {
+    ghost use Rattle.std.specs.Prelude.{List};
+    ghost use Rattle.beet_field.specs.declared.trio.Trio.{Trio as Each};
+    ghost use Rattle.beet_view.specs.declared.view.Seen.{Seen as Shown};
+
+    ghost Value = { Each (List Shown) };
+
+    ghost view = { λ a. record { one = a.one.items; two = a.two.items; three = a.three.items } };
+}
+
+impl SeenByAll {
+    /// No bidder yet.
+    fn new(alloc: Global) -> SeenByAll
+        ensures { result ≡ record { one = []; two = []; three = [] } }
+    {
+        SeenByAll {
+            one: Vec::new(alloc),
+            two: Vec::new(alloc),
+            three: Vec::new(alloc),
+        }
+    }
+
+    /// The bidders of others after these.
+    fn append(&mut self, others: &mut SeenByAll) -> Result<(), AllocError>
+        ensures { OnOk result (self.new ≡ record {
+          one = self.old.one ++ others.old.one;
+          two = self.old.two ++ others.old.two;
+          three = self.old.three ++ others.old.three;
+        }) }
+    {
+        self.one.append(&mut others.one)?;
+        self.two.append(&mut others.two)?;
+        self.three.append(&mut others.three)?;
+        Ok(())
+    }
+
+    /// The bidders as one server sees them; what the others see is dropped.
+    pub(crate) fn into_one(self, at: Point) -> Vec<Seen>
+        ensures { result.items ≡ member self at }
+    {
+        match at {
+            Point::One => self.one,
+            Point::Two => self.two,
+            Point::Three => self.three,
+        }
+    }
+
+    /// The bidders as each server sees them, given away.
+    pub(crate) fn into_parts(self) -> Trio<Vec<Seen>>
+        ensures one { result.one.items ≡ self.one }
+        ensures two { result.two.items ≡ self.two }
+        ensures three { result.three.items ≡ self.three }
+    {
+        Trio {
+            one: self.one,
+            two: self.two,
+            three: self.three,
+        }
+    }
+}
+
+/// The curve and the words of a bidder, in memory of their own, where this server knows it.
+fn own_part(
+    alloc: Global,
+    at: Point,
+    bidder: &Bidder,
+    words: &WordList,
+) -> Result<Option<(Curve, WordList)>, AllocError>
+    ensures { IfOk result (λ own. own ≡ own_at at (record { bidder = bidder.now; words = words.now })) }
+{
+    let knows = bidder.known == Some(at);
+    if knows {
+        let curve = bidder.curve.copy(alloc)?;
+        Ok(Some(beside(curve, words.copy(alloc))?))
+    } else {
+        Ok(None)
+    }
+}
+
+/// A bidder with these points, as this server sees it.
+fn see(
+    alloc: Global,
+    at: Point,
+    bidder: &Bidder,
+    words: &WordList,
+    points: FeList,
+) -> Result<Seen, AllocError>
+    ensures { IfOk result (λ seen. seen ≡ seen_with at (record { bidder = bidder.now; words = words.now }) points) }
+{
+    let own = own_part(alloc, at, bidder, words)?;
+    Ok(Seen {
+        known: bidder.known,
+        points,
+        own,
+    })
+}
+
+/// Appends a bidder with these points, as this server sees it, where bidders are kept for the server, and else nothing.
+fn show(
+    alloc: Global,
+    whom: Option<Point>,
+    at: Point,
+    bidder: &Bidder,
+    words: &WordList,
+    points: FeList,
+    seen: &mut Vec<Seen>,
+) -> Result<(), AllocError>
+    ensures shown { OnOk result (shows whom at ≡ true → seen.new.items
+        ≡ seen.old.items ++ seen_with at (record { bidder = bidder.now; words = words.now }) points ∷ []) }
+    ensures not_shown { shows whom at ≡ false → seen.new.items ≡ seen.old.items }
+{
+    if whom.is_none() || whom == Some(at) {
+        seen.push(see(alloc, at, bidder, words, points)?)?;
+    }
+    Ok(())
+}
+
+impl SeenByAll {
+    /// Appends a bidder with these points, as each server sees it for which bidders are kept.
+    fn show_each(
+        &mut self,
+        alloc: Global,
+        whom: Option<Point>,
+        bidder: &Bidder,
+        words: &WordList,
+        points: Trio<FeList>,
+    ) -> Result<(), AllocError>
+        ensures shown { OnOk result ((s : Point) → shows whom s ≡ true → member self.new s
+            ≡ member self.old s
+            ++ seen_with s (record { bidder = bidder.now; words = words.now }) (member points s) ∷ []) }
+        ensures not_shown { (s : Point) → shows whom s ≡ false → member self.new s ≡ member self.old s }
+    {
+        let Trio { one, two, three } = points;
+        show(alloc, whom, Point::One, bidder, words, one, &mut self.one)?;
+        show(alloc, whom, Point::Two, bidder, words, two, &mut self.two)?;
+        show(
+            alloc,
+            whom,
+            Point::Three,
+            bidder,
+            words,
+            three,
+            &mut self.three,
+        )
+    }
+}
+
+/// Deals the quantities of a bidder by its words, adds the points, and shows the bidder to the servers for which
+/// bidders are kept.
+fn deal_one(
+    alloc: Global,
+    grid: &Grid,
+    whom: Option<Point>,
+    bidder: &Bidder,
+    words: &WordList,
+    totals: &mut Totals,
+    seen: &mut SeenByAll,
+) -> Result<(), AllocError>
+    requires of_grid { IsOfGrid grid.now bidder.now.curve }
+    requires words { CanDeal (counts_of grid.now) words.now }
+    requires prices { totals.old.prices ≡ grid.now.prices }
+    ensures { (farmers : List BidderWithWords) → HasDealt grid.now whom farmers totals.old seen.old
+        → OnOk result (HasDealt grid.now whom (farmers ++ record { bidder = bidder.now; words = words.now } ∷ [])
+        totals.new seen.new) }
+{
+    let mut tape = front(alloc, words, words_kept(grid))?;
+    let dealt = deal_bidder(alloc, grid, &bidder.curve, &mut tape);
+    // One call lets the tape go, not each way out by itself.
+    drop(tape);
+    let dealt = dealt?;
+    totals.add(&dealt);
+    seen.show_each(alloc, whom, bidder, words, dealt.into_points())
+}
+
+/// Some bidders of a book: their points added up, and each bidder as the servers see it for which bidders are kept.
+#[derive(Drop)]
+struct DealtPart {
+    totals: Totals,
+    seen: SeenByAll,
+}
+
+impl DealtPart {
+    /// Adds the points of another part, and takes its bidders after these.
+    fn merge(&mut self, other: &mut DealtPart) -> Result<(), AllocError>
+        requires { other.old.totals.prices ≡ self.old.totals.prices }
+        ensures { (grid : Lattice) (whom : Option Point) (few rest : List BidderWithWords)
+            → HasDealt grid whom few self.old.totals self.old.seen
+            → HasDealt grid whom rest other.old.totals other.old.seen
+            → OnOk result (HasDealt grid whom (few ++ rest) self.new.totals self.new.seen) }
+    {
+        self.totals.merge(&other.totals);
+        self.seen.append(&mut other.seen)
+    }
+}
+
+/// Puts two parts together, of which the second has the bidders after those of the first.
+fn join_parts(
+    first: Result<DealtPart, AllocError>,
+    second: Result<DealtPart, AllocError>,
+) -> Result<DealtPart, AllocError>
+    requires { IfOk first (λ few. IfOk second (λ rest. rest.totals.prices ≡ few.totals.prices)) }
+    ensures { (grid : Lattice) (whom : Option Point) (few rest : List BidderWithWords)
+        → IfOk first (λ part. HasDealt grid whom few part.totals part.seen)
+        → IfOk second (λ part. HasDealt grid whom rest part.totals part.seen)
+        → IfOk result (λ both. HasDealt grid whom (few ++ rest) both.totals both.seen) }
+{
+    let (second, few) = beside(second, first)?;
+    let (mut few, mut rest) = beside(few, second)?;
+    let merged = few.merge(&mut rest);
+    // One call lets them go, not each way out by itself.
+    drop(rest);
+    let (both, ()) = beside(few, merged)?;
+    Ok(both)
+}
+
+/// Deals the quantities of the bidders one after another.
+fn deal_in_order(
+    alloc: Global,
+    grid: &Grid,
+    whom: Option<Point>,
+    bidders: &[Bidder],
+    words: &[WordList],
+) -> Result<DealtPart, AllocError>
+    requires { CanDealAll grid.now bidders.now words.now }
+    ensures { IfOk result (λ part. HasDealt grid.now whom (farmers_of bidders.now words.now) part.totals part.seen) }
+{
+    let mut totals = Totals::new(alloc, grid)?;
+    let mut seen = SeenByAll::new(alloc);
+    for i in 0..words.len() {
+        deal_one(
+            alloc,
+            grid,
+            whom,
+            &bidders[i],
+            &words[i],
+            &mut totals,
+            &mut seen,
+        )?;
+    }
+    Ok(DealtPart { totals, seen })
+}
+
+/// Deals the quantities of the bidders by so many threads, or one after another where they are few.
+#[cycle(halves)]
+fn deal_by<R: Threads + Sync>(
+    rt: &R,
+    alloc: Global,
+    grid: &Grid,
+    whom: Option<Point>,
+    threads: usize,
+    bidders: &[Bidder],
+    words: &[WordList],
+) -> Result<DealtPart, AllocError>
+    requires { CanDealAll grid.now bidders.now words.now }
+    ensures { IfOk result (λ part. HasDealt grid.now whom (farmers_of bidders.now words.now) part.totals part.seen) }
+{
+    if threads < 2 || bidders.len() < FEWEST_FOR_TWO as usize {
+        return deal_in_order(alloc, grid, whom, bidders, words);
+    }
+    let middle = bidders.len() / 2;
+    let (few, rest) = bidders.split_at(middle);
+    let (front, back) = words.split_at(middle);
+    deal_both(rt, alloc, grid, whom, threads, few, rest, front, back)
+}
+
+/// Deals the quantities of two parts at the same time, each by half of the threads, and puts the parts together.
+#[cycle(halves)]
+fn deal_both<R: Threads + Sync>(
+    rt: &R,
+    alloc: Global,
+    grid: &Grid,
+    whom: Option<Point>,
+    threads: usize,
+    few: &[Bidder],
+    rest: &[Bidder],
+    front: &[WordList],
+    back: &[WordList],
+) -> Result<DealtPart, AllocError>
+    requires threads { 2 ≤ threads }
+    requires front { CanDealAll grid.now few.now front.now }
+    requires back { CanDealAll grid.now rest.now back.now }
+    ensures { IfOk result (λ part.
+        HasDealt grid.now whom (farmers_of (few.now ++ rest.now) (front.now ++ back.now)) part.totals part.seen) }
+{
+    let half = threads.div_ceil(2);
+    let (first, second) = join(
+        rt,
+        || -> Result<DealtPart, AllocError>
+            requires { IsSync R.row × CanDealAll grid.now few.now front.now }
+            ensures { IfOk result (λ part.
+                HasDealt grid.entry.now whom (farmers_of few.entry.now front.entry.now) part.totals part.seen) }
+        { deal_by(rt, alloc, grid, whom, half, few, front) },
+        || -> Result<DealtPart, AllocError>
+            requires { IsSync R.row × CanDealAll grid.now rest.now back.now }
+            ensures { IfOk result (λ part.
+                HasDealt grid.entry.now whom (farmers_of rest.entry.now back.entry.now) part.totals part.seen) }
+        { deal_by(rt, alloc, grid, whom, half, rest, back) },
+    );
+    join_parts(first, second)
+}
+
+/// What the bidders of a book deal: the inputs of the servers, and the bidders as the servers see them for which they
+/// are kept.
+#[derive(Drop)]
+pub(crate) struct DealtBook {
+    pub(crate) inputs: Trio<FeList>,
+    pub(crate) seen: SeenByAll,
+}
+
+/// Deals the quantities of all bidders of a book, each by its own words, by a thread for each processor. The bidders
+/// are kept for one server alone, or for all three where none is named.
+pub(crate) fn deal_book<R: Threads + Sync>(
+    rt: &R,
+    alloc: Global,
+    whom: Option<Point>,
+    book: &Book,
+    words: &[WordList],
+) -> Result<DealtBook, AllocError>
+    requires lists { length words.now ≡ length book.now.bidders }
+    requires words { All (CanDeal (counts_of book.now.grid)) words.now }
+    ensures inputs { IfOk result (λ dealt. dealt.inputs
+        ≡ book_inputs book.now.grid.prices (farmers_of book.now.bidders words.now)) }
+    ensures seen { IfOk result (λ dealt. (s : Point) → shows whom s ≡ true → member dealt.seen s
+        ≡ map (seen_at book.now.grid s) (farmers_of book.now.bidders words.now)) }
+    ensures not_seen { IfOk result (λ dealt. (s : Point) → shows whom s ≡ false → member dealt.seen s ≡ []) }
+{
+    let threads = workers(rt);
+    let dealt = deal_by(rt, alloc, book.grid(), whom, threads, book.bidders(), words)?;
+    Ok(DealtBook {
+        inputs: dealt.totals.inputs(),
+        seen: dealt.seen,
+    })
+}

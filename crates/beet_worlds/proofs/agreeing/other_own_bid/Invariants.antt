@@ -1,5 +1,0 @@
-use Rattle.beet_worlds.specs.Disagreement.{SameKnownBefore}
-use Rattle.beet_worlds.proofs.agreeing.other_own_bid.Given as goal
-
-abbrev pub invariant-loop-i : goal.invariant-loop-i
-invariant-loop-i l = record { same : SameKnownBefore l.me l.bidders l.others l.i }

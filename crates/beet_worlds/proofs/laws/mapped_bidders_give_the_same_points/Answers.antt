@@ -1,5 +1,0 @@
-use Rattle.beet_worlds.proofs.BidderFacts.{inputs-same}
-use Rattle.beet_worlds.proofs.laws.mapped_bidders_give_the_same_points.Goals as goal
-
-pub returns : goal.returns
-returns c = inputs-same
