@@ -9,6 +9,7 @@ use Rattle.beet_field.specs.Point.{number_of as number_at_point}
 use Rattle.beet_field.specs.Trio.{trio_of}
 use Rattle.beet_field.specs.declared.point.Point.{Point}
 use Rattle.beet_field.specs.declared.point.Point.TheVariants.{One, Two, Three}
+use Rattle.beet_field.specs.declared.trio.Trio.{Trio}
 use Rattle.beet_store.specs.Files.{File, Told, bytes_of}
 use Rattle.beet_store.specs.Desks.{DeskTold, Given}
 use Rattle.beet_forms.specs.Names.{is_name_of}
@@ -27,13 +28,13 @@ use Rattle.beet_view.specs.Views.{Viewed}
 use Rattle.beet_errand.specs.Errands.{Answer, Errand, answers, file_for, reads}
 use Rattle.beet_errand.specs.Statuses.{IsDoneCode, code_of}
 use Rattle.beet_errand.specs.declared.answer.Status.{Status}
-use Rattle.beet_errand.specs.Runs.{Said}
+use Rattle.beet_errand.specs.Runs.{GivesAll, Said}
 use Rattle.beet_errand.specs.declared.answer.OwnRefusal.TheVariants.{OfAudit}
 use Rattle.beet_load.specs.Loading.{AuctionWithBidders}
 use Rattle.beet_load.specs.Servers.{coefficients_of, masks_of}
 use Rattle.beet_load.specs.Wholes.{CanStart, limited_errand}
 use Rattle.beet_run.specs.Outcomes.{outcome_answer}
-use Rattle.beet_job_record.specs.Records.{record_errand, recorded_answer, transcript_file}
+use Rattle.beet_job_record.specs.Records.{record_errand, recorded_answer}
 use Rattle.beet_transcripts.proofs.FittingViews.{view-again, view-short}
 use Rattle.beet_audit.specs.OneRuns.{OneRun}
 use Rattle.beet_audit.specs.declared.fault.AuditFault.{AuditFault}
@@ -50,7 +51,8 @@ use Rattle.beet_app_laws.specs.Held.{IsHeld}
 use Rattle.beet_app_laws.proofs.Led.{led, read-to}
 use Rattle.beet_app_laws.proofs.Reading.{reads-to}
 use Rattle.beet_app_laws.proofs.Telling.{one-value, told-views}
-use Rattle.beet_program_laws.specs.Accepted.{HoldsRun, IsAccepted, audit_words}
+use Rattle.beet_program_laws.specs.Accepted.{HoldsRun, IsAccepted, Stand, audit_words}
+use Rattle.beet_program_laws.specs.Outcomes.{three_files}
 use Rattle.beet_program_laws.proofs.Audits.{undone}
 use Rattle.beet_program_laws.proofs.Ends.{Found, Ran, WentOut, found, named, shown-ends}
 use Rattle.beet_program_laws.proofs.Grids.{grid-is}
@@ -132,29 +134,44 @@ module _ (files : List File) (auction out : List ℕ) (loaded : AuctionWithBidde
     is = view-again book words is-grid right-book runs are-words few s;
   }
 
-  module _ (before after : Given)
-      (hold : Hold (transcript_file out loaded One) (transcript_file out loaded Two) (transcript_file out loaded Three)
-      (recorded_answer out loaded).text before after) where
-    -- whoever holds what was put reads these views
-    put-reads : (held : List File) (name one two three : List ℕ) →
-        HoldsRun files after.files held auction out name one two three →
-        ReadsTo held (read_errand name one two three) views
-    unfolding read_errand
-    put-reads held name one two three r next =
-        let all : Grid → Viewed → Viewed → Viewed → Errand = λ grid first second third. next
-        (record { grid = grid; views = record { one = first; two = second; three = third } }) in
-        reads-to held name AUCTION_LIMIT auction_of loaded.grid
-        (record { bytes = h.grid.bytes; held = r.auction_file ∙ h.grid.held; short = h.grid.short; is = h.grid.is })
-        (λ grid. reads one LONGEST_FILE view_in (λ first. reads two LONGEST_FILE view_in
-        (λ second. reads three LONGEST_FILE view_in (λ third. all grid first second third))))
-        ∙ reads-to held one LONGEST_FILE view_in (view One) (transcript-held held one One (r.first ∙ hold.one))
-        (λ first. reads two LONGEST_FILE view_in
-        (λ second. reads three LONGEST_FILE view_in (λ third. all loaded.grid first second third)))
-        ∙ reads-to held two LONGEST_FILE view_in (view Two) (transcript-held held two Two (r.second ∙ hold.two))
-        (λ second. reads three LONGEST_FILE view_in (λ third. all loaded.grid (view One) second third))
-        ∙ reads-to held three LONGEST_FILE view_in (view Three)
-        (transcript-held held three Three (r.third ∙ hold.three))
-        (λ third. all loaded.grid (view One) (view Two) third)
+  -- what is put
+  abbrev seen : Trio (List ℕ)
+  seen = trio_of (transcript_of_book loaded.grid loaded.farmers (masks_of loaded.servers)
+      (coefficients_of loaded.servers))
+
+  -- whoever holds what was put reads these views
+  put-reads : (held : List File) (name one two three : List ℕ) →
+      HoldsRun files held auction seen name one two three →
+      ReadsTo held (read_errand name one two three) views
+  unfolding read_errand
+  put-reads held name one two three r next =
+      let all : Grid → Viewed → Viewed → Viewed → Errand = λ grid first second third. next
+      (record { grid = grid; views = record { one = first; two = second; three = third } }) in
+      reads-to held name AUCTION_LIMIT auction_of loaded.grid
+      (record { bytes = h.grid.bytes; held = r.auction_file ∙ h.grid.held; short = h.grid.short; is = h.grid.is })
+      (λ grid. reads one LONGEST_FILE view_in (λ first. reads two LONGEST_FILE view_in
+      (λ second. reads three LONGEST_FILE view_in (λ third. all grid first second third))))
+      ∙ reads-to held one LONGEST_FILE view_in (view One) (transcript-held held one One r.first)
+      (λ first. reads two LONGEST_FILE view_in
+      (λ second. reads three LONGEST_FILE view_in (λ third. all loaded.grid first second third)))
+      ∙ reads-to held two LONGEST_FILE view_in (view Two) (transcript-held held two Two r.second)
+      (λ second. reads three LONGEST_FILE view_in (λ third. all loaded.grid (view One) second third))
+      ∙ reads-to held three LONGEST_FILE view_in (view Three) (transcript-held held three Three r.third)
+      (λ third. all loaded.grid (view One) (view Two) third)
+
+-- ---- what stands at a desk that tells its files
+
+stands-at : (out : List ℕ) (three : Trio (List ℕ)) (text : List ℕ) (desk desk_now : DeskTold) →
+    GivesAll desk desk_now (three_files out three) text (Ok tt) → (before after : Given) →
+    desk.given ≡ Some before → desk_now.given ≡ Some after → Stand out three text before after
+stands-at out three text desk desk_now calls before after was is =
+    let hold : Hold (file_for out One, three.one) (file_for out Two, three.two) (file_for out Three, three.three) text
+    before after = three_stand (file_for out One, three.one) (file_for out Two, three.two)
+    (file_for out Three, three.three) text before (Some after)
+    (files-apart out One Two (λ e. absurd (omega (arith, e)))) (files-apart out One Three (λ e. absurd
+    (omega (arith, e)))) (files-apart out Two Three (λ e. absurd (omega (arith, e)))) (rw (was, is) at (leaves_all
+    desk desk_now (three_files out three) text (Ok tt) calls)) in
+    record { first = hold.one; second = hold.two; third = hold.three; said = hold.said }
 
 -- ---- how an audit of views of one run ends
 
@@ -211,31 +228,26 @@ like ended status end is (inr other) = inr other
 -- ---- the whole
 
 module _ (files : List File) (told told_now : Told) (from : FromFiles files told told_now) (desk desk_now : DeskTold)
-    (before after : Given) (was : desk.given ≡ Some before) (is : desk_now.given ≡ Some after) (status : ℕ)
-    (w : IsDoneCode status) (auction servers list out : List ℕ) where
+    (status : ℕ) (w : IsDoneCode status) (auction servers list out : List ℕ) where
   abbrev Recorded : Type 0
   Recorded = Found files told told_now from desk desk_now status w (limited_errand auction servers list)
       (recorded_answer out) (IsLimited files auction)
 
   -- what was read and put is accepted
-  accepted-by : Recorded → IsAccepted files auction out before after status
+  accepted-by : Recorded → IsAccepted files auction out desk desk_now status
   accepted-by f =
       let loaded = f.value in
-      let hold : Hold (transcript_file out loaded One) (transcript_file out loaded Two)
-      (transcript_file out loaded Three) (recorded_answer out loaded).text before after =
-      three_stand (transcript_file out loaded One) (transcript_file out loaded Two) (transcript_file out loaded Three)
-      (recorded_answer out loaded).text before (Some after)
-      (files-apart out One Two (λ e. absurd (omega (arith, e)))) (files-apart out One Three (λ e. absurd
-      (omega (arith, e)))) (files-apart out Two Three (λ e. absurd (omega (arith, e)))) (rw (was, is) at (leaves_all
-      desk desk_now (recorded_answer out loaded).files (recorded_answer out loaded).text (Ok tt) f.out.calls)) in
+      let three = seen files auction out loaded f.holds in
       let read : ReadViews = views files auction out loaded f.holds in
       let one_run = of-one-run files auction out loaded f.holds in
       let ended = same-end files auction out loaded f.holds in
       record {
+        transcripts = three;
         text = (recorded_answer out loaded).text;
-        said = hold.said;
+        gives = f.out.calls;
+        stand = stands-at out three (recorded_answer out loaded).text desk desk_now f.out.calls;
         accepted = λ held' told' told_now' given now end name one two three r not from' ran.
-            (let reads = put-reads files auction out loaded f.holds before after hold held' name one two three r in
+            (let reads = put-reads files auction out loaded f.holds held' name one two three r in
             let job =
             is-job (are_names (name ∷ one ∷ three ∷ [])) (is_name_of two) (Some (Auditing name one two three)) not in
             let due = subst (λ (j : Option Job). IsDue held' j (run_answer read).status) (sym job)
@@ -255,7 +267,7 @@ module _ (files : List File) (told told_now : Told) (from : FromFiles files told
 
   pub accepts : Ran files told told_now from desk desk_now status w
       (job_of (codes "record" ∷ auction ∷ servers ∷ list ∷ out ∷ [])) →
-      IsAccepted files auction out before after status
+      IsAccepted files auction out desk desk_now status
   accepts ran =
       let job = Some (Answering (record_errand auction servers list out)) in
       let r' = named files told told_now from desk desk_now status w (are_names (auction ∷ servers ∷ out ∷ []))

@@ -1,25 +1,27 @@
 -- An audit of the transcripts that a run has put.
-use Rattle.std.specs.Prelude.{◌≡◌, ◌≢◌, ◌⊎◌, ◌++◌, ℕ, List, [], ◌∷◌, codes, None}
+use Rattle.std.specs.Prelude.{◌≡◌, ◌≢◌, ◌⊎◌, ◌++◌, ℕ, List, [], ◌∷◌, codes, Some, None, Ok}
 use Rattle.beet_field.specs.declared.point.Point.TheVariants.{One, Two, Three}
+use Rattle.beet_field.specs.declared.trio.Trio.{Trio}
 use Rattle.beet_store.specs.Files.{File, Told, bytes_of}
 use Rattle.beet_store.specs.Desks.{DeskTold, Given}
 use Rattle.beet_errand.specs.Errands.{file_for}
-use Rattle.beet_errand.specs.Runs.{Said}
+use Rattle.beet_errand.specs.Runs.{GivesAll, Said}
 use Rattle.beet_errand.specs.Overs.{FromFiles}
 use Rattle.beet_app.specs.Doing.{RunsJob}
 use Rattle.beet_app.specs.Jobs.{job_of}
+use Rattle.beet_program_laws.specs.Outcomes.{three_files}
 
 -- the words of an audit of four files
 abbrev pub audit_words : List ℕ → List ℕ → List ℕ → List ℕ → List (List ℕ)
 audit_words auction one two three = codes "audit" ∷ auction ∷ one ∷ two ∷ three ∷ []
 
--- under these names an auditor holds the file of the auction as it was when the run was recorded, and the three
--- transcripts that were put
-pub record HoldsRun (files put held : List File) (auction out name one two three : List ℕ) : Type 0 where
+-- under these names an auditor holds the file of the auction as it was when the run was recorded, and three transcripts
+pub record HoldsRun (files held : List File) (auction : List ℕ) (transcripts : Trio (List ℕ))
+    (name one two three : List ℕ) : Type 0 where
   pub auction_file : bytes_of held name ≡ bytes_of files auction
-  pub first : bytes_of held one ≡ bytes_of put (file_for out One)
-  pub second : bytes_of held two ≡ bytes_of put (file_for out Two)
-  pub third : bytes_of held three ≡ bytes_of put (file_for out Three)
+  pub first : bytes_of held one ≡ Some transcripts.one
+  pub second : bytes_of held two ≡ Some transcripts.two
+  pub third : bytes_of held three ≡ Some transcripts.three
 
 -- an audit ends with the status of the run, unless memory ran out, a file could not be fetched or a call of the desk
 -- failed; and then it says the text of the run, and puts nothing
@@ -27,13 +29,24 @@ pub record AuditsAlike (status : ℕ) (text : List ℕ) (given now : DeskTold) (
   pub ends : (end ≡ status) ⊎ (end ≡ 1) ⊎ (end ≡ 3) ⊎ (end ≡ 4)
   pub says : end ≡ status → Said given now text
 
--- a recorded run has said a text, and whoever audits what it put is told the same
-pub record IsAccepted (files : List File) (auction out : List ℕ) (before after : Given) (status : ℕ) : Type 0 where
-  pub text : List ℕ
+-- a desk that tells its files holds three transcripts, each in its file, and a text was said
+pub record Stand (out : List ℕ) (transcripts : Trio (List ℕ)) (text : List ℕ) (before after : Given) : Type 0 where
+  pub first : bytes_of after.files (file_for out One) ≡ Some transcripts.one
+  pub second : bytes_of after.files (file_for out Two) ≡ Some transcripts.two
+  pub third : bytes_of after.files (file_for out Three) ≡ Some transcripts.three
   pub said : after.said ≡ before.said ++ text
+
+-- a recorded run has put three transcripts and said a text, and whoever audits these transcripts is told the same
+pub record IsAccepted (files : List File) (auction out : List ℕ) (desk desk_now : DeskTold) (status : ℕ)
+    : Type 0 where
+  pub transcripts : Trio (List ℕ)
+  pub text : List ℕ
+  pub gives : GivesAll desk desk_now (three_files out transcripts) text (Ok tt)
+  pub stand : (before after : Given) → desk.given ≡ Some before → desk_now.given ≡ Some after →
+      Stand out transcripts text before after
   pub accepted : (held : List File) (told told_now : Told) (given now : DeskTold) (end : ℕ)
       (name one two three : List ℕ) →
-      HoldsRun files after.files held auction out name one two three →
+      HoldsRun files held auction transcripts name one two three →
       job_of (audit_words name one two three) ≢ None →
       FromFiles held told told_now → RunsJob (job_of (audit_words name one two three)) told told_now given now end →
       AuditsAlike status text given now end

@@ -3,7 +3,6 @@ use Rattle.std.specs.Prelude.{◌≡◌, ◌++◌, ℕ, List, [], ◌∷◌, All
 use Rattle.beet_field.specs.Point.{server_of}
 use Rattle.beet_field.specs.Trio.{member}
 use Rattle.beet_field.specs.declared.point.Point.{Point}
-use Rattle.beet_field.specs.declared.point.Point.TheVariants.{One, Two, Three}
 use Rattle.beet_field.specs.declared.trio.Trio.{Trio}
 use Rattle.beet_store.specs.Desks.{DeskTold}
 use Rattle.beet_store.specs.Files.{File, Told, bytes_of}
@@ -12,13 +11,13 @@ use Rattle.beet_book.specs.ServerFiles.{servers_of}
 use Rattle.beet_book.specs.declared.entries.Entry.{Entry}
 use Rattle.beet_book.specs.declared.server_file.TheConstants.{SERVERS_LIMIT}
 use Rattle.beet_book.specs.declared.sources.Servers.TheVariants.{Bundle}
-use Rattle.beet_errand.specs.Errands.{file_for}
 use Rattle.beet_errand.specs.Overs.{FromFiles}
 use Rattle.beet_errand.specs.Runs.{GivesAll}
 use Rattle.beet_errand.specs.Statuses.{IsDoneCode}
 use Rattle.beet_app.specs.Doing.{RunsJob}
 use Rattle.beet_app.specs.Jobs.{job_of}
 use Rattle.beet_app_laws.specs.Held.{IsHeld}
+use Rattle.beet_program_laws.specs.Outcomes.{three_files}
 
 -- the words of a recording of three files
 abbrev pub record_words : List ℕ → List ℕ → List ℕ → List ℕ → List (List ℕ)
@@ -40,10 +39,7 @@ pub record PutsFor (s : Point) (seen out : List ℕ) (given now : DeskTold) : Ty
   pub transcripts : Trio (List ℕ)
   pub own : member transcripts s ≡ seen
   pub text : List ℕ
-  pub gives : GivesAll given now
-      ((file_for out One, transcripts.one) ∷ (file_for out Two, transcripts.two)
-      ∷ (file_for out Three, transcripts.three) ∷ [])
-      text (Ok tt)
+  pub gives : GivesAll given now (three_files out transcripts) text (Ok tt)
 
 -- two worlds were put for a server. Whoever records the second book with the words that were put, and is done, puts for
 -- this server the bytes that were put for both worlds

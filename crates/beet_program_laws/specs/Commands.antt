@@ -4,7 +4,6 @@ use Rattle.std.specs.Prelude.{◌≡◌, ◌≤◌, ◌++◌, ℕ, List, [], ◌
 use Rattle.std.specs.Prelude.{Ok}
 use Rattle.beet_field.specs.Trio.{member, of_each}
 use Rattle.beet_field.specs.declared.point.Point.{Point}
-use Rattle.beet_field.specs.declared.point.Point.TheVariants.{One, Two, Three}
 use Rattle.beet_field.specs.declared.trio.Trio.{Trio}
 use Rattle.beet_store.specs.Files.{File}
 use Rattle.beet_store.specs.Desks.{DeskTold}
@@ -42,7 +41,7 @@ use Rattle.beet_world.specs.declared.schedule.Delivery.{Delivery}
 use Rattle.beet_world.specs.declared.schedule.TheConstants.{SCHEDULE_LIMIT}
 use Rattle.beet_auction_map.specs.ViewsWith.{transcript_with}
 use Rattle.beet_headline.specs.Statements.{AllHaveEnded, AreOnePair, AreTwoBooks, standing}
-use Rattle.beet_errand.specs.Errands.{file_for, reads}
+use Rattle.beet_errand.specs.Errands.{reads}
 use Rattle.beet_errand.specs.Statuses.{code_of}
 use Rattle.beet_errand.specs.Texts.{line_of}
 use Rattle.beet_errand.specs.Runs.{GivesAll, Said}
@@ -71,7 +70,7 @@ use Rattle.beet_job_audit.specs.Reading.{read_errand}
 use Rattle.beet_job_audit.specs.declared.reading.ReadViews.{ReadViews}
 use Rattle.beet_errand.specs.Overs.{ReadsTo}
 use Rattle.beet_load.specs.WholeViews.{loaded_with}
-use Rattle.beet_program_laws.specs.Outcomes.{IsShown, ServersOpen, TellsTheEnd, transcript_files}
+use Rattle.beet_program_laws.specs.Outcomes.{IsShown, ServersOpen, TellsTheEnd, three_files, transcript_files}
 
 -- `tally`: the files read as a grid of one price and the bidders of a book, each with words enough; the sums of what
 -- they sell and buy at that price were said, and nothing else
@@ -154,10 +153,7 @@ pub record Seals (files : List File) (auction bid source out : List ℕ) (status
   pub read_back : (s : Point) → envelope_of grid s (member envelopes s)
       ≡ Ok (record { server = s; points = points_at (quantities curve) (accepted words) s })
   pub is_done : status ≡ 0
-  pub gives : GivesAll given now
-      ((file_for out One, envelopes.one) ∷ (file_for out Two, envelopes.two)
-      ∷ (file_for out Three, envelopes.three) ∷ [])
-      (line_of (codes "sealed " ++ decimal grid.prices)) (Ok tt)
+  pub gives : GivesAll given now (three_files out envelopes) (line_of (codes "sealed " ++ decimal grid.prices)) (Ok tt)
 
 -- `open`: the files read as a grid, words of servers and points of bidders, which may lie on no line; it was said what
 -- is found over the sums of these points. Where the files hold what bidders sealed of a book, it is its outcome, which

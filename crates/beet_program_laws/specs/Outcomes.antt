@@ -1,7 +1,9 @@
 -- What is told of the auction of a book with words, and what servers do that run it.
 use Rattle.std.specs.Prelude.{◌≡◌, ℕ, List, [], ◌∷◌, Some, true, false}
+use Rattle.beet_field.specs.Trio.{trio_of}
 use Rattle.beet_field.specs.declared.point.Point.{Point}
 use Rattle.beet_field.specs.declared.point.Point.TheVariants.{One, Two, Three}
+use Rattle.beet_field.specs.declared.trio.Trio.{Trio}
 use Rattle.beet_store.specs.Files.{File}
 use Rattle.beet_words.specs.Bundles.{Words}
 use Rattle.beet_bids.specs.Books.{Book, IsBook}
@@ -35,13 +37,14 @@ pub record ServersOpen (book : Book) (words : Words) : Type 0 where
   pub can_run : CanRun book words
   pub opens : (es : List Triple) (s : Point) → OpensTheOutcome book words es s
 
--- the transcripts of servers 1, 2 and 3, each in its file
+-- what servers 1, 2 and 3 have, each in its file
+abbrev pub three_files : List ℕ → Trio (List ℕ) → List File
+three_files out three =
+    (file_for out One, three.one) ∷ (file_for out Two, three.two) ∷ (file_for out Three, three.three) ∷ []
+
+-- their transcripts
 abbrev pub transcript_files : List ℕ → Book → Words → List File
-transcript_files out book words =
-    (file_for out One, transcript_with book words One)
-    ∷ (file_for out Two, transcript_with book words Two)
-    ∷ (file_for out Three, transcript_with book words Three)
-    ∷ []
+transcript_files out book words = three_files out (trio_of (transcript_with book words))
 
 -- a server stands as it is shown: it waits in the same round, or it has ended with the same
 abbrev pub IsShown : Ending Finish → Standing → Type 0

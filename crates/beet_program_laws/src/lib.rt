@@ -11,7 +11,7 @@ ghost use Rattle.std.specs.Prelude.{◌≡◌, ◌⊎◌, ℕ, List, [], ◌∷�
 ghost use Rattle.beet_field.specs.Point.{server_of};
 ghost use Rattle.beet_field.specs.declared.point.Point.{Point};
 ghost use Rattle.beet_store.specs.Files.{File, Told};
-ghost use Rattle.beet_store.specs.Desks.{DeskTold, Given};
+ghost use Rattle.beet_store.specs.Desks.{DeskTold};
 ghost use Rattle.beet_errand.specs.Overs.{FromFiles};
 ghost use Rattle.beet_app.specs.Doing.{RunsJob};
 ghost use Rattle.beet_app.specs.Jobs.{job_of};
@@ -116,15 +116,14 @@ pub fn what_audit_says_is_the_end_of_one_run()
 
 /// The transcripts that `record AUCTION SERVERS BOOK OUT` puts are accepted: over whatever shelf that holds the file of
 /// the auction and these three under any names, `audit` ends with the status of that run and says its text, unless
-/// memory runs out, a file cannot be fetched or a call of the desk fails.
+/// memory runs out, a file cannot be fetched or a call of the desk fails. A desk that tells its files holds them.
 pub fn what_record_puts_is_accepted()
     ensures { (auction servers book_file out : List ℕ) (files : List File) (told told_now : Told)
-        (desk desk_now : DeskTold) (before after : Given)
-        (status : ℕ) → desk.given ≡ Some before → desk_now.given ≡ Some after → FromFiles files told told_now →
+        (desk desk_now : DeskTold) (status : ℕ) → FromFiles files told told_now →
         RunsJob (job_of (codes "record" ∷ auction ∷ servers ∷ book_file ∷ out ∷ [])) told told_now desk
         desk_now status →
         (status ≡ 0) ⊎ (status ≡ 6) →
-        IsAccepted files auction out before after status }
+        IsAccepted files auction out desk desk_now status }
 {}
 
 /// What `worlds AUCTION SERVERS BOOK1 BOOK2 SERVER OUT` puts can be made again: whoever records the second book over
