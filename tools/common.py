@@ -1,5 +1,7 @@
 """What several of the scripts beside this file need."""
 import argparse
+import csv
+import io
 import os
 import pathlib
 import shutil
@@ -9,6 +11,8 @@ import sys
 TOP = pathlib.Path(__file__).resolve().parent.parent
 # The program that ./beet has built.
 BUILT = TOP / "build" / "beet"
+# The longest field of a text file that is read, in bytes: longer than any file may be.
+LONGEST_FIELD = 2**31 - 1
 # The longest that a run may take, in seconds.
 LIMIT = 60
 # The farmers of the first example, each with the byte that its seed repeats.
@@ -20,6 +24,46 @@ def words(about):
     return argparse.ArgumentParser(
         description=about, formatter_class=argparse.RawDescriptionHelpFormatter, allow_abbrev=False
     )
+
+
+def count(word):
+    """Reads a number of the command line: decimal digits, no sign."""
+    if not (word.isascii() and word.isdecimal()):
+        raise argparse.ArgumentTypeError(f"{word} is no number")
+    return int(word)
+
+
+def bytes_of(name):
+    """Gives what a file holds, or ends with a line that says why not."""
+    try:
+        return pathlib.Path(name).read_bytes()
+    except OSError as why:
+        sys.exit(f"{name} cannot be read: {why.strerror}")
+
+
+def rows_of(data):
+    """Gives the rows of a text file, each with the line on which it begins. A blank line is no row."""
+    csv.field_size_limit(LONGEST_FIELD)
+    text = data.decode("utf-8-sig", errors="replace")
+    reader = csv.reader(io.StringIO(text, newline=""))
+    rows, line = [], 1
+    for row in reader:
+        if row:
+            rows.append((line, row))
+        line = reader.line_num + 1
+    return rows
+
+
+def print_whole(text):
+    """Prints a text, or ends with a line that says why not."""
+    try:
+        sys.stdout.write(text)
+        sys.stdout.flush()
+    except BrokenPipeError:
+        os.dup2(os.open(os.devnull, os.O_WRONLY), 1)
+    except OSError as why:
+        os.dup2(os.open(os.devnull, os.O_WRONLY), 1)
+        sys.exit(f"standard output cannot be written: {why.strerror}")
 
 
 def program_at(name):

@@ -13,6 +13,7 @@ use std::alloc::Global;
 use std::process::ExitCode;
 use std::sync::Wait;
 use std::thread::Threads;
+use std::time::Clock;
 use std::{env, io};
 
 /// What standard error tells where nothing on standard output tells why the run ended.
@@ -30,7 +31,7 @@ fn cause_of(status: u8) -> Option<&'static str>
 
 /// Runs the words, if there was memory for them, and tells what standard output does not. The exit status is that of
 /// the run.
-fn end_of<S: Shelf, K: Desk, R: Threads + Wait + Sync + Eprint, G: Gate>(
+fn end_of<S: Shelf, K: Desk, R: Threads + Wait + Clock + Sync + Eprint, G: Gate>(
     rt: &R,
     alloc: Global,
     words: Option<Vec<String>>,

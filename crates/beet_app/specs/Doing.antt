@@ -1,8 +1,6 @@
 -- The task of each job.
-use Rattle.std.specs.Prelude.{ℕ, Option, Some, None}
-use Rattle.beet_store.specs.Desks.{DeskTold}
-use Rattle.beet_store.specs.Files.{Told}
-use Rattle.beet_errand.specs.Tasks.{RunsTask, Task, NoTask, ToAnswer}
+use Rattle.std.specs.Prelude.{Option, Some, None}
+use Rattle.beet_errand.specs.Tasks.{Task, NoTask, ToAnswer}
 use Rattle.beet_job_worlds.specs.Ending.{worlds_task}
 use Rattle.beet_job_audit.specs.Ending.{audit_task}
 use Rattle.beet_app.specs.Jobs.{Job, Answering, Comparing, Auditing}
@@ -13,7 +11,3 @@ task_of None = NoTask
 task_of (Some (Answering errand)) = ToAnswer errand
 task_of (Some (Comparing auction servers first second s out)) = worlds_task auction servers first second s out
 task_of (Some (Auditing auction one two three)) = audit_task auction one two three
-
--- the errand of a job runs to this exit status
-abbrev pub RunsJob : Option Job → Told → Told → DeskTold → DeskTold → ℕ → Type 0
-RunsJob job told told_now desk desk_now status = RunsTask (task_of job) told told_now desk desk_now status

@@ -1,3 +1,4 @@
 pub mod Jobs
+pub mod Commands
 pub mod Showing
 pub mod Doing

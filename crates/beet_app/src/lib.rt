@@ -7,6 +7,7 @@ ghost use Rattle.beet_app.specs.Doing.{task_of};
 ghost use Rattle.beet_app.specs.Jobs.{job_of};
 ghost use Rattle.beet_app.specs.Showing.{Shows};
 
+mod commands;
 mod jobs;
 
 pub use beet_errand::Status;
@@ -16,6 +17,7 @@ use beet_store::{Desk, Shelf};
 use std::alloc::Global;
 use std::sync::Wait;
 use std::thread::Threads;
+use std::time::Clock;
 
 /// Does the job that the words after the program's name ask for. Words that stand for files are names of 1 to 200
 /// bytes.
@@ -44,7 +46,7 @@ use std::thread::Threads;
 /// two in workers. Each meets the gate once in each round, before it puts its messages of the round. So `run` may wait,
 /// and what is promised holds if it returns. Where a worker cannot be started or a link finds no memory, no server has
 /// begun, and the same three run in lockstep on the caller's thread, without the gate.
-pub fn run<S: Shelf, K: Desk, R: Threads + Wait + Sync, G: Gate>(
+pub fn run<S: Shelf, K: Desk, R: Threads + Wait + Clock + Sync, G: Gate>(
     rt: &R,
     alloc: Global,
     words: &[String],

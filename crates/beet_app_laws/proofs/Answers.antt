@@ -47,7 +47,7 @@ use Rattle.beet_errand.specs.declared.answer.Refusal.{Refusal}
 use Rattle.beet_errand.specs.declared.answer.Refusal.TheVariants.{ReadFault, BadFile, TooFewWords}
 use Rattle.beet_errand.specs.declared.answer.Status.TheVariants.{Refused}
 use Rattle.beet_load.specs.Limits.{over_product}
-use Rattle.beet_app_laws.specs.Leavings.{AreNames}
+use Rattle.beet_app_laws.specs.Leavings.{AreOutputs}
 use Rattle.beet_app_laws.specs.Refusals.{IsLineOf}
 
 -- of a command that ends with this word
@@ -55,7 +55,7 @@ module _ (out : List ℕ) where
   -- an answer that is done, with files under these names, or a refusal with its line, which puts no file
   abbrev pub IsAnswer : Answer → Type 0
   IsAnswer answer =
-      (IsDone answer.status × AreNames out (map (λ file. file.0) answer.files))
+      (IsDone answer.status × AreOutputs out (map (λ file. file.0) answer.files))
       ⊎ ((refusal : Refusal) × (answer.status ≡ Refused refusal) × IsLineOf refusal answer.text × (answer.files ≡ []))
 
   -- whatever its files hold, an errand ends with such an answer

@@ -36,8 +36,8 @@ use Rattle.beet_job_worlds.specs.Differences.{difference_between}
 use Rattle.beet_job_worlds.specs.Ending.{ShowsWorlds, compared_errand, unless_differing}
 use Rattle.beet_job_worlds.specs.Reading.{Both, both_errand, first_book, second_book, words_read}
 use Rattle.beet_job_worlds.proofs.DifferenceFacts.{no-difference}
-use Rattle.beet_app.specs.Doing.{RunsJob}
 use Rattle.beet_app.specs.Jobs.{Job, Answering, Comparing, Auditing, job_of}
+use Rattle.beet_app_laws.specs.Calls.{Call, IsOf, RunsJob, RunsWords}
 use Rattle.beet_app_laws.specs.Dues.{EndsAsDue, IsDue, IsDueOfAudit, IsDueOfViews, status_of_first}
 
 module _ (files : List File) where
@@ -246,54 +246,50 @@ module _ (auction one two three : List ℕ) (files : List File) (told told_now :
       (d.views read (read-to files told told_now from (read_errand auction one two three) read is))
       ∙ sym (ap (λ (a : Answer). a.status) w.is)
 
--- a job that shows, where its answer has what is due
-shows-led : {A : Type 0} (own : OwnRefusal) (step : Step A) (shows : Shows) (next : A → Errand) (files : List File)
-    (told told_now : Told)
-    (from : FromFiles files told told_now) (desk now : DeskTold) (status : ℕ) (due : Status) →
-    due ≡ (answer_over files (step next)).status →
-    ((answer : Answer) → shows told told_now answer → due ≡ answer.status) →
-    RunsTask (ToShow own step shows) told told_now desk now status → EndsAsDue due status
-shows-led own step shows next files told told_now from desk now status due is shown (inl (answer, shows', r)) =
-    end-led told_now told_now answer desk now status due (shown answer shows') r
-shows-led own step shows next files told told_now from desk now status due is shown (inr f) =
-    run-led files told told_now from (step next) desk now status due is (f next)
+module _ (files : List File) (call : Call) (from : IsOf files call) (due : Status) where
+  -- a job that shows, where its answer has what is due
+  shows-led : {A : Type 0} (own : OwnRefusal) (step : Step A) (shows : Shows) (next : A → Errand) →
+      due ≡ (answer_over files (step next)).status →
+      ((answer : Answer) → shows call.shelf call.shelf_now answer → due ≡ answer.status) →
+      RunsTask (ToShow own step shows) call.shelf call.shelf_now call.desk call.desk_now call.status →
+      EndsAsDue due call.status
+  shows-led own step shows next is shown (inl (answer, shows', r)) =
+      end-led call.shelf_now call.shelf_now answer call.desk call.desk_now call.status due (shown answer shows') r
+  shows-led own step shows next is shown (inr f) =
+      run-led files call.shelf call.shelf_now from (step next) call.desk call.desk_now call.status due is (f next)
 
-job-led : (job : Option Job) (files : List File) (told told_now : Told) (from : FromFiles files told told_now)
-    (desk now : DeskTold)
-    (status : ℕ) (due : Status) → RunsJob job told told_now desk now status → IsDue files job due → EndsAsDue due status
-job-led None files told told_now from desk now status due r is =
-    run-led files told told_now from (refuses Usage usage_text) desk now status due is r
-job-led (Some (Answering errand)) files told told_now from desk now status due r is =
-    run-led files told told_now from errand desk now status due is r
-job-led (Some (Comparing auction servers first second s out)) files told told_now from desk now status due r is =
-    shows-led OfWorlds (compared_errand auction servers first second s) (ShowsWorlds auction servers first second s out)
-    (λ both. answers (status_of_first both) []) files told told_now from desk now status due is
-    (λ answer w. worlds-due auction servers first second s out files told told_now from w.value answer due
-    w.read w.shown is) r
-job-led (Some (Auditing auction one two three)) files told told_now from desk now status due r is =
-    shows-led OfAudit (read_errand auction one two three) (ShowsAudit auction one two three)
-    (λ read. answers due []) files told told_now from desk now status due is.read
-    (λ answer w. audit-due auction one two three files told told_now from w.value answer due w.read w.shown is) r
+  job-led : (job : Option Job) → RunsJob job call → IsDue files job due → EndsAsDue due call.status
+  job-led None r is =
+      run-led files call.shelf call.shelf_now from (refuses Usage usage_text) call.desk call.desk_now call.status due is r
+  job-led (Some (Answering errand)) r is =
+      run-led files call.shelf call.shelf_now from errand call.desk call.desk_now call.status due is r
+  job-led (Some (Comparing auction servers first second s out)) r is =
+      shows-led OfWorlds (compared_errand auction servers first second s)
+      (ShowsWorlds auction servers first second s out) (λ both. answers (status_of_first both) []) is
+      (λ answer w. worlds-due auction servers first second s out files call.shelf call.shelf_now from w.value answer due
+      w.read w.shown is) r
+  job-led (Some (Auditing auction one two three)) r is =
+      shows-led OfAudit (read_errand auction one two three) (ShowsAudit auction one two three)
+      (λ read. answers due []) is.read
+      (λ answer w. audit-due auction one two three files call.shelf call.shelf_now from w.value answer due
+      w.read w.shown is) r
 
-pub led : (words : List (List ℕ)) (files : List File) (told told_now : Told) (desk now : DeskTold) (status : ℕ)
-    (due : Status) →
-    FromFiles files told told_now → RunsJob (job_of words) told told_now desk now status →
-    IsDue files (job_of words) due → EndsAsDue due status
-led words files told told_now desk now status due from r is =
-    job-led (job_of words) files told told_now from desk now status due r is
+pub led : (words : List (List ℕ)) (files : List File) (call : Call) (due : Status) →
+    IsOf files call → RunsWords words call → IsDue files (job_of words) due → EndsAsDue due call.status
+led words files call due from r is = job-led files call from due (job_of words) r is
 
-module _ (files : List File) (told told_now : Told) (desk now : DeskTold) (status : ℕ)
-    (e : told.files ≡ Some files) where
+module _ (files : List File) (call : Call) (e : call.shelf.files ≡ Some files) where
   -- a job that shows: any answer stands for what comes after the step that it reads by
   shows-from : {A B : Type 0} (own : OwnRefusal) (step : Step A) (read : Step B) (shows : B → Answer → Type 0) →
-      RunsTask (ToShow own step (ShowsRead read shows)) told told_now desk now status → FromFiles files told told_now
+      RunsTask (ToShow own step (ShowsRead read shows)) call.shelf call.shelf_now call.desk call.desk_now call.status →
+      IsOf files call
   shows-from own step read shows (inl (answer, shown, r)) =
-      from-told files told told_now _ _ e (shown.read (λ value. answers JobDone []))
-  shows-from own step read shows (inr f) = from-told files told told_now _ _ e (f (λ value. answers JobDone [])).went
+      from-told files call.shelf call.shelf_now _ _ e (shown.read (λ value. answers JobDone []))
+  shows-from own step read shows (inr f) = from-told files call.shelf call.shelf_now _ _ e (f (λ value. answers JobDone [])).went
 
-  job-from : (job : Option Job) → RunsJob job told told_now desk now status → FromFiles files told told_now
-  job-from None r = from-told files told told_now _ _ e r.went
-  job-from (Some (Answering errand)) r = from-told files told told_now _ _ e r.went
+  job-from : (job : Option Job) → RunsJob job call → IsOf files call
+  job-from None r = from-told files call.shelf call.shelf_now _ _ e r.went
+  job-from (Some (Answering errand)) r = from-told files call.shelf call.shelf_now _ _ e r.went
   job-from (Some (Comparing auction servers first second s out)) r =
       shows-from OfWorlds (compared_errand auction servers first second s) (both_errand auction servers first second)
       (λ both answer. ShowsTheSame s out (first_book both) (words_read both) (second_book both) answer) r
@@ -301,7 +297,6 @@ module _ (files : List File) (told told_now : Told) (desk now : DeskTold) (statu
       shows-from OfAudit (read_errand auction one two three) (read_errand auction one two three) TellsFinding r
 
 -- over a shelf that tells its files, the answers of a run are of them
-pub told-from : (words : List (List ℕ)) (files : List File) (told told_now : Told) (desk now : DeskTold) (status : ℕ) →
-    told.files ≡ Some files → RunsJob (job_of words) told told_now desk now status → FromFiles files told told_now
-told-from words files told told_now desk now status e r =
-    job-from files told told_now desk now status e (job_of words) r
+pub told-from : (words : List (List ℕ)) (files : List File) (call : Call) → call.shelf.files ≡ Some files →
+    RunsWords words call → IsOf files call
+told-from words files call e r = job-from files call e (job_of words) r

@@ -18,10 +18,10 @@ use Rattle.beet_errand.proofs.Steps.{went_none}
 use Rattle.beet_job_tally.specs.Tally.{tally_errand, tally_job}
 use Rattle.beet_job_worlds.specs.Ending.{compared_errand}
 use Rattle.beet_job_audit.specs.Reading.{read_errand}
-use Rattle.beet_app.specs.Doing.{RunsJob}
 use Rattle.beet_app.specs.Jobs.{Answering, Auditing, Comparing, Job, are_names, job_of}
+use Rattle.beet_app_laws.specs.Calls.{RunsJob, RunsWords}
 use Rattle.beet_app_laws.specs.Dues.{EndsAsDue, IsDue}
-use Rattle.beet_app_laws.specs.Needed.{no_call, no_fetch, one_longer, tally_words, told_longer, usage_untold}
+use Rattle.beet_app_laws.specs.Needed.{longer_call, short_call, tally_words, untold_call}
 use Rattle.beet_app_laws.specs.Recorded.{RecordsJob}
 
 above : AUCTION_LIMIT < AUCTION_LIMIT + 1
@@ -42,12 +42,12 @@ module _ (auction book : List ℕ) where
   abbrev job : Option Job
   job = Some (Answering (tally_errand auction book))
 
-  longer-runs : RunsJob job no_fetch (one_longer auction) no_call (told_longer auction) 5
+  longer-runs : RunsJob job (longer_call auction)
   unfolding tally_job
   longer-runs = record {
     rest = bad_file auction too_long;
     went = record {
-      fetches = (one_longer auction).fetches;
+      fetches = (longer_call auction).shelf_now.fetches;
       recorded = refl;
       answered = (record { limited = above; held = tt }, tt);
       leads = (refl, refl, refl);
@@ -61,12 +61,12 @@ module _ (auction book : List ℕ) where
 
   -- where the answers are not of these files, another status may come than the one to which they lead
   pub longer : are_names (auction ∷ book ∷ []) ≡ true →
-      RunsJob (job_of (tally_words auction book)) no_fetch (one_longer auction) no_call (told_longer auction) 5
-      × IsDue [] (job_of (tally_words auction book)) (Refused ReadFault) × (EndsAsDue (Refused ReadFault) 5 → ⊥)
+      RunsWords (tally_words auction book) (longer_call auction)
+      × IsDue [] (job_of (tally_words auction book)) (Refused ReadFault)
+      × (EndsAsDue (Refused ReadFault) (longer_call auction).status → ⊥)
   longer e =
       let is : job_of (tally_words auction book) ≡ job = named-job (are_names (auction ∷ book ∷ [])) job e in (
-        subst (λ (j : Option Job). RunsJob j no_fetch (one_longer auction) no_call (told_longer auction) 5)
-            (sym is) longer-runs,
+        subst (λ (j : Option Job). RunsJob j (longer_call auction)) (sym is) longer-runs,
         subst (λ (j : Option Job). IsDue [] j (Refused ReadFault)) (sym is) unread-due,
         other-end,
       )
@@ -79,7 +79,7 @@ out-of-memory (Wants name limit next) desk = record { code = refl; same = refl }
 short : (told : Told) (desk : DeskTold) (errand : Errand) → Runs errand told told desk desk 1
 short told desk errand = record { rest = errand; went = went_none told errand; ends = out-of-memory errand desk }
 
-short-job : (told : Told) (desk : DeskTold) (job : Option Job) → RunsJob job told told desk desk 1
+short-job : (told : Told) (desk : DeskTold) (job : Option Job) → RunsJob job (short_call told desk)
 short-job told desk None = short told desk (refuses Usage usage_text)
 short-job told desk (Some (Answering errand)) = short told desk errand
 short-job told desk (Some (Comparing auction servers first second s out)) =
@@ -97,7 +97,7 @@ no-more calls more some e = omega (arith, some, ap length e, length-append calls
 
 -- then nothing is recorded of an answer
 pub memory : (words : List (List ℕ)) (told : Told) (desk : DeskTold) →
-    RunsJob (job_of words) told told desk desk 1 × (RecordsJob (job_of words) told told desk desk 1 → ⊥)
+    RunsWords words (short_call told desk) × (RecordsJob (job_of words) (short_call told desk) → ⊥)
 memory words told desk = (
   short-job told desk (job_of words),
   λ r. no-more desk.calls (calls_of r.answer.files r.answer.text) (some-call r.answer.files r.answer.text) r.calls,
@@ -110,8 +110,7 @@ usage-code [] answer e =
 usage-code (fetch ∷ fetches) answer l = absurd l
 
 -- the desk may take no line, and then it has not got the answer
-pub write : (told : Told) → RunsJob (job_of []) told told no_call usage_untold 4
-    × (RecordsJob (job_of []) told told no_call usage_untold 4 → ⊥)
+pub write : (told : Told) → RunsWords [] (untold_call told) × (RecordsJob (job_of []) (untold_call told) → ⊥)
 write told = (
   record {
     rest = refuses Usage usage_text;

@@ -2,7 +2,6 @@
 use Rattle.std.proofs.Common.{◌≡◌, ◌≢◌, ◌++◌, ◌⊎◌, inl, inr, ℕ, List, [], ◌∷◌, Option, Some, None, ap, sym}
 use Rattle.std.proofs.Common.{subst, ◌∙◌, refl}
 use Rattle.std.proofs.lemmas.List.{append_cancel_left}
-use Rattle.beet_store.specs.Desks.{DeskTold}
 use Rattle.beet_store.specs.Files.{Fetch, File, Told}
 use Rattle.beet_errand.specs.Errands.{Answer, Errand, Ends, Step, answers, refuses}
 use Rattle.beet_errand.specs.Fetches.{IsRead, Leads}
@@ -22,8 +21,8 @@ use Rattle.beet_job_worlds.specs.Ending.{compared_errand}
 use Rattle.beet_job_worlds.specs.Reading.{both_errand, first_book, second_book, words_read}
 use Rattle.beet_job_audit.specs.Ending.{TellsFinding}
 use Rattle.beet_job_audit.specs.Reading.{read_errand}
-use Rattle.beet_app.specs.Doing.{RunsJob}
 use Rattle.beet_app.specs.Jobs.{Job, Answering, Comparing, Auditing, job_of}
+use Rattle.beet_app_laws.specs.Calls.{Call, RunsJob, RunsWords}
 use Rattle.beet_app_laws.specs.Recorded.{LeadsJob, LeadsToShow, LeadsToStop, RecordsBy, RecordsJob}
 
 -- the calls tell what they give
@@ -53,18 +52,18 @@ end-answer : (fetches : List Fetch) (answer end : Answer) → Leads fetches (End
 end-answer [] answer end e = cc
 end-answer (fetch ∷ fetches) answer end l = absurd l
 
-module _ (old now : Told) (desk desk_now : DeskTold) (status : ℕ) (one : status ≢ 1) (four : status ≢ 4) where
+module _ (call : Call) (one : call.status ≢ 1) (four : call.status ≢ 4) where
   -- what is recorded of an errand
   abbrev OfErrand : Errand → Type 0
-  OfErrand errand = RecordsAnswer errand old now desk desk_now status
+  OfErrand errand = RecordsAnswer errand call.shelf call.shelf_now call.desk call.desk_now call.status
 
-  of-errand : (errand : Errand) → Runs errand old now desk desk_now status → OfErrand errand
-  of-errand errand r = records_task now desk desk_now status one four (ToAnswer errand) old r
+  of-errand : (errand : Errand) → Runs errand call.shelf call.shelf_now call.desk call.desk_now call.status → OfErrand errand
+  of-errand errand r = records_task call.shelf_now call.desk call.desk_now call.status one four (ToAnswer errand) call.shelf r
 
   -- the same record, of what else its fetches lead to
   record-by : (leads_to : List Fetch → Answer → Type 0) (errand : Errand) (r : OfErrand errand) →
       leads_to r.fetches r.answer →
-      RecordsBy leads_to old now desk desk_now status
+      RecordsBy leads_to call
   record-by leads_to errand r leads = record {
     fetches = r.fetches;
     recorded = r.recorded;
@@ -75,23 +74,24 @@ module _ (old now : Told) (desk desk_now : DeskTold) (status : ℕ) (one : statu
   }
 
   -- two lists that stand after what was recorded before are one
-  same-fetches : (fetches others : List Fetch) → now.fetches ≡ old.fetches ++ fetches →
-      now.fetches ≡ old.fetches ++ others → fetches ≡ others
-  same-fetches fetches others e f = append_cancel_left old.fetches fetches others (sym e ∙ f)
+  same-fetches : (fetches others : List Fetch) → call.shelf_now.fetches ≡ call.shelf.fetches ++ fetches →
+      call.shelf_now.fetches ≡ call.shelf.fetches ++ others → fetches ≡ others
+  same-fetches fetches others e f = append_cancel_left call.shelf.fetches fetches others (sym e ∙ f)
 
   -- whatever comes next, the record is the same, and so is the answer
   one-answer : (errand other : Errand) (r : OfErrand errand) (s : OfErrand other) →
       Leads r.fetches other (Ends r.answer)
   one-answer errand other r s =
       let fetches = same-fetches s.fetches r.fetches s.recorded r.recorded in
-      let calls = append_cancel_left desk.calls (calls_of s.answer.files s.answer.text)
+      let calls = append_cancel_left call.desk.calls (calls_of s.answer.files s.answer.text)
       (calls_of r.answer.files r.answer.text) (sym s.calls ∙ r.calls) in
       let answer = same-answer s.answer r.answer (sym s.code ∙ r.code) calls in
       subst (λ a. Leads r.fetches other (Ends a)) answer (subst (λ f. Leads f other (Ends s.answer)) fetches s.leads)
 
   -- the errand of a step that ends in it, whatever would come next
-  stops : {A : Type 0} (step : Step A) → ((next : A → Errand) → Runs (step next) old now desk desk_now status) →
-      RecordsBy (LeadsToStop step) old now desk desk_now status
+  stops : {A : Type 0} (step : Step A) →
+      ((next : A → Errand) → Runs (step next) call.shelf call.shelf_now call.desk call.desk_now call.status) →
+      RecordsBy (LeadsToStop step) call
   stops {A = A} step runs =
       let any : A → Errand = λ value. answers JobDone [] in
       let r = of-errand (step any) (runs any) in
@@ -99,7 +99,7 @@ module _ (old now : Told) (desk desk_now : DeskTold) (status : ℕ) (one : statu
       (λ next. one-answer (step any) (step next) r (of-errand (step next) (runs next)))
 
   -- what was read leads to its value
-  through : {A : Type 0} (step : Step A) (value : A) → (is : IsRead old now step value) → (next : A → Errand) →
+  through : {A : Type 0} (step : Step A) (value : A) → (is : IsRead call.shelf call.shelf_now step value) → (next : A → Errand) →
       Leads (is (λ value. answers JobDone [])).fetches (step next) (next value)
   through step value is next =
       let any = is (λ value. answers JobDone []) in
@@ -110,11 +110,11 @@ module _ (old now : Told) (desk desk_now : DeskTold) (status : ℕ) (one : statu
 
   -- an answer that shows goes out where all is read
   shown-out : {A : Type 0} (step : Step A) (shows : A → Answer → Type 0) (answer : Answer) →
-      ShowsRead step shows old now answer →
-      Runs (Ends answer) now now desk desk_now status → RecordsBy (LeadsToShow step shows) old now desk desk_now status
+      ShowsRead step shows call.shelf call.shelf_now answer →
+      Runs (Ends answer) call.shelf_now call.shelf_now call.desk call.desk_now call.status → RecordsBy (LeadsToShow step shows) call
   shown-out step shows answer shown r =
       let any = shown.read (λ value. answers JobDone []) in
-      let end = records_task now desk desk_now status one four (ToAnswer (Ends answer)) now r in
+      let end = records_task call.shelf_now call.desk call.desk_now call.status one four (ToAnswer (Ends answer)) call.shelf_now r in
       let same = end-answer end.fetches answer end.answer end.leads in
       record {
         fetches = any.fetches;
@@ -122,13 +122,13 @@ module _ (old now : Told) (desk desk_now : DeskTold) (status : ℕ) (one : statu
         answer = answer;
         leads = record { value = shown.value; leads = through step shown.value shown.read; shown = shown.shown };
         code = end.code ∙ ap (λ (a : Answer). code_of a.status) same;
-        calls = subst (λ (a : Answer). desk_now.calls ≡ desk.calls ++ calls_of a.files a.text) same end.calls;
+        calls = subst (λ (a : Answer). call.desk_now.calls ≡ call.desk.calls ++ calls_of a.files a.text) same end.calls;
       }
 
   -- more may lead to an answer
   wider : (P Q : List Fetch → Answer → Type 0) →
       ((fetches : List Fetch) (answer : Answer) → P fetches answer → Q fetches answer) →
-      RecordsBy P old now desk desk_now status → RecordsBy Q old now desk desk_now status
+      RecordsBy P call → RecordsBy Q call
   wider P Q f r = record {
     fetches = r.fetches;
     recorded = r.recorded;
@@ -140,9 +140,8 @@ module _ (old now : Told) (desk desk_now : DeskTold) (status : ℕ) (one : statu
 
   -- a job that shows has shown, or it was refused on the way
   showing : {A B : Type 0} (own : OwnRefusal) (step : Step A) (read : Step B) (shown : B → Answer → Type 0) →
-      RunsTask (ToShow own step (ShowsRead read shown)) old now desk desk_now status →
-      RecordsBy (λ fetches answer. LeadsToShow read shown fetches answer ⊎ LeadsToStop step fetches answer) old now
-      desk desk_now status
+      RunsTask (ToShow own step (ShowsRead read shown)) call.shelf call.shelf_now call.desk call.desk_now call.status →
+      RecordsBy (λ fetches answer. LeadsToShow read shown fetches answer ⊎ LeadsToStop step fetches answer) call
   showing own step read shown (inl (answer, is, r)) =
       wider (LeadsToShow read shown)
       (λ fetches answer. LeadsToShow read shown fetches answer ⊎ LeadsToStop step fetches answer)
@@ -152,7 +151,7 @@ module _ (old now : Told) (desk desk_now : DeskTold) (status : ℕ) (one : statu
       (λ fetches answer. LeadsToShow read shown fetches answer ⊎ LeadsToStop step fetches answer)
       (λ fetches answer h. inr h) (stops step f)
 
-  of-job : (job : Option Job) → RunsJob job old now desk desk_now status → RecordsJob job old now desk desk_now status
+  of-job : (job : Option Job) → RunsJob job call → RecordsJob job call
   of-job None r =
       let e = of-errand (refuses Usage usage_text) r in record-by (LeadsJob None) (refuses Usage usage_text) e e.leads
   of-job (Some (Answering errand)) r =
@@ -163,7 +162,6 @@ module _ (old now : Told) (desk desk_now : DeskTold) (status : ℕ) (one : statu
   of-job (Some (Auditing auction one two three)) r =
       showing OfAudit (read_errand auction one two three) (read_errand auction one two three) TellsFinding r
 
-pub records : (words : List (List ℕ)) (old now : Told) (desk desk_now : DeskTold) (status : ℕ) →
-    RunsJob (job_of words) old now desk desk_now status →
-    status ≢ 1 → status ≢ 4 → RecordsJob (job_of words) old now desk desk_now status
-records words old now desk desk_now status r one four = of-job old now desk desk_now status one four (job_of words) r
+pub records : (words : List (List ℕ)) (call : Call) → RunsWords words call → call.status ≢ 1 → call.status ≢ 4 →
+    RecordsJob (job_of words) call
+records words call r one four = of-job call one four (job_of words) r

@@ -4,11 +4,12 @@ use Rattle.beet_field.specs.declared.point.Point.TheVariants.{One, Two, Three}
 use Rattle.beet_store.specs.Files.{File}
 use Rattle.beet_store.specs.Desks.{DeskTold, Given}
 use Rattle.beet_store.specs.declared.desk.PutFault.TheVariants.{Failed, OutOfMemory}
-use Rattle.beet_errand.specs.Statuses.{code_of}
+use Rattle.beet_errand.specs.Statuses.{IsDoneCode, code_of}
 use Rattle.beet_errand.specs.declared.answer.Refusal.{Refusal}
 use Rattle.beet_errand.specs.declared.answer.Status.TheVariants.{Refused}
 use Rattle.beet_errand.specs.Errands.{file_for}
 use Rattle.beet_errand.specs.Runs.{GivesAll, Said}
+use Rattle.beet_app_laws.specs.Calls.{Call}
 use Rattle.beet_app_laws.specs.Refusals.{IsLineOf}
 
 -- nothing was said, as far as a desk tells what it was given
@@ -32,8 +33,8 @@ last_word (word ∷ other ∷ words) = last_word (other ∷ words)
 
 -- the names of files that a command puts which ends with this word, if it puts any: one for each server, or those of
 -- two worlds
-abbrev pub AreNames : List ℕ → List (List ℕ) → Type 0
-AreNames out names =
+abbrev pub AreOutputs : List ℕ → List (List ℕ) → Type 0
+AreOutputs out names =
     (names ≡ [])
     ⊎ (names ≡ file_for out One ∷ file_for out Two ∷ file_for out Three ∷ [])
     ⊎ (names ≡ (out ++ codes ".first") ∷ (out ++ codes ".second") ∷ (out ++ codes ".words") ∷ [])
@@ -42,20 +43,20 @@ AreNames out names =
 -- found no memory
 pub record EndsShort (out : List ℕ) (old now : DeskTold) : Type 0 where
   pub silent : SaysNothing old.given now.given
-  pub calls : (now ≡ old) ⊎ ((files : List File) × (text : List ℕ) × AreNames out (map (λ file. file.0) files)
+  pub calls : (now ≡ old) ⊎ ((files : List File) × (text : List ℕ) × AreOutputs out (map (λ file. file.0) files)
       × GivesAll old now files text (Err OutOfMemory))
 
 -- files were put, one after another, and then a text was said, up to the first call that failed, which was the last
 pub record EndsAtFault (out : List ℕ) (old now : DeskTold) : Type 0 where
   pub files : List File
-  pub names : AreNames out (map (λ file. file.0) files)
+  pub names : AreOutputs out (map (λ file. file.0) files)
   pub text : List ℕ
   pub calls : GivesAll old now files text (Err Failed)
 
 -- files were put, one after another, and then a text was said
 pub record GivesWhole (out : List ℕ) (old now : DeskTold) : Type 0 where
   pub files : List File
-  pub names : AreNames out (map (λ file. file.0) files)
+  pub names : AreOutputs out (map (λ file. file.0) files)
   pub text : List ℕ
   pub calls : GivesAll old now files text (Ok tt)
 
@@ -64,8 +65,8 @@ abbrev pub IsRefusal : ℕ → Type 0
 IsRefusal status = (refusal : Refusal) × (status ≡ code_of (Refused refusal))
 
 -- what is left by each exit status of a command that ends with this word
-pub record LeavesBy (out : List ℕ) (status : ℕ) (old now : DeskTold) : Type 0 where
-  pub memory : status ≡ 1 → EndsShort out old now
-  pub refused : IsRefusal status → SaysLine status old now
-  pub write : status ≡ 4 → EndsAtFault out old now
-  pub whole : (status ≡ 0) ⊎ (status ≡ 6) → GivesWhole out old now
+pub record LeavesBy (out : List ℕ) (call : Call) : Type 0 where
+  pub memory : call.status ≡ 1 → EndsShort out call.desk call.desk_now
+  pub refused : IsRefusal call.status → SaysLine call.status call.desk call.desk_now
+  pub write : call.status ≡ 4 → EndsAtFault out call.desk call.desk_now
+  pub whole : IsDoneCode call.status → GivesWhole out call.desk call.desk_now

@@ -1,6 +1,8 @@
+pub mod Calls
 pub mod Refusals
 pub mod Leavings
 pub mod Dues
 pub mod Held
+pub mod Readings
 pub mod Recorded
 pub mod Needed

@@ -1,7 +1,6 @@
 -- What a run has recorded of its shelf and its desk, whatever else these tell.
-use Rattle.std.specs.Prelude.{◌≡◌, ◌⊎◌, ◌++◌, ℕ, List, Option, Some, None}
-use Rattle.beet_store.specs.Desks.{DeskTold}
-use Rattle.beet_store.specs.Files.{Fetch, Told}
+use Rattle.std.specs.Prelude.{◌≡◌, ◌⊎◌, ◌++◌, List, Option, Some, None}
+use Rattle.beet_store.specs.Files.{Fetch}
 use Rattle.beet_errand.specs.Errands.{Answer, Errand, Ends, Step, refuses}
 use Rattle.beet_errand.specs.Fetches.{Leads}
 use Rattle.beet_errand.specs.Records.{calls_of}
@@ -14,6 +13,7 @@ use Rattle.beet_job_worlds.specs.Reading.{both_errand, first_book, second_book, 
 use Rattle.beet_job_audit.specs.Ending.{TellsFinding}
 use Rattle.beet_job_audit.specs.Reading.{read_errand}
 use Rattle.beet_app.specs.Jobs.{Job, Answering, Comparing, Auditing}
+use Rattle.beet_app_laws.specs.Calls.{Call}
 
 -- these fetches lead through a step to a value, whatever comes next, and the answer shows this of it
 pub record LeadsToShow {A : Type 0} (step : Step A) (shows : A → Answer → Type 0)
@@ -42,15 +42,14 @@ LeadsJob (Some (Auditing auction one two three)) fetches answer =
 
 -- what the shelf was asked and answered leads to an answer, whose status is the exit status, and what the desk was
 -- given is this answer: each of its files by one put, in order, its text by one say, and nothing else
-pub record RecordsBy (leads_to : List Fetch → Answer → Type 0) (old now : Told) (desk desk_now : DeskTold)
-    (status : ℕ) : Type 0 where
+pub record RecordsBy (leads_to : List Fetch → Answer → Type 0) (call : Call) : Type 0 where
   pub fetches : List Fetch
-  pub recorded : now.fetches ≡ old.fetches ++ fetches
+  pub recorded : call.shelf_now.fetches ≡ call.shelf.fetches ++ fetches
   pub answer : Answer
   pub leads : leads_to fetches answer
-  pub code : status ≡ code_of answer.status
-  pub calls : desk_now.calls ≡ desk.calls ++ calls_of answer.files answer.text
+  pub code : call.status ≡ code_of answer.status
+  pub calls : call.desk_now.calls ≡ call.desk.calls ++ calls_of answer.files answer.text
 
 -- so it is of the job that words name
-abbrev pub RecordsJob : Option Job → Told → Told → DeskTold → DeskTold → ℕ → Type 0
-RecordsJob job old now desk desk_now status = RecordsBy (LeadsJob job) old now desk desk_now status
+abbrev pub RecordsJob : Option Job → Call → Type 0
+RecordsJob job call = RecordsBy (LeadsJob job) call

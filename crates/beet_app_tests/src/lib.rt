@@ -1,5 +1,5 @@
-//! The tests of beet_app and beet_errand over a shelf and a desk in memory, and of the words that name sources, which
-//! are proved over contracts alone. Other jobs over files are lines of beet_lines.
+//! The tests of beet_app and beet_errand over a shelf and a desk in memory, of a transcript that is put there, and of
+//! the words that name sources, which are proved over contracts alone. Other jobs over files are lines of beet_lines.
 #![tactic(auto)]
 
 #[cfg(test)]
@@ -10,3 +10,5 @@ mod refused;
 mod sources;
 #[cfg(test)]
 mod tests;
+#[cfg(test)]
+mod transcript;

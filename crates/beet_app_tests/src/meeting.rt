@@ -9,6 +9,7 @@ use std::sync::Wait;
 use std::sync::atomic::{AtomicU64, Ordering};
 use std::thread;
 use std::thread::Threads;
+use std::time::Clock;
 
 /// How often a server that is held looks for the others before it is let go.
 const TURNS: u64 = 10_000_000;
@@ -147,7 +148,7 @@ fn gate_of<R: Abort + Wait + Sync + Drop>(rt: R, first: Sender<GateNote>) -> Mee
 
 /// Does the job of a line over the files and envelopes under a gate, and compares its text.
 fn expect_done<G: Gate>(
-    rt: &(impl Abort + Threads + Wait + Sync),
+    rt: &(impl Abort + Threads + Wait + Clock + Sync),
     alloc: Global,
     line: &str,
     gate: &G,
@@ -160,7 +161,7 @@ fn expect_done<G: Gate>(
 }
 
 /// Does the job of a line under a new gate: the text, and that all three servers met in each of so many rounds.
-fn expect_meeting<R: Abort + Threads + Wait + Sync + Copy + Drop>(
+fn expect_meeting<R: Abort + Threads + Wait + Clock + Sync + Copy + Drop>(
     rt: R,
     alloc: Global,
     line: &str,
@@ -202,7 +203,7 @@ fn push_put(rt: &impl Abort, alloc: Global, desk: &MemoryDesk, name: &str, files
 
 /// Adds the files that the job of a line puts to these files.
 pub(crate) fn add_put(
-    rt: &(impl Abort + Threads + Wait + Sync),
+    rt: &(impl Abort + Threads + Wait + Clock + Sync),
     alloc: Global,
     line: &str,
     names: &[&str],
@@ -217,7 +218,7 @@ pub(crate) fn add_put(
 
 /// Adds the envelopes of these bids to these files.
 fn add_sealed(
-    rt: &(impl Abort + Threads + Wait + Sync),
+    rt: &(impl Abort + Threads + Wait + Clock + Sync),
     alloc: Global,
     seals: &[(&str, [&str; 3])],
     files: &mut Vec<Held>,
@@ -228,7 +229,10 @@ fn add_sealed(
 }
 
 /// The files, with the list and all envelopes.
-pub(crate) fn sealed(rt: &(impl Abort + Threads + Wait + Sync), alloc: Global) -> Vec<Held> {
+pub(crate) fn sealed(
+    rt: &(impl Abort + Threads + Wait + Clock + Sync),
+    alloc: Global,
+) -> Vec<Held> {
     let mut files = files(rt, alloc, LIST);
     add_sealed(rt, alloc, &SEALS, &mut files);
     files
@@ -248,7 +252,7 @@ const MEETINGS: [(&str, u64, &str); 4] = [
 ];
 
 /// Does the job of each case under a new gate.
-fn expect_meetings<R: Abort + Threads + Wait + Sync + Copy + Drop>(
+fn expect_meetings<R: Abort + Threads + Wait + Clock + Sync + Copy + Drop>(
     rt: R,
     alloc: Global,
     cases: &[(&str, u64, &str)],

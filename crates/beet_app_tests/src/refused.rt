@@ -8,6 +8,7 @@ use std::alloc::Global;
 use std::process::Abort;
 use std::sync::Wait;
 use std::thread::Threads;
+use std::time::Clock;
 
 /// A book whose bidders have tapes, a schedule of no message, and the tape of a bid that is sealed.
 const FILES: [(&str, &str); 6] = [
@@ -130,7 +131,7 @@ const JOBS: [Job; 9] = [
 ];
 
 /// All files that the jobs fetch.
-fn all_files(rt: &(impl Abort + Threads + Wait + Sync), alloc: Global) -> Vec<Held> {
+fn all_files(rt: &(impl Abort + Threads + Wait + Clock + Sync), alloc: Global) -> Vec<Held> {
     let mut files = sealed(rt, alloc);
     push_all(rt, alloc, &mut files, &FILES);
     add_put(rt, alloc, RECORD, &["o.1", "o.2", "o.3"], &mut files);
@@ -149,7 +150,7 @@ fn expect_first(rt: &impl Abort, desk: &MemoryDesk, files: &[Put], count: usize)
 /// Does a job, of which this fetch and this call of the desk fail, and compares its status, how many of its files
 /// stand, and its text.
 fn expect_end(
-    rt: &(impl Abort + Threads + Wait + Sync),
+    rt: &(impl Abort + Threads + Wait + Clock + Sync),
     alloc: Global,
     (line, _, put, _): Job,
     (fetch, call): (usize, usize),
@@ -166,7 +167,7 @@ fn expect_end(
 
 /// Each fetch of a job fails once, and the line names its file.
 fn expect_read_faults(
-    rt: &(impl Abort + Threads + Wait + Sync),
+    rt: &(impl Abort + Threads + Wait + Clock + Sync),
     alloc: Global,
     job: Job,
     fetched: &[&str],
@@ -180,7 +181,7 @@ fn expect_read_faults(
 
 /// Each call of the desk of a job fails once, of which so many put files: those before it stand, and nothing is said.
 fn expect_write_faults(
-    rt: &(impl Abort + Threads + Wait + Sync),
+    rt: &(impl Abort + Threads + Wait + Clock + Sync),
     alloc: Global,
     job: Job,
     put: usize,
@@ -193,7 +194,7 @@ fn expect_write_faults(
 
 /// Each fetch and each call of the desk of a job fails once. It makes no more: where the next ones would fail, it is
 /// done.
-fn expect_each_refused(rt: &(impl Abort + Threads + Wait + Sync), alloc: Global, job: Job) {
+fn expect_each_refused(rt: &(impl Abort + Threads + Wait + Clock + Sync), alloc: Global, job: Job) {
     let (_, fetched, put, text) = job;
     expect_read_faults(rt, alloc, job, fetched);
     expect_write_faults(rt, alloc, job, put.len());
@@ -202,7 +203,7 @@ fn expect_each_refused(rt: &(impl Abort + Threads + Wait + Sync), alloc: Global,
 }
 
 /// Does the jobs.
-fn expect_jobs(rt: &(impl Abort + Threads + Wait + Sync), alloc: Global, jobs: &[Job]) {
+fn expect_jobs(rt: &(impl Abort + Threads + Wait + Clock + Sync), alloc: Global, jobs: &[Job]) {
     for job in jobs {
         expect_each_refused(rt, alloc, *job);
     }

@@ -6,6 +6,7 @@ use std::alloc::Global;
 use std::process::Abort;
 use std::sync::Wait;
 use std::thread::Threads;
+use std::time::Clock;
 
 /// An auction of four prices with three bidders, another book of them that has the same outcome, an auction of one
 /// price with a bidder, and a list of no envelopes.
@@ -113,7 +114,7 @@ pub(crate) fn words_of(rt: &impl Abort, alloc: Global, line: &str) -> Vec<String
 
 /// Does the job of a line over these files, where this fetch fails: its status.
 pub(crate) fn run_over<G: Gate>(
-    rt: &(impl Abort + Threads + Wait + Sync),
+    rt: &(impl Abort + Threads + Wait + Clock + Sync),
     alloc: Global,
     line: &str,
     files: Vec<Held>,
@@ -128,7 +129,7 @@ pub(crate) fn run_over<G: Gate>(
 
 /// Does the job of a line over the files, where this call of the desk fails: its status.
 pub(crate) fn done(
-    rt: &(impl Abort + Threads + Wait + Sync),
+    rt: &(impl Abort + Threads + Wait + Clock + Sync),
     alloc: Global,
     line: &str,
     made: &str,
@@ -149,7 +150,7 @@ pub(crate) fn expect_said(rt: &impl Abort, desk: &MemoryDesk, text: &str) {
 
 /// Does a job with the file that is made, where this call of the desk fails, and compares its status and its text.
 fn expect_job(
-    rt: &(impl Abort + Threads + Wait + Sync),
+    rt: &(impl Abort + Threads + Wait + Clock + Sync),
     alloc: Global,
     line: &str,
     made: &str,
@@ -169,7 +170,7 @@ fn the_usage_line_is_not_taken(rt: HostRuntime) {
 
 /// A file of so many bytes.
 fn expect_too_long(
-    rt: &(impl Abort + Threads + Wait + Sync),
+    rt: &(impl Abort + Threads + Wait + Clock + Sync),
     alloc: Global,
     line: &str,
     length: usize,

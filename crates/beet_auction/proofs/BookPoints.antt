@@ -1,48 +1,27 @@
 -- On points of lines with the sums of a book the search over the points is that of the book.
-use Rattle.std.proofs.Common.{◌≡◌, ℕ, ◌+◌, ◌*◌, ◌<◌, List, slice_index, sym, ◌∙◌, ap, arith}
-use Rattle.std.specs.Prelude.{nat_le}
+use Rattle.std.proofs.Common.{◌≡◌, ℕ, ◌+◌, ◌*◌, List, slice_index, sym, ◌∙◌, ap, arith}
 use Rattle.std.proofs.lemmas.Grind.{same_number_lists}
 use Rattle.beet_field.specs.Trio.{member}
 use Rattle.beet_field.specs.declared.trio.Trio.{Trio}
 use Rattle.beet_bids.specs.Books.{Book, IsBook}
-use Rattle.beet_bids.specs.Grids.{comparisons_of}
 use Rattle.beet_bids.specs.Outcomes.{clearing_place}
-use Rattle.beet_bids.specs.Sums.{supply_at, demand_at, sums_of}
-use Rattle.beet_compare.specs.Compare.{is_doubled_even}
-use Rattle.beet_compare.proofs.Parity.{doubled_even-≤, same_test}
+use Rattle.beet_bids.specs.Sums.{sums_of}
 use Rattle.beet_gates.proofs.EachFacts.{length-each, item-each}
 use Rattle.beet_plan.specs.Auction.{Auction, auction_over}
 use Rattle.beet_plan.specs.Runs.{found, place_of_inputs, run_finish, run_rounds}
 use Rattle.beet_masking.specs.Masks.{mask_at}
 use Rattle.beet_plan.proofs.BookFacts.{found-outcome}
-use Rattle.beet_bids.proofs.BookSums.{book-turn, clearing-within, length-sums, sums-supply, sums-demand, small}
-use Rattle.beet_plan.proofs.Searches.{place-turn}
+use Rattle.beet_plan.proofs.BookRuns.{book-place}
+use Rattle.beet_bids.proofs.BookSums.{length-sums, sums-supply, sums-demand}
 use Rattle.beet_sharing.specs.Lines.{OnLines}
 use Rattle.beet_sharing.specs.Runs.{opened_at}
 use Rattle.beet_sharing.proofs.Lined.{lined, opened-line}
 use Rattle.beet_auction.specs.AnyPoints.{points_finish, points_place, points_rounds, values_on}
 use Rattle.beet_auction.specs.Endings.{book_finish, book_rounds}
-use Rattle.beet_bids.proofs.GridFacts.{below_comparisons}
 
 module _ (book : Book) where
   abbrev auction : Auction
   auction = auction_over book.grid
-
-  -- the search over the sums ends at the clearing place
-  book-place : IsBook book → place_of_inputs auction (sums_of book) ≡ clearing_place book
-  book-place b =
-      let prices = book.grid.prices in
-      let test = λ (k : ℕ). is_doubled_even (slice_index (sums_of book) k) (slice_index (sums_of book) (prices + k)) in
-      let turns : (k : ℕ) → k < prices → test k ≡ nat_le (clearing_place book) k = λ k h.
-      let s = small book b k h in
-      let means = doubled_even-≤ (supply_at book.bidders k) (demand_at book.bidders k) (omega (arith, s.0))
-      (omega (arith, s.1)) (omega (arith, s.0)) (omega (arith, s.1)) in
-      rw (sums-supply book k h, sums-demand book k h)
-      (same_test (is_doubled_even (supply_at book.bidders k) (demand_at book.bidders k)) (supply_at book.bidders k)
-      (demand_at book.bidders k) means)
-      ∙ book-turn book b k h in
-      place-turn test (comparisons_of prices) 0 prices (clearing_place book) (omega arith) (clearing-within book)
-      (omega (arith, below_comparisons prices)) turns
 
   -- the values of the points are the sums
   book-values : (slopes : List ℕ) (inputs : Trio (List ℕ)) → OnLines (sums_of book) slopes inputs →
@@ -56,7 +35,7 @@ module _ (book : Book) where
 
   points-place : (slopes : List ℕ) (inputs : Trio (List ℕ)) → IsBook book → OnLines (sums_of book) slopes inputs →
       points_place auction inputs ≡ clearing_place book
-  points-place slopes inputs b lines = ap (place_of_inputs auction) (book-values slopes inputs lines) ∙ book-place b
+  points-place slopes inputs b lines = ap (place_of_inputs auction) (book-values slopes inputs lines) ∙ book-place book b
 
   pub points-rounds : (slopes : List ℕ) (inputs masks : Trio (List ℕ)) → IsBook book → OnLines (sums_of book) slopes inputs →
       points_rounds auction inputs masks ≡ book_rounds book masks

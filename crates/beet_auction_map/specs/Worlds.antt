@@ -1,8 +1,9 @@
 -- All that is said of the words of the second world.
-use Rattle.std.specs.Prelude.{◌≡◌, ℕ, List}
+use Rattle.std.specs.Prelude.{◌≡◌, ℕ, List, All, length}
 use Rattle.beet_field.specs.declared.point.Point.{Point}
 use Rattle.beet_field.specs.declared.trio.Trio.{Trio}
 use Rattle.beet_words.specs.Bundles.{Words}
+use Rattle.beet_words.specs.Words.{IsWord}
 use Rattle.beet_bids.specs.Books.{Book}
 use Rattle.beet_bids.specs.Grids.{Grid}
 use Rattle.beet_plan.specs.Auction.{auction_batch, most_masks, most_rounds, auction_over}
@@ -11,7 +12,9 @@ use Rattle.beet_sharing.specs.Runs.{HasRounds}
 use Rattle.beet_map_laws.specs.Pairs.{GoTogether}
 use Rattle.beet_map.specs.Refused.{LookSame}
 use Rattle.beet_map.specs.Secrets.{Secrets}
+use Rattle.beet_auction_map.specs.Agreement.{Agree}
 use Rattle.beet_auction_map.specs.Enough.{AreEnough}
+use Rattle.beet_auction_map.specs.MappedBidders.{BiddersMapped}
 use Rattle.beet_auction_map.specs.MappedWords.{IsOnlyFirst, IsOnlySecond, Mapped}
 use Rattle.beet_auction.specs.Setups.{setup_for, rounds_for}
 use Rattle.beet_auction_map.specs.Moments.{SameAfter}
@@ -37,6 +40,17 @@ AlwaysSame s first words second words' =
 -- the run of a book with these words has its rounds: its end comes after them, and not before
 abbrev pub Ends : Book → Words → Type 0
 Ends book words = HasRounds (setup_for book words) (rounds_for book words)
+
+-- words that are enough for the first book, a second book that agrees with it for server s, and words of the second
+-- book's bidders that are mapped from those of the first; all words are below 2^61
+pub record HasBidders (s : Point) (first : Book) (words : Words) (second : Book) (bidders : List (List ℕ)) :
+    Type 0 where
+  pub enough : AreEnough first words
+  pub agree : Agree s first second
+  pub count : length bidders ≡ length words.bidders
+  pub mapped : BiddersMapped s first.bidders words.bidders second.bidders bidders
+  pub below : All (λ list. All IsWord list) words.bidders
+  pub below' : All (λ list. All IsWord list) bidders
 
 -- words of two worlds: mapped in the one way there is, enough for the second book, and server s cannot tell which is
 -- which

@@ -11,10 +11,9 @@ ghost use Rattle.beet_auction_map.specs.Agreement.{Agree};
 ghost use Rattle.beet_auction_map.specs.Disagreement.{RefusesMap};
 ghost use Rattle.beet_auction_map.specs.Enough.{AreEnough};
 ghost use Rattle.beet_auction_map.specs.InputLines.{AreInputLines};
-ghost use Rattle.beet_auction_map.specs.MappedBidders.{BiddersMapped};
 ghost use Rattle.beet_auction_map.specs.MappedWords.{IsOnlyFirst, IsOnlySecond, Mapped};
 ghost use Rattle.beet_auction_map.specs.ViewsWith.{transcript_with, view_with};
-ghost use Rattle.beet_auction_map.specs.Worlds.{AlwaysSame, Ends, GoTogetherIn, LookSameIn, WorldsMapped};
+ghost use Rattle.beet_auction_map.specs.Worlds.{AlwaysSame, Ends, GoTogetherIn, HasBidders, LookSameIn, WorldsMapped};
 
 use crate::agreeing::{MapFault, agreement};
 use crate::bidders::map_bidders;
@@ -120,12 +119,7 @@ fn map_beside(
     bidders: &[WordList],
     here: &Secrets,
 ) -> Result<(Trio<WordList>, Trio<WordList>), AllocError>
-    requires enough { AreEnough first.now words.now }
-    requires agree { Agree me first.now second.now }
-    requires count { length bidders.now ≡ length words.now.bidders }
-    requires mapped { BiddersMapped me first.now.bidders words.now.bidders second.now.bidders bidders.now }
-    requires below { All (λ list. All IsWord list) words.now.bidders }
-    requires words { All (λ list. All IsWord list) bidders.now }
+    requires worlds { HasBidders me first.now words.now second.now bidders.now }
     requires inputs { AreInputLines first.now words.now.bidders here.now.inputs }
     requires masks { here.now.masks ≡ words.now.masks }
     requires limits { IsBook first.now }
@@ -150,12 +144,7 @@ fn map_for_servers(
     words: &Words,
     bidders: &[WordList],
 ) -> Result<(Trio<WordList>, Trio<WordList>), AllocError>
-    requires enough { AreEnough first.now words.now }
-    requires agree { Agree me first.now second.now }
-    requires count { length bidders.now ≡ length words.now.bidders }
-    requires mapped { BiddersMapped me first.now.bidders words.now.bidders second.now.bidders bidders.now }
-    requires below { All (λ list. All IsWord list) words.now.bidders }
-    requires words { All (λ list. All IsWord list) bidders.now }
+    requires { HasBidders me first.now words.now second.now bidders.now }
     ensures { IfOk result (λ mapped. WorldsMapped me first.now words.now second.now
         (record { masks = mapped.0; coefficients = mapped.1; bidders = bidders.now })) }
 {

@@ -22,6 +22,7 @@ use beet_words::FeList;
 use std::alloc::Global;
 use std::sync::Wait;
 use std::thread::Threads;
+use std::time::Clock;
 
 /// The three servers of an auction.
 type Servers = Trio<ServerCore<AuctionScript>>;
@@ -30,7 +31,7 @@ type Servers = Trio<ServerCore<AuctionScript>>;
 /// each in a thread of its own. Each meets the gate once in each round, before it puts its messages. Where no thread
 /// or no memory can be had for that, they run in lockstep on the caller's, without the gate. Want of memory is the
 /// only error, and comes before the first round.
-pub fn run_servers<R: Threads + Wait + Sync, G: Gate>(
+pub fn run_servers<R: Threads + Wait + Clock + Sync, G: Gate>(
     rt: &R,
     alloc: Global,
     grid: &Grid,
@@ -49,7 +50,7 @@ pub fn run_servers<R: Threads + Wait + Sync, G: Gate>(
 
 /// Runs the auction that three servers begin with these points and words to its end, as `run_servers` does: how it
 /// ends, and after how many rounds. Want of memory is the only error, and comes before the first round.
-pub fn run_auction<R: Threads + Wait + Sync, G: Gate>(
+pub fn run_auction<R: Threads + Wait + Clock + Sync, G: Gate>(
     rt: &R,
     alloc: Global,
     grid: &Grid,

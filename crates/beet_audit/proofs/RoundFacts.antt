@@ -12,6 +12,7 @@ use Rattle.beet_field.specs.declared.trio.Trio.{Trio}
 use Rattle.beet_gates.proofs.EachFacts.{get-each, length-each, get_or-each}
 use Rattle.beet_plan.specs.Auction.{Auction, auction_batch}
 use Rattle.beet_round.specs.Sides.{peer}
+use Rattle.beet_round.specs.declared.sides.Side.{Side}
 use Rattle.beet_round.specs.declared.sides.Side.TheVariants.{Low, High}
 use Rattle.beet_server.specs.Cores.{Core}
 use Rattle.beet_server.specs.Steps.{received_from}
@@ -101,31 +102,20 @@ module _ (o : Setup) (rounds : ℕ) (s : Point) (core : Core Auction) (at : IsAt
       ∙ get-each (round_seen o core.me) core.round t within)
       ∙ ap (λ (me : Point). round_seen o me t) at.name
 
-  pub received-low : unwrap_or (received_from core t (peer s Low)) [] ≡ message o (peer s Low) s t
-  received-low = ap (λ (me : Point). unwrap_or (received_from core t (peer me Low)) []) (sym at.name)
+  pub received-peer : (side : Side) → unwrap_or (received_from core t (peer s side)) [] ≡ message o (peer s side) s t
+  received-peer Low = ap (λ (me : Point). unwrap_or (received_from core t (peer me Low)) []) (sym at.name)
       ∙ ap (λ (b : List ℕ × List ℕ). b.0) both-received
-
-  pub received-high : unwrap_or (received_from core t (peer s High)) [] ≡ message o (peer s High) s t
-  received-high = ap (λ (me : Point). unwrap_or (received_from core t (peer me High)) []) (sym at.name)
+  received-peer High = ap (λ (me : Point). unwrap_or (received_from core t (peer me High)) []) (sym at.name)
       ∙ ap (λ (b : List ℕ × List ℕ). b.1) both-received
 
 -- what is found of a message that a core received is found of that of the run
-pub judged-low : {U : Type 0} (result : Result U AuditFault) (o : Setup) (rounds : ℕ) (s : Point) (view : Viewed)
+pub judged-peer : {U : Type 0} (side : Side) (result : Result U AuditFault) (o : Setup) (rounds : ℕ) (s : Point) (view : Viewed)
     (core : Core Auction) (t : ℕ) (sender : Point) → IsAtRound auction_batch o rounds s core → t < rounds →
-    sender ≡ peer s Low → Judges (Message sender s t (held_from view t sender) (unwrap_or (received_from core t sender) [])) result →
-    Judges (Message (peer s Low) s t (held_from view t (peer s Low)) (message o (peer s Low) s t)) result
-judged-low result o rounds s view core t sender at lt e h =
-    subst (λ (sent : List ℕ). Judges (Message (peer s Low) s t (held_from view t (peer s Low)) sent) result)
-    (received-low o rounds s core at t lt)
-    (subst (λ (from : Point). Judges (Message from s t (held_from view t from) (unwrap_or (received_from core t from) [])) result) e h)
-
-pub judged-high : {U : Type 0} (result : Result U AuditFault) (o : Setup) (rounds : ℕ) (s : Point) (view : Viewed)
-    (core : Core Auction) (t : ℕ) (sender : Point) → IsAtRound auction_batch o rounds s core → t < rounds →
-    sender ≡ peer s High → Judges (Message sender s t (held_from view t sender) (unwrap_or (received_from core t sender) [])) result →
-    Judges (Message (peer s High) s t (held_from view t (peer s High)) (message o (peer s High) s t)) result
-judged-high result o rounds s view core t sender at lt e h =
-    subst (λ (sent : List ℕ). Judges (Message (peer s High) s t (held_from view t (peer s High)) sent) result)
-    (received-high o rounds s core at t lt)
+    sender ≡ peer s side → Judges (Message sender s t (held_from view t sender) (unwrap_or (received_from core t sender) [])) result →
+    Judges (Message (peer s side) s t (held_from view t (peer s side)) (message o (peer s side) s t)) result
+judged-peer side result o rounds s view core t sender at lt e h =
+    subst (λ (sent : List ℕ). Judges (Message (peer s side) s t (held_from view t (peer s side)) sent) result)
+    (received-peer o rounds s core at t lt side)
     (subst (λ (from : Point). Judges (Message from s t (held_from view t from) (unwrap_or (received_from core t from) [])) result) e h)
 
 -- what is found of the rounds of a core is found of those of the run

@@ -60,9 +60,13 @@ bidder_at view i = slice_index_or view.bidders i (record { known = None; points 
 abbrev pub points_of_bidder : Trio Viewed → ℕ → Trio (List ℕ)
 points_of_bidder views i = of_each (λ view. (bidder_at view i).points) views
 
--- each view has the bidder at this place, with two points for each price at each server
+-- each server has two points for each price of the bidder at this place
+abbrev pub HasPoints : ℕ → Trio Viewed → ℕ → Type 0
+HasPoints prices views i = HasLengths (points_of_bidder views i) (2 * prices)
+
+-- each view has the bidder at this place, with its points
 pub record IsBidderOf (prices : ℕ) (views : Trio Viewed) (i : ℕ) : Type 0 where
-  pub lengths : HasLengths (points_of_bidder views i) (2 * prices)
+  pub lengths : HasPoints prices views i
   pub there : (s : Point) → i < length (member views s).bidders
   pub over : (s : Point) → (member views s).grid.prices ≡ prices
 

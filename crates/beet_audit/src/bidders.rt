@@ -6,10 +6,9 @@ ghost use Rattle.beet_field.specs.declared.point.Point.{Point};
 ghost use Rattle.beet_shamir.specs.Line.{AreElements};
 ghost use Rattle.beet_words.specs.declared.bundle.TheConstants.{MOST_BIDDERS};
 ghost use Rattle.beet_bids.specs.declared.grid.TheConstants.{MOST_PRICES};
-ghost use Rattle.beet_book.specs.Dealing.{HasLengths};
 ghost use Rattle.beet_book.specs.Totals.{points_on};
 ghost use Rattle.beet_view.specs.Views.{IsView};
-ghost use Rattle.beet_audit.specs.Audits.{HaveElements, HeaderFits, OneBidder, points_of_bidder};
+ghost use Rattle.beet_audit.specs.Audits.{HasPoints, HaveElements, HeaderFits, OneBidder, points_of_bidder};
 ghost use Rattle.beet_audit.specs.Verdicts.{EachBelow, Judges};
 
 use crate::curves::{check_lines, check_monotone};
@@ -27,7 +26,7 @@ fn check_bidder(
     bidder: u32,
     prices: u32,
 ) -> Result<(), AuditFault>
-    requires lengths { HasLengths (points_of_bidder views.now bidder) (2 * prices) }
+    requires lengths { HasPoints prices views.now bidder }
     requires few { bidder < MOST_BIDDERS }
     requires limit { prices ≤ MOST_PRICES }
     requires bidder { (s : Point) → bidder < length (member views.now s).bidders }

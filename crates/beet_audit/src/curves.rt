@@ -5,9 +5,8 @@ ghost use Rattle.beet_shamir.specs.Line.{AreElements};
 ghost use Rattle.beet_words.specs.declared.bundle.TheConstants.{MOST_BIDDERS};
 ghost use Rattle.beet_bids.specs.declared.curve.TheConstants.{LARGEST_QUANTITY as Largest};
 ghost use Rattle.beet_bids.specs.declared.grid.TheConstants.{MOST_PRICES};
-ghost use Rattle.beet_book.specs.Dealing.{HasLengths};
 ghost use Rattle.beet_book.specs.Totals.{points_on};
-ghost use Rattle.beet_audit.specs.Audits.{IsStep, Lines, Monotone, first_of as begins, points_of_bidder};
+ghost use Rattle.beet_audit.specs.Audits.{HasPoints, IsStep, Lines, Monotone, first_of as begins, points_of_bidder};
 ghost use Rattle.beet_audit.specs.Audits.{value_at as value_of};
 ghost use Rattle.beet_audit.specs.Verdicts.{Judges};
 ghost use Rattle.beet_audit.specs.declared.fault.AuditFault.TheVariants.{OutOfMemory as Memory};
@@ -36,7 +35,7 @@ pub(crate) fn check_lines(
     prices: u32,
     side: Side,
 ) -> Result<(), AuditFault>
-    requires lengths { HasLengths (points_of_bidder views.now bidder) (2 * prices) }
+    requires lengths { HasPoints prices views.now bidder }
     requires few { bidder < MOST_BIDDERS }
     requires limit { prices ≤ MOST_PRICES }
     ensures lines { Judges (Lines prices bidder (points_of_bidder views.now bidder) side) result }
@@ -55,7 +54,7 @@ pub(crate) fn check_lines(
 
 /// Whether what a bidder buys and sells at a place is within the limit.
 fn is_within(views: &Trio<View>, bidder: u32, prices: u32, place: u32) -> bool
-    requires lengths { HasLengths (points_of_bidder views.now bidder) (2 * prices) }
+    requires lengths { HasPoints prices views.now bidder }
     requires limit { prices ≤ MOST_PRICES }
     requires place { place < prices }
     ensures { IsTrue result ↔ ((value_of (points_of_bidder views.now bidder) place ≤ Largest)
@@ -67,7 +66,7 @@ fn is_within(views: &Trio<View>, bidder: u32, prices: u32, place: u32) -> bool
 
 /// Whether a bidder buys no more and sells no less than at the place before.
 fn goes_on(views: &Trio<View>, bidder: u32, prices: u32, before: u32) -> bool
-    requires lengths { HasLengths (points_of_bidder views.now bidder) (2 * prices) }
+    requires lengths { HasPoints prices views.now bidder }
     requires limit { prices ≤ MOST_PRICES }
     requires place { before + 1 < prices }
     ensures { IsTrue result ↔ ((value_of (points_of_bidder views.now bidder) (before + 1)
@@ -82,7 +81,7 @@ fn goes_on(views: &Trio<View>, bidder: u32, prices: u32, before: u32) -> bool
 
 /// Whether a bidder goes on at a place as the rules for curves want.
 fn is_step(views: &Trio<View>, bidder: u32, prices: u32, place: u32) -> bool
-    requires lengths { HasLengths (points_of_bidder views.now bidder) (2 * prices) }
+    requires lengths { HasPoints prices views.now bidder }
     requires limit { prices ≤ MOST_PRICES }
     requires place { place < prices }
     ensures { IsTrue result ↔ IsStep prices (value_of (points_of_bidder views.now bidder)) place }
@@ -93,7 +92,7 @@ fn is_step(views: &Trio<View>, bidder: u32, prices: u32, place: u32) -> bool
 
 /// Refuses the first place at which what a bidder buys and sells is not as the rules for curves want.
 pub(crate) fn check_monotone(views: &Trio<View>, bidder: u32, prices: u32) -> Result<(), AuditFault>
-    requires lengths { HasLengths (points_of_bidder views.now bidder) (2 * prices) }
+    requires lengths { HasPoints prices views.now bidder }
     requires few { bidder < MOST_BIDDERS }
     requires limit { prices ≤ MOST_PRICES }
     ensures monotone { Judges (Monotone prices bidder (points_of_bidder views.now bidder)) result }

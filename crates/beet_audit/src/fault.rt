@@ -7,9 +7,7 @@ use thiserror::Error;
 /// What a bidder does with a quantity.
 #[derive(Clone, Copy, PartialEq, Eq, Debug)]
 pub enum Side {
-    /// It buys it.
     Buy,
-    /// It sells it.
     Sell,
 }
 

@@ -7,8 +7,8 @@ ghost use Rattle.beet_words.specs.Words.{accepted};
 ghost use Rattle.beet_words.specs.declared.bundle.TheConstants.{MOST_BIDDERS};
 ghost use Rattle.beet_bids.specs.declared.curve.TheConstants.{LARGEST_QUANTITY as Largest};
 ghost use Rattle.beet_bids.specs.declared.grid.TheConstants.{MOST_PRICES};
-ghost use Rattle.beet_book.specs.Dealing.{HasLengths, dealt_points, quantities};
-ghost use Rattle.beet_audit.specs.Audits.{IsBidderOf, IsKnown, Known, bidder_at, curve_of, points_of_bidder};
+ghost use Rattle.beet_book.specs.Dealing.{dealt_points, quantities};
+ghost use Rattle.beet_audit.specs.Audits.{HasPoints, IsBidderOf, IsKnown, Known, bidder_at, curve_of, points_of_bidder};
 ghost use Rattle.beet_audit.specs.Verdicts.{Judges};
 
 use crate::fault::AuditFault;
@@ -22,7 +22,7 @@ use std::alloc::{AllocError, Global};
 
 /// Whether a curve is what the points of a bidder recombine to.
 fn is_recombined(views: &Trio<View>, bidder: u32, prices: u32, curve: &Curve) -> bool
-    requires lengths { HasLengths (points_of_bidder views.now bidder) (2 * prices) }
+    requires lengths { HasPoints prices views.now bidder }
     requires limit { prices ≤ MOST_PRICES }
     requires buy { length curve.now.buy ≡ prices }
     requires sell { length curve.now.sell ≡ prices }
@@ -62,7 +62,7 @@ fn same_points(first: Trio<Fe>, second: Trio<Fe>) -> bool
 
 /// Whether the points of a bidder are what a curve deals with these slopes.
 fn are_dealt(views: &Trio<View>, bidder: u32, prices: u32, curve: &Curve, slopes: &[Fe]) -> bool
-    requires lengths { HasLengths (points_of_bidder views.now bidder) (2 * prices) }
+    requires lengths { HasPoints prices views.now bidder }
     requires limit { prices ≤ MOST_PRICES }
     requires buy { length curve.now.buy ≡ prices }
     requires sell { length curve.now.sell ≡ prices }
@@ -86,7 +86,7 @@ fn is_known(
     prices: u32,
     own: &(Curve, WordList),
 ) -> Result<bool, AllocError>
-    requires lengths { HasLengths (points_of_bidder views.now bidder) (2 * prices) }
+    requires lengths { HasPoints prices views.now bidder }
     requires limit { prices ≤ MOST_PRICES }
     requires buy { length own.now.0.buy ≡ prices }
     requires sell { length own.now.0.sell ≡ prices }
@@ -111,7 +111,7 @@ fn knows(
     prices: u32,
     view: &View,
 ) -> Result<bool, AllocError>
-    requires lengths { HasLengths (points_of_bidder views.now bidder) (2 * prices) }
+    requires lengths { HasPoints prices views.now bidder }
     requires limit { prices ≤ MOST_PRICES }
     requires bidder { bidder < length view.now.bidders }
     requires prices { view.now.grid.prices ≡ prices }

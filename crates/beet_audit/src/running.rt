@@ -3,11 +3,10 @@
 ghost use Rattle.std.specs.Prelude.{◌≡◌, ◌<◌, ◌*◌, ◌^◌, ℕ, IfErr, IfOk, length};
 ghost use Rattle.beet_field.specs.Trio.{member, of_each};
 ghost use Rattle.beet_field.specs.declared.point.Point.{Point};
-ghost use Rattle.beet_book.specs.Dealing.{HasLengths};
 ghost use Rattle.beet_book.specs.PointSums.{AddsUp};
 ghost use Rattle.beet_load.specs.Counts.{counts_of};
 ghost use Rattle.beet_load.specs.Servers.{HasEnough};
-ghost use Rattle.beet_audit.specs.Audits.{RunsAgain, all_points, bidder_at, points_of_bidder, words_in};
+ghost use Rattle.beet_audit.specs.Audits.{HasPoints, RunsAgain, all_points, bidder_at, points_of_bidder, words_in};
 ghost use Rattle.beet_audit.specs.declared.fault.AuditFault.TheVariants.{OutOfMemory as Memory};
 
 use crate::fault::AuditFault;
@@ -39,7 +38,7 @@ fn copy_bidder(
     bidder: u32,
 ) -> Result<Dealt, AllocError>
     requires bidder { (s : Point) → bidder < length (member views.now s).bidders }
-    requires lengths { HasLengths (points_of_bidder views.now bidder) (2 * grid.now.prices) }
+    requires lengths { HasPoints grid.now.prices views.now bidder }
     ensures { IfOk result (λ dealt. dealt ≡ points_of_bidder views.now bidder) }
 {
     let one = copy_points(alloc, &views.one, bidder)?;
@@ -52,8 +51,7 @@ fn copy_bidder(
 fn sum_points(alloc: Global, grid: &Grid, views: &Trio<View>) -> Result<Totals, AllocError>
     requires bidders { (s : Point) → length (member views.now s).bidders ≡ length views.now.one.bidders }
     requires few { length views.now.one.bidders < 2 ^ 32 }
-    requires lengths { (i : ℕ) → i < length views.now.one.bidders
-        → HasLengths (points_of_bidder views.now i) (2 * grid.now.prices) }
+    requires lengths { (i : ℕ) → i < length views.now.one.bidders → HasPoints grid.now.prices views.now i }
     ensures { IfOk result (λ totals. AddsUp grid.now totals (all_points views.now)) }
 {
     let count = views.one.bidders().len() as u32;
@@ -107,8 +105,7 @@ pub(crate) fn run_again(
 ) -> Result<Trio<ServerCore<AuctionScript>>, AuditFault>
     requires bidders { (s : Point) → length (member views.now s).bidders ≡ length views.now.one.bidders }
     requires few { length views.now.one.bidders < 2 ^ 32 }
-    requires lengths { (i : ℕ) → i < length views.now.one.bidders
-        → HasLengths (points_of_bidder views.now i) (2 * grid.now.prices) }
+    requires lengths { (i : ℕ) → i < length views.now.one.bidders → HasPoints grid.now.prices views.now i }
     requires enough { (s : Point) → HasEnough (counts_of grid.now) (words_in (member views.now s)) }
     ensures memory { IfErr result (λ fault. fault ≡ Memory) }
     ensures ran { IfOk result (RunsAgain grid.now views.now) }

@@ -147,7 +147,6 @@ fn read_rest(rows: &mut RowReader, row: &mut Row, tells: bool) -> Result<Policy,
     Ok(policy)
 }
 
-/// The grid of all rows.
 fn read_grid(rows: &mut RowReader, row: &mut Row) -> Result<Grid, ReadFault>
     ensures { Answers (λ grid. grid) (auction_in rows.old) result }
 {

@@ -5,7 +5,6 @@
 pub enum Policy {
     /// Nothing.
     Price,
-    /// The volume.
     Volume,
     /// The volume and the supply.
     Full,
@@ -18,7 +17,6 @@ pub enum Outcome {
     Price {
         /// The place of the price in the grid, counted from 0.
         place: u32,
-        /// The price.
         price: u64,
         /// What all bidders together buy at the price, where it is opened.
         volume: Option<u64>,

@@ -7,9 +7,13 @@ use Rattle.beet_field.specs.declared.trio.Trio.{Trio}
 use Rattle.beet_shamir.specs.Line.{point_of, points_of}
 use Rattle.beet_words.specs.Tapes.{Tape, drawn_from, left_of}
 use Rattle.beet_words.proofs.DrawnFrom.{left-drawn}
-use Rattle.beet_book.specs.Columns.{Columns, front, pushed}
+use Rattle.beet_book.specs.Columns.{Columns, pushed}
 use Rattle.beet_book.specs.Dealing.{points_at, shares_of, AreShares, HasLengths}
 use Rattle.beet_book.proofs.Pairs.{length-pairwise, item-pairwise, pairwise-front}
+
+-- the first points at each server
+abbrev pub front : ℕ → Trio (List ℕ) → Trio (List ℕ)
+front n points = record { one = take n points.one; two = take n points.two; three = take n points.three }
 
 -- a number is left where fewer are drawn than there were
 pub some-left : (old mid : Tape) (n : ℕ) → mid ≡ drawn_from old n → n < length (left_of old) → 0 < length (left_of mid)

@@ -4,7 +4,7 @@ use Rattle.std.proofs.lemmas.List.{length-take-le, take-append-drop}
 use Rattle.beet_field.specs.Field.{add_of, mul_of}
 use Rattle.beet_field.specs.declared.trio.Trio.{Trio}
 use Rattle.beet_bids.specs.Curves.{Curve}
-use Rattle.beet_book.specs.Dealing.{pairwise, points_by, quantities, dealt_points}
+use Rattle.beet_book.specs.Dealing.{pairwise, points_by, quantities, dealt_points, shares_of}
 use Rattle.beet_book.specs.Totals.{Totals, added, field_sums, AddsQuantities}
 use Rattle.beet_book.proofs.Deals.{dealt-shares}
 use Rattle.beet_book.proofs.Pairs.{length-pairwise, item-pairwise, pairwise-front}
@@ -58,16 +58,13 @@ pub points-drawn : (i : ℕ) (values numbers slopes : List ℕ) (count : ℕ) �
 points-drawn i values numbers slopes count e f h =
     rw (e, f) (pairwise-front (λ (value slope : ℕ). add_of value (mul_of slope i)) values numbers h)
 
--- the points of a bidder are added at each server
-pub dealt-directly : (curve : Curve) (numbers slopes : List ℕ) (before : Trio (List ℕ)) (one two three : List ℕ) →
-    slopes ≡ take (length (quantities curve)) numbers → length (quantities curve) ≤ length numbers →
-    one ≡ field_sums before.one (points_by 1 (quantities curve) slopes) →
-    two ≡ field_sums before.two (points_by 2 (quantities curve) slopes) →
-    three ≡ field_sums before.three (points_by 3 (quantities curve) slopes) →
-    record { one = one; two = two; three = three } ≡ added before (dealt_points curve numbers)
-dealt-directly curve numbers slopes before one two three e h f g k =
-    let drawn = λ (i : ℕ). points-drawn i (quantities curve) numbers slopes (length (quantities curve)) e refl h in
-    rw (f, g, k, drawn 1, drawn 2, drawn 3) refl
+-- the points of a bidder at each server, by the numbers that are left
+pub dealt-directly : (curve : Curve) (numbers slopes : List ℕ) (count : ℕ) →
+    slopes ≡ take count numbers → count ≡ length (quantities curve) → length (quantities curve) ≤ length numbers →
+    shares_of (quantities curve) slopes ≡ dealt_points curve numbers
+dealt-directly curve numbers slopes count e f h =
+    let drawn = λ (i : ℕ). points-drawn i (quantities curve) numbers slopes count e f h in
+    λ i. record { one = drawn 1 i; two = drawn 2 i; three = drawn 3 i }
 
 pub same-totals : {prices same : ℕ} (a b : Trio (List ℕ)) → prices ≡ same → a ≡ b →
     ◌≡◌ {A = Totals} (record { prices = prices; points = a }) (record { prices = same; points = b })

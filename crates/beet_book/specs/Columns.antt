@@ -1,5 +1,5 @@
 -- Points of the three servers, in memory that was taken before.
-use Rattle.std.specs.Prelude.{ℕ, ◌<◌, List, [], ◌∷◌, ◌++◌, length, take}
+use Rattle.std.specs.Prelude.{ℕ, ◌<◌, List, [], ◌∷◌, ◌++◌, length}
 use Rattle.beet_field.specs.declared.trio.Trio.{Trio}
 
 -- the points so far, and how many there is room for at each server
@@ -27,7 +27,3 @@ pushed columns points = record {
     three = columns.points.three ++ points.three ∷ [];
   };
 }
-
--- the first points at each server
-abbrev pub front : ℕ → Trio (List ℕ) → Trio (List ℕ)
-front n points = record { one = take n points.one; two = take n points.two; three = take n points.three }

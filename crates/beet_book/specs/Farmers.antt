@@ -22,7 +22,6 @@ farmers_of [] words = []
 farmers_of (bidder ∷ bidders) [] = []
 farmers_of (bidder ∷ bidders) (list ∷ words) = record { bidder = bidder; words = list } ∷ farmers_of bidders words
 
--- the book of these bidders
 abbrev pub book_with : Grid → List BidderWithWords → Book
 book_with grid farmers = record { grid = grid; bidders = map (λ farmer. farmer.bidder) farmers }
 

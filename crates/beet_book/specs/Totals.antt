@@ -1,6 +1,7 @@
 -- Totals: the points of several bidders added up, and put in the order of an auction's input wires.
 use Rattle.std.specs.Prelude.{◌≡◌, ℕ, ◌+◌, ◌*◌, ◌%◌, ◌<◌, List, ◌++◌, length, map, take, drop, slice_index, sum_by}
-use Rattle.std.specs.Prelude.{replicate, Some}
+use Rattle.std.specs.Prelude.{replicate, Some, Vec}
+use Rattle.std.specs.Global.{Global}
 use Rattle.std.specs.List.{fold, range_with_len, slice_get}
 use Rattle.beet_field.specs.Trio.{trio_of}
 use Rattle.beet_field.specs.declared.point.Point.{Point}
@@ -19,6 +20,10 @@ pub record Totals : Type 0 where
 -- the sums place by place, modulo p
 abbrev pub field_sums : List ℕ → List ℕ → List ℕ
 field_sums xs ys = pairwise add_of xs ys
+
+-- the numbers of each server's list
+abbrev pub items_of : Trio (Vec ℕ Global) → Trio (List ℕ)
+items_of lists = record { one = lists.one.items; two = lists.two.items; three = lists.three.items }
 
 -- the sums at each server
 abbrev pub added : Trio (List ℕ) → Trio (List ℕ) → Trio (List ℕ)

@@ -52,7 +52,6 @@ impl Columns {
         self.points.three.push_reserved(points.three);
     }
 
-    /// The points.
     pub(crate) fn into_points(self) -> Trio<FeList>
         ensures { result ≡ self.points }
     {

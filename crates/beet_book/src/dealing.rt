@@ -148,9 +148,9 @@ fn deal_by<R: Threads + Sync>(
         return deal_in_order(alloc, grid, curves, tapes);
     }
     let middle = curves.len() / 2;
-    let (few, rest) = curves.split_at(middle);
+    let curves = curves.split_at(middle);
     let (front, back) = tapes.split_at_mut(middle);
-    deal_both(rt, alloc, grid, threads, few, rest, front, back)
+    deal_both(rt, alloc, grid, threads, curves, front, back)
 }
 
 /// Deals two parts at the same time, each by half of the threads, and joins their points.
@@ -160,18 +160,18 @@ fn deal_both<R: Threads + Sync>(
     alloc: Global,
     grid: &Grid,
     threads: usize,
-    few: &[Curve],
-    rest: &[Curve],
+    curves: (&[Curve], &[Curve]),
     front: &mut [Tape],
     back: &mut [Tape],
 ) -> Result<Vec<Dealt>, AllocError>
     requires threads { 2 ≤ threads }
-    requires front { CanDealEach grid.now few.now front.old }
-    requires back { CanDealEach grid.now rest.now back.old }
-    ensures { IfOk result (λ dealt. DealsOver grid.now (few.now ++ rest.now)
+    requires front { CanDealEach grid.now curves.0.now front.old }
+    requires back { CanDealEach grid.now curves.1.now back.old }
+    ensures { IfOk result (λ dealt. DealsOver grid.now (curves.entry.0.now ++ curves.entry.1.now)
         (front.old ++ back.old) (front.new ++ back.new) dealt.items) }
 {
     let half = threads.div_ceil(2);
+    let (few, rest) = curves;
     let mut first = || -> Result<Vec<Dealt>, AllocError>
         requires { IsSync R.row × CanDealEach grid.now few.now front.now }
         ensures { IfOk result

@@ -39,25 +39,25 @@ pub trait NamedRow: Drop {
         ensures { result.now ≡ name_in self.now };
 }
 
-/// The value of the row of this number, where the names of the rows before it are given. Its name is put to them.
+/// The value of the row of this number, if these names were seen in rows before it. Its name is put to them.
 fn read_row<V: NamedRow>(
     alloc: Global,
     number: u32,
     row: &Row,
-    names: &mut BTreeSet<String>,
+    seen: &mut BTreeSet<String>,
 ) -> Result<V, ReadFault>
     ensures value { Answers (λ value. value)
         (reading_at number
-        (named_in V.value_in (contains_text names.old (first_field row.now)) number row.now)) result }
-    ensures names { OnOk result ((text : List ℕ) →
-        contains_text names.new text ≡
-        (bytes_eq (first_field row.now) text || contains_text names.old text)) }
+        (named_in V.value_in (contains_text seen.old (first_field row.now)) number row.now)) result }
+    ensures seen { OnOk result ((text : List ℕ) →
+        contains_text seen.new text ≡
+        (bytes_eq (first_field row.now) text || contains_text seen.old text)) }
 {
     if number == ONE_TOO_MANY {
         return Err(ReadFault::at_row(number, TOO_MANY));
     }
     let value = V::read(alloc, number, row)?;
-    if add_name(alloc, names, value.name().as_str())? {
+    if add_name(alloc, seen, value.name().as_str())? {
         Ok(value)
     } else {
         Err(ReadFault::at_row(number, SAME_NAME))
@@ -73,10 +73,10 @@ fn read_rows<V: NamedRow>(
     ensures reads { Answers (λ values. values.items) (named_rows V.value_in rows.old) result }
     ensures few { IfOk result (λ values. length values.items ≤ MOST_BIDDERS) }
 {
-    let mut names = BTreeSet::new(alloc);
+    let mut seen = BTreeSet::new(alloc);
     let mut values = Vec::new(alloc);
     while rows.next(row)? {
-        let value = read_row(alloc, values.len() as u32 + 2, row, &mut names)?;
+        let value = read_row(alloc, values.len() as u32 + 2, row, &mut seen)?;
         values.push(value)?;
     }
     Ok(values)

@@ -4,9 +4,9 @@ ghost use Rattle.std.specs.Prelude.{◌≡◌, ◌≤◌, ◌*◌, All, IfOk, le
 ghost use Rattle.beet_field.specs.Field.{add_of, mul_of};
 ghost use Rattle.beet_words.specs.Tapes.{drawn_from, left_of};
 ghost use Rattle.beet_bids.specs.declared.curve.TheConstants.{LARGEST_QUANTITY};
-ghost use Rattle.beet_book.specs.Dealing.{dealt_points, points_by, quantities, HasLengths};
+ghost use Rattle.beet_book.specs.Dealing.{dealt_points, points_by, quantities, shares_of, HasLengths};
 ghost use Rattle.beet_book.specs.PointSums.{AddsBlock};
-ghost use Rattle.beet_book.specs.Totals.{added, all_added, field_sums, none_of, wires_of, AddsAllValues};
+ghost use Rattle.beet_book.specs.Totals.{added, all_added, field_sums, items_of, none_of, wires_of, AddsAllValues};
 ghost use Rattle.beet_book.specs.Totals.{AddsQuantities, AddsValues, CarriesValues};
 
 use crate::dealing::Dealt;
@@ -31,18 +31,13 @@ pub struct Totals {
 impl Model for Totals {
     ghost use Rattle.std.specs.Prelude.{◌≡◌, ◌*◌, length};
     ghost use Rattle.beet_book.specs.Dealing.{HasLengths};
-    ghost use Rattle.beet_book.specs.Totals.{Totals as Seen};
+    ghost use Rattle.beet_book.specs.Totals.{items_of, Totals as Seen};
 
     ghost Value = { Seen };
 
-    ghost view = { λ a. record {
-      prices = a.prices;
-      points = record { one = a.points.one.items; two = a.points.two.items; three = a.points.three.items };
-    } };
+    ghost view = { λ a. record { prices = a.prices; points = items_of a.points } };
 
-    ghost invariant = { λ a. HasLengths
-        (record { one = a.points.one.items; two = a.points.two.items; three = a.points.three.items })
-        (2 * a.prices)
+    ghost invariant = { λ a. HasLengths (items_of a.points) (2 * a.prices)
         × (length a.slopes.items ≡ 2 * a.prices) };
 }
 
@@ -92,6 +87,19 @@ fn add_curve<const AT: u64>(sums: &mut [Fe], curve: &Curve, slopes: &[Fe])
     add_lines::<AT>(sold, curve.sold(), selling);
 }
 
+/// Adds to the sums of each server its points of a curve that is dealt with these slopes.
+fn add_curve_to_each(sums: &mut Trio<Vec<Fe>>, curve: &Curve, slopes: &[Fe])
+    requires sums { HasLengths (items_of sums.old) (length (quantities curve.now)) }
+    requires slopes { length slopes.now ≡ length (quantities curve.now) }
+    ensures sums { items_of sums.new
+        ≡ added (items_of sums.old) (shares_of (quantities curve.now) slopes.now) }
+    ensures lengths { HasLengths (items_of sums.new) (length (quantities curve.now)) }
+{
+    add_curve::<1>(&mut sums.one, curve, slopes);
+    add_curve::<2>(&mut sums.two, curve, slopes);
+    add_curve::<3>(&mut sums.three, curve, slopes);
+}
+
 impl Totals {
     /// The totals of no bidder.
     pub fn new(alloc: Global, grid: &Grid) -> Result<Totals, AllocError>
@@ -106,15 +114,32 @@ impl Totals {
         })
     }
 
+    /// Adds to the sums of each server the points for it.
+    fn add_points(&mut self, one: &[Fe], two: &[Fe], three: &[Fe])
+        requires { HasLengths (record { one = one.now; two = two.now; three = three.now })
+            (2 * self.old.prices) }
+        ensures sums { self.new ≡ record self.old {
+          points = added self.old.points (record { one = one.now; two = two.now; three = three.now });
+        } }
+        ensures values { AddsValues self.old.points
+            (record { one = one.now; two = two.now; three = three.now }) self.new.points }
+    {
+        add_each(&mut self.points.one, one);
+        add_each(&mut self.points.two, two);
+        add_each(&mut self.points.three, three);
+    }
+
     /// Adds the points of a bidder of the same grid.
     pub fn add(&mut self, dealt: &Dealt)
         requires { HasLengths dealt.now (2 * self.old.prices) }
         ensures sums { self.new ≡ record self.old { points = added self.old.points dealt.now } }
         ensures values { AddsValues self.old.points dealt.now self.new.points }
     {
-        add_each(&mut self.points.one, dealt.points(Point::One));
-        add_each(&mut self.points.two, dealt.points(Point::Two));
-        add_each(&mut self.points.three, dealt.points(Point::Three));
+        self.add_points(
+            dealt.points(Point::One),
+            dealt.points(Point::Two),
+            dealt.points(Point::Three),
+        );
     }
 
     /// Adds the points of a block of bidders of the same grid, as `add` does with each in order.
@@ -136,9 +161,7 @@ impl Totals {
         ensures sums { self.new ≡ record self.old { points = added self.old.points other.now.points } }
         ensures values { AddsValues self.old.points other.now.points self.new.points }
     {
-        add_each(&mut self.points.one, &other.points.one);
-        add_each(&mut self.points.two, &other.points.two);
-        add_each(&mut self.points.three, &other.points.three);
+        self.add_points(&other.points.one, &other.points.two, &other.points.three);
     }
 
     /// Deals the quantities of a bidder straight into the sums: what `deal_bidder` and then `add` do, with no list of
@@ -155,9 +178,7 @@ impl Totals {
         ensures drawn { tape.new ≡ drawn_from tape.old (2 * self.old.prices) }
     {
         tape.draw_each(&mut self.slopes);
-        add_curve::<1>(&mut self.points.one, curve, &self.slopes);
-        add_curve::<2>(&mut self.points.two, curve, &self.slopes);
-        add_curve::<3>(&mut self.points.three, curve, &self.slopes);
+        add_curve_to_each(&mut self.points, curve, &self.slopes);
     }
 
     /// The inputs of the servers: for each the summed supply points at each place, and then the summed demand points.

@@ -265,7 +265,6 @@ fn push_bidder(rt: &impl Abort, bidders: &mut Vec<Bidder>, curve: Curve) {
         .expect(rt, "memory");
 }
 
-/// The bidders with these bids.
 fn bidders_of(rt: &impl Abort, alloc: Global, grid: &Grid, bids: &[&str]) -> Vec<Bidder> {
     let mut bidders = Vec::new(alloc);
     for bid in bids {

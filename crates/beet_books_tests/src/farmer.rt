@@ -173,7 +173,6 @@ const LISTS: [(&str, Refusal); 5] = [
     ("beet-list,1\nbo,1,2,3\nbo,4,5,6\n", Some((3, 4))),
 ];
 
-/// The entries of a list.
 fn entries_of(rt: &impl Abort, alloc: Global, text: &str) -> Result<Vec<ListEntry>, ReadFault> {
     assert!(rt; text.len() <= 4_194_304);
     read_list(alloc, text.as_bytes())

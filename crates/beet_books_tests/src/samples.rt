@@ -64,7 +64,6 @@ pub fn grid_of(rt: &impl Abort, prices: u32) -> Grid {
     Grid::new(100, 5, prices, Gates::Chain).expect(rt, "a grid")
 }
 
-/// Whether the numbers are these.
 pub fn are(numbers: &[Fe], wanted: &[u64]) -> bool {
     numbers
         .iter()

@@ -11,7 +11,7 @@ use Rattle.beet_gates.specs.Each.{each, by_turns}
 use Rattle.beet_gates.specs.Levels.{next_length}
 use Rattle.beet_gates.specs.Linears.{three_terms, two_terms, one_term}
 use Rattle.beet_gates.specs.Scripts.{Standing, after, TermsBelow, LetsBelow}
-use Rattle.beet_gates.specs.Plans.{BlockStands, after_all}
+use Rattle.beet_gates.proofs.PlanRuns.{BlockStands, after_all}
 use Rattle.beet_gates.proofs.EachFacts.{length-each, turns}
 use Rattle.beet_gates.proofs.LevelRuns.{next_item-has}
 use Rattle.beet_gates.proofs.Standings.{Moved, pairs_below-each, lets_below-each, lets_below-append, block-cons}

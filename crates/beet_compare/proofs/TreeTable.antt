@@ -1,5 +1,5 @@
 -- The batches of a tree, with the wires of its lists told as items.
-use Rattle.std.proofs.Common.{◌≡◌, ℕ, ◌+◌, ◌-◌, ◌*◌, ◌/◌, ◌<◌, refl, ap, ◌∙◌, arith}
+use Rattle.std.proofs.Common.{◌≡◌, ℕ, ◌+◌, ◌-◌, ◌*◌, ◌/◌, ◌<◌, ◌≤◌, refl, ap, ◌∙◌, arith}
 use Rattle.beet_gates.specs.Batches.{mul_batch}
 use Rattle.beet_gates.specs.Each.{by_turns}
 use Rattle.beet_gates.specs.Levels.{wire_of}
@@ -27,6 +27,15 @@ lets-told pairs g g' at free e less =
     each-same (λ i. two_terms 0 (1, g (2 * i + 1)) (1, at + 2 * i)) (λ i. two_terms 0 (1, g' (2 * i + 1)) (1, free + 2 * i)) pairs
     (λ i l. rw (less (2 * i + 1) (omega (arith, l)), e) refl)
 
+-- a whole batch
+pub level-told : (lets pairs : ℕ) (before g' g q : ℕ → ℕ) (less same : ℕ → ℕ) (at free : ℕ) → at ≡ free →
+    ((k : ℕ) → k < 2 * lets → before k ≡ g' k) →
+    ((k : ℕ) → k < 2 * pairs → less k ≡ g k) → ((k : ℕ) → k < 2 * pairs → same k ≡ q k) →
+    mul_batch (level_lets lets before at) (level_products pairs less same) ≡ mul_batch (level_lets lets g' free) (level_products pairs g q)
+level-told lets pairs before g' g q less same at free e a b c =
+    ap (λ l. mul_batch l (level_products pairs less same)) (lets-told lets before g' at free e a)
+    ∙ ap (mul_batch (level_lets lets g' free)) (products-told pairs less same g q b c)
+
 module _ (first n at free : ℕ) (e : at ≡ free) where
   -- the results of a level
   pub less-told : (g : ℕ → ℕ) (k : ℕ) → k < n / 2 → wire_of (level_less first at (n / 2)) k ≡ next_less n g free k
@@ -42,14 +51,25 @@ module _ (first n at free : ℕ) (e : at ≡ free) where
   pub same-all : (q : ℕ → ℕ) → first + 62 + 2 * 60 ≡ q (n - 1) → (k : ℕ) → wire_of (level_same first at (n / 2)) k ≡ next_same n q free k
   same-all q last k = items-told n (level_same first at (n / 2)) q (λ i. free + 1 + 2 * i) refl (λ i h. omega (arith, e)) last k
 
--- a whole batch
-pub level-told : (lets pairs : ℕ) (before g' g q : ℕ → ℕ) (less same : ℕ → ℕ) (at free : ℕ) → at ≡ free →
-    ((k : ℕ) → k < 2 * lets → before k ≡ g' k) →
-    ((k : ℕ) → k < 2 * pairs → less k ≡ g k) → ((k : ℕ) → k < 2 * pairs → same k ≡ q k) →
-    mul_batch (level_lets lets before at) (level_products pairs less same) ≡ mul_batch (level_lets lets g' free) (level_products pairs g q)
-level-told lets pairs before g' g q less same at free e a b c =
-    ap (λ l. mul_batch l (level_products pairs less same)) (lets-told lets before g' at free e a)
-    ∙ ap (mul_batch (level_lets lets g' free)) (products-told pairs less same g q b c)
+  -- the batch of a level, after a list of n items
+  pub level-after : (pairs : ℕ) (before g q : ℕ → ℕ) → 2 * pairs ≤ n / 2 → ((k : ℕ) → k < 2 * (n / 2) → before k ≡ g k) →
+      mul_batch (level_lets (n / 2) before at)
+      (level_products pairs (wire_of (level_less first at (n / 2))) (wire_of (level_same first at (n / 2))))
+      ≡ mul_batch (level_lets (n / 2) g free) (level_products pairs (next_less n g free) (next_same n q free))
+  level-after pairs before g q h a =
+      level-told (n / 2) pairs before g (next_less n g free) (next_same n q free)
+      (wire_of (level_less first at (n / 2))) (wire_of (level_same first at (n / 2))) at free e a
+      (λ k l. less-told g k (omega (arith, l, h))) (λ k l. same-told q k (omega (arith, l, h)))
+
+-- and of the level after that one
+pub level-later : (first n at free at' free' pairs : ℕ) (g q : ℕ → ℕ) → at ≡ free → at' ≡ free' → 2 * pairs ≤ n / 2 / 2 →
+    mul_batch (level_lets (n / 2 / 2) (wire_of (level_less first at (n / 2))) at')
+    (level_products pairs (wire_of (level_less first at' (n / 2 / 2))) (wire_of (level_same first at' (n / 2 / 2))))
+    ≡ mul_batch (level_lets (n / 2 / 2) (next_less n g free) free')
+    (level_products pairs (next_less (n / 2) (next_less n g free) free') (next_same (n / 2) (next_same n q free) free'))
+level-later first n at free at' free' pairs g q e e' h =
+    level-after first (n / 2) at' free' e' pairs (wire_of (level_less first at (n / 2))) (next_less n g free) (next_same n q free) h
+    (λ k l. less-told first n at free e g k (omega (arith, l)))
 
 -- the lists of a tree
 module _ (first : ℕ) where

@@ -445,50 +445,43 @@ fn refill_borrow(gates: Gates, step: u32, first: u32, mask: u32, c: Fe, batch: &
     }
 }
 
-/// Makes a batch the one at this step of a block whose first wire is `first`, or the end past it. The block is that of
+/// The wires of a block: its first one, the first of the mask's block, and the two that it compares.
+#[derive(Clone, Copy)]
+pub struct CompareWires {
+    pub first: u32,
+    pub mask: u32,
+    pub supply: u32,
+    pub demand: u32,
+}
+
+/// Makes a batch the one at this step of a block with these wires, or the end past it. The block is that of
 /// `compare_batch`.
-pub fn refill_compare(
-    gates: Gates,
-    step: u32,
-    first: u32,
-    mask: u32,
-    supply: u32,
-    demand: u32,
-    c: Fe,
-    batch: &mut Batch,
-)
-    requires first { first + TREE_WIRES < 2 ^ 32 }
-    requires mask { mask + MASK_WIRES < 2 ^ 32 }
-    ensures { batch.new ≡ batch_at (compare_batches gates first mask supply demand c) step }
+pub fn refill_compare(gates: Gates, step: u32, wires: CompareWires, c: Fe, batch: &mut Batch)
+    requires first { wires.first + TREE_WIRES < 2 ^ 32 }
+    requires mask { wires.mask + MASK_WIRES < 2 ^ 32 }
+    ensures { batch.new
+        ≡ batch_at (compare_batches gates wires.first wires.mask wires.supply wires.demand c) step }
 {
     match step {
-        0 => set_masked(batch, first, mask, supply, demand),
-        _ => refill_borrow(gates, step - 1, first, mask, c, batch),
+        0 => set_masked(batch, wires.first, wires.mask, wires.supply, wires.demand),
+        _ => refill_borrow(gates, step - 1, wires.first, wires.mask, c, batch),
     }
 }
 
-/// The batch at this step of a block whose first wire is `first`, or none past its end. It compares the wires `supply`
-/// and `demand` with the mask whose block begins at the wire `mask`; from step 1 on, `c` is the number that step 0
-/// opened.
-pub fn compare_batch(
-    gates: Gates,
-    step: u32,
-    first: u32,
-    mask: u32,
-    supply: u32,
-    demand: u32,
-    c: Fe,
-) -> Option<Batch>
-    requires first { first + TREE_WIRES < 2 ^ 32 }
-    requires mask { mask + MASK_WIRES < 2 ^ 32 }
-    ensures batch { result ≡ slice_get (compare_batches gates first mask supply demand c) step }
+/// The batch at this step of a block with these wires, or none past its end. From step 1 on, `c` is the number that
+/// step 0 opened.
+pub fn compare_batch(gates: Gates, step: u32, wires: CompareWires, c: Fe) -> Option<Batch>
+    requires first { wires.first + TREE_WIRES < 2 ^ 32 }
+    requires mask { wires.mask + MASK_WIRES < 2 ^ 32 }
+    ensures batch { result
+        ≡ slice_get (compare_batches gates wires.first wires.mask wires.supply wires.demand c) step }
     ensures past { IsNone result ↔ (compare_rounds_of gates ≤ step) }
 {
     if step >= compare_rounds(gates) {
         return None;
     }
     let mut batch = Batch::end();
-    refill_compare(gates, step, first, mask, supply, demand, c, &mut batch);
+    refill_compare(gates, step, wires, c, &mut batch);
     Some(batch)
 }
 

@@ -9,7 +9,6 @@ use Rattle.beet_field.specs.declared.point.Point.{Point}
 use Rattle.beet_field.specs.declared.point.Point.TheVariants.{One, Two, Three}
 use Rattle.beet_field.specs.declared.trio.Trio.{Trio}
 use Rattle.beet_store.specs.Files.{File}
-use Rattle.beet_store.specs.Desks.{DeskTold}
 use Rattle.beet_forms.specs.Names.{is_name_of}
 use Rattle.beet_words.specs.Words.{accepted}
 use Rattle.beet_bids.specs.AuctionFiles.{auction_of}
@@ -28,6 +27,7 @@ use Rattle.beet_book.specs.declared.book_file.TheConstants.{BOOK_LIMIT}
 use Rattle.beet_book.specs.declared.entries.BidderSource.{BidderSource}
 use Rattle.beet_book.specs.declared.server_file.TheConstants.{SERVERS_LIMIT}
 use Rattle.beet_farmer.specs.Lists.{list_of}
+use Rattle.beet_farmer.specs.declared.list_file.ListEntry.{ListEntry}
 use Rattle.beet_farmer.specs.declared.list_file.TheConstants.{LIST_LIMIT}
 use Rattle.beet_plan.specs.Auction.{auction_over}
 use Rattle.beet_plan.specs.Runs.{finish_of}
@@ -66,6 +66,7 @@ use Rattle.beet_job_worlds.specs.Ending.{compared_errand, unless_differing}
 use Rattle.beet_job_worlds.specs.Reading.{Both, both_errand, first_book, second_book, words_read}
 use Rattle.beet_job_worlds.proofs.DifferenceFacts.{no-difference}
 use Rattle.beet_app.specs.Jobs.{Answering, Auditing, Comparing, Job, are_names, seal_of}
+use Rattle.beet_app_laws.specs.Calls.{Call}
 use Rattle.beet_app_laws.specs.Dues.{status_of_first}
 use Rattle.beet_completeness_laws.specs.Complete.{CanAudit, CanCompare, CanOpen, CanRehearse, CanClear, CanSeal, CanTally}
 use Rattle.beet_completeness_laws.specs.Complete.{CanRunTrial}
@@ -80,11 +81,12 @@ module _ (files : List File) where
   tally-done : (auction list : List ℕ) → CanTally files auction list → IsDoneOver files (tally_errand auction list)
   unfolding tally_job
   tally-done auction list can =
-      then-done files (reads auction AUCTION_LIMIT auction_of) can.grid _ can.grid_read (
-      passes-done files (one_price auction can.grid) _ (rw (eq-eqb can.grid.prices 1 can.one_price) refl) (
-      then-done files (reads list BOOK_LIMIT book_of) can.entries _ can.entries_read (
-      then-done files (farmers_errand (wanted_of None can.grid) can.grid None [] can.entries) can.farmers _
-      can.farmers_read refl)))
+      let grid : Grid = can.read.grid.value in
+      then-done files (reads auction AUCTION_LIMIT auction_of) grid _ can.read.grid.is (
+      passes-done files (one_price auction grid) _ (rw (eq-eqb grid.prices 1 can.one_price) refl) (
+      then-done files (reads list BOOK_LIMIT book_of) can.read.entries.value _ can.read.entries.is (
+      then-done files (farmers_errand (wanted_of None grid) grid None [] can.read.entries.value) can.read.farmers.value _
+      can.read.farmers.is refl)))
 
   clear-done : (auction servers list : List ℕ) → CanClear files (loaded_errand auction servers list) →
       IsDoneOver files (clear_errand auction servers list)
@@ -102,21 +104,24 @@ module _ (files : List File) where
       IsDoneOver files (seal_errand auction bid can.from out)
   unfolding seal_job
   seal-done auction bid source out can =
-      then-done files (reads auction AUCTION_LIMIT auction_of) can.grid _ can.grid_read (
-      then-done files (reads bid BID_LIMIT (bid_of can.grid)) can.curve _ can.curve_read (
-      then-done files (own_words_errand can.grid can.from) can.words _ can.words_read refl))
+      then-done files (reads auction AUCTION_LIMIT auction_of) can.grid.value _ can.grid.is (
+      then-done files (reads bid BID_LIMIT (bid_of can.grid.value)) can.curve.value _ can.curve.is (
+      then-done files (own_words_errand can.grid.value can.from) can.words.value _ can.words.is refl))
 
   open-done : (auction servers list : List ℕ) → CanOpen files auction servers list →
       IsDoneOver files (open_errand auction servers list)
   unfolding open_job entries_job
   open-done auction servers list can =
-      then-done files (reads auction AUCTION_LIMIT auction_of) can.grid _ can.grid_read (
-      then-done files (reads servers SERVERS_LIMIT servers_of) can.sources _ can.sources_read (
-      then-done files (reads list LIST_LIMIT list_of) can.entries _ can.entries_read (
-      then-done files (all_words_errand (wanted_of None can.grid) None can.sources) can.words _ can.words_read (
-      then-done files (bidders_errand can.grid [] can.entries) can.bidders _ can.bidders_read
-      (points-done (auction_over can.grid) (inputs_at can.grid.prices can.bidders)
-      (masks_of can.words.servers) can.masks)))))
+      let grid : Grid = can.read.grid.value in
+      let entries : List ListEntry = can.read.entries.value in
+      then-done files (reads auction AUCTION_LIMIT auction_of) grid _ can.read.grid.is (
+      then-done files (reads servers SERVERS_LIMIT servers_of) can.read.sources.value _ can.read.sources.is (
+      then-done files (reads list LIST_LIMIT list_of) entries _ can.read.entries.is (
+      then-done files (all_words_errand (wanted_of None grid) None can.read.sources.value) can.read.words.value _
+      can.read.words.is (
+      then-done files (bidders_errand grid [] entries) can.read.bidders.value _ can.read.bidders.is
+      (points-done (auction_over grid) (inputs_at grid.prices can.read.bidders.value)
+      (masks_of can.read.words.value.servers) can.masks)))))
 
   -- ---- a rehearsal
 
@@ -191,83 +196,83 @@ module _ (files : List File) where
 
 -- ---- jobs
 
-module _ (files : List File) (given now : DeskTold) (status : ℕ) where
-  pub tally : (auction list : List ℕ) → RunsWithoutFault (codes "tally" ∷ auction ∷ list ∷ []) files given now status →
-      CanTally files auction list → IsDoneOrShort status
+module _ (files : List File) (call : Call) where
+  pub tally : (auction list : List ℕ) → RunsWithoutFault files (codes "tally" ∷ auction ∷ list ∷ []) call →
+      CanTally files auction list → IsDoneOrShort call
   tally auction list w can =
       let job = Some (Answering (tally_errand auction list)) in
-      done-or-short _ files given now status w job (passes (are_names (auction ∷ list ∷ [])) job w.job w.named)
+      done-or-short files _ call w job (passes (are_names (auction ∷ list ∷ [])) job w.job w.named)
       (tally-done files auction list can)
 
   pub clear : (auction servers list : List ℕ) →
-      RunsWithoutFault (codes "clear" ∷ auction ∷ servers ∷ list ∷ []) files given now status →
-      CanClear files (loaded_errand auction servers list) → IsDoneOrShort status
+      RunsWithoutFault files (codes "clear" ∷ auction ∷ servers ∷ list ∷ []) call →
+      CanClear files (loaded_errand auction servers list) → IsDoneOrShort call
   clear auction servers list w can =
       let job = Some (Answering (clear_errand auction servers list)) in
-      done-or-short _ files given now status w job
+      done-or-short files _ call w job
       (passes (are_names (auction ∷ servers ∷ list ∷ [])) job w.job w.named)
       (clear-done files auction servers list can)
 
   pub opened : (auction servers list : List ℕ) →
-      RunsWithoutFault (codes "open" ∷ auction ∷ servers ∷ list ∷ []) files given now status →
-      CanOpen files auction servers list → IsDoneOrShort status
+      RunsWithoutFault files (codes "open" ∷ auction ∷ servers ∷ list ∷ []) call →
+      CanOpen files auction servers list → IsDoneOrShort call
   opened auction servers list w can =
       let job = Some (Answering (open_errand auction servers list)) in
-      done-or-short _ files given now status w job
+      done-or-short files _ call w job
       (passes (are_names (auction ∷ servers ∷ list ∷ [])) job w.job w.named)
       (open-done files auction servers list can)
 
   pub rehearse : (auction servers list name : List ℕ) (loaded : AuctionWithBidders) (schedule : List Delivery) →
-      RunsWithoutFault (codes "rehearse" ∷ auction ∷ servers ∷ list ∷ name ∷ []) files given now status →
-      CanRehearse files auction servers list name loaded schedule → IsDoneOrShort status
+      RunsWithoutFault files (codes "rehearse" ∷ auction ∷ servers ∷ list ∷ name ∷ []) call →
+      CanRehearse files auction servers list name loaded schedule → IsDoneOrShort call
   rehearse auction servers list name loaded schedule w can =
       let job = Some (Answering (rehearse_errand auction servers list name)) in
-      done-or-short _ files given now status w job
+      done-or-short files _ call w job
       (passes-both (are_names (auction ∷ servers ∷ name ∷ [])) (is_name_of list) job w.job w.named)
       (rehearse-done files auction servers list name loaded schedule can)
 
   pub recorded : (auction servers list out : List ℕ) →
-      RunsWithoutFault (codes "record" ∷ auction ∷ servers ∷ list ∷ out ∷ []) files given now status →
-      CanClear files (limited_errand auction servers list) → IsDoneOrShort status
+      RunsWithoutFault files (codes "record" ∷ auction ∷ servers ∷ list ∷ out ∷ []) call →
+      CanClear files (limited_errand auction servers list) → IsDoneOrShort call
   recorded auction servers list out w can =
       let job = Some (Answering (record_errand auction servers list out)) in
-      done-or-short _ files given now status w job
+      done-or-short files _ call w job
       (passes-both (are_names (auction ∷ servers ∷ out ∷ [])) (is_name_of list) job w.job w.named)
       (record-done files auction servers list out can)
 
   pub audit : (auction one two three : List ℕ) →
-      RunsWithoutFault (codes "audit" ∷ auction ∷ one ∷ two ∷ three ∷ []) files given now status →
-      CanAudit files auction one two three → IsDoneOrShort status
+      RunsWithoutFault files (codes "audit" ∷ auction ∷ one ∷ two ∷ three ∷ []) call →
+      CanAudit files auction one two three → IsDoneOrShort call
   audit auction one two three w can =
       let job = Some (Auditing auction one two three) in
-      done-or-short _ files given now status w job
+      done-or-short files _ call w job
       (passes-both (are_names (auction ∷ one ∷ three ∷ [])) (is_name_of two) job w.job w.named)
       (audit-done files auction one two three can)
 
   pub seal : (auction bid source out : List ℕ) →
-      RunsWithoutFault (codes "seal" ∷ auction ∷ bid ∷ source ∷ out ∷ []) files given now status →
-      CanSeal files auction bid source → IsDoneOrShort status
+      RunsWithoutFault files (codes "seal" ∷ auction ∷ bid ∷ source ∷ out ∷ []) call →
+      CanSeal files auction bid source → IsDoneOrShort call
   seal auction bid source out w can =
       let job_from : BidderSource → Job = λ from. Answering (seal_errand auction bid from out) in
-      done-or-short _ files given now status w (Some (job_from can.from))
+      done-or-short files _ call w (Some (job_from can.from))
       (passes (are_names (auction ∷ bid ∷ out ∷ [])) (seal_of auction bid source out) w.job w.named
       ∙ ap (option_map job_from) can.from_is)
       (seal-done files auction bid source out can)
 
-  pub trial : (first second : List ℕ) → RunsWithoutFault (codes "trial" ∷ first ∷ second ∷ []) files given now status →
-      CanRunTrial first second → IsDoneOrShort status
+  pub trial : (first second : List ℕ) → RunsWithoutFault files (codes "trial" ∷ first ∷ second ∷ []) call →
+      CanRunTrial first second → IsDoneOrShort call
   trial first second w can =
       let job_of_sizes : ℕ × ℕ → Job = λ sizes. Answering (trial_errand sizes.0 sizes.1) in
-      done-or-short _ files given now status w (Some (job_of_sizes (can.bidders, can.prices)))
+      done-or-short files _ call w (Some (job_of_sizes (can.bidders, can.prices)))
       (ap (option_map job_of_sizes) can.sizes)
       (trial-done files first second can)
 
   pub worlds : (auction servers list1 list2 server out : List ℕ) →
-      RunsWithoutFault (codes "worlds" ∷ auction ∷ servers ∷ list1 ∷ list2 ∷ server ∷ out ∷ []) files given now status →
-      CanCompare files auction servers list1 list2 server → IsDoneOrShort status
+      RunsWithoutFault files (codes "worlds" ∷ auction ∷ servers ∷ list1 ∷ list2 ∷ server ∷ out ∷ []) call →
+      CanCompare files auction servers list1 list2 server → IsDoneOrShort call
   worlds auction servers list1 list2 server out w can =
       let job_at : Point → Job = λ s. Comparing auction servers list1 list2 s out in
-      done-or-short _ files given now status w (Some (job_at can.s))
+      done-or-short files _ call w (Some (job_at can.s))
       (passes (are_names (auction ∷ servers ∷ list1 ∷ list2 ∷ out ∷ []))
       (option_map job_at (server_of server)) w.job w.named ∙ ap (option_map job_at) can.server_is)
       (compared-done files auction servers list1 list2 server can)

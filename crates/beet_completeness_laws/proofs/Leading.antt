@@ -3,7 +3,6 @@ use Rattle.std.proofs.Common.{◌≡◌, inl, inr, ◌+◌, ◌*◌, ℕ, List, 
 use Rattle.std.proofs.Common.{slice_index, nat_lt, if◌then◌else◌, refl, sym, ap, subst, ◌∙◌}
 use Rattle.beet_field.specs.declared.trio.Trio.{Trio}
 use Rattle.beet_store.specs.Files.{File}
-use Rattle.beet_store.specs.Desks.{DeskTold}
 use Rattle.beet_bids.specs.Books.{Book}
 use Rattle.beet_bids.specs.Outcomes.{clearing_place, outcome_of, shown_by}
 use Rattle.beet_bids.specs.declared.outcomes.Outcome.{Outcome}
@@ -22,6 +21,7 @@ use Rattle.beet_errand.specs.declared.answer.Status.TheVariants.{Done}
 use Rattle.beet_run.specs.Outcomes.{status_of}
 use Rattle.beet_app.specs.Jobs.{Job, job_of}
 use Rattle.beet_errand.specs.Overs.{ReadsTo, answer_over}
+use Rattle.beet_app_laws.specs.Calls.{Call}
 use Rattle.beet_app_laws.specs.Dues.{EndsAsDue, IsDue}
 use Rattle.beet_app_laws.proofs.Led.{led}
 use Rattle.beet_completeness_laws.specs.Complete.{MasksSuffice, MasksSufficeFor}
@@ -29,22 +29,18 @@ use Rattle.beet_completeness_laws.specs.WithoutFault.{IsDoneOrShort, RunsWithout
 
 -- ---- runs
 
-undisturbed : (words : List (List ℕ)) (files : List File) (given now : DeskTold) (status : ℕ) →
-    RunsWithoutFault words files given now status →
-    EndsAsDue Done status → IsDoneOrShort status
-undisturbed words files given now status w (inl e) = inl e
-undisturbed words files given now status w (inr (inl e)) = inr e
-undisturbed words files given now status w (inr (inr (inl e))) = absurd (w.shelf_rests (w.read e))
-undisturbed words files given now status w (inr (inr (inr e))) = absurd (w.desk_rests (w.write e))
+undisturbed : (files : List File) (words : List (List ℕ)) (call : Call) → RunsWithoutFault files words call →
+    EndsAsDue Done call.status → IsDoneOrShort call
+undisturbed files words call w (inl e) = inl e
+undisturbed files words call w (inr (inl e)) = inr e
+undisturbed files words call w (inr (inr (inl e))) = absurd (w.shelf_rests (w.read e))
+undisturbed files words call w (inr (inr (inr e))) = absurd (w.desk_rests (w.write e))
 
 -- where the files lead the job that the words name to it, it is done
-pub done-or-short : (words : List (List ℕ)) (files : List File) (given now : DeskTold) (status : ℕ) →
-    RunsWithoutFault words files given now status →
-    (job : Option Job) → job_of words ≡ job → IsDue files job Done → IsDoneOrShort status
-done-or-short words files given now status w job e due =
-    undisturbed words files given now status w
-    (led words files w.told w.told_now given now status Done w.from w.runs
-    (subst (λ j. IsDue files j Done) (sym e) due))
+pub done-or-short : (files : List File) (words : List (List ℕ)) (call : Call) → RunsWithoutFault files words call →
+    (job : Option Job) → job_of words ≡ job → IsDue files job Done → IsDoneOrShort call
+done-or-short files words call w job e due =
+    undisturbed files words call w (led words files call Done w.from w.runs (subst (λ j. IsDue files j Done) (sym e) due))
 
 -- words that name a job pass the test before it
 pub passes : (b : Bool) (job : Option Job) (at : Job) → (if b then job else None) ≡ Some at →

@@ -1,31 +1,15 @@
 -- What is right for a job over these files: each file that it reads is held, in its grammar and within its limits, and
 -- tapes hold the words that are wanted, so that the job reads a value; and its masks suffice.
-use Rattle.std.specs.Prelude.{◌≡◌, ℕ, List, [], length, None, Some, false}
+use Rattle.std.specs.Prelude.{◌≡◌, ℕ, List, length, Some, false}
 use Rattle.beet_field.specs.Point.{server_of}
 use Rattle.beet_field.specs.declared.point.Point.{Point}
 use Rattle.beet_field.specs.declared.trio.Trio.{Trio}
 use Rattle.beet_field.specs.Trio.{of_each}
 use Rattle.beet_store.specs.Files.{File}
-use Rattle.beet_bids.specs.AuctionFiles.{auction_of}
-use Rattle.beet_bids.specs.BidFiles.{bid_of}
 use Rattle.beet_bids.specs.Books.{Book}
-use Rattle.beet_bids.specs.Curves.{Curve}
-use Rattle.beet_bids.specs.Grids.{Grid}
 use Rattle.beet_bids.specs.Outcomes.{clearing_place}
-use Rattle.beet_bids.specs.declared.auction_file.TheConstants.{AUCTION_LIMIT}
-use Rattle.beet_bids.specs.declared.bid_file.TheConstants.{BID_LIMIT}
-use Rattle.beet_book.specs.BookFiles.{book_of}
-use Rattle.beet_book.specs.Farmers.{BidderWithWords, book_with}
+use Rattle.beet_book.specs.Farmers.{book_with}
 use Rattle.beet_book.specs.PointSums.{inputs_at}
-use Rattle.beet_book.specs.ServerFiles.{servers_of}
-use Rattle.beet_book.specs.declared.book_file.TheConstants.{BOOK_LIMIT}
-use Rattle.beet_book.specs.declared.entries.BidderSource.{BidderSource}
-use Rattle.beet_book.specs.declared.entries.Entry.{Entry}
-use Rattle.beet_book.specs.declared.server_file.TheConstants.{SERVERS_LIMIT}
-use Rattle.beet_book.specs.declared.sources.Servers.{Servers}
-use Rattle.beet_farmer.specs.Lists.{list_of}
-use Rattle.beet_farmer.specs.declared.list_file.ListEntry.{ListEntry}
-use Rattle.beet_farmer.specs.declared.list_file.TheConstants.{LIST_LIMIT}
 use Rattle.beet_plan.specs.Auction.{auction_over}
 use Rattle.beet_masking.specs.Masks.{is_spent, mask_at}
 use Rattle.beet_plan.specs.Search.{path}
@@ -36,14 +20,9 @@ use Rattle.beet_world.specs.declared.schedule.Delivery.{Delivery}
 use Rattle.beet_world.specs.declared.schedule.TheConstants.{SCHEDULE_LIMIT}
 use Rattle.beet_errand.specs.Errands.{Step, reads}
 use Rattle.beet_load.specs.Counts.{counts_of}
-use Rattle.beet_load.specs.Wanted.{wanted_of}
-use Rattle.beet_load.specs.Farmers.{farmers_errand}
 use Rattle.beet_load.specs.Loading.{AuctionWithBidders, loaded_errand}
-use Rattle.beet_load.specs.Servers.{AllWords, HaveEnough, all_words_errand, masks_of}
-use Rattle.beet_job_envelopes.specs.Gather.{bidders_errand}
-use Rattle.beet_job_envelopes.specs.Seal.{own_words_errand}
+use Rattle.beet_load.specs.Servers.{HaveEnough, masks_of}
 use Rattle.beet_job_envelopes.specs.SealedBooks.{HaveWords}
-use Rattle.beet_job_envelopes.specs.SourceWords.{source_word}
 use Rattle.beet_job_trial.specs.Rules.{trial_book, trial_farmers, trial_grid, trial_servers}
 use Rattle.beet_job_trial.specs.Sizes.{sizes_of}
 use Rattle.beet_audit.specs.Audits.{recombined_book}
@@ -52,6 +31,7 @@ use Rattle.beet_job_audit.specs.Reading.{read_errand}
 use Rattle.beet_job_audit.specs.declared.reading.ReadViews.{ReadViews}
 use Rattle.beet_job_worlds.specs.Reading.{Both, both_errand, first_book, second_book, words_read}
 use Rattle.beet_errand.specs.Overs.{ReadsTo}
+use Rattle.beet_app_laws.specs.Readings.{OpenRead, SealRead, TallyRead}
 
 -- the masks suffice for a search among so many prices that ends at a place: of as many as it makes comparisons, and the
 -- spare ones, no more are rejected than are spare
@@ -64,13 +44,8 @@ MasksSufficeFor book masks = MasksSuffice book.grid.prices (clearing_place book)
 
 -- `tally`: the auction has one price, and its book is read with its bidders
 pub record CanTally (files : List File) (auction book : List ℕ) : Type 0 where
-  pub grid : Grid
-  pub grid_read : ReadsTo files (reads auction AUCTION_LIMIT auction_of) grid
-  pub one_price : grid.prices ≡ 1
-  pub entries : List Entry
-  pub entries_read : ReadsTo files (reads book BOOK_LIMIT book_of) entries
-  pub farmers : List BidderWithWords
-  pub farmers_read : ReadsTo files (farmers_errand (wanted_of None grid) grid None [] entries) farmers
+  pub read : TallyRead files auction book
+  pub one_price : read.grid.value.prices ≡ 1
 
 -- `clear` and `record`: by this step an auction is read with its servers and its book, and the masks suffice
 pub record CanClear (files : List File) (step : Step AuctionWithBidders) : Type 0 where
@@ -86,31 +61,17 @@ pub record CanRehearse (files : List File) (auction servers book name : List ℕ
   pub schedule_read : ReadsTo files (reads name SCHEDULE_LIMIT schedule_of) schedule
 
 -- `seal`: the auction, the bid, and words of the farmer that are enough are read
-pub record CanSeal (files : List File) (auction bid source : List ℕ) : Type 0 where
-  pub grid : Grid
-  pub grid_read : ReadsTo files (reads auction AUCTION_LIMIT auction_of) grid
-  pub curve : Curve
-  pub curve_read : ReadsTo files (reads bid BID_LIMIT (bid_of grid)) curve
-  pub from : BidderSource
-  pub from_is : source_word source ≡ Some from
-  pub words : List ℕ
-  pub words_read : ReadsTo files (own_words_errand grid from) words
+abbrev pub CanSeal : List File → List ℕ → List ℕ → List ℕ → Type 0
+CanSeal files auction bid source = SealRead files auction bid source
 
 -- `open`: the auction, its servers with their words, and the envelopes of a list are read, and the masks suffice for
 -- their points
 pub record CanOpen (files : List File) (auction servers list : List ℕ) : Type 0 where
-  pub grid : Grid
-  pub grid_read : ReadsTo files (reads auction AUCTION_LIMIT auction_of) grid
-  pub sources : Servers
-  pub sources_read : ReadsTo files (reads servers SERVERS_LIMIT servers_of) sources
-  pub entries : List ListEntry
-  pub entries_read : ReadsTo files (reads list LIST_LIMIT list_of) entries
-  pub words : AllWords
-  pub words_read : ReadsTo files (all_words_errand (wanted_of None grid) None sources) words
-  pub bidders : List (Trio (List ℕ))
-  pub bidders_read : ReadsTo files (bidders_errand grid [] entries) bidders
-  pub masks : MasksSuffice grid.prices (points_place (auction_over grid) (inputs_at grid.prices bidders))
-      (masks_of words.servers)
+  pub read : OpenRead files auction servers list
+  pub masks :
+      let grid = read.grid.value in
+      MasksSuffice grid.prices (points_place (auction_over grid) (inputs_at grid.prices read.bidders.value))
+      (masks_of read.words.value.servers)
 
 -- `trial`: the words are two sizes, the seeds of the rule give words that are enough, and the masks suffice
 pub record CanRunTrial (first second : List ℕ) : Type 0 where

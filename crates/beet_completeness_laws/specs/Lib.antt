@@ -1,2 +1,3 @@
 pub mod WithoutFault
+pub mod Kinds
 pub mod Complete

@@ -9,7 +9,7 @@ use Rattle.beet_mapped.specs.Dealers.{SlopesMoved}
 use Rattle.beet_mapped.proofs.WordPlaces.{accepted-length}
 use Rattle.beet_auction_map.specs.MappedBidders.{BiddersMapped, party_of}
 use Rattle.beet_auction_map.specs.MappedWords.{Mapped}
-use Rattle.beet_headline.specs.Examples.{book_selling, seller_of}
+use Rattle.beet_counterexamples.specs.Examples.{book_selling, seller_of}
 
 abbrev three : List ℕ
 three = 0 ∷ 0 ∷ 0 ∷ []

@@ -6,3 +6,6 @@ pub mod SameWords
 pub mod AlikeEnds
 pub mod FewWords
 pub mod OtherEnvelopes
+pub mod TwoBooks
+pub mod OneServer
+pub mod Premises

@@ -1,2 +1,4 @@
 pub mod Places
 pub mod Transcribed
+pub mod Examples
+pub mod OneServer

@@ -1,15 +1,20 @@
 -- Three servers are a network, in which each is the peer of another on one of two sides.
 use Rattle.std.proofs.Common.{◌≡◌, ◌≢◌, ◌≤◌, ◌<◌, ◌+◌, ◌==◌, ℕ, true, false, true≢false, cond, refl, sym, ap, subst, ◌∙◌, inl, inr, arith}
 use Rattle.std.proofs.lemmas.Bool.{and_from, and_parts, cases_Bool, false_from_ne_true, not-true, not_from_false}
-use Rattle.std.specs.Prelude.{count_by}
+use Rattle.std.specs.Prelude.{count_by, List}
 use Rattle.beet_field.specs.declared.point.Point.{Point}
 use Rattle.beet_field.specs.declared.point.Point.TheVariants.{One, Two, Three}
 use Rattle.beet_round.specs.Sides.{peer}
 use Rattle.beet_round.specs.declared.sides.Side.{Side}
 use Rattle.beet_round.specs.declared.sides.Side.TheVariants.{Low, High}
-use Rattle.beet_delivery.specs.Events.{Delivered, both_in, passed, same, three, triples_of}
+use Rattle.beet_delivery.specs.Events.{Delivered, Triple, both_in, passed, same, three}
+use Rattle.beet_delivery.specs.Networks as networks
 use Rattle.beet_delivery.proofs.NetworkFacts.{IsNetwork, WasSent, is_at}
 use Rattle.beet_delivery.proofs.NetworkFacts as among
+
+-- the six messages of a round, by sender and receiver
+abbrev pub triples_of : ℕ → List Triple
+triples_of = networks.triples_of three
 
 pub same_is : (a b : Point) → same a b ≡ true → a ≡ b
 same_is One One e = refl

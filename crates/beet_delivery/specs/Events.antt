@@ -46,10 +46,6 @@ with_triple = among.with_triple three
 abbrev pub both_in : Delivered → Point → ℕ → Bool
 both_in = among.all_in three
 
--- the most rounds, of n at most, such that the test holds for each before them
-abbrev pub first_rounds : ℕ → (ℕ → Bool) → ℕ
-first_rounds = among.first_rounds
-
 -- the rounds that a server has passed, in a run of so many: both its messages of each are in the set
 abbrev pub passed : ℕ → Delivered → Point → ℕ
 passed = among.passed three
@@ -73,10 +69,6 @@ after = among.after three
 -- the events that add a message: without those that were not sent, and without repeats
 abbrev pub adding : ℕ → Delivered → List Triple → List Triple
 adding = among.adding three
-
--- the six messages of a round, by sender and receiver
-abbrev pub triples_of : ℕ → List Triple
-triples_of = among.triples_of three
 
 -- all messages of a run of so many rounds, by round, sender and receiver
 abbrev pub all_triples : ℕ → List Triple

@@ -128,7 +128,6 @@ fn begin_file(alloc: Global, grid: &Grid, server: Point) -> Result<Vec<u8>, Allo
     Ok(file)
 }
 
-/// The bytes of an envelope.
 fn bytes_of(alloc: Global, grid: &Grid, envelope: &Envelope) -> Result<Vec<u8>, AllocError>
     ensures bytes { IfOk result (λ file. file.items ≡ envelope_bytes grid.now envelope.now) }
     ensures limits { OnOk result (IsGrid grid.now) }

@@ -7,7 +7,8 @@ use Rattle.beet_gates.specs.declared.Act.TheVariants.{Deal, Mul, Reveal, End}
 use Rattle.beet_gates.specs.declared.Batch.{Batch}
 use Rattle.beet_gates.specs.Batches.{end_batch}
 use Rattle.beet_gates.specs.Clear.{is_end}
-use Rattle.beet_gates.specs.Plans.{Plan, Ended, Block, Quiet, Last, plan_batch, plan_finish, BlockStands, PlanStands, after_all}
+use Rattle.beet_gates.specs.Plans.{Plan, Ended, Block, Quiet, Last, plan_batch, plan_finish}
+use Rattle.beet_gates.proofs.PlanRuns.{BlockStands, PlanStands, after_all}
 use Rattle.beet_gates.specs.Scripts.{Standing, after, revealed}
 use Rattle.beet_gates.proofs.PlanFacts.{Follows, finish-last, follows-last, opens-some, follows-now, follows-tail}
 use Rattle.beet_gates.proofs.PlanFacts.{follows-next, follows-quiet, now-block, now-ended, now-quiet, now-last, single}

@@ -8,6 +8,7 @@ pub mod Between
 pub mod Segments
 pub mod Sums
 pub mod Bits
+pub mod PlanRuns
 pub mod PlanFacts
 pub mod PlanPlaces
 pub mod PlanNumbers

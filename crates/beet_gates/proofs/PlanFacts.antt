@@ -16,9 +16,10 @@ use Rattle.beet_gates.specs.Clear.{clear_act, rounds_dealt, values_dealt}
 use Rattle.beet_gates.proofs.ClearAt.{rounds-are}
 use Rattle.beet_gates.proofs.ClearFacts.{opens-more, done-after}
 use Rattle.beet_gates.specs.Scripts.{Standing, BatchStands, IsWithin, LawFrom, after, acted, revealed}
-use Rattle.beet_gates.specs.Plans.{Plan, Ended, Block, Quiet, Last, all_opened_by, plan_batch, plan_run, plan_rounds}
-use Rattle.beet_gates.specs.Plans.{plan_end, opened_by, BlockStands, PlanStands, after_all, plan_length, plan_after}
-use Rattle.beet_gates.specs.Plans.{plan_finish, batch_at}
+use Rattle.beet_gates.specs.Plans.{Plan, Ended, Block, Quiet, Last, plan_batch, plan_length, plan_after, plan_finish}
+use Rattle.beet_gates.specs.Plans.{batch_at}
+use Rattle.beet_gates.proofs.PlanRuns.{all_opened_by, plan_run, plan_rounds, plan_end, opened_by, BlockStands}
+use Rattle.beet_gates.proofs.PlanRuns.{PlanStands, after_all}
 
 -- from here on the script is the plan
 pub record Follows {F : Type 0} (next : ℕ → List ℕ → Batch) (done : ℕ) (opened : List ℕ) (plan : Plan F) : Type 0 where

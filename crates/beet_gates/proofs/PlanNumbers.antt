@@ -4,8 +4,8 @@ use Rattle.std.proofs.Common.{arith, append_assoc, append-nil}
 use Rattle.std.proofs.Math.Seq.{drop-append_seam}
 use Rattle.beet_gates.specs.declared.Batch.{Batch}
 use Rattle.beet_gates.specs.Clear.{Values, batch_on, batches_on}
-use Rattle.beet_gates.specs.Plans.{Plan, Ended, Block, Quiet, Last, all_opened_by, plan_run, plan_rounds, plan_end}
-use Rattle.beet_gates.specs.Plans.{opened_by, PlanStands, after_all}
+use Rattle.beet_gates.specs.Plans.{Plan, Ended, Block, Quiet, Last}
+use Rattle.beet_gates.proofs.PlanRuns.{all_opened_by, plan_run, plan_rounds, plan_end, opened_by, PlanStands, after_all}
 use Rattle.beet_gates.specs.Scripts.{Standing, after}
 use Rattle.beet_gates.proofs.ClearFacts.{opens-more}
 use Rattle.beet_gates.proofs.PlanFacts.{block-opened, opened-last, opened-none, plan-next, plan-quiet}

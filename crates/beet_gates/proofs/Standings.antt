@@ -6,7 +6,7 @@ use Rattle.beet_gates.specs.declared.Linear.{Linear}
 use Rattle.beet_gates.specs.Clear.{is_end}
 use Rattle.beet_gates.specs.Each.{each}
 use Rattle.beet_gates.specs.Scripts.{Standing, BatchStands, TermsBelow, LetsBelow, PairsBelow, after, revealed}
-use Rattle.beet_gates.specs.Plans.{BlockStands, after_all}
+use Rattle.beet_gates.proofs.PlanRuns.{BlockStands, after_all}
 use Rattle.beet_gates.proofs.EachFacts.{each-zero, each-suc, each-cons}
 
 -- pairs and combinations by a rule

@@ -126,7 +126,6 @@ fn append_deal(wires: &mut Vec<Fe>, one: Word, two: Word, three: Word) -> Result
     Ok(())
 }
 
-/// Opens the wires.
 fn append_opened(wires: &[Fe], opened: &mut Vec<Fe>, shown: &[u32]) -> Result<(), AllocError>
     requires { WiresBelow (length wires.now) shown.now }
     ensures { OnOk result (opened.new.items ≡ opened.old.items ++ map (slice_index wires.now) shown.now) }

@@ -76,7 +76,6 @@ impl Act {
         }
     }
 
-    /// Whether it is the end.
     pub fn is_end(&self) -> bool
         ensures { result ≡ is_end self.now }
     {

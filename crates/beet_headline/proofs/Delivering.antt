@@ -10,10 +10,10 @@ use Rattle.beet_round.specs.Sides.{peer}
 use Rattle.beet_round.specs.declared.sides.Side.{Side}
 use Rattle.beet_round.specs.declared.sides.Side.TheVariants.{Low, High}
 use Rattle.beet_delivery.specs.Events.{Delivered, Triple, after, after_from, deliver, has, is_sent, nothing, passed}
-use Rattle.beet_delivery.specs.Events.{same, triples_of, undelivered}
+use Rattle.beet_delivery.specs.Events.{same, undelivered}
 use Rattle.beet_delivery.proofs.NetworkFacts.{Within, after_append, deliver_sent, has_with, passed_most, sent_from}
 use Rattle.beet_delivery.proofs.NetworkFacts.{sent_grows, within_after, within_deliver}
-use Rattle.beet_delivery.proofs.ThreeServers.{passed_in, passed_largest, three-is}
+use Rattle.beet_delivery.proofs.ThreeServers.{passed_in, passed_largest, three-is, triples_of}
 use Rattle.beet_delivery.proofs.Undelivered.{none_undelivered}
 
 module _ (rounds : ℕ) where

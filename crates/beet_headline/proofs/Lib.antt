@@ -5,7 +5,6 @@ pub mod Inputs
 pub mod Pairing
 pub mod Choices
 pub mod Delivering
-pub mod TwoBooks
 pub mod Telling
 pub mod Zeros
 pub mod Sealed

@@ -122,6 +122,7 @@ one-pair s first words second words' two runs are w = record {
   first_runs = runs;
   second_runs = record { are_words = are; enough = w.enough };
   as_long = as-long s first words second words' runs.enough.count w.enough.count w.mapped;
+  views = w.looks;
   transcripts = ap view_bytes w.looks;
   always = w.moments;
 }

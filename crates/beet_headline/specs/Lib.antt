@@ -1,3 +1,2 @@
 pub mod Statements
 pub mod Envelopes
-pub mod Examples

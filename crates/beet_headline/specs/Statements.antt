@@ -110,7 +110,8 @@ pub record AreAsLong (words words' : Words) : Type 0 where
   pub bidders : map (λ list. length list) words'.bidders ≡ map (λ list. length list) words.bidders
 
 -- words of two worlds that are mapped, and go with no others: both are enough and as long, and server s cannot tell
--- which world it is in by the bytes of its transcript, nor by what it has, receives and sends after any events
+-- which world it is in by what it sees and the bytes of its transcript, nor by what it has, receives and sends after
+-- any events
 pub record AreOnePair (s : Point) (first : Book) (words : Words) (second : Book) (words' : Words) : Type 0 where
   pub mapped : Mapped s first words second words'
   pub only_second : IsOnlySecond s first words second words'
@@ -118,6 +119,7 @@ pub record AreOnePair (s : Point) (first : Book) (words : Words) (second : Book)
   pub first_runs : CanRun first words
   pub second_runs : CanRun second words'
   pub as_long : AreAsLong words words'
+  pub views : view_with second words' s ≡ view_with first words s
   pub transcripts : transcript_with second words' s ≡ transcript_with first words s
   pub always : AlwaysSame s first words second words'
 

@@ -6,17 +6,14 @@
 //! There is no code here, and no memory is taken: the laws are contracts of functions that do nothing.
 #![tactic(auto)]
 
-ghost use Rattle.std.specs.Prelude.{◌≡◌, ◌≢◌, ◌<◌, ◌*◌, ◌++◌, ℕ, List, [], None, Some, slice_index};
+ghost use Rattle.std.specs.Prelude.{◌≡◌, ◌≢◌, ◌<◌, ◌*◌, ◌++◌, ℕ, List, [], slice_index};
 ghost use Rattle.beet_field.specs.Field.{sub_of};
 ghost use Rattle.beet_field.specs.declared.point.Point.{Point};
-ghost use Rattle.beet_field.specs.declared.point.Point.TheVariants.{One};
 ghost use Rattle.beet_words.specs.Bundles.{Words};
 ghost use Rattle.beet_bids.specs.Books.{Book, IsBook};
 ghost use Rattle.beet_bids.specs.Curves.{Curve, quantity};
 ghost use Rattle.beet_bids.specs.Grids.{Grid};
-ghost use Rattle.beet_bids.specs.Outcomes.{outcome_of};
 ghost use Rattle.beet_bids.specs.declared.book.Bidder.{Bidder};
-ghost use Rattle.beet_bids.specs.declared.outcomes.Outcome.TheVariants.{No, Price};
 ghost use Rattle.beet_plan.specs.Auction.{Auction, auction_batch, auction_over, most_rounds};
 ghost use Rattle.beet_plan.specs.declared.Finish.{Finish};
 ghost use Rattle.beet_delivery.specs.Events.{Triple, after_from};
@@ -32,7 +29,6 @@ ghost use Rattle.beet_auction_map.specs.MappedWords.{Mapped};
 ghost use Rattle.beet_auction_map.specs.ViewsWith.{view_with};
 ghost use Rattle.beet_farmer.specs.Sealing.{envelope_for, sealed_envelope};
 ghost use Rattle.beet_headline.specs.Envelopes.{AreOneEnvelope, AreTwoBids, CanSeal};
-ghost use Rattle.beet_headline.specs.Examples.{book_selling};
 ghost use Rattle.beet_headline.specs.Statements.{AllDelivered, AllEndWith, AllHaveEnded, AllShow, AreChoices};
 ghost use Rattle.beet_headline.specs.Statements.{AreOnePair};
 ghost use Rattle.beet_headline.specs.Statements.{ArePairs, AreTwoBooks, Began, CanRun, CoreOpensTheOutcome, IsSeen};
@@ -161,16 +157,4 @@ pub fn equal_views_end_alike()
     ensures { (s : Point) (first second : Book) (words words' : Words) → IsBook first → IsBook second →
         CanRun first words → CanRun second words' → view_with second words' s ≡ view_with first words s →
         book_finish second words'.masks ≡ book_finish first words.masks }
-{}
-
-/// One buys 5 at the prices 100 and 110, and is known to server 1; another sells at 110. Where it sells 5 and where it
-/// sells 7, the books agree for server 1, though they are not the same; where it sells 4 there is no price, and they do
-/// not agree.
-pub fn different_books_agree()
-    ensures five { outcome_of (book_selling 5) ≡ Price 1 110 (Some 5) None }
-    ensures seven { outcome_of (book_selling 7) ≡ Price 1 110 (Some 5) None }
-    ensures four { outcome_of (book_selling 4) ≡ No }
-    ensures agree { AreTwoBooks One (book_selling 5) (book_selling 7) }
-    ensures different { book_selling 5 ≢ book_selling 7 }
-    ensures apart { AreTwoBooks One (book_selling 5) (book_selling 4) → ⊥ }
 {}

@@ -4,7 +4,7 @@ ghost use Rattle.beet_errand.specs.Tasks.{DoesTask};
 ghost use Rattle.beet_job_audit.specs.Ending.{audit_task};
 
 use crate::answering::answer_views;
-use crate::reading::read_views;
+use crate::reading::{AuditFiles, read_views};
 use beet_errand::{Reply, Stop};
 use beet_store::Shelf;
 use std::alloc::Global;
@@ -15,13 +15,11 @@ use std::alloc::Global;
 pub fn audit_files<S: Shelf>(
     alloc: Global,
     shelf: &mut S,
-    auction: &str,
-    one: &str,
-    two: &str,
-    three: &str,
+    files: &AuditFiles<'_>,
 ) -> Result<Reply, Stop>
-    ensures { DoesTask (audit_task auction.now one.now two.now three.now) (S.seen shelf.old) (S.seen shelf.new) result }
+    ensures { DoesTask (audit_task files.now.auction.now files.now.one.now files.now.two.now files.now.three.now)
+        (S.seen shelf.old) (S.seen shelf.new) result }
 {
-    let read = read_views(alloc, shelf, auction, one, two, three)?;
+    let read = read_views(alloc, shelf, files)?;
     answer_views(alloc, &read)
 }

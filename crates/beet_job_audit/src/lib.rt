@@ -7,5 +7,5 @@ mod reading;
 mod refusing;
 
 pub use auditing::audit_files;
-pub use reading::ReadViews;
+pub use reading::{AuditFiles, ReadViews};
 pub use refusing::refused_line;

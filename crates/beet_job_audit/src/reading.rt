@@ -15,6 +15,15 @@ use beet_store::Shelf;
 use beet_view::{View, read_view};
 use std::alloc::Global;
 
+/// The names of the files of the job: the auction, and the transcripts of servers 1, 2 and 3.
+#[derive(Clone, Copy)]
+pub struct AuditFiles<'a> {
+    pub auction: &'a str,
+    pub one: &'a str,
+    pub two: &'a str,
+    pub three: &'a str,
+}
+
 /// The grid of an auction, and three views that are held against it.
 #[derive(Drop)]
 pub struct ReadViews {
@@ -22,7 +31,6 @@ pub struct ReadViews {
     pub views: Trio<View>,
 }
 
-/// The view of a transcript.
 fn read_transcript<S: Shelf>(alloc: Global, shelf: &mut S, name: &str) -> Result<View, Stop>
     ensures { Reads (λ view. view) (S.seen shelf.old) (S.seen shelf.new)
         (reads name.now LONGEST_FILE view_in) result }
@@ -35,18 +43,15 @@ fn read_transcript<S: Shelf>(alloc: Global, shelf: &mut S, name: &str) -> Result
 pub(crate) fn read_views<S: Shelf>(
     alloc: Global,
     shelf: &mut S,
-    auction: &str,
-    one: &str,
-    two: &str,
-    three: &str,
+    files: &AuditFiles<'_>,
 ) -> Result<ReadViews, Stop>
     ensures { Reads (λ read. read) (S.seen shelf.old) (S.seen shelf.new)
-        (read_errand auction.now one.now two.now three.now) result }
+        (read_errand files.now.auction.now files.now.one.now files.now.two.now files.now.three.now) result }
 {
-    let grid = read_grid(alloc, shelf, auction)?;
-    let one = read_transcript(alloc, shelf, one)?;
-    let (one, two) = beside(one, read_transcript(alloc, shelf, two))?;
-    let ((one, two), three) = beside((one, two), read_transcript(alloc, shelf, three))?;
+    let grid = read_grid(alloc, shelf, files.auction)?;
+    let one = read_transcript(alloc, shelf, files.one)?;
+    let (one, two) = beside(one, read_transcript(alloc, shelf, files.two))?;
+    let ((one, two), three) = beside((one, two), read_transcript(alloc, shelf, files.three))?;
     Ok(ReadViews {
         grid,
         views: Trio { one, two, three },

@@ -12,7 +12,6 @@ use beet_errand::{OwnRefusal, Refusal, Stop};
 use beet_field::{Fe, Point};
 use std::alloc::{AllocError, Global};
 
-/// The text of a place.
 fn place_text(alloc: Global, place: u32) -> Result<String, AllocError>
     ensures { IfOk result (λ text. string_bytes text ≡ at_place place) }
 {

@@ -14,23 +14,30 @@ use beet_store::Shelf;
 use std::alloc::Global;
 use std::sync::Wait;
 use std::thread::Threads;
+use std::time::Clock;
+
+/// The names of the files of the job.
+#[derive(Clone, Copy)]
+pub struct ClearFiles<'a> {
+    pub auction: &'a str,
+    pub servers: &'a str,
+    pub book: &'a str,
+}
 
 /// The outcome of a book, and the rounds in which three servers find it, in threads and under the gate where
-/// `run_servers` says so: `clear AUCTION SERVERS BOOK`, with names of files.
-pub fn clear<S: Shelf, R: Threads + Wait + Sync, G: Gate>(
+/// `run_servers` says so: `clear AUCTION SERVERS BOOK`.
+pub fn clear<S: Shelf, R: Threads + Wait + Clock + Sync, G: Gate>(
     rt: &R,
     alloc: Global,
     shelf: &mut S,
-    auction: &str,
-    servers: &str,
-    book: &str,
+    files: &ClearFiles<'_>,
     gate: &G,
 ) -> Result<Reply, Stop>
     ensures done { IfOk result (λ reply. IsDone reply.status) }
     ensures reads { Reads (λ reply. reply) (S.seen shelf.old) (S.seen shelf.new)
-        (clear_job auction.now servers.now book.now) result }
+        (clear_job files.now.auction.now files.now.servers.now files.now.book.now) result }
 {
-    let loaded = load(alloc, shelf, auction, servers, book)?;
+    let loaded = load(alloc, shelf, files.auction, files.servers, files.book)?;
     let grid = loaded.grid;
     let (finish, rounds) = run_auction(rt, alloc, &grid, loaded.inputs, loaded.servers, gate)?;
     Ok(outcome_reply(alloc, &grid, finish, rounds)?)

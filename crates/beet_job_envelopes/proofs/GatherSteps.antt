@@ -10,7 +10,8 @@ use Rattle.beet_farmer.specs.declared.list_file.ListEntry.{ListEntry}
 use Rattle.beet_errand.specs.Fetches.{ReadsFor, Reads, Reached}
 use Rattle.beet_errand.specs.declared.answer.Stop.{Stop}
 use Rattle.beet_errand.proofs.Frame.{reached_none, reached_more, reached_last, stopped}
-use Rattle.beet_job_envelopes.specs.Gather.{envelopes_errand, bidders_errand, Gathered}
+use Rattle.beet_job_envelopes.specs.Gather.{envelopes_errand, bidders_errand}
+use Rattle.beet_job_envelopes.proofs.Gathered.{Gathered}
 use Rattle.beet_book.specs.PointSums.{AddsUp, sums_at}
 use Rattle.beet_book.proofs.PointsAdded.{sums-none, sums-more}
 

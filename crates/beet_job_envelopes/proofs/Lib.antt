@@ -1,5 +1,6 @@
 pub mod TextAfter
 pub mod SealSteps
+pub mod Gathered
 pub mod GatherSteps
 pub mod OpenSteps
 pub mod SealedBooks

@@ -2,15 +2,11 @@
 use Rattle.std.specs.Prelude.{ℕ, List, [], ◌∷◌, ◌++◌}
 use Rattle.beet_field.specs.declared.point.Point.TheVariants.{One, Two, Three}
 use Rattle.beet_field.specs.declared.trio.Trio.{Trio}
-use Rattle.beet_store.specs.Files.{Seen}
 use Rattle.beet_bids.specs.Grids.{Grid}
-use Rattle.beet_book.specs.Totals.{Totals}
-use Rattle.beet_book.specs.PointSums.{AddsUp}
 use Rattle.beet_farmer.specs.Envelopes.{envelope_of}
 use Rattle.beet_farmer.specs.Sealing.{points_in}
 use Rattle.beet_farmer.specs.declared.list_file.ListEntry.{ListEntry}
 use Rattle.beet_errand.specs.Errands.{Step, ◌>>=◌, gives, reads}
-use Rattle.beet_errand.specs.Fetches.{Reached}
 use Rattle.beet_farmer.specs.declared.envelope.TheConstants.{ENVELOPE_LIMIT}
 
 -- the points in the three envelopes of a bidder, for the servers in order
@@ -27,9 +23,3 @@ bidders_errand grid read [] = gives read
 bidders_errand grid read (entry ∷ entries) = do
   points ← envelopes_errand grid entry.envelopes
   bidders_errand grid (read ++ points ∷ []) entries
-
--- the bidders before the rest are read, and their points are added up
-pub record Gathered (grid : Grid) (entries rest : List ListEntry) (old now : Seen) (totals : Totals) : Type 0 where
-  pub bidders : List (Trio (List ℕ))
-  pub read : Reached old now (bidders_errand grid [] entries) (bidders_errand grid bidders rest)
-  pub sums : AddsUp grid totals bidders

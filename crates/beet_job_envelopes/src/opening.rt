@@ -20,6 +20,7 @@ use beet_store::Shelf;
 use std::alloc::Global;
 use std::sync::Wait;
 use std::thread::Threads;
+use std::time::Clock;
 
 /// The bidders of a list file.
 fn read_entries<S: Shelf>(alloc: Global, shelf: &mut S, name: &str) -> Result<Vec<ListEntry>, Stop>
@@ -31,7 +32,7 @@ fn read_entries<S: Shelf>(alloc: Global, shelf: &mut S, name: &str) -> Result<Ve
 }
 
 /// The outcome of the bids in the envelopes of these entries, and the rounds in which three servers find it.
-fn open_entries<S: Shelf, R: Threads + Wait + Sync, G: Gate>(
+fn open_entries<S: Shelf, R: Threads + Wait + Clock + Sync, G: Gate>(
     rt: &R,
     alloc: Global,
     shelf: &mut S,
@@ -60,7 +61,7 @@ fn open_entries<S: Shelf, R: Threads + Wait + Sync, G: Gate>(
 }
 
 /// The outcome of the bids in the envelopes of a list file, and the rounds in which three servers find it.
-fn open_list<S: Shelf, R: Threads + Wait + Sync, G: Gate>(
+fn open_list<S: Shelf, R: Threads + Wait + Clock + Sync, G: Gate>(
     rt: &R,
     alloc: Global,
     shelf: &mut S,
@@ -80,26 +81,32 @@ fn open_list<S: Shelf, R: Threads + Wait + Sync, G: Gate>(
     opened
 }
 
+/// The names of the files of the job.
+#[derive(Clone, Copy)]
+pub struct OpenFiles<'a> {
+    pub auction: &'a str,
+    pub servers: &'a str,
+    pub list: &'a str,
+}
+
 /// The outcome of the bids in the envelopes of a list, and the rounds in which three servers find it, in threads and
 /// under the gate where `run_servers` says so. The points in the envelopes need not lie on lines. Where they were
 /// sealed, `sealed_books_open_their_outcome` says that each file is within its limit and is read, that the bidders of
 /// the list have the points that were sealed, and that the outcome is that of their book.
-pub fn open_envelopes<S: Shelf, R: Threads + Wait + Sync, G: Gate>(
+pub fn open_envelopes<S: Shelf, R: Threads + Wait + Clock + Sync, G: Gate>(
     rt: &R,
     alloc: Global,
     shelf: &mut S,
-    auction: &str,
-    servers: &str,
-    list: &str,
+    files: &OpenFiles<'_>,
     gate: &G,
 ) -> Result<Reply, Stop>
     ensures done { IfOk result (λ reply. IsDone reply.status) }
     ensures reads { Reads (λ reply. reply) (S.seen shelf.old) (S.seen shelf.new)
-        (open_job auction.now servers.now list.now) result }
+        (open_job files.now.auction.now files.now.servers.now files.now.list.now) result }
 {
-    let grid = read_grid(alloc, shelf, auction)?;
-    let sources = read_sources(alloc, shelf, servers)?;
-    let opened = open_list(rt, alloc, shelf, &grid, &sources, list, gate);
+    let grid = read_grid(alloc, shelf, files.auction)?;
+    let sources = read_sources(alloc, shelf, files.servers)?;
+    let opened = open_list(rt, alloc, shelf, &grid, &sources, files.list, gate);
     drop(sources);
     opened
 }

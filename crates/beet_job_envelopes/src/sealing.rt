@@ -1,6 +1,6 @@
 //! The job `seal`.
 
-ghost use Rattle.std.specs.Prelude.{◌≡◌, ◌≤◌, ◌*◌, [], ◌∷◌, IfErr, IfOk, length, None};
+ghost use Rattle.std.specs.Prelude.{◌≡◌, ◌≤◌, ◌*◌, [], ◌∷◌, IfOk, length, None};
 ghost use Rattle.beet_words.specs.Words.{accepted};
 ghost use Rattle.beet_bids.specs.Curves.{IsOfGrid};
 ghost use Rattle.beet_book.specs.Dealing.{HasLengths};
@@ -61,7 +61,6 @@ fn read_words<S: Shelf>(
     Ok(tape)
 }
 
-/// The file of an envelope.
 fn envelope_file(
     alloc: Global,
     grid: &Grid,
@@ -151,23 +150,29 @@ fn seal_curve<S: Shelf>(
     Ok(reply?)
 }
 
+/// The names of the files of the job: two that it reads, and what begins the names of those that it puts.
+#[derive(Clone, Copy)]
+pub struct SealFiles<'a> {
+    pub auction: &'a str,
+    pub bid: &'a str,
+    pub out: &'a str,
+}
+
 /// Seals the bid of a file in three envelopes, one for each server, with the words of a source. They are the files
 /// `out` with `.1`, `.2` and `.3`.
 pub fn seal_bid<S: Shelf>(
     alloc: Global,
     shelf: &mut S,
-    auction: &str,
-    bid: &str,
+    files: &SealFiles<'_>,
     source: SourceWord<'_>,
-    out: &str,
 ) -> Result<Reply, Stop>
     ensures done { IfOk result (λ reply. reply.status ≡ Status.Done) }
     ensures reads { Reads (λ reply. reply) (S.seen shelf.old) (S.seen shelf.new)
-        (seal_job auction.now bid.now (named_source source.entry) out.now) result }
+        (seal_job files.now.auction.now files.now.bid.now (named_source source.entry) files.now.out.now) result }
 {
-    let grid = read_grid(alloc, shelf, auction)?;
-    let curve = read_curve(alloc, shelf, &grid, bid)?;
-    let reply = seal_curve(alloc, shelf, &grid, &curve, source, out);
+    let grid = read_grid(alloc, shelf, files.auction)?;
+    let curve = read_curve(alloc, shelf, &grid, files.bid)?;
+    let reply = seal_curve(alloc, shelf, &grid, &curve, source, files.out);
     drop(curve);
     reply
 }

@@ -2,5 +2,6 @@
 #![tactic(auto)]
 
 mod recording;
+mod transcripts;
 
-pub use recording::record;
+pub use recording::{RecordFiles, record};

@@ -8,4 +8,4 @@ mod standing;
 mod telling;
 
 pub use laws::nothing_undelivered_tells_the_end;
-pub use rehearsing::rehearse;
+pub use rehearsing::{RehearseFiles, rehearse};

@@ -82,23 +82,28 @@ fn answer(alloc: Global, loaded: Loaded, schedule: &[Delivery]) -> Result<Reply,
     Ok(rehearsal_reply(alloc, &grid, &rehearsal)?)
 }
 
+/// The names of the files of the job.
+#[derive(Clone, Copy)]
+pub struct RehearseFiles<'a> {
+    pub auction: &'a str,
+    pub servers: &'a str,
+    pub book: &'a str,
+    pub schedule: &'a str,
+}
+
 /// How three servers stand in the auction of a book after the deliveries of a schedule, in order:
-/// `rehearse AUCTION SERVERS BOOK SCHEDULE`, with names of files. A message that is not sent when its turn comes is
-/// passed over.
+/// `rehearse AUCTION SERVERS BOOK SCHEDULE`. A message that is not sent when its turn comes is passed over.
 pub fn rehearse<S: Shelf>(
     alloc: Global,
     shelf: &mut S,
-    auction: &str,
-    servers: &str,
-    book: &str,
-    schedule: &str,
+    files: &RehearseFiles<'_>,
 ) -> Result<Reply, Stop>
     ensures done { IfOk result (λ reply. IsDone reply.status) }
     ensures reads { Reads (λ reply. reply) (S.seen shelf.old) (S.seen shelf.new)
-        (rehearse_job auction.now servers.now book.now schedule.now) result }
+        (rehearse_job files.now.auction.now files.now.servers.now files.now.book.now files.now.schedule.now) result }
 {
-    let loaded = load(alloc, shelf, auction, servers, book)?;
-    let deliveries = read_deliveries(alloc, shelf, schedule);
+    let loaded = load(alloc, shelf, files.auction, files.servers, files.book)?;
+    let deliveries = read_deliveries(alloc, shelf, files.schedule);
     match deliveries {
         Ok(deliveries) => answer(alloc, loaded, deliveries.as_slice()),
         Err(stop) => {

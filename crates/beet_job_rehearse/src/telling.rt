@@ -23,7 +23,6 @@ fn standing_as_text(alloc: Global, grid: &Grid, standing: &Standing) -> Result<S
     Ok(text)
 }
 
-/// The line of a server.
 fn server_line(
     alloc: Global,
     grid: &Grid,
@@ -38,7 +37,6 @@ fn server_line(
     Ok(line)
 }
 
-/// The lines of a rehearsal.
 fn rehearsal_lines(alloc: Global, grid: &Grid, rehearsal: &Rehearsal) -> Result<Vec<u8>, AllocError>
     ensures { IfOk result (λ text. text.items ≡ rehearsal_text grid.now rehearsal.now) }
 {
@@ -56,7 +54,6 @@ fn is_spent(standing: &Standing) -> bool
     matches!(standing, Standing::Ended(Finish::MasksSpent))
 }
 
-/// The status of a rehearsal.
 fn status_of(rehearsal: &Rehearsal) -> Status
     ensures { result ≡ rehearsal_status rehearsal.now }
 {

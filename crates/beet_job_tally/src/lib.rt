@@ -2,7 +2,8 @@
 //! the points that they deal.
 #![tactic(auto)]
 
-ghost use Rattle.std.specs.Prelude.{◌≡◌, ◌<◌, IfOk, length};
+ghost use Rattle.std.specs.Prelude.{◌≡◌, ◌<◌, IfOk};
+ghost use Rattle.beet_book.specs.Dealing.{HasLengths};
 ghost use Rattle.beet_book.specs.Totals.{points_on};
 ghost use Rattle.beet_shamir.specs.Line.{recombined};
 ghost use Rattle.beet_errand.specs.Fetches.{Reads, Tests};
@@ -29,11 +30,10 @@ fn check_one_price(alloc: Global, auction: &str, grid: &Grid) -> Result<(), Stop
     Ok(())
 }
 
-/// Opens the number of a wire.
+/// Opens the number of one of two wires.
 fn open(wires: &Trio<FeList>, wire: usize) -> Fe
-    requires one { wire < length wires.now.one }
-    requires two { wire < length wires.now.two }
-    requires three { wire < length wires.now.three }
+    requires lengths { HasLengths wires.now 2 }
+    requires below { wire < 2 }
     ensures { result ≡ recombined (points_on wires.now wire) }
 {
     recombine(Trio {

@@ -70,7 +70,6 @@ trial_farmer grid i = record {
 abbrev pub trial_part : Grid → ℕ → ℕ → List BidderWithWords
 trial_part grid from count = map (trial_farmer grid) (range_with_len from count)
 
--- so many bidders
 abbrev pub trial_farmers : Grid → ℕ → List BidderWithWords
 trial_farmers grid bidders = trial_part grid 0 bidders
 

@@ -47,6 +47,14 @@ fn add_in_order(
     Ok(())
 }
 
+/// Bidders in two parts: `few` from bidder `from` on, and the `rest` after them.
+#[derive(Clone, Copy)]
+struct Halves {
+    from: u32,
+    few: u32,
+    rest: u32,
+}
+
 /// Adds so many bidders from bidder `from` on by so many threads, or one after another where they are few.
 #[cycle(halves)]
 fn add_by<R: Threads + Sync>(
@@ -66,46 +74,39 @@ fn add_by<R: Threads + Sync>(
         return add_in_order(alloc, grid, from, count, totals);
     }
     let few = count / 2;
+    let rest = count - few;
+    let halves = Halves { from, few, rest };
     let mut others = Totals::new(alloc, grid)?;
-    add_both(
-        rt,
-        alloc,
-        grid,
-        threads,
-        from,
-        few,
-        count - few,
-        totals,
-        &mut others,
-    )?;
+    add_both(rt, alloc, grid, threads, halves, totals, &mut others)?;
     totals.merge(&others);
     Ok(())
 }
 
-/// Adds `few` bidders from bidder `from` on to the first totals, and at the same time the `rest` after them to the
-/// second, each by half of the threads.
+/// Adds the bidders of the first part to the first totals, and at the same time those of the second to the second, each
+/// by half of the threads.
 #[cycle(halves)]
 fn add_both<R: Threads + Sync>(
     rt: &R,
     alloc: Global,
     grid: &Grid,
     threads: usize,
-    from: u32,
-    few: u32,
-    rest: u32,
+    halves: Halves,
     totals: &mut Totals,
     others: &mut Totals,
 ) -> Result<(), Stop>
     requires threads { 2 ≤ threads }
-    requires few { from + few + rest ≤ MOST_BIDDERS }
+    requires few { halves.from + halves.few + halves.rest ≤ MOST_BIDDERS }
     requires prices { totals.old.prices ≡ grid.now.prices }
     requires others { others.old.prices ≡ grid.now.prices }
-    ensures tests { Tests (enough_of_each grid.now (from + 1) (trial_part grid.now from (few + rest))) result }
-    ensures adds { IfOk result (λ done. AddsFarmers grid.now (trial_part grid.now from few) totals.old totals.new) }
-    ensures others { IfOk result
-        (λ done. AddsFarmers grid.now (trial_part grid.now (from + few) rest) others.old others.new) }
+    ensures tests { Tests (enough_of_each grid.now (halves.from + 1)
+        (trial_part grid.now halves.from (halves.few + halves.rest))) result }
+    ensures adds { IfOk result
+        (λ done. AddsFarmers grid.now (trial_part grid.now halves.from halves.few) totals.old totals.new) }
+    ensures others { IfOk result (λ done.
+        AddsFarmers grid.now (trial_part grid.now (halves.from + halves.few) halves.rest) others.old others.new) }
 {
     let half = threads.div_ceil(2);
+    let Halves { from, few, rest } = halves;
     let middle = from + few;
     let mut first = || -> Result<(), Stop>
         requires { IsSync R.row × (from + few ≤ MOST_BIDDERS) × (totals.now.prices ≡ grid.now.prices) }

@@ -25,6 +25,7 @@ use beet_run::outcome_reply;
 use std::alloc::{AllocError, Global};
 use std::sync::Wait;
 use std::thread::Threads;
+use std::time::Clock;
 
 /// The line with the sizes, and then the lines of the outcome.
 fn sized_lines(
@@ -79,14 +80,14 @@ fn totals_of<R: Threads + Sync>(
 /// Makes a book of so many bidders over so many prices by rule, deals it bidder by bidder, and clears it among three
 /// servers, in threads and under the gate where `run_servers` says so. The same numbers give the same text. It fetches
 /// nothing.
-pub fn trial<R: Threads + Wait + Sync, G: Gate>(
+pub fn trial<R: Threads + Wait + Clock + Sync, G: Gate>(
     rt: &R,
     alloc: Global,
     bidders: u32,
     prices: u32,
     gate: &G,
 ) -> Result<Reply, Stop>
-    requires { AreSizes bidders prices }
+    requires sizes { AreSizes bidders prices }
     ensures done { IfOk result (λ reply. IsDone reply.status) }
     ensures reads { (seen : Seen) → Reads (λ reply. reply) seen seen (trial_job bidders prices) result }
 {

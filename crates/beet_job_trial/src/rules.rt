@@ -39,7 +39,6 @@ pub(crate) fn grid_of(prices: u32) -> Grid
     }
 }
 
-/// The words of a server.
 fn server_words(alloc: Global, grid: &Grid, server: Point) -> Result<ServerWords, AllocError>
     ensures { IfOk result (λ words. words ≡ seeded (wanted_of None grid.now) (server_seed (number_of server))) }
 {

@@ -7,4 +7,4 @@ mod refusing;
 mod two_worlds;
 
 pub use laws::differences_are_told;
-pub use two_worlds::worlds;
+pub use two_worlds::{WorldsFiles, worlds};

@@ -13,6 +13,16 @@ use std::alloc::Global;
 use std::marker::Sync;
 use std::thread::Threads;
 
+/// The names of the files of the job, and the name with which those that it puts begin.
+#[derive(Clone, Copy)]
+pub struct WorldsFiles<'a> {
+    pub auction: &'a str,
+    pub servers: &'a str,
+    pub first: &'a str,
+    pub second: &'a str,
+    pub out: &'a str,
+}
+
 /// Runs the auction of the first book with the words that are read, and that of the second with words with which it
 /// looks the same to the server. It answers the transcripts of the server, which are equal, and the words of the second
 /// auction.
@@ -20,20 +30,17 @@ pub fn worlds<S: Shelf, R: Threads + Sync>(
     rt: &R,
     alloc: Global,
     shelf: &mut S,
-    auction: &str,
-    servers: &str,
-    book1: &str,
-    book2: &str,
+    files: &WorldsFiles<'_>,
     server: Point,
-    out: &str,
 ) -> Result<Reply, Stop>
-    ensures { DoesTask (worlds_task auction.now servers.now book1.now book2.now server out.now)
+    ensures { DoesTask (worlds_task files.now.auction.now files.now.servers.now files.now.first.now
+        files.now.second.now server files.now.out.now)
         (S.seen shelf.old) (S.seen shelf.new) result }
 {
-    let whole = load_whole(alloc, shelf, auction, servers, book1)?;
-    let second = load_curves(alloc, shelf, 0, whole.book.grid(), book2);
+    let whole = load_whole(alloc, shelf, files.auction, files.servers, files.first)?;
+    let second = load_curves(alloc, shelf, 0, whole.book.grid(), files.second);
     let (whole, second) = beside(whole, second)?;
-    let reply = answer_both(rt, alloc, server, out, &whole, &second);
+    let reply = answer_both(rt, alloc, server, files.out, &whole, &second);
     drop(second);
     drop(whole);
     reply

@@ -11,6 +11,7 @@ use std::process::ExitCode;
 use std::str;
 use std::sync::Wait;
 use std::thread::Threads;
+use std::time::Clock;
 
 /// The limit of the file of commands in bytes.
 const LINES_LIMIT: u64 = 65_536;
@@ -18,7 +19,6 @@ const LINES_LIMIT: u64 = 65_536;
 /// The limit of a file that is compared or measured, in bytes.
 const FILE_LIMIT: u64 = 1_048_576;
 
-/// The words of a line.
 fn words_of(alloc: Global, line: &str) -> Result<Vec<String>, AllocError> {
     let mut words = Vec::new(alloc);
     for word in line.split_whitespace() {
@@ -60,11 +60,22 @@ fn bytes_of(alloc: Global, digits: &str) -> Option<Vec<u8>> {
     }
 }
 
-/// The bytes, of which `count` from `at` on give way to others. `None` where there are not as many, or memory runs out.
-fn spliced(alloc: Global, bytes: &[u8], at: &str, count: &str, digits: &str) -> Option<Vec<u8>> {
-    let at = at.parse::<usize>().ok()?;
-    let end = at.checked_add(count.parse::<usize>().ok()?)?;
-    let others = bytes_of(alloc, digits)?;
+/// The words of a line `splice`.
+#[derive(Clone, Copy)]
+struct SplicedFile<'a> {
+    name: &'a str,
+    at: &'a str,
+    count: &'a str,
+    digits: &'a str,
+    out: &'a str,
+}
+
+/// The bytes, of which so many from a place on give way to others. `None` where there are not as many, or memory runs
+/// out.
+fn spliced(alloc: Global, bytes: &[u8], words: &SplicedFile<'_>) -> Option<Vec<u8>> {
+    let at = words.at.parse::<usize>().ok()?;
+    let end = at.checked_add(words.count.parse::<usize>().ok()?)?;
+    let others = bytes_of(alloc, words.digits)?;
     let mut out = Vec::new(alloc);
     out.extend_from_slice(bytes.get(..at)?).ok()?;
     out.extend_from_slice(others.as_slice()).ok()?;
@@ -77,26 +88,22 @@ fn splice<S: Shelf, K: Desk>(
     alloc: Global,
     shelf: &mut S,
     desk: &mut K,
-    name: &str,
-    at: &str,
-    count: &str,
-    digits: &str,
-    out: &str,
+    words: &SplicedFile<'_>,
 ) -> u8 {
-    let Ok(bytes) = shelf.fetch(alloc, name, FILE_LIMIT) else {
+    let Ok(bytes) = shelf.fetch(alloc, words.name, FILE_LIMIT) else {
         return 1;
     };
-    let Some(bytes) = spliced(alloc, bytes.as_slice(), at, count, digits) else {
+    let Some(bytes) = spliced(alloc, bytes.as_slice(), words) else {
         return 1;
     };
-    match desk.put(alloc, out, bytes.as_slice()) {
+    match desk.put(alloc, words.out, bytes.as_slice()) {
         Ok(()) => 0,
         Err(_) => 1,
     }
 }
 
 /// Does the job of these words, or compares, measures or changes the files that they name. Answers the status.
-fn run_words<S: Shelf, K: Desk, R: Threads + Wait + Sync>(
+fn run_words<S: Shelf, K: Desk, R: Threads + Wait + Clock + Sync>(
     rt: &R,
     alloc: Global,
     shelf: &mut S,
@@ -110,22 +117,22 @@ fn run_words<S: Shelf, K: Desk, R: Threads + Wait + Sync>(
         [command, name] if command.as_str() == "size" => {
             say_size(alloc, shelf, desk, name.as_str())
         }
-        [command, name, at, count, digits, out] if command.as_str() == "splice" => splice(
-            alloc,
-            shelf,
-            desk,
-            name.as_str(),
-            at.as_str(),
-            count.as_str(),
-            digits.as_str(),
-            out.as_str(),
-        ),
+        [command, name, at, count, digits, out] if command.as_str() == "splice" => {
+            let words = SplicedFile {
+                name: name.as_str(),
+                at: at.as_str(),
+                count: count.as_str(),
+                digits: digits.as_str(),
+                out: out.as_str(),
+            };
+            splice(alloc, shelf, desk, &words)
+        }
         _ => beet_app::run(rt, alloc, words, shelf, desk, &FreeGate),
     }
 }
 
 /// Says a line, does its job, and says the status.
-fn run_line<S: Shelf, K: Desk, R: Threads + Wait + Sync>(
+fn run_line<S: Shelf, K: Desk, R: Threads + Wait + Clock + Sync>(
     rt: &R,
     alloc: Global,
     shelf: &mut S,
@@ -142,7 +149,7 @@ fn run_line<S: Shelf, K: Desk, R: Threads + Wait + Sync>(
 }
 
 /// Does the jobs of the lines, in order.
-fn run_lines<S: Shelf, K: Desk, R: Threads + Wait + Sync>(
+fn run_lines<S: Shelf, K: Desk, R: Threads + Wait + Clock + Sync>(
     rt: &R,
     alloc: Global,
     shelf: &mut S,

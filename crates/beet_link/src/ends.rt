@@ -11,16 +11,23 @@ use std::alloc::Global;
 use std::hint::spin_loop;
 use std::marker::Model;
 use std::sync::{Arc, Wait};
+use std::thread::yield_now;
+use std::time::{Clock, Duration, Instant};
 
-/// The most looks of a receiver before it sleeps. They take some twenty microseconds, longer than a message is on its
-/// way where each server has a processor, and not much longer than to sleep and to be woken. A receiver does not give
-/// up its turn between two looks: beside busy processes it would lose a whole time slice by that, and in each round
-/// one.
+/// The most looks of a receiver before it gives up its turn or sleeps. They take some twenty microseconds, longer than
+/// a message is on its way if each server has a processor, and not much longer than to sleep and to be woken.
 pub(crate) const MOST_LOOKS: u32 = 2_000;
 
 /// How many looks more a receiver makes the next time after looks that found its message. After looks in vain it
-/// makes half as many: so it sleeps soon where the other server cannot run while it looks.
+/// makes half as many: so it sleeps soon if the other server cannot run while it looks. A message that was there
+/// before it looked tells nothing of that.
 const MORE_LOOKS: u32 = 16;
+
+/// The longest that a turn is given up for while only servers share the processor, in microseconds: each takes a few.
+const LONGEST_TURN: u64 = 200;
+
+/// The most turns that a receiver gives up for one message before it sleeps.
+const MOST_TURNS: u32 = 1_000;
 
 /// What the two ends of a link share: the messages on their way, and what the receiver sleeps on.
 #[derive(Drop)]
@@ -62,8 +69,10 @@ impl Model for LinkTx {
 pub struct LinkRx {
     pub(crate) line: Arc<Line, Global>,
     pub(crate) pass: QueuePass<Parcel>,
-    /// How often it looks for the next message before it sleeps.
+    /// How often it looks for the next message before it gives up its turn or sleeps.
     pub(crate) looks: u32,
+    /// Whether it gives up its turn before it sleeps.
+    pub(crate) yields: bool,
 }
 
 impl Model for LinkRx {
@@ -111,9 +120,12 @@ impl LinkRx {
     }
 
     /// Takes the front of the link, once it is there. No memory is taken.
-    pub fn wait<R: Wait>(&mut self, rt: &R) -> Box<RoundMessage>
+    pub fn wait<R: Wait + Clock>(&mut self, rt: &R) -> Box<RoundMessage>
         ensures { IsNext self.old result.value × (self.new ≡ one_on self.old) }
     {
+        if let Some(message) = self.take(rt) {
+            return message;
+        }
         match self.look(rt) {
             Some(message) => {
                 self.looks = self.looks.saturating_add(MORE_LOOKS).min(MOST_LOOKS);
@@ -121,7 +133,10 @@ impl LinkRx {
             }
             None => {
                 self.looks = self.looks / 2 + 1;
-                self.sleep(rt)
+                match self.give_way(rt) {
+                    Some(message) => message,
+                    None => self.sleep(rt),
+                }
             }
         }
     }
@@ -136,6 +151,34 @@ impl LinkRx {
                 return Some(message);
             }
             spin_loop();
+        }
+        None
+    }
+
+    /// Gives up its turn a few times, and takes the front of the link if it is there then. To sleep and to be woken
+    /// costs several times as much. But a busy process that has the turn keeps it for a whole time slice: once a turn
+    /// came back so late, the receiver of this link gives up none for the rest of the run. If the clock cannot be read,
+    /// it sleeps.
+    fn give_way<R: Wait + Clock>(&mut self, rt: &R) -> Option<Box<RoundMessage>>
+        ensures taken { IfSome result (λ m. IsNext self.old m.value × (self.new ≡ one_on self.old)) }
+        ensures empty { IfNone result (self.new ≡ self.old) }
+    {
+        if !self.yields {
+            return None;
+        }
+        let longest = Duration::from_micros(LONGEST_TURN);
+        let mut before = Instant::now(rt).ok()?;
+        for _ in 0..MOST_TURNS {
+            yield_now();
+            let after = Instant::now(rt).ok()?;
+            self.yields = after.duration_since(before) <= longest;
+            if let Some(message) = self.take(rt) {
+                return Some(message);
+            }
+            if !self.yields {
+                return None;
+            }
+            before = after;
         }
         None
     }

@@ -62,6 +62,7 @@ fn open<K: Named<Parcel>, S: Script>(
             line: theirs,
             pass: first,
             looks: MOST_LOOKS,
+            yields: true,
         },
     ))
 }

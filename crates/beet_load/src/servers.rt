@@ -81,7 +81,6 @@ impl AllWords {
     }
 }
 
-/// The words of a seed.
 pub fn seed_words(
     alloc: Global,
     wanted: &Wanted,

@@ -16,6 +16,20 @@ use Rattle.beet_map.proofs.Moves.{same_or}
 use Rattle.beet_map.proofs.Alike.{Alike}
 use Rattle.beet_map.proofs.Extending.{Extends, stands_alike, stays_at, extended}
 
+-- what a batch leads to, in runs that have come to round t: both are ready for it, also with the numbers still to be moved,
+-- and both come to the next round, whichever numbers are moved as the batch moves them
+pub record Turned (next : ℕ → List ℕ → Batch) (me : Point) (w w' : Secrets) (drawn numbers : Trio (List ℕ)) (t : ℕ)
+    (here there : Shared) (b : Batch) : Type 0 where
+  pub first : HasEnough b.act w.masks drawn (with_batch_lets b here)
+  pub moving : HasEnough b.act w.masks numbers (with_batch_lets b here)
+  pub next_first : act_among (dealing w.masks drawn) b.act (with_batch_lets b here) ≡ shared_at (begin_in next w drawn) (t + 1)
+  pub second : (e : Trio (List ℕ)) → MovesBatch me b.act w (with_batch_lets b here) w' (with_batch_lets b there) numbers e →
+      HasEnough b.act w'.masks e (with_batch_lets b there)
+  pub next_second : (e : Trio (List ℕ)) → MovesBatch me b.act w (with_batch_lets b here) w' (with_batch_lets b there) numbers e →
+      act_among (dealing w'.masks e) b.act (with_batch_lets b there) ≡ shared_at (begin_in next w' e) (t + 1)
+  pub mapped : (e : Trio (List ℕ)) → MovesBatch me b.act w (with_batch_lets b here) w' (with_batch_lets b there) numbers e →
+      GateMapped me (t + 1) (begin_in next w drawn) (begin_in next w' e)
+
 module _ (next : ℕ → List ℕ → Batch) (me : Point) (rounds : ℕ) (w w' : Secrets) (may : MayMap next me rounds w w')
     (drawn numbers : Trio (List ℕ)) (t : ℕ) (lt : t < rounds)
     (room : HasRoom rounds (begin_in next w drawn) w')
@@ -61,13 +75,13 @@ module _ (next : ℕ → List ℕ → Batch) (me : Point) (rounds : ℕ) (w w' :
   deals_second : stand.dealt + deals_in b.act ≤ length w'.masks.one
   deals_second = subst (λ n. n ≤ length w'.masks.one) (λ i. (sym stands i).dealt + deals_in (sym batch_is i).act) (room.words' t lt)
 
-  pub ready_move : HasEnough b.act w.masks numbers stand
+  ready_move : HasEnough b.act w.masks numbers stand
   ready_move = record { words = deals_first; one = draws_moved One; two = draws_moved Two; three = draws_moved Three }
 
-  pub ready_first : HasEnough b.act w.masks drawn stand
+  ready_first : HasEnough b.act w.masks drawn stand
   ready_first = record { words = deals_first; one = draws_first One; two = draws_first Two; three = draws_first Three }
 
-  pub next_first : act_among (dealing w.masks drawn) b.act stand ≡ shared_at o (t + 1)
+  next_first : act_among (dealing w.masks drawn) b.act stand ≡ shared_at o (t + 1)
   next_first =
       let s : t + 1 ≡ suc t = omega arith in
       subst (λ n. act_among (dealing w.masks drawn) b.act stand ≡ shared_at o n) (sym s) (λ i. act_among o (batch_is i).act (stands i))
@@ -88,7 +102,7 @@ module _ (next : ℕ → List ℕ → Batch) (me : Point) (rounds : ℕ) (w w' :
     draws_second : (j : Point) → stand'.drawn + draws_in b.act ≤ length (member e j)
     draws_second j = let a = draws_moved j in let c = same_lengths j in let d = drawn_is in omega arith
 
-    pub ready_second : HasEnough b.act w'.masks e stand'
+    ready_second : HasEnough b.act w'.masks e stand'
     ready_second = record {
       words = let a = deals_second in let d = dealt_is in omega arith;
       one = draws_second One;
@@ -121,12 +135,12 @@ module _ (next : ℕ → List ℕ → Batch) (me : Point) (rounds : ℕ) (w w' :
           (λ ne. (moves.others j ne).beyond n (subst (λ m. m ≤ n) (λ i. (sym stands i).drawn + draws_in (sym batch_is i).act) high));
     }
 
-    pub next_mapped : GateMapped me (t + 1) o (begin_in next w' e)
+    next_mapped : GateMapped me (t + 1) o (begin_in next w' e)
     next_mapped =
         let s : t + 1 ≡ suc t = omega arith in
         subst (λ n. GateMapped me n o (begin_in next w' e)) (sym s) (extended next me rounds w w' may drawn numbers t lt mapped e extends)
 
-    pub next_second : act_among (dealing w'.masks e) b.act stand' ≡ shared_at (begin_in next w' e) (t + 1)
+    next_second : act_among (dealing w'.masks e) b.act stand' ≡ shared_at (begin_in next w' e) (t + 1)
     next_second =
         let s : t + 1 ≡ suc t = omega arith in
         let same = stays_at next me rounds w w' may drawn numbers t lt mapped e extends t (omega arith) in
@@ -134,3 +148,13 @@ module _ (next : ℕ → List ℕ → Batch) (me : Point) (rounds : ℕ) (w w' :
         ((λ i. act_among (begin_in next w' e) (batch_is' i).act (stands' i))
         ∙ (λ i. act_among (begin_in next w' e) (next t (sym same i).opened).act
         (with_batch_lets (next t (sym same i).opened) (sym same i))))
+
+  pub turned : Turned next me w w' drawn numbers t here there b
+  turned = record {
+    first = ready_first;
+    moving = ready_move;
+    next_first = next_first;
+    second = ready_second;
+    next_second = next_second;
+    mapped = next_mapped;
+  }

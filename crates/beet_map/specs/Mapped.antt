@@ -69,7 +69,6 @@ abbrev pub WordsLookAlike : (ℕ → List ℕ → Batch) → ℕ → Point → S
 WordsLookAlike next most me w w' words words' =
     LooksAlike me (rounds_among (run_with next w words) most) (run_with next w words) (run_with next w' words')
 
--- all are words
 abbrev pub AreWords : Trio (List ℕ) → Type 0
 AreWords words = (j : Point) (n : ℕ) → IsWord (slice_index (member words j) n)
 

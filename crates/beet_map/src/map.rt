@@ -47,8 +47,8 @@ pub fn gate_map<S: Script>(
         (S.masks_of script.now) me first.now second.now) }
 {
     let rounds = rounds_alike(alloc, me, script, first, second)?;
-    let mut numbers = all_numbers(alloc, coefficients)?;
-    map_numbers(alloc, me, script, rounds, first, second, &mut numbers)?;
+    let drawn = all_numbers(alloc, coefficients)?;
+    let numbers = map_numbers(alloc, me, script, rounds, first, second, drawn)?;
     let mapped = all_back(alloc, coefficients, &numbers)?;
     Ok(mapped)
 }

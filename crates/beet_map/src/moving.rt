@@ -69,24 +69,31 @@ pub fn moved(me: Point, number: Fe, first: Fe, second: Fe) -> Fe
     number.add(first.sub(second).over(me))
 }
 
+/// What the numbers of a server may hide in one of two worlds: the products of its points, and the bits
+/// of the word that it deals.
+#[derive(Clone, Copy)]
+pub(crate) struct Hidden<'a> {
+    pub points: &'a [Fe],
+    pub word: u64,
+}
+
 /// Moves the numbers that a server draws for an act, so that what they hide may change from the first
 /// world to the second.
 pub(crate) fn move_numbers(
     me: Point,
     act: &Act,
-    first: &[Fe],
-    word: u64,
-    second: &[Fe],
-    other: u64,
+    first: Hidden<'_>,
+    second: Hidden<'_>,
     numbers: &mut [Fe],
     drawn: usize,
 )
     requires { drawn + draws_in act.now ≤ length numbers.old }
-    ensures { MovesList me act.now first.now word second.now other drawn numbers.old numbers.new }
+    ensures { MovesList me act.now first.entry.points.now first.entry.word second.entry.points.now second.entry.word
+        drawn numbers.old numbers.new }
 {
     for k in 0..draws(act) {
-        let here = secret(act, first, word, k);
-        let there = secret(act, second, other, k);
+        let here = secret(act, first.points, first.word, k);
+        let there = secret(act, second.points, second.word, k);
         numbers[drawn + k] = moved(me, numbers[drawn + k], here, there);
     }
 }

@@ -1,50 +1,50 @@
 //! Three lists of numbers, one for each server.
 
-ghost use Rattle.std.specs.Prelude.{◌≡◌, IfOk, slice_index};
-ghost use Rattle.beet_field.specs.Trio.{member};
+ghost use Rattle.std.specs.Prelude.{◌≡◌, [], IfOk, slice_index};
+ghost use Rattle.beet_field.specs.Trio.{member, trio_of};
 
-use beet_field::{Fe, Point};
+use beet_field::{Fe, Point, Trio};
 use std::alloc::{AllocError, Global};
 use std::marker::Model;
 
 /// A list of numbers for each of the three servers.
 #[derive(Drop)]
 pub(crate) struct Numbers {
-    pub one: Vec<Fe>,
-    pub two: Vec<Fe>,
-    pub three: Vec<Fe>,
+    pub lists: Trio<Vec<Fe>>,
 }
 
 impl Model for Numbers {
     ghost use Rattle.std.specs.Prelude.{ℕ, List};
-    ghost use Rattle.beet_field.specs.declared.trio.Trio.{Trio};
+    ghost use Rattle.beet_field.specs.declared.trio.Trio.{Trio as Each};
 
-    ghost Value = { Trio (List ℕ) };
+    ghost Value = { Each (List ℕ) };
 
-    ghost view = { λ a. record { one = a.one.items; two = a.two.items; three = a.three.items } };
+    ghost view = { λ a. record { one = a.lists.one.items; two = a.lists.two.items; three = a.lists.three.items } };
 }
 
 impl Numbers {
+    /// No numbers yet.
+    pub(crate) fn new(alloc: Global) -> Numbers
+        ensures { result ≡ trio_of (λ server. []) }
+    {
+        Numbers {
+            lists: Trio::of(|_| Vec::new(alloc)),
+        }
+    }
+
     /// The list of a server.
     pub(crate) fn at(&self, server: Point) -> &[Fe]
         ensures { result.now ≡ member self.now server }
     {
-        match server {
-            Point::One => self.one.as_slice(),
-            Point::Two => self.two.as_slice(),
-            Point::Three => self.three.as_slice(),
-        }
+        self.lists.get(server).as_slice()
     }
 
     /// The same lists, in memory of their own.
     pub(crate) fn copy(&self, alloc: Global) -> Result<Numbers, AllocError>
         ensures { IfOk result (λ numbers. numbers ≡ self.now) }
     {
-        Ok(Numbers {
-            one: Vec::from_slice(alloc, self.one.as_slice())?,
-            two: Vec::from_slice(alloc, self.two.as_slice())?,
-            three: Vec::from_slice(alloc, self.three.as_slice())?,
-        })
+        let lists = Trio::try_of(|server| Vec::from_slice(alloc, self.at(server)))?;
+        Ok(Numbers { lists })
     }
 }
 

@@ -89,7 +89,6 @@ fn first_other_word(first: &[Word], second: &[Word], count: u32) -> Option<u32>
     None
 }
 
-/// The values of lines.
 fn values(alloc: Global, lines: &[Line]) -> Result<Vec<Fe>, AllocError>
     ensures values { IfOk result (λ values. values.items ≡ values_of lines.now) }
     ensures elements { IfOk result (λ values. (k : ℕ) → IsElement (slice_index values.items k)) }

@@ -78,11 +78,7 @@ impl Stage {
         ensures { result ≡ nothing_shared }
     {
         Stage {
-            wires: Numbers {
-                one: Vec::new(alloc),
-                two: Vec::new(alloc),
-                three: Vec::new(alloc),
-            },
+            wires: Numbers::new(alloc),
             opened: Vec::new(alloc),
             drawn: 0,
             dealt: 0,
@@ -93,9 +89,9 @@ impl Stage {
     pub(crate) fn add_lets(&mut self, batch: &Batch) -> Result<(), AllocError>
         ensures { OnOk result (self.new ≡ with_batch_lets batch.now self.old) }
     {
-        append_lets(&mut self.wires.one, batch.lets.as_slice())?;
-        append_lets(&mut self.wires.two, batch.lets.as_slice())?;
-        append_lets(&mut self.wires.three, batch.lets.as_slice())
+        append_lets(&mut self.wires.lists.one, batch.lets.as_slice())?;
+        append_lets(&mut self.wires.lists.two, batch.lets.as_slice())?;
+        append_lets(&mut self.wires.lists.three, batch.lets.as_slice())
     }
 
     /// Appends the lines of the bits that a server deals.
@@ -172,9 +168,9 @@ impl Stage {
           wires = trio_of (λ i. member self.old.wires i ++ shares_of lines.now i);
         }) }
     {
-        append_points(&mut self.wires.one, lines, Point::One)?;
-        append_points(&mut self.wires.two, lines, Point::Two)?;
-        append_points(&mut self.wires.three, lines, Point::Three)
+        append_points(&mut self.wires.lists.one, lines, Point::One)?;
+        append_points(&mut self.wires.lists.two, lines, Point::Two)?;
+        append_points(&mut self.wires.lists.three, lines, Point::Three)
     }
 
     /// Opens the wires that an act shows.
@@ -207,7 +203,7 @@ impl Stage {
         self.add_lines(lines.as_slice())?;
         // There are as many words and numbers, so a usize counts them.
         let _words = masks.one.as_slice().len();
-        let _numbers = numbers.one.len();
+        let _numbers = numbers.lists.one.len();
         self.drawn += draws(act);
         self.dealt += deals(act);
         Ok(())

@@ -1,6 +1,7 @@
 //! The walk through both worlds, batch by batch.
 
-ghost use Rattle.std.specs.Prelude.{◌≡◌, ◌≢◌, ◌≤◌, ◌+◌, OnOk, length};
+ghost use Rattle.std.specs.Prelude.{◌≡◌, ◌≢◌, ◌≤◌, ◌+◌, IfOk, OnOk, length, slice_index};
+ghost use Rattle.beet_field.specs.Trio.{member};
 ghost use Rattle.beet_gates.specs.Draws.{draws_in};
 ghost use Rattle.beet_sharing.specs.Runs.{act_among, with_batch_lets};
 ghost use Rattle.beet_map.specs.Mapped.{GateMapped};
@@ -8,7 +9,7 @@ ghost use Rattle.beet_map.specs.Premise.{MayMap, HasRoom};
 ghost use Rattle.beet_map.specs.Steps.{HasEnough, MovesAt, MovesBatch, dealing, nothing_shared};
 ghost use Rattle.beet_map.specs.Secrets.{begin_in};
 
-use crate::moving::{move_numbers, word_at};
+use crate::moving::{Hidden, move_numbers, word_at};
 use crate::numbers::Numbers;
 use crate::secrets::Secrets;
 use crate::stage::Stage;
@@ -16,132 +17,158 @@ use beet_field::{Fe, Point};
 use beet_gates::{Act, Batch, Script};
 use std::alloc::{AllocError, Global};
 
+/// One of two worlds: what it hides, the numbers that its servers draw, and how far its run has come.
+#[derive(Drop)]
+struct World<'a> {
+    secrets: &'a Secrets,
+    numbers: Numbers,
+    stage: Stage,
+}
+
+impl<'a> World<'a> {
+    /// A world whose run has no wires yet.
+    fn new(alloc: Global, secrets: &'a Secrets, numbers: Numbers) -> World<'a>
+        ensures secrets { result.secrets.now ≡ secrets.now }
+        ensures numbers { result.numbers ≡ numbers }
+        ensures stage { result.stage ≡ nothing_shared }
+    {
+        World {
+            secrets,
+            numbers,
+            stage: Stage::new(alloc),
+        }
+    }
+}
+
+/// What the numbers of a server may hide, in a run that has come so far.
+fn hidden<'a>(secrets: &Secrets, stage: &'a Stage, server: Point) -> Hidden<'a>
+    ensures points { result.points.now ≡ member stage.now.wires server }
+    ensures word { result.word ≡ slice_index (member secrets.now.masks server) stage.now.dealt }
+{
+    Hidden {
+        points: stage.wires.at(server),
+        word: word_at(secrets.masks.get(server).as_slice(), stage.dealt),
+    }
+}
+
 /// Moves the numbers that a server draws for an act, in its list. Those of `me` stay.
 fn move_list(
     me: Point,
     act: &Act,
-    first: &Secrets,
-    here: &Stage,
+    here: &World<'_>,
     second: &Secrets,
     there: &Stage,
     server: Point,
     list: &mut [Fe],
 )
-    requires { here.now.drawn + draws_in act.now ≤ length list.old }
+    requires { here.now.stage.drawn + draws_in act.now ≤ length list.old }
     ensures same_length { length list.new ≡ length list.old }
     ensures own { server ≡ me → list.new ≡ list.old }
-    ensures other { server ≢ me →
-        MovesAt me act.now first.now here.now second.now there.now server list.old list.new }
+    ensures other { server ≢ me → MovesAt me act.now here.now.secrets.now here.now.stage second.now there.now
+        server list.old list.new }
 {
     if server != me {
-        move_numbers(
-            me,
-            act,
-            here.wires.at(server),
-            word_at(first.masks.get(server).as_slice(), here.dealt),
-            there.wires.at(server),
-            word_at(second.masks.get(server).as_slice(), there.dealt),
-            list,
-            here.drawn,
-        );
+        let first = hidden(here.secrets, &here.stage, server);
+        let second = hidden(second, there, server);
+        move_numbers(me, act, first, second, list, here.stage.drawn);
     }
 }
 
-/// Moves the numbers that the two servers other than `me` draw for an act. The lets of its batch are
-/// among the wires of both stages.
-fn move_batch(
-    me: Point,
-    act: &Act,
-    first: &Secrets,
-    here: &Stage,
-    second: &Secrets,
-    there: &Stage,
-    numbers: &mut Numbers,
-)
-    requires { HasEnough act.now first.now.masks numbers.old here.now }
-    ensures { MovesBatch me act.now first.now here.now second.now there.now numbers.old numbers.new }
+/// Moves the numbers that the two servers other than `me` draw for an act in the second world. The lets
+/// of its batch are among the wires of both stages.
+fn move_batch(me: Point, act: &Act, here: &World<'_>, there: &mut World<'_>)
+    requires { HasEnough act.now here.now.secrets.now.masks there.old.numbers here.now.stage }
+    ensures secrets { there.new.secrets ≡ there.old.secrets }
+    ensures stage { there.new.stage ≡ there.old.stage }
+    ensures moves { MovesBatch me act.now here.now.secrets.now here.now.stage there.old.secrets.now
+        there.old.stage there.old.numbers there.new.numbers }
 {
-    let one = numbers.one.as_mut_slice();
-    move_list(me, act, first, here, second, there, Point::One, one);
-    let two = numbers.two.as_mut_slice();
-    move_list(me, act, first, here, second, there, Point::Two, two);
-    let three = numbers.three.as_mut_slice();
-    move_list(me, act, first, here, second, there, Point::Three, three);
+    let (second, stage) = (there.secrets, &there.stage);
+    let one = there.numbers.lists.one.as_mut_slice();
+    move_list(me, act, here, second, stage, Point::One, one);
+    let two = there.numbers.lists.two.as_mut_slice();
+    move_list(me, act, here, second, stage, Point::Two, two);
+    let three = there.numbers.lists.three.as_mut_slice();
+    move_list(me, act, here, second, stage, Point::Three, three);
 }
 
-/// Takes both runs through a batch. The numbers of the second run are moved before the products that
-/// rest on them are formed.
+/// Takes the runs of both worlds through a batch. The numbers of the second are moved before the
+/// products that rest on them are formed.
 fn step(
     alloc: Global,
     me: Point,
     batch: &Batch,
-    first: &Secrets,
-    second: &Secrets,
-    drawn: &Numbers,
-    here: &mut Stage,
-    there: &mut Stage,
-    numbers: &mut Numbers,
+    here: &mut World<'_>,
+    there: &mut World<'_>,
 ) -> Result<(), AllocError>
-    requires first { HasEnough batch.now.act first.now.masks drawn.now
-        (with_batch_lets batch.now here.old) }
-    requires moving { HasEnough batch.now.act first.now.masks numbers.old
-        (with_batch_lets batch.now here.old) }
-    requires second { (moved : _) → MovesBatch me batch.now.act first.now
-        (with_batch_lets batch.now here.old) second.now (with_batch_lets batch.now there.old)
-        numbers.old moved →
-        HasEnough batch.now.act second.now.masks moved (with_batch_lets batch.now there.old) }
-    ensures first { OnOk result (here.new ≡ act_among (dealing first.now.masks drawn.now)
-        batch.now.act (with_batch_lets batch.now here.old)) }
-    ensures second { OnOk result (there.new ≡ act_among (dealing second.now.masks numbers.new)
-        batch.now.act (with_batch_lets batch.now there.old)) }
-    ensures moves { OnOk result (MovesBatch me batch.now.act first.now
-        (with_batch_lets batch.now here.old) second.now (with_batch_lets batch.now there.old)
-        numbers.old numbers.new) }
+    requires first { HasEnough batch.now.act here.old.secrets.now.masks here.old.numbers
+        (with_batch_lets batch.now here.old.stage) }
+    requires moving { HasEnough batch.now.act here.old.secrets.now.masks there.old.numbers
+        (with_batch_lets batch.now here.old.stage) }
+    requires second { (moved : _) → MovesBatch me batch.now.act here.old.secrets.now
+        (with_batch_lets batch.now here.old.stage) there.old.secrets.now
+        (with_batch_lets batch.now there.old.stage) there.old.numbers moved →
+        HasEnough batch.now.act there.old.secrets.now.masks moved
+        (with_batch_lets batch.now there.old.stage) }
+    ensures first { OnOk result (here.new ≡ record here.old {
+      stage = act_among (dealing here.old.secrets.now.masks here.old.numbers) batch.now.act
+          (with_batch_lets batch.now here.old.stage);
+    }) }
+    ensures second { OnOk result (there.new ≡ record there.old {
+      numbers = there.new.numbers;
+      stage = act_among (dealing there.old.secrets.now.masks there.new.numbers) batch.now.act
+          (with_batch_lets batch.now there.old.stage);
+    }) }
+    ensures moves { OnOk result (MovesBatch me batch.now.act here.old.secrets.now
+        (with_batch_lets batch.now here.old.stage) there.old.secrets.now
+        (with_batch_lets batch.now there.old.stage) there.old.numbers there.new.numbers) }
 {
-    here.add_lets(batch)?;
-    there.add_lets(batch)?;
-    move_batch(me, &batch.act, first, here, second, there, numbers);
-    here.act(alloc, &batch.act, &first.masks, drawn)?;
-    there.act(alloc, &batch.act, &second.masks, numbers)
+    here.stage.add_lets(batch)?;
+    there.stage.add_lets(batch)?;
+    move_batch(me, &batch.act, here, there);
+    let (first, second) = (here.secrets, there.secrets);
+    here.stage
+        .act(alloc, &batch.act, &first.masks, &here.numbers)?;
+    there
+        .stage
+        .act(alloc, &batch.act, &second.masks, &there.numbers)
 }
 
-/// Takes both runs through so many rounds, and moves the numbers of the second.
+/// Takes the runs of both worlds through so many rounds, and moves the numbers of the second. Both begin
+/// with the same numbers, and no wires yet.
 fn walk<S: Script>(
     alloc: Global,
     me: Point,
     script: &S,
     rounds: u32,
-    first: &Secrets,
-    second: &Secrets,
-    drawn: &Numbers,
-    here: &mut Stage,
-    there: &mut Stage,
-    numbers: &mut Numbers,
+    here: &mut World<'_>,
+    there: &mut World<'_>,
 ) -> Result<(), AllocError>
-    requires may { MayMap (S.batch_of script.now) me rounds first.now second.now }
-    requires room { HasRoom rounds (begin_in (S.batch_of script.now) first.now drawn.now) second.now }
-    requires here { here.old ≡ nothing_shared }
-    requires there { there.old ≡ nothing_shared }
-    requires numbers { numbers.old ≡ drawn.now }
+    requires may { MayMap (S.batch_of script.now) me rounds here.old.secrets.now there.old.secrets.now }
+    requires room { HasRoom rounds (begin_in (S.batch_of script.now) here.old.secrets.now here.old.numbers)
+        there.old.secrets.now }
+    requires here { here.old.stage ≡ nothing_shared }
+    requires there { there.old.stage ≡ nothing_shared }
+    requires numbers { there.old.numbers ≡ here.old.numbers }
     ensures { OnOk result (GateMapped me rounds
-        (begin_in (S.batch_of script.now) first.now drawn.now)
-        (begin_in (S.batch_of script.now) second.now numbers.new)) }
+        (begin_in (S.batch_of script.now) here.old.secrets.now here.old.numbers)
+        (begin_in (S.batch_of script.now) there.old.secrets.now there.new.numbers)) }
 {
-    here.add_lines(first.inputs.as_slice())?;
-    there.add_lines(second.inputs.as_slice())?;
+    let (first, second) = (here.secrets, there.secrets);
+    here.stage.add_lines(first.inputs.as_slice())?;
+    there.stage.add_lines(second.inputs.as_slice())?;
     let mut place = script.begin();
     let mut batch = Batch::end();
     for t in 0..rounds {
-        script.refill(t, here.opened.as_slice(), &mut place, &mut batch);
-        step(
-            alloc, me, &batch, first, second, drawn, here, there, numbers,
-        )?;
+        let opened = here.stage.opened.as_slice();
+        script.refill(t, opened, &mut place, &mut batch);
+        step(alloc, me, &batch, here, there)?;
     }
     Ok(())
 }
 
-/// Moves the numbers of the first world to those of the second that show `me` the same. The script's
-/// run has so many rounds in both.
+/// The numbers of the second world that show `me` the same as these do in the first. The script's run
+/// has so many rounds in both.
 pub(crate) fn map_numbers<S: Script>(
     alloc: Global,
     me: Point,
@@ -149,18 +176,18 @@ pub(crate) fn map_numbers<S: Script>(
     rounds: u32,
     first: &Secrets,
     second: &Secrets,
-    numbers: &mut Numbers,
-) -> Result<(), AllocError>
+    numbers: Numbers,
+) -> Result<Numbers, AllocError>
     requires may { MayMap (S.batch_of script.now) me rounds first.now second.now }
-    requires room { HasRoom rounds (begin_in (S.batch_of script.now) first.now numbers.old) second.now }
-    ensures { OnOk result (GateMapped me rounds
-        (begin_in (S.batch_of script.now) first.now numbers.old)
-        (begin_in (S.batch_of script.now) second.now numbers.new)) }
+    requires room { HasRoom rounds (begin_in (S.batch_of script.now) first.now numbers) second.now }
+    ensures { IfOk result (λ mapped. GateMapped me rounds
+        (begin_in (S.batch_of script.now) first.now numbers)
+        (begin_in (S.batch_of script.now) second.now mapped)) }
 {
-    let drawn = numbers.copy(alloc)?;
-    let mut here = Stage::new(alloc);
-    let mut there = Stage::new(alloc);
-    walk(
-        alloc, me, script, rounds, first, second, &drawn, &mut here, &mut there, numbers,
-    )
+    let mut there = World::new(alloc, second, numbers.copy(alloc)?);
+    let mut here = World::new(alloc, first, numbers);
+    let walked = walk(alloc, me, script, rounds, &mut here, &mut there);
+    drop(here);
+    walked?;
+    Ok(there.numbers)
 }

@@ -90,7 +90,7 @@ fn product(pairs: &[(u32, u32)], wires: &Numbers, numbers: &Numbers, drawn: usiz
 {
     let pair = pairs[k];
     // The list has this place, so a usize counts it.
-    let _first = numbers.one.as_slice();
+    let _first = numbers.lists.one.as_slice();
     let place = drawn + k;
     Line {
         value: reshare(Trio::of(|at| multiply(wires.at(at), pair))),

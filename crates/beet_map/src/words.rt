@@ -6,7 +6,7 @@ ghost use Rattle.beet_map.specs.Mapped.{AreWords};
 ghost use Rattle.beet_map.specs.Premise.{FitBack, SamePlaces};
 
 use crate::numbers::Numbers;
-use beet_field::Trio;
+use beet_field::{Point, Trio};
 use beet_words::{WordList, numbers_in, put_back};
 use std::alloc::{AllocError, Global};
 
@@ -15,10 +15,11 @@ pub(crate) fn all_numbers(alloc: Global, words: &Trio<WordList>) -> Result<Numbe
     ensures numbers { IfOk result (λ numbers. numbers ≡ numbers_of words.now) }
     ensures below { OnOk result (AreWords words.now) }
 {
+    let one = numbers_in(alloc, words.one.as_slice())?;
+    let two = numbers_in(alloc, words.two.as_slice())?;
+    let three = numbers_in(alloc, words.three.as_slice())?;
     Ok(Numbers {
-        one: numbers_in(alloc, words.one.as_slice())?,
-        two: numbers_in(alloc, words.two.as_slice())?,
-        three: numbers_in(alloc, words.three.as_slice())?,
+        lists: Trio { one, two, three },
     })
 }
 
@@ -33,9 +34,9 @@ pub(crate) fn all_back(
     ensures places { IfOk result (λ back. SamePlaces back words.now) }
 {
     let back = Trio {
-        one: put_back(alloc, words.one.as_slice(), numbers.one.as_slice()),
-        two: put_back(alloc, words.two.as_slice(), numbers.two.as_slice()),
-        three: put_back(alloc, words.three.as_slice(), numbers.three.as_slice()),
+        one: put_back(alloc, words.one.as_slice(), numbers.at(Point::One)),
+        two: put_back(alloc, words.two.as_slice(), numbers.at(Point::Two)),
+        three: put_back(alloc, words.three.as_slice(), numbers.at(Point::Three)),
     };
     back.transpose()
 }

@@ -4,7 +4,7 @@ use Rattle.beet_gates.specs.Batches.{deal_batch, mul_batch, reveal_batch}
 use Rattle.beet_gates.specs.Each.{each}
 use Rattle.beet_gates.specs.Levels.{next_length, next_item}
 use Rattle.beet_gates.specs.Scripts.{Standing, LetsBelow, after}
-use Rattle.beet_gates.specs.Plans.{BlockStands, after_all}
+use Rattle.beet_gates.proofs.PlanRuns.{BlockStands, after_all}
 use Rattle.beet_gates.specs.declared.Gates.{Gates}
 use Rattle.beet_gates.specs.declared.Gates.TheVariants.{Chain, Tree}
 use Rattle.beet_gates.specs.declared.Linear.{Linear}

@@ -5,17 +5,19 @@ use Rattle.std.specs.Prelude.{if◌then◌else◌, ◌==◌}
 use Rattle.std.specs.Int.{bit_at}
 use Rattle.beet_field.specs.Field.{p, IsElement, add_of}
 use Rattle.beet_gates.specs.Clear.{Values, batches_on}
-use Rattle.beet_gates.specs.Plans.{BlockStands, after_all}
+use Rattle.beet_gates.proofs.PlanRuns.{BlockStands, after_all}
 use Rattle.beet_gates.specs.Scripts.{Standing}
 use Rattle.beet_gates.specs.declared.Gates.{Gates}
+use Rattle.beet_gates.specs.declared.TheConstants.{MASK_WIRES}
 use Rattle.beet_gates.specs.declared.Gates.TheVariants.{Chain, Tree}
 use Rattle.beet_gates.proofs.Segments.{Holds}
 use Rattle.beet_gates.proofs.Standings.{Moved}
-use Rattle.beet_mask.specs.Mask.{AfterMask, bits_of, mask_batches, mask_draws_of, xor_of}
+use Rattle.beet_mask.specs.Mask.{AfterMask, bit_wire_of, bits_of, mask_batches, mask_draws_of, xor_of}
 use Rattle.beet_mask.proofs.MaskRun.{mask-run}
 use Rattle.beet_mask.proofs.MaskStands.{mask-stands}
 use Rattle.beet_mask.proofs.MaskTable.{length-mask_batches}
-use Rattle.beet_compare.specs.Compare.{masked_batch, compare_draws_of, compare_wires_of, doubled, is_doubled_even}
+use Rattle.beet_compare.specs.Compare.{BeforeCompare, borrow_batches, masked_batch, compare_draws_of, compare_wires_of}
+use Rattle.beet_compare.specs.Compare.{doubled, is_doubled_even}
 use Rattle.beet_compare.proofs.CompareRun.{compare-run}
 use Rattle.beet_compare.proofs.CompareStands.{masked-stands, borrow-stands}
 use Rattle.beet_compare.proofs.CompareTable.{length-compare_batches}
@@ -133,6 +135,45 @@ wires-enough : (gates : Gates) → 61 ≤ compare_wires_of gates
 wires-enough Chain = omega arith
 wires-enough Tree = omega arith
 
+-- where a comparison may stand, with a mask whose bits have the wires of a block that begins at another wire
+before-compare : (g : Blocks) (first mask at supply demand r s d : ℕ) (before : Values) →
+    MayCompare g first mask supply demand r s d before →
+    at + MASK_WIRES ≤ first → g.bit mask ≡ bit_wire_of at → BeforeCompare first at supply demand r s d before
+before-compare g first mask at supply demand r s d before h room same = record {
+  len = h.len;
+  accepted = h.accepted;
+  room = room;
+  bits = λ k l. ap (λ (wire : ℕ → ℕ). slice_index before.wires (wire k)) (sym same) ∙ h.bits k l;
+  supply_before = h.supply_before;
+  demand_before = h.demand_before;
+  supply_is = h.supply_is;
+  demand_is = h.demand_is;
+  supply_element = h.supply_element;
+  demand_element = h.demand_element;
+}
+
+-- what it does there, with the masked difference and the answer told apart
+compared : (gates : Gates) (deals : ℕ → List ℕ) (first mask supply demand r s d : ℕ) (before : Values) →
+    BeforeCompare first mask supply demand r s d before →
+    (let middle = batches_on deals (masked_batch first mask supply demand ∷ []) before in
+    CompareLeft (blocks_of gates) first r s d before middle
+    (batches_on deals (borrow_batches gates first mask (add_of (doubled s d) r)) middle))
+compared gates deals first mask supply demand r s d before h =
+    let bits : Holds before.wires (mask + 366) 61 (bit_at r) = record { room = omega (arith, h.len, h.room); at = h.bits } in
+    let m = masked-run deals first mask supply demand r s d before h.len h.accepted h.supply_element h.demand_element bits
+    h.supply_before h.demand_before h.supply_is h.demand_is in
+    let w = compare-run deals gates first mask supply demand r s d before h in
+    let answer = if is_doubled_even s d then 1 else 0 in
+    record {
+      more = w.more;
+      wires = w.wires;
+      len = w.len;
+      masked = m.opened;
+      opened = w.opened ∙ sym (ap (λ (l : List ℕ). l ++ answer ∷ []) m.opened
+          ∙ append_assoc before.opened (add_of (doubled s d) r ∷ []) (answer ∷ []));
+      dealt = w.dealt;
+    }
+
 compare-laws : (gates : Gates) → CompareLaw (blocks_of gates)
 compare-laws gates = record {
   rounds = λ first mask c. omega (arith, length-compare_batches first mask 0 0 c gates);
@@ -150,31 +191,8 @@ compare-laws gates = record {
         dealers = b.1.dealers ∙ a.1.dealers;
       };
   runs = λ deals first mask supply demand r s d before h.
-      let bits : Holds before.wires (mask + 366) 61 (bit_at r) = record { room = omega (arith, h.len, h.room); at = h.bits } in
-      let m = masked-run deals first mask supply demand r s d before h.len h.accepted h.supply_element h.demand_element bits
-      h.supply_before h.demand_before h.supply_is h.demand_is in
-      let w = compare-run deals gates first mask supply demand r s d before (record {
-        len = h.len;
-        accepted = h.accepted;
-        room = h.room;
-        bits = h.bits;
-        supply_before = h.supply_before;
-        demand_before = h.demand_before;
-        supply_is = h.supply_is;
-        demand_is = h.demand_is;
-        supply_element = h.supply_element;
-        demand_element = h.demand_element;
-      }) in
-      let answer = if is_doubled_even s d then 1 else 0 in
-      record {
-        more = w.more;
-        wires = w.wires;
-        len = w.len;
-        masked = m.opened;
-        opened = w.opened ∙ sym (ap (λ (l : List ℕ). l ++ answer ∷ []) m.opened
-            ∙ append_assoc before.opened (add_of (doubled s d) r ∷ []) (answer ∷ []));
-        dealt = w.dealt;
-      };
+      compared gates deals first mask supply demand r s d before
+      (before-compare (blocks_of gates) first mask mask supply demand r s d before h h.room refl);
 }
 
 -- a mask of five words is compared as one of three that begins 366 wires on
@@ -187,18 +205,8 @@ five-comparisons =
       answer_stands = λ mask supply demand c s h hs hd. law.answer_stands (mask + 366) supply demand c s (omega arith) hs hd;
       moves = λ mask supply demand c s h hs hd. law.moves (mask + 366) supply demand c s (omega arith) hs hd;
       runs = λ deals first mask supply demand r s d before h.
-          let w = law.runs deals first (mask + 366) supply demand r s d before (record {
-            len = h.len;
-            accepted = h.accepted;
-            room = omega (arith, h.room);
-            bits = h.bits;
-            supply_before = h.supply_before;
-            demand_before = h.demand_before;
-            supply_is = h.supply_is;
-            demand_is = h.demand_is;
-            supply_element = h.supply_element;
-            demand_element = h.demand_element;
-          }) in
+          let w = compared Chain deals first (mask + 366) supply demand r s d before
+          (before-compare five_blocks first mask (mask + 366) supply demand r s d before h (omega (arith, h.room)) refl) in
           record { more = w.more; wires = w.wires; len = w.len; masked = w.masked; opened = w.opened; dealt = w.dealt };
     }
 

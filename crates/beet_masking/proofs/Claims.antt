@@ -7,7 +7,8 @@ use Rattle.std.specs.Int.{bit_at}
 use Rattle.std.proofs.lemmas.Bool.{cases_eq}
 use Rattle.beet_field.specs.Field.{p, IsElement}
 use Rattle.beet_gates.specs.Clear.{Values, batches_on}
-use Rattle.beet_gates.specs.Plans.{Plan, Ended, Block, opened_by, plan_end, plan_rounds}
+use Rattle.beet_gates.specs.Plans.{Plan, Ended, Block}
+use Rattle.beet_gates.proofs.PlanRuns.{opened_by, plan_end, plan_rounds}
 use Rattle.beet_gates.proofs.PlanFacts.{opened-new}
 use Rattle.beet_gates.proofs.PlanNumbers.{plan_numbers, Leads, leads-block, ended-on}
 use Rattle.beet_mask.specs.Mask.{bits_of}

@@ -1,7 +1,8 @@
 -- Masks until one is accepted name only wires that stand, and stay within the bounds.
 use Rattle.std.proofs.Common.{◌≡◌, ℕ, zero, suc, ◌+◌, ◌-◌, ◌*◌, ◌≤◌, false, length, refl, sym, ◌∙◌, arith, mul-suc, ne_eqb}
 use Rattle.std.specs.Prelude.{if◌then◌else◌, ◌==◌}
-use Rattle.beet_gates.specs.Plans.{Plan, Ended, Block, PlanStands, after_all}
+use Rattle.beet_gates.specs.Plans.{Plan, Ended, Block}
+use Rattle.beet_gates.proofs.PlanRuns.{PlanStands, after_all}
 use Rattle.beet_gates.specs.Scripts.{Standing, IsWithin}
 use Rattle.beet_gates.proofs.PlanFacts.{stands-block, stands-ended, stands-if}
 use Rattle.beet_masking.specs.Accepting.{until_accepted, after_product}

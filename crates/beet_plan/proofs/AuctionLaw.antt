@@ -1,7 +1,7 @@
 -- The law of the auction's script.
 use Rattle.std.proofs.Common.{ℕ, ◌≡◌, ◌+◌, ◌*◌, ◌≤◌, [], refl, ap, ◌∙◌, arith, add-mul, mul-add, mul_comm, mul-le-mul_right, zero-add}
 use Rattle.beet_gates.specs.Scripts.{LawFrom, start_among, start_of, bounds_of}
-use Rattle.beet_gates.specs.Plans.{PlanStands}
+use Rattle.beet_gates.proofs.PlanRuns.{PlanStands}
 use Rattle.beet_gates.proofs.PlanFacts.{Follows, plan-law}
 use Rattle.beet_bids.specs.Grids.{comparisons_of}
 use Rattle.beet_bids.specs.declared.outcomes.Policy.{Policy}

@@ -9,7 +9,8 @@ use Rattle.beet_bids.specs.declared.outcomes.Policy.{Policy}
 use Rattle.beet_bids.specs.declared.outcomes.Policy.TheVariants.{Price as PriceAlone, Volume, Full}
 use Rattle.beet_gates.specs.Batches.{reveal_batch}
 use Rattle.beet_gates.specs.Scripts.{Standing, IsWithin, after}
-use Rattle.beet_gates.specs.Plans.{Plan, PlanStands, after_all}
+use Rattle.beet_gates.specs.Plans.{Plan}
+use Rattle.beet_gates.proofs.PlanRuns.{PlanStands, after_all}
 use Rattle.beet_gates.proofs.PlanFacts.{stands-block, stands-ended, stands-if, stands-last, within-all}
 use Rattle.beet_gates.proofs.Standings.{Moved}
 use Rattle.beet_masking.specs.Blocks.{Blocks, after_both}

@@ -3,7 +3,7 @@ use Rattle.std.proofs.Common.{◌≡◌, ℕ, ◌+◌, ◌<◌, ◌≤◌, List,
 use Rattle.std.specs.Prelude.{if◌then◌else◌}
 use Rattle.std.specs.Int.{bit_at}
 use Rattle.beet_gates.specs.Clear.{Values, batches_on}
-use Rattle.beet_gates.specs.Plans.{opened_by}
+use Rattle.beet_gates.proofs.PlanRuns.{opened_by}
 use Rattle.beet_gates.proofs.PlanFacts.{opened-new}
 use Rattle.beet_gates.proofs.Segments.{Holds, holds-append}
 use Rattle.beet_field.specs.Field.{IsElement, add_of}

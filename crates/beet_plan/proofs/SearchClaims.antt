@@ -11,7 +11,8 @@ use Rattle.beet_bids.specs.declared.outcomes.Policy.{Policy}
 use Rattle.beet_bids.specs.declared.outcomes.Policy.TheVariants.{Price as PriceAlone, Volume, Full}
 use Rattle.beet_gates.specs.Batches.{reveal_batch}
 use Rattle.beet_gates.specs.Clear.{Values, batch_on, batches_on}
-use Rattle.beet_gates.specs.Plans.{Plan, Ended, Block, all_opened_by, opened_by, plan_end, plan_rounds}
+use Rattle.beet_gates.specs.Plans.{Plan, Ended, Block}
+use Rattle.beet_gates.proofs.PlanRuns.{all_opened_by, opened_by, plan_end, plan_rounds}
 use Rattle.beet_gates.proofs.PlanNumbers.{plan_numbers, leads-then, leads-block, ended-on}
 use Rattle.beet_compare.specs.Compare.{doubled, is_doubled_even}
 use Rattle.beet_masking.specs.Accepting.{until_accepted}

@@ -10,7 +10,7 @@ use Rattle.beet_field.specs.Trio.{trio_of}
 use Rattle.beet_field.specs.declared.point.Point.{Point}
 use Rattle.beet_field.specs.declared.point.Point.TheVariants.{One, Two, Three}
 use Rattle.beet_field.specs.declared.trio.Trio.{Trio}
-use Rattle.beet_store.specs.Files.{File, Told, bytes_of}
+use Rattle.beet_store.specs.Files.{File, bytes_of}
 use Rattle.beet_store.specs.Desks.{DeskTold, Given}
 use Rattle.beet_forms.specs.Names.{is_name_of}
 use Rattle.beet_forms.specs.declared.faults.TheConstants.{LONGEST_FILE}
@@ -28,7 +28,7 @@ use Rattle.beet_view.specs.Views.{Viewed}
 use Rattle.beet_errand.specs.Errands.{Answer, Errand, answers, file_for, reads}
 use Rattle.beet_errand.specs.Statuses.{IsDoneCode, code_of}
 use Rattle.beet_errand.specs.declared.answer.Status.{Status}
-use Rattle.beet_errand.specs.Runs.{GivesAll, Said}
+use Rattle.beet_errand.specs.Runs.{GivesAll}
 use Rattle.beet_errand.specs.declared.answer.OwnRefusal.TheVariants.{OfAudit}
 use Rattle.beet_load.specs.Loading.{AuctionWithBidders}
 use Rattle.beet_load.specs.Servers.{coefficients_of, masks_of}
@@ -42,19 +42,21 @@ use Rattle.beet_audit.proofs.BookRunFacts.{one-run, same-book}
 use Rattle.beet_job_audit.specs.Ending.{ShowsAudit, audit_answer, run_answer}
 use Rattle.beet_job_audit.specs.Reading.{read_errand}
 use Rattle.beet_job_audit.specs.declared.reading.ReadViews.{ReadViews}
-use Rattle.beet_app.specs.Jobs.{Job, Answering, Auditing, are_names, job_of}
+use Rattle.beet_app.specs.Jobs.{Job, Answering, Auditing, are_names}
 use Rattle.beet_app.proofs.Showing.{Hold, three_stand}
-use Rattle.beet_errand.specs.Overs.{FromFiles, ReadsTo}
+use Rattle.beet_errand.specs.Overs.{ReadsTo}
 use Rattle.beet_errand.proofs.Putting.{leaves_all}
 use Rattle.beet_app_laws.specs.Dues.{EndsAsDue, IsDue, IsDueOfAudit, IsDueOfViews}
 use Rattle.beet_app_laws.specs.Held.{IsHeld}
 use Rattle.beet_app_laws.proofs.Led.{led, read-to}
 use Rattle.beet_app_laws.proofs.Reading.{reads-to}
 use Rattle.beet_app_laws.proofs.Telling.{one-value, told-views}
+use Rattle.beet_app_laws.specs.Calls.{Call, IsOf, RunsJob, RunsWords, Says}
+use Rattle.beet_program_laws.specs.Again.{record_words}
 use Rattle.beet_program_laws.specs.Accepted.{HoldsRun, IsAccepted, Stand, audit_words}
 use Rattle.beet_program_laws.specs.Outcomes.{three_files}
 use Rattle.beet_program_laws.proofs.Audits.{undone}
-use Rattle.beet_program_laws.proofs.Ends.{Found, Ran, WentOut, found, named, shown-ends}
+use Rattle.beet_program_laws.proofs.Ends.{Found, WentOut, found, named, shown-ends}
 use Rattle.beet_program_laws.proofs.Grids.{grid-is}
 use Rattle.beet_program_laws.proofs.Read.{IsLimited, can-run, can-run-cut, farmers-back, is-book, limited, the_book}
 use Rattle.beet_program_laws.proofs.Read.{the_words}
@@ -175,8 +177,7 @@ stands-at out three text desk desk_now calls before after was is =
 
 -- ---- how an audit of views of one run ends
 
-module _ (files : List File) (told told_now : Told) (from : FromFiles files told told_now) (given now : DeskTold)
-    (end : ℕ) (name one two three : List ℕ) (views : ReadViews)
+module _ (files : List File) (call : Call) (from : IsOf files call) (name one two three : List ℕ) (views : ReadViews)
     (read : ReadsTo files (read_errand name one two three) views) (one_run : OneRun views.grid views.views) where
   abbrev due : Status
   due = (run_answer views).status
@@ -194,23 +195,22 @@ module _ (files : List File) (told told_now : Told) (from : FromFiles files told
   -- what is found is that nothing is wrong, and so the end of the run was said
   finding : (other : ReadViews) → other ≡ views → (fault : Option AuditFault) →
       MatchOption fault (OneRun other.grid other.views) (λ fault. OneRun other.grid other.views → ⊥) →
-      WentOut (audit_answer other fault) given now end →
-      Said given now (run_answer views).text
-  finding other same None is put = subst (λ (v : ReadViews). Said given now (run_answer v).text) same put.calls
+      WentOut (audit_answer other fault) call → Says call (run_answer views).text
+  finding other same None is put = subst (λ (v : ReadViews). Says call (run_answer v).text) same put.calls
   finding other same (Some fault) not put =
       absurd (not (subst (λ (v : ReadViews). OneRun v.grid v.views) (sym same) one_run))
 
   -- an audit that is done says how the run ended
-  says-it : (w : IsDoneCode end) → Ran files told told_now from given now end w (Some (Auditing name one two three)) →
-      Said given now (run_answer views).text
+  says-it : IsDoneCode call.status → RunsJob (Some (Auditing name one two three)) call → Says call (run_answer views).text
   says-it w r =
-      shown-ends files told told_now from given now end w {C = Said given now (run_answer views).text} OfAudit
+      shown-ends files call from w {C = Says call (run_answer views).text} OfAudit
       (read_errand name one two three) (ShowsAudit name one two three)
       (undone files name one two three) (λ answer shows put.
       finding shows.value
-      (only shows.value (read-to files told told_now from (read_errand name one two three) shows.value shows.read))
+      (only shows.value (read-to files call.shelf call.shelf_now from (read_errand name one two three) shows.value
+      shows.read))
       shows.shown.found shows.shown.one_run
-      (subst (λ (x : Answer). WentOut x given now end) shows.shown.is put)) r
+      (subst (λ (x : Answer). WentOut x call) shows.shown.is put)) r
 
 -- words that name a job, which pass two tests, name this one
 is-job : (b c : Bool) (job : Option Job) → (if b then if c then job else None else None) ≢ None →
@@ -227,14 +227,14 @@ like ended status end is (inr other) = inr other
 
 -- ---- the whole
 
-module _ (files : List File) (told told_now : Told) (from : FromFiles files told told_now) (desk desk_now : DeskTold)
-    (status : ℕ) (w : IsDoneCode status) (auction servers list out : List ℕ) where
+module _ (files : List File) (call : Call) (from : IsOf files call) (w : IsDoneCode call.status)
+    (auction servers list out : List ℕ) where
   abbrev Recorded : Type 0
-  Recorded = Found files told told_now from desk desk_now status w (limited_errand auction servers list)
+  Recorded = Found files call from w (limited_errand auction servers list)
       (recorded_answer out) (IsLimited files auction)
 
   -- what was read and put is accepted
-  accepted-by : Recorded → IsAccepted files auction out desk desk_now status
+  accepted-by : Recorded → IsAccepted files auction out call
   accepted-by f =
       let loaded = f.value in
       let three = seen files auction out loaded f.holds in
@@ -245,34 +245,29 @@ module _ (files : List File) (told told_now : Told) (from : FromFiles files told
         transcripts = three;
         text = (recorded_answer out loaded).text;
         gives = f.out.calls;
-        stand = stands-at out three (recorded_answer out loaded).text desk desk_now f.out.calls;
-        accepted = λ held' told' told_now' given now end name one two three r not from' ran.
-            (let reads = put-reads files auction out loaded f.holds held' name one two three r in
+        stand = stands-at out three (recorded_answer out loaded).text call.desk call.desk_now f.out.calls;
+        accepted = λ held audit name one two three r not from' ran.
+            (let reads = put-reads files auction out loaded f.holds held name one two three r in
             let job =
             is-job (are_names (name ∷ one ∷ three ∷ [])) (is_name_of two) (Some (Auditing name one two three)) not in
-            let due = subst (λ (j : Option Job). IsDue held' j (run_answer read).status) (sym job)
-            (is-due held' told' told_now' from' given now end name one two three read reads one_run) in
+            let due = subst (λ (j : Option Job). IsDue held j (run_answer read).status) (sym job)
+            (is-due held audit from' name one two three read reads one_run) in
             record {
-              ends = like (run_answer read).status status end
+              ends = like (run_answer read).status call.status audit.status
                   (ap (λ (x : Answer). code_of x.status) ended ∙ sym f.out.code)
-                  (led (audit_words name one two three) held' told' told_now' given now end
-                  (run_answer read).status from' ran due);
-              says = λ same. subst (Said given now) (ap (λ (x : Answer). x.text) ended)
-                  (says-it held' told' told_now' from' given now end name one two three read reads one_run
-                  (subst IsDoneCode (sym same) w)
-                  (subst (λ (j : Option Job). Ran held' told' told_now' from' given now end
-                  (subst IsDoneCode (sym same) w) j) job ran));
+                  (led (audit_words name one two three) held audit (run_answer read).status from' ran due);
+              says = λ same. subst (Says audit) (ap (λ (x : Answer). x.text) ended)
+                  (says-it held audit from' name one two three read reads one_run (subst IsDoneCode (sym same) w)
+                  (subst (λ (j : Option Job). RunsJob j audit) job ran));
             });
       }
 
-  pub accepts : Ran files told told_now from desk desk_now status w
-      (job_of (codes "record" ∷ auction ∷ servers ∷ list ∷ out ∷ [])) →
-      IsAccepted files auction out desk desk_now status
+  pub accepts : RunsWords (record_words auction servers list out) call → IsAccepted files auction out call
   accepts ran =
       let job = Some (Answering (record_errand auction servers list out)) in
-      let r' = named files told told_now from desk desk_now status w (are_names (auction ∷ servers ∷ out ∷ []))
+      let r' = named files call from w (are_names (auction ∷ servers ∷ out ∷ []))
       (if is_name_of list then job else None) ran in
-      let r = named files told told_now from desk desk_now status w (is_name_of list) job r' in
-      accepted-by (found files told told_now from desk desk_now status w (limited_errand auction servers list)
+      let r = named files call from w (is_name_of list) job r' in
+      accepted-by (found files call from w (limited_errand auction servers list)
       (recorded_answer out) (IsLimited files auction)
       (limited files auction servers list) r)

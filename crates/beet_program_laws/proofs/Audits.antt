@@ -7,8 +7,7 @@ use Rattle.beet_field.specs.Trio.{member, of_each}
 use Rattle.beet_field.specs.declared.point.Point.{Point}
 use Rattle.beet_field.specs.declared.point.Point.TheVariants.{One, Two, Three}
 use Rattle.beet_field.specs.declared.trio.Trio.{Trio}
-use Rattle.beet_store.specs.Files.{File, Told}
-use Rattle.beet_store.specs.Desks.{DeskTold}
+use Rattle.beet_store.specs.Files.{File}
 use Rattle.beet_forms.specs.Faults.{Reading}
 use Rattle.beet_forms.specs.Names.{is_name_of}
 use Rattle.beet_forms.specs.declared.faults.TheConstants.{LONGEST_FILE}
@@ -52,12 +51,13 @@ use Rattle.beet_audit.proofs.PointFacts.{item-shares, lengths-shares}
 use Rattle.beet_job_audit.specs.Ending.{ShowsAudit, audit_answer, run_answer}
 use Rattle.beet_job_audit.specs.Reading.{read_errand}
 use Rattle.beet_job_audit.specs.declared.reading.ReadViews.{ReadViews}
-use Rattle.beet_app.specs.Jobs.{Auditing, are_names, job_of}
-use Rattle.beet_errand.specs.Overs.{FromFiles, ReadsTo, answer_over}
+use Rattle.beet_app.specs.Jobs.{Auditing, are_names}
+use Rattle.beet_errand.specs.Overs.{ReadsTo, answer_over}
 use Rattle.beet_app_laws.proofs.Led.{read-to}
 use Rattle.beet_app_laws.proofs.Telling.{one-value, told-views}
+use Rattle.beet_app_laws.specs.Calls.{Call, IsOf, RunsJob, RunsWords}
 use Rattle.beet_program_laws.specs.Commands.{AuditsOneRun}
-use Rattle.beet_program_laws.proofs.Ends.{Ran, WentOut, named, servers-open, shown-ends, tells}
+use Rattle.beet_program_laws.proofs.Ends.{WentOut, named, servers-open, shown-ends, tells}
 use Rattle.beet_program_laws.proofs.Files.{AreFew, any-reads, counted-are, then-reads, words-are}
 use Rattle.beet_program_laws.proofs.Read.{farmers-back, has-accepted}
 use Rattle.beet_program_laws.proofs.Steps.{Yields, any-yield, gives-yield, reads-yield, then-yields}
@@ -255,13 +255,12 @@ undone files auction one two three done =
     let (read, reads, h) = views-yield files auction one two three next done in
     not_done (Own OfAudit) (subst (λ (a : Answer). IsDone a.status) (reads next) done)
 
-module _ (files : List File) (told told_now : Told) (from : FromFiles files told told_now) (given now : DeskTold)
-    (status : ℕ) (w : IsDoneCode status) (auction one two three : List ℕ) where
+module _ (files : List File) (call : Call) (from : IsOf files call) (w : IsDoneCode call.status) (auction one two three : List ℕ) where
   abbrev Audited : Type 0
-  Audited = AuditsOneRun files auction one two three status given now
+  Audited = AuditsOneRun files auction one two three call
 
   told-of : (read : ReadViews) → ReadsTo files (read_errand auction one two three) read → OneRun read.grid read.views →
-      WentOut (run_answer read) given now status → Audited
+      WentOut (run_answer read) call → Audited
   told-of read r one_run put =
       let limits = are-read files auction one two three read r in
       let own = words read.grid read.views limits one_run in
@@ -276,30 +275,29 @@ module _ (files : List File) (told told_now : Told) (from : FromFiles files told
         run = servers-open (recombined_book read.grid read.views) own (is-book read.grid read.views limits one_run)
             (can-run read.grid read.views limits one_run);
         text = (run_answer read).text;
-        tells = tells (recombined_book read.grid read.views) own status put.code;
+        tells = tells (recombined_book read.grid read.views) own call.status put.code;
         said = put.calls;
       }
 
   -- an answer that is done tells of one run
   finding : (read : ReadViews) → ReadsTo files (read_errand auction one two three) read → (found : Option AuditFault) →
       MatchOption found (OneRun read.grid read.views) (λ fault. OneRun read.grid read.views → ⊥) →
-      WentOut (audit_answer read found) given now status → Audited
+      WentOut (audit_answer read found) call → Audited
   finding read r None one_run put = told-of read r one_run put
   finding read r (Some fault) not put = absurd (not_done (Own OfAudit) put.done)
 
-  audits-by : Ran files told told_now from given now status w (Some (Auditing auction one two three)) → Audited
+  audits-by : RunsJob (Some (Auditing auction one two three)) call → Audited
   audits-by r =
-      shown-ends files told told_now from given now status w {C = Audited} OfAudit (read_errand auction one two three)
+      shown-ends files call from w {C = Audited} OfAudit (read_errand auction one two three)
       (ShowsAudit auction one two three)
       (undone files auction one two three) (λ answer shows put.
-      finding shows.value (read-to files told told_now from (read_errand auction one two three) shows.value shows.read)
+      finding shows.value (read-to files call.shelf call.shelf_now from (read_errand auction one two three) shows.value shows.read)
       shows.shown.found shows.shown.one_run
-      (subst (λ (a : Answer). WentOut a given now status) shows.shown.is put)) r
+      (subst (λ (a : Answer). WentOut a call) shows.shown.is put)) r
 
-  pub audits : Ran files told told_now from given now status w
-      (job_of (codes "audit" ∷ auction ∷ one ∷ two ∷ three ∷ [])) → Audited
+  pub audits : RunsWords (codes "audit" ∷ auction ∷ one ∷ two ∷ three ∷ []) call → Audited
   audits ran =
       let job = Some (Auditing auction one two three) in
-      let r = named files told told_now from given now status w (are_names (auction ∷ one ∷ three ∷ []))
+      let r = named files call from w (are_names (auction ∷ one ∷ three ∷ []))
       (if is_name_of two then job else None) ran in
-      audits-by (named files told told_now from given now status w (is_name_of two) job r)
+      audits-by (named files call from w (is_name_of two) job r)

@@ -1,8 +1,8 @@
 -- How a run over told files ends with status 0 or 6: with the answer of its job, which went out whole.
 use Rattle.std.proofs.Common.{◌≡◌, ◌⊎◌, inl, inr, ℕ, List, [], Bool, true, false, Option, None, Ok, Err}
 use Rattle.std.proofs.Common.{if◌then◌else◌, refl, sym, subst, ◌∙◌, arith}
-use Rattle.beet_store.specs.Files.{File, Told}
-use Rattle.beet_store.specs.Desks.{DeskTold, Done}
+use Rattle.beet_store.specs.Files.{File}
+use Rattle.beet_store.specs.Desks.{Done}
 use Rattle.beet_store.specs.declared.desk.PutFault.TheVariants.{Failed, OutOfMemory as NoMemoryToPut}
 use Rattle.beet_words.specs.Bundles.{Words}
 use Rattle.beet_bids.specs.Books.{Book, IsBook}
@@ -27,10 +27,10 @@ use Rattle.beet_errand.proofs.Statuses.{done_end, not_done}
 use Rattle.beet_errand.proofs.Steps.{at_end}
 use Rattle.beet_run.specs.OutcomeTexts.{outcome_text}
 use Rattle.beet_run.specs.Outcomes.{status_of}
-use Rattle.beet_app.specs.Doing.{RunsJob}
 use Rattle.beet_app.specs.Jobs.{Job}
-use Rattle.beet_errand.specs.Overs.{FromFiles, ReadsTo, answer_over}
+use Rattle.beet_errand.specs.Overs.{ReadsTo, answer_over}
 use Rattle.beet_app_laws.proofs.Led.{went-end}
+use Rattle.beet_app_laws.specs.Calls.{Call, IsOf, Puts, RunsJob}
 use Rattle.beet_program_laws.specs.Outcomes.{ServersOpen, TellsTheEnd}
 use Rattle.beet_program_laws.proofs.Steps.{Yields}
 
@@ -43,60 +43,57 @@ not-four status (inl e) f = omega (arith, e, f)
 not-four status (inr e) f = omega (arith, e, f)
 
 -- an answer that is done went out whole, with this status
-pub record WentOut (answer : Answer) (given now : DeskTold) (status : ℕ) : Type 0 where
+pub record WentOut (answer : Answer) (call : Call) : Type 0 where
   pub done : IsDone answer.status
-  pub code : status ≡ code_of answer.status
-  pub calls : GivesAll given now answer.files answer.text (Ok tt)
+  pub code : call.status ≡ code_of answer.status
+  pub calls : Puts call answer.files answer.text
 
-went-out : (answer : Answer) (given now : DeskTold) (status : ℕ) (d : Done) → IsDoneCode status →
-    status ≡ code_of (status_after answer.status d) →
-    GivesAll given now answer.files answer.text d → WentOut answer given now status
-went-out answer given now status (Ok tt) w e calls =
+went-out : (answer : Answer) (call : Call) (d : Done) → IsDoneCode call.status →
+    call.status ≡ code_of (status_after answer.status d) →
+    GivesAll call.desk call.desk_now answer.files answer.text d → WentOut answer call
+went-out answer call (Ok tt) w e calls =
     record { done = done_end answer.status (subst IsDoneCode e w); code = e; calls = calls }
-went-out answer given now status (Err Failed) w e calls = absurd (not-four status w e)
-went-out answer given now status (Err NoMemoryToPut) w e calls = absurd (not-one status w e)
+went-out answer call (Err Failed) w e calls = absurd (not-four call.status w e)
+went-out answer call (Err NoMemoryToPut) w e calls = absurd (not-one call.status w e)
 
 -- the answer of an errand over the files went out whole
-pub record EndsWith (files : List File) (errand : Errand) (given now : DeskTold) (status : ℕ) : Type 0 where
+pub record EndsWith (files : List File) (errand : Errand) (call : Call) : Type 0 where
   pub answer : Answer
   pub is : answer_over files errand ≡ answer
-  pub out : WentOut answer given now status
+  pub out : WentOut answer call
 
 read-all : (answer over : Answer) → IsDone answer.status →
     (answer.status ≡ Refused ReadFault) ⊎ (over ≡ answer) → over ≡ answer
 read-all answer over done (inl unread) = absurd (not_done ReadFault (subst IsDone unread done))
 read-all answer over done (inr is) = is
 
-module _ (files : List File) (told told_now : Told) (from : FromFiles files told told_now) (given now : DeskTold)
-    (status : ℕ) (w : IsDoneCode status) where
-  ends-by : (errand rest : Errand) → Went told told_now errand rest → EndsBy rest given now status →
-      EndsWith files errand given now status
+module _ (files : List File) (call : Call) (from : IsOf files call) (w : IsDoneCode call.status) where
+  ends-by : (errand rest : Errand) → Went call.shelf call.shelf_now errand rest →
+      EndsBy rest call.desk call.desk_now call.status → EndsWith files errand call
   ends-by errand (Ends answer) went (inl goes) =
-      let out = went-out answer given now status goes.done w goes.code goes.calls in
+      let out = went-out answer call goes.done w goes.code goes.calls in
       record {
         answer = answer;
-        is = read-all answer (answer_over files errand) out.done (went-end files told told_now from errand answer went);
+        is = read-all answer (answer_over files errand) out.done
+            (went-end files call.shelf call.shelf_now from errand answer went);
         out = out;
       }
-  ends-by errand (Ends answer) went (inr runs) = absurd (not-one status w runs.code)
-  ends-by errand (Wants name limit next) went runs = absurd (not-one status w runs.code)
+  ends-by errand (Ends answer) went (inr runs) = absurd (not-one call.status w runs.code)
+  ends-by errand (Wants name limit next) went runs = absurd (not-one call.status w runs.code)
 
-  pub run-ends : (errand : Errand) → Runs errand told told_now given now status → EndsWith files errand given now status
+  pub run-ends : (errand : Errand) → Runs errand call.shelf call.shelf_now call.desk call.desk_now call.status →
+      EndsWith files errand call
   run-ends errand r = ends-by errand r.rest r.went r.ends
 
-  -- what holds of the job that words name
-  abbrev pub Ran : Option Job → Type 0
-  Ran job = RunsJob job told told_now given now status
-
-  usage-ends : EndsWith files (refuses Usage usage_text) given now status → ⊥
+  usage-ends : EndsWith files (refuses Usage usage_text) call → ⊥
   usage-ends e = not_done Usage (subst (λ (a : Answer). IsDone a.status) (sym e.is) e.out.done)
 
   -- words that pass a test name the job
-  pub named : (b : Bool) (job : Option Job) → Ran (if b then job else None) → Ran job
+  pub named : (b : Bool) (job : Option Job) → RunsJob (if b then job else None) call → RunsJob job call
   named true job r = r
   named false job r = absurd (usage-ends (run-ends (refuses Usage usage_text) r))
 
-  pub no-job : {A : Type 0} → Ran None → A
+  pub no-job : {A : Type 0} → RunsJob None call → A
   no-job r = absurd (usage-ends (run-ends (refuses Usage usage_text) r))
 
   -- a step gave a value, and the answer that is made of it went out
@@ -104,10 +101,11 @@ module _ (files : List File) (told told_now : Told) (from : FromFiles files told
     pub value : A
     pub read : ReadsTo files step value
     pub holds : P value
-    pub out : WentOut (answer value) given now status
+    pub out : WentOut (answer value) call
 
   pub found : {A : Type 0} (step : Step A) (answer : A → Answer) (P : A → Type 0) → Yields files step P →
-      Runs (step (λ value. Ends (answer value))) told told_now given now status → Found step answer P
+      Runs (step (λ value. Ends (answer value))) call.shelf call.shelf_now call.desk call.desk_now call.status →
+      Found step answer P
   found step answer P y r =
       let e = run-ends (step (λ value. Ends (answer value))) r in
       let (value, reads, holds) =
@@ -117,32 +115,32 @@ module _ (files : List File) (told told_now : Told) (from : FromFiles files told
         read = reads;
         holds = holds;
         out =
-            subst (λ (a : Answer). WentOut a given now status) (sym e.is ∙ reads (λ value. Ends (answer value))) e.out;
+            subst (λ (a : Answer). WentOut a call) (sym e.is ∙ reads (λ value. Ends (answer value))) e.out;
       }
 
 -- a run that begins at its end
-at-rest : (answer : Answer) (given now : DeskTold) (status : ℕ) → IsDoneCode status →
-    EndsBy (Ends answer) given now status → WentOut answer given now status
-at-rest answer given now status w (inl goes) = went-out answer given now status goes.done w goes.code goes.calls
-at-rest answer given now status w (inr runs) = absurd (not-one status w runs.code)
+at-rest : (answer : Answer) (call : Call) → IsDoneCode call.status →
+    EndsBy (Ends answer) call.desk call.desk_now call.status → WentOut answer call
+at-rest answer call w (inl goes) = went-out answer call goes.done w goes.code goes.calls
+at-rest answer call w (inr runs) = absurd (not-one call.status w runs.code)
 
-pub answer-ends : (told told_now : Told) (answer : Answer) (given now : DeskTold) (status : ℕ) → IsDoneCode status →
-    Runs (Ends answer) told told_now given now status → WentOut answer given now status
-answer-ends told told_now answer given now status w r =
-    at-rest answer given now status w
-    (subst (λ (e : Errand). EndsBy e given now status) (sym (at_end told told_now answer r.rest r.went)) r.ends)
+answer-ends : (answer : Answer) (call : Call) → IsDoneCode call.status →
+    Runs (Ends answer) call.shelf_now call.shelf_now call.desk call.desk_now call.status → WentOut answer call
+answer-ends answer call w r =
+    at-rest answer call w
+    (subst (λ (e : Errand). EndsBy e call.desk call.desk_now call.status)
+    (sym (at_end call.shelf_now call.shelf_now answer r.rest r.went)) r.ends)
 
-module _ (files : List File) (told told_now : Told) (from : FromFiles files told told_now) (given now : DeskTold)
-    (status : ℕ) (w : IsDoneCode status) where
+module _ (files : List File) (call : Call) (from : IsOf files call) (w : IsDoneCode call.status) where
   -- a job that shows and is done ended with an answer that shows: no errand is done that reads and goes on to a refusal
   pub shown-ends : {A C : Type 0} (own : OwnRefusal) (step : Step A) (shows : Shows) →
       (IsDone (answer_over files (step (λ value. refuses (Own own) []))).status → ⊥) →
-      ((answer : Answer) → shows told told_now answer → WentOut answer given now status → C) →
-      RunsTask (ToShow own step shows) told told_now given now status → C
+      ((answer : Answer) → shows call.shelf call.shelf_now answer → WentOut answer call → C) →
+      RunsTask (ToShow own step shows) call.shelf call.shelf_now call.desk call.desk_now call.status → C
   shown-ends own step shows not each (inl (answer, shown, r)) =
-      each answer shown (answer-ends told_now told_now answer given now status w r)
+      each answer shown (answer-ends answer call w r)
   shown-ends own step shows not each (inr f) =
-      let e = run-ends files told told_now from given now status w (step (λ value. refuses (Own own) []))
+      let e = run-ends files call from w (step (λ value. refuses (Own own) []))
       (f (λ value. refuses (Own own) [])) in
       absurd (not (subst (λ (a : Answer). IsDone a.status) (sym e.is) e.out.done))
 

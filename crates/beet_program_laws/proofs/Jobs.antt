@@ -1,14 +1,13 @@
 -- What each job that has an errand of its own has read, put and said.
 use Rattle.std.proofs.Common.{◌≡◌, ◌≤◌, ◌<◌, ◌==◌, ℕ, List, [], ◌∷◌, ◌++◌, length, get_or, map, Bool, true, false}
-use Rattle.std.proofs.Common.{Option, Some, None, Ok, if◌then◌else◌, refl, sym, ap, subst, ◌∙◌, arith}
+use Rattle.std.proofs.Common.{Option, Some, None, if◌then◌else◌, refl, sym, ap, subst, ◌∙◌, arith}
 use Rattle.std.specs.Prelude.{All, codes}
 use Rattle.std.proofs.lemmas.List.{get_or-map, length-map}
 use Rattle.beet_field.specs.Trio.{member}
 use Rattle.beet_field.specs.declared.point.Point.{Point}
 use Rattle.beet_field.specs.declared.point.Point.TheVariants.{One, Two, Three}
 use Rattle.beet_field.specs.declared.trio.Trio.{Trio}
-use Rattle.beet_store.specs.Files.{File, Told}
-use Rattle.beet_store.specs.Desks.{DeskTold}
+use Rattle.beet_store.specs.Files.{File}
 use Rattle.beet_forms.specs.Names.{is_name_of}
 use Rattle.beet_words.specs.Bundles.{Words}
 use Rattle.beet_words.specs.Words.{IsWord}
@@ -22,7 +21,6 @@ use Rattle.beet_bids.specs.declared.book.Bidder.{Bidder}
 use Rattle.beet_book.specs.Farmers.{BidderWithWords, book_with}
 use Rattle.beet_book.specs.ServerFiles.{servers_of}
 use Rattle.beet_book.specs.declared.server_file.TheConstants.{SERVERS_LIMIT}
-use Rattle.beet_book.specs.declared.sources.Servers.{Servers}
 use Rattle.beet_farmer.specs.Envelopes.{envelope_of}
 use Rattle.beet_farmer.specs.Lists.{list_of}
 use Rattle.beet_farmer.specs.Sealing.{points_in}
@@ -50,7 +48,7 @@ use Rattle.beet_errand.specs.Statuses.{IsDoneCode, code_of}
 use Rattle.beet_load.specs.Counts.{counts_of}
 use Rattle.beet_load.specs.Wanted.{wanted_of}
 use Rattle.beet_load.specs.Loading.{AuctionWithBidders, loaded_errand}
-use Rattle.beet_load.specs.Servers.{AllWords, all_words_errand, coefficients_of, masks_of}
+use Rattle.beet_load.specs.Servers.{ServerWords, all_words_errand, coefficients_of, masks_of}
 use Rattle.beet_load.specs.Wholes.{CanDeal, all_words, limited_errand}
 use Rattle.beet_run.specs.Outcomes.{outcome_answer}
 use Rattle.beet_job_clear.specs.Clear.{clear_errand, cleared}
@@ -64,14 +62,15 @@ use Rattle.beet_job_envelopes.specs.SealedBooks.{HaveWords, HoldEachSealed, seal
 use Rattle.beet_job_envelopes.proofs.SealedBooks.{outcome-sealed}
 use Rattle.beet_job_envelopes.proofs.SealedFiles.{sealed-files}
 use Rattle.beet_job_worlds.proofs.SecondWords.{words-uncut}
-use Rattle.beet_errand.specs.Runs.{GivesAll}
-use Rattle.beet_app.specs.Jobs.{Job, Answering, are_names, job_of}
-use Rattle.beet_errand.specs.Overs.{FromFiles, ReadsTo}
+use Rattle.beet_app.specs.Jobs.{Answering, are_names}
+use Rattle.beet_errand.specs.Overs.{ReadsTo}
 use Rattle.beet_app_laws.proofs.Telling.{one-value, told-each, told-list, told-trio}
+use Rattle.beet_app_laws.specs.Calls.{Call, IsOf, Puts, RunsWords}
+use Rattle.beet_app_laws.specs.Readings.{OpenRead}
 use Rattle.beet_program_laws.specs.Commands.{Clears, OpensEnvelopes, RecordsRun, ShowsStandings}
 use Rattle.beet_load.specs.WholeViews.{loaded_with}
 use Rattle.beet_program_laws.specs.Outcomes.{IsShown, ServersOpen, TellsTheEnd, transcript_files}
-use Rattle.beet_program_laws.proofs.Ends.{Ran, WentOut, found, named, servers-open, tells}
+use Rattle.beet_program_laws.proofs.Ends.{WentOut, found, named, servers-open, tells}
 use Rattle.beet_program_laws.proofs.Grids.{grid-is}
 use Rattle.beet_program_laws.proofs.Read.{AreLists, CanServeAll, IsLoaded, IsRead, all-words-yield, back, can-run}
 use Rattle.beet_program_laws.proofs.Read.{can-run-cut, farmers-back, is-book, limited-yield, loaded-yield, the_book}
@@ -111,58 +110,54 @@ module _ (loaded : AuctionWithBidders) (h : IsLoaded loaded) where
       (file_for out One, same-transcript One i) ∷ (file_for out Two, same-transcript Two i)
       ∷ (file_for out Three, same-transcript Three i) ∷ []
 
-module _ (files : List File) (told told_now : Told) (from : FromFiles files told told_now) (given now : DeskTold)
-    (status : ℕ) (w : IsDoneCode status) where
-  abbrev HasRun : Option Job → Type 0
-  HasRun job = Ran files told told_now from given now status w job
-
+module _ (files : List File) (call : Call) (from : IsOf files call) (w : IsDoneCode call.status) where
   -- ---- clear and record
 
   cleared-by : (auction servers list : List ℕ) (loaded : AuctionWithBidders) (h : IsLoaded loaded) →
       ReadsTo files (loaded_errand auction servers list) loaded →
-      WentOut (cleared loaded) given now status → Clears files auction servers list status given now
+      WentOut (cleared loaded) call → Clears files auction servers list call
   cleared-by auction servers list loaded h read out = record {
     book = book_in loaded h;
     words = words_in loaded h;
     read = read-back loaded h files (loaded_errand auction servers list) read;
     run = runs-in loaded h;
     text = (cleared loaded).text;
-    tells = tells (book_in loaded h) (words_in loaded h) status out.code;
+    tells = tells (book_in loaded h) (words_in loaded h) call.status out.code;
     said = out.calls;
   }
 
-  pub clears : (auction servers list : List ℕ) → HasRun (job_of (codes "clear" ∷ auction ∷ servers ∷ list ∷ [])) →
-      Clears files auction servers list status given now
+  pub clears : (auction servers list : List ℕ) → RunsWords (codes "clear" ∷ auction ∷ servers ∷ list ∷ []) call →
+      Clears files auction servers list call
   clears auction servers list ran =
-      let r = named files told told_now from given now status w (are_names (auction ∷ servers ∷ list ∷ []))
+      let r = named files call from w (are_names (auction ∷ servers ∷ list ∷ []))
       (Some (Answering (clear_errand auction servers list))) ran in
-      let f = found files told told_now from given now status w (loaded_errand auction servers list) cleared IsLoaded
+      let f = found files call from w (loaded_errand auction servers list) cleared IsLoaded
       (loaded-yield files auction servers list) r in
       cleared-by auction servers list f.value f.holds f.read f.out
 
   recorded-by : (auction servers list out : List ℕ) (loaded : AuctionWithBidders) (h : IsLoaded loaded) →
       ReadsTo files (limited_errand auction servers list) loaded →
-      WentOut (recorded_answer out loaded) given now status → RecordsRun files auction servers list out status given now
+      WentOut (recorded_answer out loaded) call → RecordsRun files auction servers list out call
   recorded-by auction servers list out loaded h read went = record {
     book = book_in loaded h;
     words = words_in loaded h;
     read = read-back loaded h files (limited_errand auction servers list) read;
     run = runs-in loaded h;
     text = (recorded_answer out loaded).text;
-    tells = tells (book_in loaded h) (words_in loaded h) status went.code;
-    gives = subst (λ (l : List File). GivesAll given now l (recorded_answer out loaded).text (Ok tt))
+    tells = tells (book_in loaded h) (words_in loaded h) call.status went.code;
+    gives = subst (λ (l : List File). Puts call l (recorded_answer out loaded).text)
         (same-files loaded h out) went.calls;
   }
 
   pub records : (auction servers list out : List ℕ) →
-      HasRun (job_of (codes "record" ∷ auction ∷ servers ∷ list ∷ out ∷ [])) →
-      RecordsRun files auction servers list out status given now
+      RunsWords (codes "record" ∷ auction ∷ servers ∷ list ∷ out ∷ []) call →
+      RecordsRun files auction servers list out call
   records auction servers list out ran =
       let job = Some (Answering (record_errand auction servers list out)) in
-      let r' = named files told told_now from given now status w (are_names (auction ∷ servers ∷ out ∷ []))
+      let r' = named files call from w (are_names (auction ∷ servers ∷ out ∷ []))
       (if is_name_of list then job else None) ran in
-      let r = named files told told_now from given now status w (is_name_of list) job r' in
-      let f = found files told told_now from given now status w (limited_errand auction servers list)
+      let r = named files call from w (is_name_of list) job r' in
+      let f = found files call from w (limited_errand auction servers list)
       (recorded_answer out) IsLoaded (limited-yield files auction servers list) r in
       recorded-by auction servers list out f.value f.holds f.read f.out
 
@@ -277,19 +272,10 @@ module _ (files : List File) where
 
   -- what the files of sealed bids are read as, and what is answered
   record IsOpened (auction servers list : List ℕ) (answer : Answer) : Type 0 where
-    grid : Grid
-    limits : IsGrid grid
-    grid_read : ReadsTo files (reads auction AUCTION_LIMIT auction_of) grid
-    sources : Servers
-    sources_read : ReadsTo files (reads servers SERVERS_LIMIT servers_of) sources
-    entries : List ListEntry
-    entries_read : ReadsTo files (reads list LIST_LIMIT list_of) entries
-    words : AllWords
-    words_read : ReadsTo files (all_words_errand (wanted_of None grid) None sources) words
-    can_serve : CanServeAll grid words.servers
-    bidders : List (Trio (List ℕ))
-    bidders_read : ReadsTo files (bidders_errand grid [] entries) bidders
-    is : answer ≡ opened_answer grid words.servers bidders
+    read : OpenRead files auction servers list
+    limits : IsGrid read.grid.value
+    can_serve : CanServeAll read.grid.value read.words.value.servers
+    is : answer ≡ opened_answer read.grid.value read.words.value.servers read.bidders.value
 
   open-yield : (auction servers list : List ℕ) →
       Yields files (open_job auction servers list) (IsOpened auction servers list)
@@ -309,18 +295,15 @@ module _ (files : List File) where
       (λ bidders. Unit {0})
       (IsOpened auction servers list) (sealed-yield grid [] entries) (λ bidders r5 h5.
       gives-yield files (IsOpened auction servers list) (opened_answer grid words.servers bidders) (record {
-        grid = grid;
+        read = record {
+          grid = record { value = grid; is = r1 };
+          sources = record { value = sources; is = r2 };
+          entries = record { value = entries; is = r3 };
+          words = record { value = words; is = r4 };
+          bidders = record { value = bidders; is = r5 };
+        };
         limits = h1;
-        grid_read = r1;
-        sources = sources;
-        sources_read = r2;
-        entries = entries;
-        entries_read = r3;
-        words = words;
-        words_read = r4;
         can_serve = h4.0;
-        bidders = bidders;
-        bidders_read = r5;
         is = refl;
       }))))))
 
@@ -342,14 +325,13 @@ farmers-read grid farmers b each = λ k d lt.
       words = (each k d lt).1;
     }
 
-module _ (files : List File) (told told_now : Told) (from : FromFiles files told told_now) (given now : DeskTold)
-    (status : ℕ) (w : IsDoneCode status) where
+module _ (files : List File) (call : Call) (from : IsOf files call) (w : IsDoneCode call.status) where
   rehearsed-by : (auction servers list name : List ℕ) (answer : Answer) →
       IsRehearsed files auction servers list name answer →
-      WentOut answer given now status → ShowsStandings files auction servers list name status given now
+      WentOut answer call → ShowsStandings files auction servers list name call
   rehearsed-by auction servers list name answer t o =
-      let out : WentOut (rehearsed t.loaded t.schedule) given now status =
-      subst (λ (a : Answer). WentOut a given now status) t.is o in
+      let out : WentOut (rehearsed t.loaded t.schedule) call =
+      subst (λ (a : Answer). WentOut a call) t.is o in
       let book = book_in t.loaded t.is_loaded in
       let words = words_in t.loaded t.is_loaded in
       let run = runs-in t.loaded t.is_loaded in
@@ -369,64 +351,55 @@ module _ (files : List File) (told told_now : Told) (from : FromFiles files told
         said = out.calls;
       }
 
-  pub rehearses : (auction servers list schedule : List ℕ) → Ran files told told_now from given now status w
-      (job_of (codes "rehearse" ∷ auction ∷ servers ∷ list ∷ schedule ∷ [])) →
-      ShowsStandings files auction servers list schedule status given now
+  pub rehearses : (auction servers list schedule : List ℕ) → RunsWords (codes "rehearse" ∷ auction ∷ servers ∷ list ∷ schedule ∷ []) call →
+      ShowsStandings files auction servers list schedule call
   rehearses auction servers list schedule ran =
       let job = Some (Answering (rehearse_errand auction servers list schedule)) in
-      let r' = named files told told_now from given now status w (are_names (auction ∷ servers ∷ schedule ∷ []))
+      let r' = named files call from w (are_names (auction ∷ servers ∷ schedule ∷ []))
       (if is_name_of list then job else None) ran in
-      let r = named files told told_now from given now status w (is_name_of list) job r' in
+      let r = named files call from w (is_name_of list) job r' in
       let f =
-      found files told told_now from given now status w (rehearse_job auction servers list schedule) (λ answer. answer)
+      found files call from w (rehearse_job auction servers list schedule) (λ answer. answer)
       (IsRehearsed files auction servers list schedule) (rehearse-yield files auction servers list schedule) r in
       rehearsed-by auction servers list schedule f.value f.holds f.out
 
   opened-by : (auction servers list : List ℕ) (answer : Answer) → IsOpened files auction servers list answer →
-      WentOut answer given now status →
-      OpensEnvelopes files auction servers list status given now
+      WentOut answer call → OpensEnvelopes files auction servers list call
   opened-by auction servers list answer t o =
-      let out : WentOut (opened_answer t.grid t.words.servers t.bidders) given now status =
-      subst (λ (a : Answer). WentOut a given now status) t.is o in
+      let grid : Grid = t.read.grid.value in
+      let read_words : Trio ServerWords = t.read.words.value.servers in
+      let bidders : List (Trio (List ℕ)) = t.read.bidders.value in
+      let out : WentOut (opened_answer grid read_words bidders) call = subst (λ (a : Answer). WentOut a call) t.is o in
       record {
-        grid = t.grid;
-        grid_read = t.grid_read;
-        sources = t.sources;
-        sources_read = t.sources_read;
-        entries = t.entries;
-        entries_read = t.entries_read;
-        words = t.words;
-        words_read = t.words_read;
-        bidders = t.bidders;
-        bidders_read = t.bidders_read;
-        text = (opened_answer t.grid t.words.servers t.bidders).text;
+        read = t.read;
+        text = (opened_answer grid read_words bidders).text;
         text_is = (out.code, refl);
         sealed = λ farmers held b enough.
-            let book = book_with t.grid farmers in
-            let masks = masks_of t.words.servers in
-            let same : opened_answer t.grid t.words.servers t.bidders
-            ≡ outcome_answer t.grid (book_finish book masks) (book_rounds book masks) =
-            ap (opened_answer t.grid t.words.servers)
-            (points-sealed files t.grid t.entries t.bidders farmers t.limits t.bidders_read b enough held)
-            ∙ outcome-sealed t.grid farmers t.words.servers b enough in
-            let words = all_words t.words.servers (map (λ (farmer : BidderWithWords). farmer.words) farmers) in
-            subst (λ (x : Answer). TellsTheEnd book words status x.text) (sym same)
-            (tells book words status (out.code ∙ ap (λ (x : Answer). code_of x.status) same));
+            let book = book_with grid farmers in
+            let masks = masks_of read_words in
+            let same : opened_answer grid read_words bidders
+            ≡ outcome_answer grid (book_finish book masks) (book_rounds book masks) =
+            ap (opened_answer grid read_words)
+            (points-sealed files grid t.read.entries.value bidders farmers t.limits t.read.bidders.is b enough held)
+            ∙ outcome-sealed grid farmers read_words b enough in
+            let words = all_words read_words (map (λ (farmer : BidderWithWords). farmer.words) farmers) in
+            subst (λ (x : Answer). TellsTheEnd book words call.status x.text) (sym same)
+            (tells book words call.status (out.code ∙ ap (λ (x : Answer). code_of x.status) same));
         servers_open = λ farmers b each.
             let few : length farmers ≤ MOST_BIDDERS =
             omega (arith, length-map farmers (λ (f : BidderWithWords). f.bidder), b.few) in
-            servers-open (the_book t.grid t.words.servers farmers) (the_words t.grid t.words.servers farmers) b
-            (can-run t.grid t.words.servers farmers few (farmers-read t.grid farmers b each) t.can_serve);
+            servers-open (the_book grid read_words farmers) (the_words grid read_words farmers) b
+            (can-run grid read_words farmers few (farmers-read grid farmers b each) t.can_serve);
         said = out.calls;
       }
 
   pub opens : (auction servers list : List ℕ) →
-      Ran files told told_now from given now status w (job_of (codes "open" ∷ auction ∷ servers ∷ list ∷ [])) →
-      OpensEnvelopes files auction servers list status given now
+      RunsWords (codes "open" ∷ auction ∷ servers ∷ list ∷ []) call →
+      OpensEnvelopes files auction servers list call
   opens auction servers list ran =
-      let r = named files told told_now from given now status w (are_names (auction ∷ servers ∷ list ∷ []))
+      let r = named files call from w (are_names (auction ∷ servers ∷ list ∷ []))
       (Some (Answering (open_errand auction servers list))) ran in
-      let f = found files told told_now from given now status w (open_job auction servers list) (λ answer. answer)
+      let f = found files call from w (open_job auction servers list) (λ answer. answer)
       (IsOpened files auction servers list)
       (open-yield files auction servers list) r in
       opened-by auction servers list f.value f.holds f.out

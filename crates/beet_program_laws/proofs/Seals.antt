@@ -6,8 +6,7 @@ use Rattle.beet_field.specs.Trio.{member}
 use Rattle.beet_field.specs.declared.point.Point.{Point}
 use Rattle.beet_field.specs.declared.point.Point.TheVariants.{One, Two, Three}
 use Rattle.beet_field.specs.declared.trio.Trio.{Trio}
-use Rattle.beet_store.specs.Files.{File, Told}
-use Rattle.beet_store.specs.Desks.{DeskTold}
+use Rattle.beet_store.specs.Files.{File}
 use Rattle.beet_words.specs.Words.{accepted}
 use Rattle.beet_bids.specs.AuctionFiles.{auction_of}
 use Rattle.beet_bids.specs.BidFiles.{bid_of}
@@ -22,7 +21,6 @@ use Rattle.beet_farmer.specs.Envelopes.{envelope_bytes, envelope_of}
 use Rattle.beet_farmer.specs.Sealing.{sealed_envelope}
 use Rattle.beet_farmer.proofs.SealedAgain.{sealed-again}
 use Rattle.beet_errand.specs.Errands.{Answer, gives, reads}
-use Rattle.beet_errand.specs.Overs.{FromFiles, ReadsTo}
 use Rattle.beet_errand.specs.Statuses.{IsDoneCode}
 use Rattle.beet_errand.specs.declared.answer.Refusal.TheVariants.{TooFewWords}
 use Rattle.beet_load.specs.Counts.{words_wanted}
@@ -30,9 +28,11 @@ use Rattle.beet_load.specs.Farmers.{words_errand}
 use Rattle.beet_load.specs.WordTexts.{too_few_text}
 use Rattle.beet_job_envelopes.specs.Seal.{own_words_errand, seal_errand, seal_job, sealed_answer}
 use Rattle.beet_job_envelopes.specs.SourceWords.{source_word}
-use Rattle.beet_app.specs.Jobs.{Answering, are_names, job_of, seal_of}
+use Rattle.beet_app.specs.Jobs.{Answering, are_names, seal_of}
+use Rattle.beet_app_laws.specs.Calls.{Call, IsOf, RunsJob, RunsWords}
+use Rattle.beet_app_laws.specs.Readings.{Read}
 use Rattle.beet_program_laws.specs.Commands.{Seals}
-use Rattle.beet_program_laws.proofs.Ends.{Ran, WentOut, found, named, no-job}
+use Rattle.beet_program_laws.proofs.Ends.{WentOut, found, named, no-job}
 use Rattle.beet_program_laws.proofs.Files.{AreFew, bid-is}
 use Rattle.beet_program_laws.proofs.Grids.{grid-is}
 use Rattle.beet_program_laws.proofs.Read.{words-yield}
@@ -56,16 +56,13 @@ module _ (files : List File) where
 
   -- what the files of a sealed bid are read as, and what is answered
   record IsSealed (auction bid : List ℕ) (source : BidderSource) (out : List ℕ) (answer : Answer) : Type 0 where
-    grid : Grid
-    grid_read : ReadsTo files (reads auction AUCTION_LIMIT auction_of) grid
-    is_grid : IsGrid grid
-    curve : Curve
-    curve_read : ReadsTo files (reads bid BID_LIMIT (bid_of grid)) curve
-    is_curve : IsCurve curve × IsOfGrid grid curve
-    words : List ℕ
-    words_read : ReadsTo files (own_words_errand grid source) words
-    are_enough : AreEnough grid words
-    is : answer ≡ sealed_answer grid out curve words
+    grid : Read files (reads auction AUCTION_LIMIT auction_of)
+    is_grid : IsGrid grid.value
+    curve : Read files (reads bid BID_LIMIT (bid_of grid.value))
+    is_curve : IsCurve curve.value × IsOfGrid grid.value curve.value
+    words : Read files (own_words_errand grid.value source)
+    are_enough : AreEnough grid.value words.value
+    is : answer ≡ sealed_answer grid.value out curve.value words.value
 
   seal-yield : (auction bid : List ℕ) (source : BidderSource) (out : List ℕ) →
       Yields files (seal_job auction bid source out) (IsSealed auction bid source out)
@@ -82,14 +79,11 @@ module _ (files : List File) where
       (AreEnough grid)
       (IsSealed auction bid source out) (own-words-yield grid source) (λ words words_read are_enough.
       gives-yield files (IsSealed auction bid source out) (sealed_answer grid out curve words) (record {
-        grid = grid;
-        grid_read = grid_read;
+        grid = record { value = grid; is = grid_read };
         is_grid = is_grid;
-        curve = curve;
-        curve_read = curve_read;
+        curve = record { value = curve; is = curve_read };
         is_curve = is_curve;
-        words = words;
-        words_read = words_read;
+        words = record { value = words; is = words_read };
         are_enough = are_enough;
         is = refl;
       }))))
@@ -111,49 +105,43 @@ again grid curve words is_grid of_grid enough One = sealed-again grid curve word
 again grid curve words is_grid of_grid enough Two = sealed-again grid curve words Two is_grid of_grid enough
 again grid curve words is_grid of_grid enough Three = sealed-again grid curve words Three is_grid of_grid enough
 
-module _ (files : List File) (told told_now : Told) (from : FromFiles files told told_now) (given now : DeskTold)
-    (status : ℕ) (w : IsDoneCode status) where
+module _ (files : List File) (call : Call) (from : IsOf files call) (w : IsDoneCode call.status) where
   sealed-by : (auction bid word : List ℕ) (source : BidderSource) (out : List ℕ) (answer : Answer) →
       source_word word ≡ Some source →
-      IsSealed files auction bid source out answer → WentOut answer given now status →
-      Seals files auction bid word out status given now
+      IsSealed files auction bid source out answer → WentOut answer call →
+      Seals files auction bid word out call
   sealed-by auction bid word source out answer named t went =
-      let gone : WentOut (sealed_answer t.grid out t.curve t.words) given now status =
-      subst (λ (x : Answer). WentOut x given now status) t.is went in
+      let grid : Grid = t.grid.value in
+      let curve : Curve = t.curve.value in
+      let words : List ℕ = t.words.value in
+      let gone : WentOut (sealed_answer grid out curve words) call =
+      subst (λ (x : Answer). WentOut x call) t.is went in
       record {
-        grid = t.grid;
-        grid_read = t.grid_read;
+        read = record { grid = t.grid; curve = t.curve; from = source; from_is = named; words = t.words };
         is_grid = t.is_grid;
-        curve = t.curve;
-        curve_read = t.curve_read;
         is_curve = t.is_curve.0;
         of_grid = t.is_curve.1;
-        from = source;
-        from_is = named;
-        words = t.words;
-        words_read = t.words_read;
         are_words = t.are_enough.few.0;
         enough = t.are_enough.enough;
-        envelopes = sealed_trio t.grid t.curve t.words;
-        read_back = again t.grid t.curve t.words t.is_grid t.is_curve.1 t.are_enough.enough;
+        envelopes = sealed_trio grid curve words;
+        read_back = again grid curve words t.is_grid t.is_curve.1 t.are_enough.enough;
         is_done = gone.code;
         gives = gone.calls;
       }
 
   by-source : (auction bid word out : List ℕ) (source : Option BidderSource) → source_word word ≡ source →
-      Ran files told told_now from given now status w
-      (option_map (λ from. Answering (seal_errand auction bid from out)) source) →
-      Seals files auction bid word out status given now
-  by-source auction bid word out None e ran = no-job files told told_now from given now status w ran
+      RunsJob (option_map (λ from. Answering (seal_errand auction bid from out)) source) call →
+      Seals files auction bid word out call
+  by-source auction bid word out None e ran = no-job files call from w ran
   by-source auction bid word out (Some source) e ran =
-      let f = found files told told_now from given now status w (seal_job auction bid source out) (λ answer. answer)
+      let f = found files call from w (seal_job auction bid source out) (λ answer. answer)
       (IsSealed files auction bid source out) (seal-yield files auction bid source out) ran in
       sealed-by auction bid word source out f.value e f.holds f.out
 
   pub seals : (auction bid word out : List ℕ) →
-      Ran files told told_now from given now status w (job_of (codes "seal" ∷ auction ∷ bid ∷ word ∷ out ∷ [])) →
-      Seals files auction bid word out status given now
+      RunsWords (codes "seal" ∷ auction ∷ bid ∷ word ∷ out ∷ []) call →
+      Seals files auction bid word out call
   seals auction bid word out ran =
       by-source auction bid word out (source_word word) refl
-      (named files told told_now from given now status w (are_names (auction ∷ bid ∷ out ∷ []))
+      (named files call from w (are_names (auction ∷ bid ∷ out ∷ []))
       (seal_of auction bid word out) ran)

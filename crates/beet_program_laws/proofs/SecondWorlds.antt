@@ -1,13 +1,12 @@
 -- A recording of the second of two worlds puts again what was put for it.
-use Rattle.std.proofs.Common.{◌≡◌, inl, ℕ, List, [], ◌∷◌, Option, Some, None, Ok, if◌then◌else◌, refl, sym}
+use Rattle.std.proofs.Common.{◌≡◌, inl, ℕ, List, [], ◌∷◌, Option, Some, None, if◌then◌else◌, refl, sym}
 use Rattle.std.proofs.Common.{subst}
 use Rattle.std.specs.Prelude.{codes, option_map}
 use Rattle.beet_field.specs.Point.{server_of}
 use Rattle.beet_field.specs.Trio.{member, trio_of}
 use Rattle.beet_field.specs.declared.point.Point.{Point}
 use Rattle.beet_field.specs.declared.point.Point.TheVariants.{One, Two, Three}
-use Rattle.beet_store.specs.Files.{File, Told}
-use Rattle.beet_store.specs.Desks.{DeskTold}
+use Rattle.beet_store.specs.Files.{File}
 use Rattle.beet_forms.specs.Names.{is_name_of}
 use Rattle.beet_words.specs.Bundles.{Words, bundle_bytes}
 use Rattle.beet_words.proofs.BundleAgain.{bundle_of-bundle}
@@ -17,8 +16,7 @@ use Rattle.beet_headline.specs.Statements.{AreOnePair, AreTwoBooks}
 use Rattle.beet_headline.proofs.Pairing.{mapped-pair}
 use Rattle.beet_errand.specs.Errands.{Answer, answers}
 use Rattle.beet_errand.specs.Fetches.{IsDone, IsRead}
-use Rattle.beet_errand.specs.Overs.{FromFiles, ReadsTo}
-use Rattle.beet_errand.specs.Runs.{GivesAll}
+use Rattle.beet_errand.specs.Overs.{ReadsTo}
 use Rattle.beet_errand.specs.Statuses.{IsDoneCode}
 use Rattle.beet_errand.specs.declared.answer.OwnRefusal.TheVariants.{OfWorlds}
 use Rattle.beet_errand.specs.declared.answer.Status.TheVariants.{Done}
@@ -30,11 +28,12 @@ use Rattle.beet_job_worlds.specs.Answering.{ShowsTheSame, worlds_text}
 use Rattle.beet_job_worlds.specs.Ending.{ShowsWorlds, compared_errand}
 use Rattle.beet_job_worlds.specs.Reading.{Both, both_errand, first_book, second_book, words_read}
 use Rattle.beet_job_worlds.proofs.SecondWords.{bundle-fits, can-run, words-uncut}
-use Rattle.beet_app.specs.Jobs.{Answering, Comparing, are_names, job_of}
+use Rattle.beet_app.specs.Jobs.{Answering, Comparing, are_names}
 use Rattle.beet_app_laws.proofs.Led.{read-to}
 use Rattle.beet_app_laws.proofs.Telling.{one-value, told-both}
+use Rattle.beet_app_laws.specs.Calls.{Call, IsOf, Puts, RunsJob, RunsWords}
 use Rattle.beet_program_laws.specs.Again.{IsPutAgain, PutsFor, record_words}
-use Rattle.beet_program_laws.proofs.Ends.{Ran, WentOut, found, named, no-job, shown-ends}
+use Rattle.beet_program_laws.proofs.Ends.{WentOut, found, named, no-job, shown-ends}
 use Rattle.beet_program_laws.proofs.Grids.{grid-is}
 use Rattle.beet_program_laws.proofs.Jobs.{runs-in}
 use Rattle.beet_program_laws.proofs.Read.{IsLimited, can-run-cut, limited}
@@ -73,13 +72,12 @@ own-of f seen Three e = e
 
 -- ---- a recording of the second book
 
-module _ (held : List File) (told told_now : Told) (from : FromFiles held told told_now)
-    (desk desk_now : DeskTold) (end : ℕ)
-    (w : IsDoneCode end) (name servers list put : List ℕ) (second : Book) (words : Words) (s : Point)
+module _ (held : List File) (call : Call) (from : IsOf held call)
+    (w : IsDoneCode call.status) (name servers list put : List ℕ) (second : Book) (words : Words) (s : Point)
     (seen : List ℕ) where
   recorded-for : transcript_for second words s ≡ seen →
-      WentOut (recorded_answer put (loaded_with second words)) desk desk_now end →
-      PutsFor s seen put desk desk_now
+      WentOut (recorded_answer put (loaded_with second words)) call →
+      PutsFor s seen put call
   recorded-for is out = record {
     transcripts = trio_of (transcript_for second words);
     own = own-of (transcript_for second words) seen s is;
@@ -89,31 +87,30 @@ module _ (held : List File) (told told_now : Told) (from : FromFiles held told t
 
   puts-for : transcript_for second words s ≡ seen →
       Yields held (limited_errand name servers list) (λ loaded. loaded ≡ loaded_with second words) →
-      Ran held told told_now from desk desk_now end w (job_of (record_words name servers list put)) →
-      PutsFor s seen put desk desk_now
+      RunsWords (record_words name servers list put) call →
+      PutsFor s seen put call
   puts-for is yields ran =
       let job = Some (Answering (record_errand name servers list put)) in
-      let r' = named held told told_now from desk desk_now end w (are_names (name ∷ servers ∷ put ∷ []))
+      let r' = named held call from w (are_names (name ∷ servers ∷ put ∷ []))
       (if is_name_of list then job else None) ran in
-      let r = named held told told_now from desk desk_now end w (is_name_of list) job r' in
-      let f = found held told told_now from desk desk_now end w (limited_errand name servers list) (recorded_answer put)
+      let r = named held call from w (is_name_of list) job r' in
+      let f = found held call from w (limited_errand name servers list) (recorded_answer put)
       (λ loaded. loaded ≡ loaded_with second words) yields r in
-      recorded-for is (subst (λ (l : AuctionWithBidders). WentOut (recorded_answer put l) desk desk_now end) f.holds f.out)
+      recorded-for is (subst (λ (l : AuctionWithBidders). WentOut (recorded_answer put l) call) f.holds f.out)
 
 -- ---- the whole
 
-module _ (files : List File) (told told_now : Told) (from : FromFiles files told told_now)
-    (given now : DeskTold) (status : ℕ)
-    (w : IsDoneCode status) (auction servers list1 list2 : List ℕ) (s : Point) (server out : List ℕ)
+module _ (files : List File) (call : Call) (from : IsOf files call)
+    (w : IsDoneCode call.status) (auction servers list1 list2 : List ℕ) (s : Point) (server out : List ℕ)
     (at : server_of server ≡ Some s) where
   abbrev PutAgain : Type 0
-  PutAgain = IsPutAgain files auction list2 server out given now
+  PutAgain = IsPutAgain files auction list2 server out call
 
-  again : (both : Both) (answer : Answer) → IsRead told told_now (both_errand auction servers list1 list2) both →
+  again : (both : Both) (answer : Answer) → IsRead call.shelf call.shelf_now (both_errand auction servers list1 list2) both →
       ShowsTheSame s out (first_book both) (words_read both) (second_book both) answer →
-      WentOut answer given now status → PutAgain
+      WentOut answer call → PutAgain
   again both answer is_read same went =
-      let read = read-to files told told_now from (both_errand auction servers list1 list2) both is_read in
+      let read = read-to files call.shelf call.shelf_now from (both_errand auction servers list1 list2) both is_read in
       let h = is-held files auction servers list1 list2 both read in
       let right = h.first.right in
       let loaded = both.first in
@@ -142,41 +139,38 @@ module _ (files : List File) (told told_now : Told) (from : FromFiles files told
         seen = same.seen;
         bundle = bundle_bytes same.second_words;
         text = worlds_text first words;
-        gives = subst (λ (a : Answer). GivesAll given now a.files a.text (Ok tt)) same.is went.calls;
-        again = λ held' told' told_now' desk desk_now end name servers' list put holds from' ran w'.
-            puts-for held' told' told_now' from' desk desk_now end w' name servers' list put second
+        gives = subst (λ (a : Answer). Puts call a.files a.text) same.is went.calls;
+        again = λ held' recording name servers' list put holds done.
+            puts-for held' recording done.from done.code name servers' list put second
             same.second_words s same.seen
             same.second_seen
             (subst (λ (x : Words). Yields held' (limited_errand name servers' list)
             (λ loaded. loaded ≡ loaded_with second x)) uncut
             (second-yield files held' auction list2 second same.second_words h.first.grid h.second
             start2.lists read_back
-            name servers' list holds)) ran;
+            name servers' list holds)) done.runs;
       }
 
-  compared : Ran files told told_now from given now status w (Some (Comparing auction servers list1 list2 s out)) →
+  compared : RunsJob (Some (Comparing auction servers list1 list2 s out)) call →
       PutAgain
   compared r =
-      shown-ends files told told_now from given now status w {C = PutAgain} OfWorlds
+      shown-ends files call from w {C = PutAgain} OfWorlds
       (compared_errand auction servers list1 list2 s)
       (ShowsWorlds auction servers list1 list2 s out) (undone files auction servers list1 list2 s)
       (λ answer shows went. again shows.value answer shows.read shows.shown went) r
 
-module _ (files : List File) (told told_now : Told) (from : FromFiles files told told_now)
-    (given now : DeskTold) (status : ℕ)
-    (w : IsDoneCode status) (auction servers list1 list2 server out : List ℕ) where
+module _ (files : List File) (call : Call) (from : IsOf files call)
+    (w : IsDoneCode call.status) (auction servers list1 list2 server out : List ℕ) where
   by-server : (at : Option Point) → server_of server ≡ at →
-      Ran files told told_now from given now status w
-      (option_map (λ s. Comparing auction servers list1 list2 s out) at) →
-      IsPutAgain files auction list2 server out given now
-  by-server None e ran = no-job files told told_now from given now status w ran
+      RunsJob (option_map (λ s. Comparing auction servers list1 list2 s out) at) call →
+      IsPutAgain files auction list2 server out call
+  by-server None e ran = no-job files call from w ran
   by-server (Some s) e ran =
-      compared files told told_now from given now status w auction servers list1 list2 s server out e ran
+      compared files call from w auction servers list1 list2 s server out e ran
 
-  pub puts-again : Ran files told told_now from given now status w
-      (job_of (codes "worlds" ∷ auction ∷ servers ∷ list1 ∷ list2 ∷ server ∷ out ∷ [])) →
-      IsPutAgain files auction list2 server out given now
+  pub puts-again : RunsWords (codes "worlds" ∷ auction ∷ servers ∷ list1 ∷ list2 ∷ server ∷ out ∷ []) call →
+      IsPutAgain files auction list2 server out call
   puts-again ran =
       by-server (server_of server) refl
-      (named files told told_now from given now status w (are_names (auction ∷ servers ∷ list1 ∷ list2 ∷ out ∷ []))
+      (named files call from w (are_names (auction ∷ servers ∷ list1 ∷ list2 ∷ out ∷ []))
       (option_map (λ s. Comparing auction servers list1 list2 s out) (server_of server)) ran)

@@ -4,7 +4,6 @@ use Rattle.std.proofs.lemmas.List.{append_cancel_left}
 use Rattle.beet_field.specs.declared.point.Point.{Point}
 use Rattle.beet_field.specs.declared.point.Point.TheVariants.{One, Two, Three}
 use Rattle.beet_field.specs.declared.trio.Trio.{Trio}
-use Rattle.beet_store.specs.Desks.{DeskTold}
 use Rattle.beet_store.specs.Files.{File}
 use Rattle.beet_bids.specs.AuctionFiles.{auction_of}
 use Rattle.beet_bids.specs.Grids.{Grid}
@@ -16,6 +15,7 @@ use Rattle.beet_errand.specs.declared.answer.Refusal.TheVariants.{ReadFault}
 use Rattle.beet_errand.specs.declared.answer.Status.TheVariants.{Done, Refused}
 use Rattle.beet_errand.proofs.Records.{all_recorded}
 use Rattle.beet_app_laws.proofs.Recorded.{same-given}
+use Rattle.beet_app_laws.specs.Calls.{Call}
 use Rattle.beet_program_laws.specs.Again.{PutsFor}
 use Rattle.beet_program_laws.specs.Commands.{Seals, Tallies}
 
@@ -25,26 +25,23 @@ no-grid auction grid read =
     let same : Refused ReadFault ≡ Done = ap (λ (x : Answer). x.status) (read (λ grid. answers Done [])) in
     cc
 
-pub no-tally : (auction book : List ℕ) (status : ℕ) (desk desk_now : DeskTold) →
-    Tallies [] auction book status desk desk_now → ⊥
-no-tally auction book status desk desk_now t = no-grid auction t.grid t.grid_read
+pub no-tally : (auction book : List ℕ) (call : Call) → Tallies [] auction book call → ⊥
+no-tally auction book call t = no-grid auction t.read.grid.value t.read.grid.is
 
-pub no-seal : (auction bid source out : List ℕ) (status : ℕ) (desk desk_now : DeskTold) →
-    Seals [] auction bid source out status desk desk_now → ⊥
-no-seal auction bid source out status desk desk_now t = no-grid auction t.grid t.grid_read
+pub no-seal : (auction bid source out : List ℕ) (call : Call) → Seals [] auction bid source out call → ⊥
+no-seal auction bid source out call t = no-grid auction t.read.grid.value t.read.grid.is
 
-module _ (out : List ℕ) (desk desk_now : DeskTold) where
+module _ (out : List ℕ) (call : Call) where
   abbrev files_of : Trio (List ℕ) → List File
   files_of t = (file_for out One, t.one) ∷ (file_for out Two, t.two) ∷ (file_for out Three, t.three) ∷ []
 
   -- a record of calls tells the files
-  same-files : (s : Point) (seen other : List ℕ) (p : PutsFor s seen out desk desk_now)
-      (q : PutsFor s other out desk desk_now) →
+  same-files : (s : Point) (seen other : List ℕ) (p : PutsFor s seen out call) (q : PutsFor s other out call) →
       files_of p.transcripts ≡ files_of q.transcripts
   same-files s seen other p q =
-      let a = all_recorded desk desk_now (files_of p.transcripts) p.text p.gives in
-      let b = all_recorded desk desk_now (files_of q.transcripts) q.text q.gives in
-      let calls = append_cancel_left desk.calls (calls_of (files_of p.transcripts) p.text)
+      let a = all_recorded call.desk call.desk_now (files_of p.transcripts) p.text p.gives in
+      let b = all_recorded call.desk call.desk_now (files_of q.transcripts) q.text q.gives in
+      let calls = append_cancel_left call.desk.calls (calls_of (files_of p.transcripts) p.text)
       (calls_of (files_of q.transcripts) q.text) (sym a ∙ b) in
       (same-given (files_of p.transcripts) (files_of q.transcripts) p.text q.text calls).0
 
@@ -57,8 +54,8 @@ module _ (out : List ℕ) (desk desk_now : DeskTold) where
   same-three : (t u : Trio (List ℕ)) → files_of t ≡ files_of u → t.three ≡ u.three
   same-three t u e = ap (λ (l : List File). (get_or l 2 ([], [])).1) e
 
-  pub one-transcript : (s : Point) (seen other : List ℕ) → PutsFor s seen out desk desk_now →
-      PutsFor s other out desk desk_now → seen ≡ other
+  pub one-transcript : (s : Point) (seen other : List ℕ) → PutsFor s seen out call → PutsFor s other out call →
+      seen ≡ other
   one-transcript One seen other p q =
       sym p.own ∙ same-one p.transcripts q.transcripts (same-files One seen other p q) ∙ q.own
   one-transcript Two seen other p q =

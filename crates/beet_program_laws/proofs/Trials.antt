@@ -8,8 +8,7 @@ use Rattle.std.specs.List.{list_all, range_with_len}
 use Rattle.std.proofs.lemmas.Bool.{ltb-false}
 use Rattle.std.proofs.lemmas.List.Elements.{All-cons, All-map, All-nil}
 use Rattle.std.proofs.lemmas.List.FromFn.{length-map-range_with_len}
-use Rattle.beet_store.specs.Files.{File, Told}
-use Rattle.beet_store.specs.Desks.{DeskTold}
+use Rattle.beet_store.specs.Files.{File}
 use Rattle.beet_forms.specs.Numbers.{decimal_value, number_of}
 use Rattle.beet_forms.specs.declared.decimals.NumberFault.{NumberFault}
 use Rattle.beet_forms.specs.declared.decimals.NumberFault.TheVariants.{Empty, NotDigit, LeadingZero, TooLarge}
@@ -22,7 +21,6 @@ use Rattle.beet_bids.specs.declared.grid.TheConstants.{MOST_PRICES}
 use Rattle.beet_book.specs.Farmers.{BidderWithWords}
 use Rattle.beet_plan.specs.Kept.{words_kept}
 use Rattle.beet_auction.specs.Endings.{book_finish, book_rounds}
-use Rattle.beet_errand.specs.Overs.{FromFiles}
 use Rattle.beet_errand.specs.Errands.{Answer, Step, gives}
 use Rattle.beet_errand.specs.declared.answer.Refusal.TheVariants.{TooFewWords}
 use Rattle.beet_errand.specs.Statuses.{IsDoneCode}
@@ -37,9 +35,10 @@ use Rattle.beet_job_trial.specs.Rules.{trial_servers}
 use Rattle.beet_job_trial.specs.Sizes.{from_low, number_within, sizes_of}
 use Rattle.beet_job_trial.specs.Trial.{trial_answer, trial_errand, trial_job, trial_over}
 use Rattle.beet_job_trial.proofs.Curves.{is-curve, is-of-grid}
-use Rattle.beet_app.specs.Jobs.{Answering, job_of}
+use Rattle.beet_app.specs.Jobs.{Answering}
+use Rattle.beet_app_laws.specs.Calls.{Call, IsOf, RunsJob, RunsWords}
 use Rattle.beet_program_laws.specs.Commands.{RunsTrial}
-use Rattle.beet_program_laws.proofs.Ends.{Ran, WentOut, found, no-job, servers-open, tells}
+use Rattle.beet_program_laws.proofs.Ends.{WentOut, found, no-job, servers-open, tells}
 use Rattle.beet_program_laws.proofs.Files.{seed-are}
 use Rattle.beet_program_laws.proofs.Read.{CanServe, CanServeAll, IsRead, can-run, is-book, seeded-kept, servers-yield}
 use Rattle.beet_program_laws.proofs.Read.{the_book, the_words}
@@ -121,8 +120,7 @@ all-read grid bidders limit enough = λ k d lt.
       words = made.words;
     }
 
-module _ (files : List File) (told told_now : Told) (from : FromFiles files told told_now) (given now : DeskTold)
-    (status : ℕ) (w : IsDoneCode status) where
+module _ (files : List File) (call : Call) (from : IsOf files call) (w : IsDoneCode call.status) where
   each-yield : {A : Type 0} (grid : Grid) (number : ℕ) (farmers : List BidderWithWords) (step : Step A) (P : A → Type 0) →
       (All (HasWords grid) farmers → Yields files step P) →
       Yields {A = A} files (λ next. enough_of_each grid number farmers (step next)) P
@@ -152,16 +150,16 @@ module _ (files : List File) (told told_now : Told) (from : FromFiles files told
       (record { is = refl; one = one; two = two; three = three; bidders_enough = all })))
 
   tried : (first second : List ℕ) (sizes : Option (ℕ × ℕ)) → sizes_of first second ≡ sizes →
-      Ran files told told_now from given now status w (option_map (λ s. Answering (trial_errand s.0 s.1)) sizes) →
-      RunsTrial first second status given now
-  tried first second None e ran = no-job files told told_now from given now status w ran
+      RunsJob (option_map (λ s. Answering (trial_errand s.0 s.1)) sizes) call →
+      RunsTrial first second call
+  tried first second None e ran = no-job files call from w ran
   tried first second (Some sizes) e ran =
       let grid = trial_grid sizes.1 in
       let limits = sizes-are first second sizes e in
-      let f = found files told told_now from given now status w (trial_job sizes.0 sizes.1) (λ answer. answer)
+      let f = found files call from w (trial_job sizes.0 sizes.1) (λ answer. answer)
       (IsTried grid sizes.0) (trial-yield grid sizes.0) ran in
-      let out : WentOut (trial_answer grid sizes.0) given now status =
-      subst (λ (x : Answer). WentOut x given now status) f.holds.is f.out in
+      let out : WentOut (trial_answer grid sizes.0) call =
+      subst (λ (x : Answer). WentOut x call) f.holds.is f.out in
       let farmers = trial_farmers grid sizes.0 in
       let servers = trial_servers grid in
       let serve : (server : ℕ) →
@@ -183,10 +181,9 @@ module _ (files : List File) (told told_now : Told) (from : FromFiles files told
         words_are = refl;
         run = servers-open (the_book grid servers farmers) (the_words grid servers farmers)
             (is-book grid servers farmers few each all) (can-run grid servers farmers few each all);
-        tells = tells (the_book grid servers farmers) (the_words grid servers farmers) status out.code;
+        tells = tells (the_book grid servers farmers) (the_words grid servers farmers) call.status out.code;
         said = out.calls;
       }
 
-  pub tries : (first second : List ℕ) → Ran files told told_now from given now status w
-      (job_of (codes "trial" ∷ first ∷ second ∷ [])) → RunsTrial first second status given now
+  pub tries : (first second : List ℕ) → RunsWords (codes "trial" ∷ first ∷ second ∷ []) call → RunsTrial first second call
   tries first second ran = tried first second (sizes_of first second) refl ran

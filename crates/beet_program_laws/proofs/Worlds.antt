@@ -1,10 +1,9 @@
 -- What the job `worlds` has read, put and said.
-use Rattle.std.proofs.Common.{◌≡◌, inl, ℕ, List, [], ◌∷◌, ◌++◌, Option, Some, None, Ok, refl, sym, ap, subst, ◌∙◌}
+use Rattle.std.proofs.Common.{◌≡◌, inl, ℕ, List, [], ◌∷◌, ◌++◌, Option, Some, None, refl, sym, ap, subst, ◌∙◌}
 use Rattle.std.specs.Prelude.{codes, option_map}
 use Rattle.beet_field.specs.Point.{server_of}
 use Rattle.beet_field.specs.declared.point.Point.{Point}
-use Rattle.beet_store.specs.Files.{File, Told}
-use Rattle.beet_store.specs.Desks.{DeskTold}
+use Rattle.beet_store.specs.Files.{File}
 use Rattle.beet_words.specs.Bundles.{Words, bundle_bytes}
 use Rattle.beet_bids.specs.Books.{IsBook}
 use Rattle.beet_auction.specs.Endings.{book_finish, book_rounds}
@@ -15,7 +14,6 @@ use Rattle.beet_headline.specs.Statements.{AreOnePair, AreTwoBooks}
 use Rattle.beet_headline.proofs.Pairing.{mapped-pair}
 use Rattle.beet_errand.specs.Errands.{Answer, Errand, answers, refuses}
 use Rattle.beet_errand.specs.Fetches.{IsDone, IsRead}
-use Rattle.beet_errand.specs.Runs.{GivesAll}
 use Rattle.beet_errand.specs.Statuses.{IsDoneCode, code_of}
 use Rattle.beet_errand.specs.declared.answer.OwnRefusal.TheVariants.{OfWorlds}
 use Rattle.beet_errand.specs.declared.answer.Refusal.TheVariants.{Own}
@@ -29,12 +27,13 @@ use Rattle.beet_job_worlds.specs.Differences.{difference_between}
 use Rattle.beet_job_worlds.specs.Ending.{ShowsWorlds, compared_errand, unless_differing}
 use Rattle.beet_job_worlds.specs.Reading.{Both, both_errand, first_book, second_book, words_read}
 use Rattle.beet_job_worlds.proofs.SecondWords.{words-uncut}
-use Rattle.beet_app.specs.Jobs.{Comparing, are_names, job_of}
-use Rattle.beet_errand.specs.Overs.{FromFiles, ReadsTo, answer_over}
+use Rattle.beet_app.specs.Jobs.{Comparing, are_names}
+use Rattle.beet_errand.specs.Overs.{ReadsTo, answer_over}
 use Rattle.beet_app_laws.proofs.Led.{read-to}
 use Rattle.beet_app_laws.proofs.Telling.{one-value, told-both}
+use Rattle.beet_app_laws.specs.Calls.{Call, IsOf, Puts, RunsJob, RunsWords}
 use Rattle.beet_program_laws.specs.Commands.{PutsBothWorlds}
-use Rattle.beet_program_laws.proofs.Ends.{Ran, WentOut, named, no-job, shown-ends, tells}
+use Rattle.beet_program_laws.proofs.Ends.{WentOut, named, no-job, shown-ends, tells}
 use Rattle.beet_program_laws.proofs.Jobs.{runs-in}
 use Rattle.beet_program_laws.proofs.Read.{IsLoaded, back, can-run-cut, curves-yield, limited-yield}
 use Rattle.beet_program_laws.proofs.Steps.{Yields, gives-yield, then-yields}
@@ -82,18 +81,17 @@ undone files auction servers list1 list2 s done =
     refused files (difference_between s (first_book both) (second_book both))
     (subst (λ (a : Answer). IsDone a.status) (reads next) done)
 
-module _ (files : List File) (told told_now : Told) (from : FromFiles files told told_now) (given now : DeskTold)
-    (status : ℕ) (w : IsDoneCode status)
+module _ (files : List File) (call : Call) (from : IsOf files call) (w : IsDoneCode call.status)
     (auction servers list1 list2 : List ℕ) (s : Point) (out : List ℕ) where
   abbrev Compared : Type 0
-  Compared = PutsBothWorlds files auction servers list1 list2 s out status given now
+  Compared = PutsBothWorlds files auction servers list1 list2 s out call
 
-  shown : (both : Both) (answer : Answer) → IsRead told told_now (both_errand auction servers list1 list2) both →
+  shown : (both : Both) (answer : Answer) → IsRead call.shelf call.shelf_now (both_errand auction servers list1 list2) both →
       ShowsTheSame s out (first_book both) (words_read both) (second_book both) answer →
-      WentOut answer given now status → Compared
+      WentOut answer call → Compared
   shown both answer is-read same put =
       let step = both_errand auction servers list1 list2 in
-      let read = read-to files told told_now from step both is-read in
+      let read = read-to files call.shelf call.shelf_now from step both is-read in
       let h = is-both files auction servers list1 list2 both read in
       let run = runs-in both.first h.first in
       let loaded = both.first in
@@ -109,7 +107,7 @@ module _ (files : List File) (told told_now : Told) (from : FromFiles files told
       let own : same.seen ≡ transcript_with first words s =
       sym same.first_seen ∙ ap (λ (x : Words). transcript_for first x s) (sym cut) in
       let other : same.seen ≡ transcript_with second same.second_words s = own ∙ sym pair.transcripts in
-      let calls = subst (λ (a : Answer). GivesAll given now a.files a.text (Ok tt)) same.is put.calls in
+      let calls = subst (λ (a : Answer). Puts call a.files a.text) same.is put.calls in
       record {
         first = first;
         words = words;
@@ -121,37 +119,35 @@ module _ (files : List File) (told told_now : Told) (from : FromFiles files told
         second_words = same.second_words;
         pair = pair;
         text = outcome_text first.grid (book_finish first words.masks) (book_rounds first words.masks);
-        tells = tells first words status (put.code ∙ ap (λ (a : Answer). code_of a.status) same.is);
-        gives = subst (λ (l : List File). GivesAll given now l (worlds_text first words) (Ok tt))
+        tells = tells first words call.status (put.code ∙ ap (λ (a : Answer). code_of a.status) same.is);
+        gives = subst (λ (l : List File). Puts call l (worlds_text first words))
             (λ i. (out ++ codes ".first", own i) ∷ (out ++ codes ".second", other i)
             ∷ (out ++ codes ".words", bundle_bytes same.second_words) ∷ []) calls;
       }
 
-  compares : Ran files told told_now from given now status w (Some (Comparing auction servers list1 list2 s out)) →
+  compares : RunsJob (Some (Comparing auction servers list1 list2 s out)) call →
       Compared
   compares r =
-      shown-ends files told told_now from given now status w {C = Compared} OfWorlds
+      shown-ends files call from w {C = Compared} OfWorlds
       (compared_errand auction servers list1 list2 s)
       (ShowsWorlds auction servers list1 list2 s out)
       (undone files auction servers list1 list2 s)
       (λ answer shows put. shown shows.value answer shows.read shows.shown put) r
 
-module _ (files : List File) (told told_now : Told) (from : FromFiles files told told_now) (given now : DeskTold)
-    (status : ℕ) (w : IsDoneCode status) (auction servers list1 list2 server out : List ℕ) where
+module _ (files : List File) (call : Call) (from : IsOf files call) (w : IsDoneCode call.status)
+    (auction servers list1 list2 server out : List ℕ) where
   by-server : (at : Option Point) → server_of server ≡ at →
-      Ran files told told_now from given now status w
-      (option_map (λ s. Comparing auction servers list1 list2 s out) at) →
+      RunsJob (option_map (λ s. Comparing auction servers list1 list2 s out) at) call →
       (s : Point) × (server_of server ≡ Some s)
-      × PutsBothWorlds files auction servers list1 list2 s out status given now
-  by-server None e ran = no-job files told told_now from given now status w ran
+      × PutsBothWorlds files auction servers list1 list2 s out call
+  by-server None e ran = no-job files call from w ran
   by-server (Some s) e ran =
-      (s, e, compares files told told_now from given now status w auction servers list1 list2 s out ran)
+      (s, e, compares files call from w auction servers list1 list2 s out ran)
 
-  pub compares-worlds : Ran files told told_now from given now status w
-      (job_of (codes "worlds" ∷ auction ∷ servers ∷ list1 ∷ list2 ∷ server ∷ out ∷ [])) →
+  pub compares-worlds : RunsWords (codes "worlds" ∷ auction ∷ servers ∷ list1 ∷ list2 ∷ server ∷ out ∷ []) call →
       (s : Point) × (server_of server ≡ Some s)
-      × PutsBothWorlds files auction servers list1 list2 s out status given now
+      × PutsBothWorlds files auction servers list1 list2 s out call
   compares-worlds ran =
       by-server (server_of server) refl
-      (named files told told_now from given now status w (are_names (auction ∷ servers ∷ list1 ∷ list2 ∷ out ∷ []))
+      (named files call from w (are_names (auction ∷ servers ∷ list1 ∷ list2 ∷ out ∷ []))
       (option_map (λ s. Comparing auction servers list1 list2 s out) (server_of server)) ran)

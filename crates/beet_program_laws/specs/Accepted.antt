@@ -1,14 +1,12 @@
 -- An audit of the transcripts that a run has put.
-use Rattle.std.specs.Prelude.{◌≡◌, ◌≢◌, ◌⊎◌, ◌++◌, ℕ, List, [], ◌∷◌, codes, Some, None, Ok}
+use Rattle.std.specs.Prelude.{◌≡◌, ◌≢◌, ◌⊎◌, ◌++◌, ℕ, List, [], ◌∷◌, codes, Some, None}
 use Rattle.beet_field.specs.declared.point.Point.TheVariants.{One, Two, Three}
 use Rattle.beet_field.specs.declared.trio.Trio.{Trio}
-use Rattle.beet_store.specs.Files.{File, Told, bytes_of}
-use Rattle.beet_store.specs.Desks.{DeskTold, Given}
+use Rattle.beet_store.specs.Files.{File, bytes_of}
+use Rattle.beet_store.specs.Desks.{Given}
 use Rattle.beet_errand.specs.Errands.{file_for}
-use Rattle.beet_errand.specs.Runs.{GivesAll, Said}
-use Rattle.beet_errand.specs.Overs.{FromFiles}
-use Rattle.beet_app.specs.Doing.{RunsJob}
 use Rattle.beet_app.specs.Jobs.{job_of}
+use Rattle.beet_app_laws.specs.Calls.{Call, IsOf, Puts, RunsWords, Says}
 use Rattle.beet_program_laws.specs.Outcomes.{three_files}
 
 -- the words of an audit of four files
@@ -25,9 +23,9 @@ pub record HoldsRun (files held : List File) (auction : List ℕ) (transcripts :
 
 -- an audit ends with the status of the run, unless memory ran out, a file could not be fetched or a call of the desk
 -- failed; and then it says the text of the run, and puts nothing
-pub record AuditsAlike (status : ℕ) (text : List ℕ) (given now : DeskTold) (end : ℕ) : Type 0 where
-  pub ends : (end ≡ status) ⊎ (end ≡ 1) ⊎ (end ≡ 3) ⊎ (end ≡ 4)
-  pub says : end ≡ status → Said given now text
+pub record AuditsAlike (status : ℕ) (text : List ℕ) (audit : Call) : Type 0 where
+  pub ends : (audit.status ≡ status) ⊎ (audit.status ≡ 1) ⊎ (audit.status ≡ 3) ⊎ (audit.status ≡ 4)
+  pub says : audit.status ≡ status → Says audit text
 
 -- a desk that tells its files holds three transcripts, each in its file, and a text was said
 pub record Stand (out : List ℕ) (transcripts : Trio (List ℕ)) (text : List ℕ) (before after : Given) : Type 0 where
@@ -37,16 +35,13 @@ pub record Stand (out : List ℕ) (transcripts : Trio (List ℕ)) (text : List �
   pub said : after.said ≡ before.said ++ text
 
 -- a recorded run has put three transcripts and said a text, and whoever audits these transcripts is told the same
-pub record IsAccepted (files : List File) (auction out : List ℕ) (desk desk_now : DeskTold) (status : ℕ)
-    : Type 0 where
+pub record IsAccepted (files : List File) (auction out : List ℕ) (call : Call) : Type 0 where
   pub transcripts : Trio (List ℕ)
   pub text : List ℕ
-  pub gives : GivesAll desk desk_now (three_files out transcripts) text (Ok tt)
-  pub stand : (before after : Given) → desk.given ≡ Some before → desk_now.given ≡ Some after →
+  pub gives : Puts call (three_files out transcripts) text
+  pub stand : (before after : Given) → call.desk.given ≡ Some before → call.desk_now.given ≡ Some after →
       Stand out transcripts text before after
-  pub accepted : (held : List File) (told told_now : Told) (given now : DeskTold) (end : ℕ)
-      (name one two three : List ℕ) →
+  pub accepted : (held : List File) (audit : Call) (name one two three : List ℕ) →
       HoldsRun files held auction transcripts name one two three →
       job_of (audit_words name one two three) ≢ None →
-      FromFiles held told told_now → RunsJob (job_of (audit_words name one two three)) told told_now given now end →
-      AuditsAlike status text given now end
+      IsOf held audit → RunsWords (audit_words name one two three) audit → AuditsAlike call.status text audit

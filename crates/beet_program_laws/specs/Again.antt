@@ -4,18 +4,13 @@ use Rattle.beet_field.specs.Point.{server_of}
 use Rattle.beet_field.specs.Trio.{member}
 use Rattle.beet_field.specs.declared.point.Point.{Point}
 use Rattle.beet_field.specs.declared.trio.Trio.{Trio}
-use Rattle.beet_store.specs.Desks.{DeskTold}
-use Rattle.beet_store.specs.Files.{File, Told, bytes_of}
+use Rattle.beet_store.specs.Files.{File, bytes_of}
 use Rattle.beet_book.specs.BookFiles.{book_of}
 use Rattle.beet_book.specs.ServerFiles.{servers_of}
 use Rattle.beet_book.specs.declared.entries.Entry.{Entry}
 use Rattle.beet_book.specs.declared.server_file.TheConstants.{SERVERS_LIMIT}
 use Rattle.beet_book.specs.declared.sources.Servers.TheVariants.{Bundle}
-use Rattle.beet_errand.specs.Overs.{FromFiles}
-use Rattle.beet_errand.specs.Runs.{GivesAll}
-use Rattle.beet_errand.specs.Statuses.{IsDoneCode}
-use Rattle.beet_app.specs.Doing.{RunsJob}
-use Rattle.beet_app.specs.Jobs.{job_of}
+use Rattle.beet_app_laws.specs.Calls.{Call, IsDoneCall, Puts}
 use Rattle.beet_app_laws.specs.Held.{IsHeld}
 use Rattle.beet_program_laws.specs.Outcomes.{three_files}
 
@@ -35,25 +30,22 @@ pub record HoldsSecond (files held : List File) (auction book2 bundle name serve
   pub bundle_file : bytes_of held words ≡ Some bundle
 
 -- a recording put three transcripts, and that of this server has these bytes
-pub record PutsFor (s : Point) (seen out : List ℕ) (given now : DeskTold) : Type 0 where
+pub record PutsFor (s : Point) (seen out : List ℕ) (call : Call) : Type 0 where
   pub transcripts : Trio (List ℕ)
   pub own : member transcripts s ≡ seen
   pub text : List ℕ
-  pub gives : GivesAll given now (three_files out transcripts) text (Ok tt)
+  pub gives : Puts call (three_files out transcripts) text
 
 -- two worlds were put for a server. Whoever records the second book with the words that were put, and is done, puts for
 -- this server the bytes that were put for both worlds
-pub record IsPutAgain (files : List File) (auction book2 server out : List ℕ) (given now : DeskTold) : Type 0 where
+pub record IsPutAgain (files : List File) (auction book2 server out : List ℕ) (call : Call) : Type 0 where
   pub s : Point
   pub server_is : server_of server ≡ Some s
   pub seen : List ℕ
   pub bundle : List ℕ
   pub text : List ℕ
-  pub gives : GivesAll given now
+  pub gives : Puts call
       ((out ++ codes ".first", seen) ∷ (out ++ codes ".second", seen) ∷ (out ++ codes ".words", bundle) ∷ []) text
-      (Ok tt)
-  pub again : (held : List File) (told told_now : Told) (desk desk_now : DeskTold) (end : ℕ)
-      (name servers list put : List ℕ) →
-      HoldsSecond files held auction book2 bundle name servers list → FromFiles held told told_now →
-      RunsJob (job_of (record_words name servers list put)) told told_now desk desk_now end → IsDoneCode end →
-      PutsFor s seen put desk desk_now
+  pub again : (held : List File) (recording : Call) (name servers list put : List ℕ) →
+      HoldsSecond files held auction book2 bundle name servers list →
+      IsDoneCall held (record_words name servers list put) recording → PutsFor s seen put recording

@@ -1,36 +1,21 @@
 -- What each command has read, put and said where its run ends with status 0 or 6, over a shelf whose answers are of
 -- these files.
-use Rattle.std.specs.Prelude.{◌≡◌, ◌≤◌, ◌++◌, ℕ, List, [], ◌∷◌, All, length, map, codes, decimal, Some, None}
+use Rattle.std.specs.Prelude.{◌≡◌, ◌≤◌, ◌++◌, ℕ, List, [], ◌∷◌, All, length, map, codes, decimal, Some}
 use Rattle.std.specs.Prelude.{Ok}
 use Rattle.beet_field.specs.Trio.{member, of_each}
 use Rattle.beet_field.specs.declared.point.Point.{Point}
 use Rattle.beet_field.specs.declared.trio.Trio.{Trio}
 use Rattle.beet_store.specs.Files.{File}
-use Rattle.beet_store.specs.Desks.{DeskTold}
 use Rattle.beet_words.specs.Bundles.{Words, bundle_bytes}
 use Rattle.beet_words.specs.Words.{IsWord, accepted}
-use Rattle.beet_bids.specs.AuctionFiles.{auction_of}
-use Rattle.beet_bids.specs.BidFiles.{bid_of}
 use Rattle.beet_bids.specs.Books.{Book, IsBook}
-use Rattle.beet_bids.specs.Curves.{Curve, IsCurve, IsOfGrid}
-use Rattle.beet_bids.specs.Grids.{Grid, IsGrid}
+use Rattle.beet_bids.specs.Curves.{IsCurve, IsOfGrid}
+use Rattle.beet_bids.specs.Grids.{IsGrid}
 use Rattle.beet_bids.specs.Sums.{demand_at, supply_at}
-use Rattle.beet_bids.specs.declared.auction_file.TheConstants.{AUCTION_LIMIT}
-use Rattle.beet_bids.specs.declared.bid_file.TheConstants.{BID_LIMIT}
-use Rattle.beet_book.specs.BookFiles.{book_of}
 use Rattle.beet_book.specs.Dealing.{points_at, quantities}
 use Rattle.beet_book.specs.Farmers.{BidderWithWords, book_with}
 use Rattle.beet_book.specs.PointSums.{inputs_at}
-use Rattle.beet_book.specs.ServerFiles.{servers_of}
-use Rattle.beet_book.specs.declared.book_file.TheConstants.{BOOK_LIMIT}
-use Rattle.beet_book.specs.declared.entries.BidderSource.{BidderSource}
-use Rattle.beet_book.specs.declared.entries.Entry.{Entry}
-use Rattle.beet_book.specs.declared.server_file.TheConstants.{SERVERS_LIMIT}
-use Rattle.beet_book.specs.declared.sources.Servers.{Servers}
 use Rattle.beet_farmer.specs.Envelopes.{envelope_of}
-use Rattle.beet_farmer.specs.Lists.{list_of}
-use Rattle.beet_farmer.specs.declared.list_file.ListEntry.{ListEntry}
-use Rattle.beet_farmer.specs.declared.list_file.TheConstants.{LIST_LIMIT}
 use Rattle.beet_plan.specs.Auction.{auction_over}
 use Rattle.beet_delivery.specs.Events.{after, undelivered}
 use Rattle.beet_auction.specs.AnyPoints.{points_finish, points_rounds}
@@ -44,22 +29,16 @@ use Rattle.beet_headline.specs.Statements.{AllHaveEnded, AreOnePair, AreTwoBooks
 use Rattle.beet_errand.specs.Errands.{reads}
 use Rattle.beet_errand.specs.Statuses.{code_of}
 use Rattle.beet_errand.specs.Texts.{line_of}
-use Rattle.beet_errand.specs.Runs.{GivesAll, Said}
 use Rattle.beet_load.specs.Counts.{counts_of, words_wanted}
-use Rattle.beet_load.specs.Farmers.{farmers_errand}
-use Rattle.beet_load.specs.Wanted.{wanted_of}
 use Rattle.beet_load.specs.Loading.{loaded_errand}
-use Rattle.beet_load.specs.Servers.{AllWords, all_words_errand, masks_of}
+use Rattle.beet_load.specs.Servers.{masks_of}
 use Rattle.beet_load.specs.Wholes.{CanDeal, all_words, limited_errand}
 use Rattle.beet_run.specs.OutcomeTexts.{outcome_text}
 use Rattle.beet_run.specs.Outcomes.{status_of}
 use Rattle.beet_job_rehearse.specs.Rehearse.{rehearsal_status}
 use Rattle.beet_job_rehearse.specs.StandingTexts.{rehearsal_text}
 use Rattle.beet_job_rehearse.specs.declared.standing.Rehearsal.{Rehearsal}
-use Rattle.beet_job_envelopes.specs.Gather.{bidders_errand}
-use Rattle.beet_job_envelopes.specs.Seal.{own_words_errand}
 use Rattle.beet_job_envelopes.specs.SealedBooks.{HaveWords, HoldEachSealed}
-use Rattle.beet_job_envelopes.specs.SourceWords.{source_word}
 use Rattle.beet_job_trial.specs.Rules.{trial_book, trial_farmers, trial_grid, trial_servers}
 use Rattle.beet_job_trial.specs.Sizes.{sizes_of}
 use Rattle.beet_job_trial.specs.Trial.{sizes_text}
@@ -70,53 +49,47 @@ use Rattle.beet_job_audit.specs.Reading.{read_errand}
 use Rattle.beet_job_audit.specs.declared.reading.ReadViews.{ReadViews}
 use Rattle.beet_errand.specs.Overs.{ReadsTo}
 use Rattle.beet_load.specs.WholeViews.{loaded_with}
+use Rattle.beet_app_laws.specs.Calls.{Call, Puts, Says}
+use Rattle.beet_app_laws.specs.Readings.{OpenRead, SealRead, TallyRead}
 use Rattle.beet_program_laws.specs.Outcomes.{IsShown, ServersOpen, TellsTheEnd, three_files, transcript_files}
 
 -- `tally`: the files read as a grid of one price and the bidders of a book, each with words enough; the sums of what
 -- they sell and buy at that price were said, and nothing else
-pub record Tallies (files : List File) (auction book_file : List ℕ) (status : ℕ) (given now : DeskTold) : Type 0 where
-  pub grid : Grid
-  pub grid_read : ReadsTo files (reads auction AUCTION_LIMIT auction_of) grid
-  pub one_price : grid.prices ≡ 1
-  pub entries : List Entry
-  pub entries_read : ReadsTo files (reads book_file BOOK_LIMIT book_of) entries
-  pub farmers : List BidderWithWords
-  pub farmers_read : ReadsTo files (farmers_errand (wanted_of None grid) grid None [] entries) farmers
-  pub is_book : IsBook (book_with grid farmers)
-  pub have_words : HaveWords grid farmers
-  pub is_done : status ≡ 0
+pub record Tallies (files : List File) (auction book_file : List ℕ) (call : Call) : Type 0 where
+  pub read : TallyRead files auction book_file
+  pub one_price : read.grid.value.prices ≡ 1
+  pub is_book : IsBook (book_with read.grid.value read.farmers.value)
+  pub have_words : HaveWords read.grid.value read.farmers.value
+  pub is_done : call.status ≡ 0
   pub said :
-      let bidders = (book_with grid farmers).bidders in
-      Said given now (line_of (codes "supply " ++ decimal (supply_at bidders 0))
+      let bidders = (book_with read.grid.value read.farmers.value).bidders in
+      Says call (line_of (codes "supply " ++ decimal (supply_at bidders 0))
       ++ line_of (codes "demand " ++ decimal (demand_at bidders 0)))
 
 -- `clear`: the files read as a book with words; what its servers open was said, and nothing else
-pub record Clears (files : List File) (auction servers book_file : List ℕ) (status : ℕ)
-    (given now : DeskTold) : Type 0 where
+pub record Clears (files : List File) (auction servers book_file : List ℕ) (call : Call) : Type 0 where
   pub book : Book
   pub words : Words
   pub read : ReadsTo files (loaded_errand auction servers book_file) (loaded_with book words)
   pub run : ServersOpen book words
   pub text : List ℕ
-  pub tells : TellsTheEnd book words status text
-  pub said : Said given now text
+  pub tells : TellsTheEnd book words call.status text
+  pub said : Says call text
 
 -- `record`: so it is, and before the text the transcripts of the run were put
-pub record RecordsRun (files : List File) (auction servers book_file out : List ℕ) (status : ℕ)
-    (given now : DeskTold) : Type 0 where
+pub record RecordsRun (files : List File) (auction servers book_file out : List ℕ) (call : Call) : Type 0 where
   pub book : Book
   pub words : Words
   pub read : ReadsTo files (limited_errand auction servers book_file) (loaded_with book words)
   pub run : ServersOpen book words
   pub text : List ℕ
-  pub tells : TellsTheEnd book words status text
-  pub gives : GivesAll given now (transcript_files out book words) text (Ok tt)
+  pub tells : TellsTheEnd book words call.status text
+  pub gives : Puts call (transcript_files out book words) text
 
 -- `rehearse`: the files read as a book with words, and a schedule; it was said how each server stands after the
 -- deliveries of the schedule, and how many messages are undelivered. The status is 6 where a server has ended with
 -- spent masks. Where nothing is undelivered, all have ended
-pub record ShowsStandings (files : List File) (auction servers book_file name : List ℕ) (status : ℕ)
-    (given now : DeskTold) : Type 0 where
+pub record ShowsStandings (files : List File) (auction servers book_file name : List ℕ) (call : Call) : Type 0 where
   pub book : Book
   pub words : Words
   pub read : ReadsTo files (loaded_errand auction servers book_file) (loaded_with book words)
@@ -128,66 +101,50 @@ pub record ShowsStandings (files : List File) (auction servers book_file name : 
   pub left : rehearsal.undelivered
       ≡ undelivered (rounds_for book words) (after (rounds_for book words) (named_in schedule))
   pub all : rehearsal.undelivered ≡ 0 → AllHaveEnded book words (named_in schedule)
-  pub status_is : status ≡ code_of (rehearsal_status rehearsal)
-  pub said : Said given now (rehearsal_text book.grid rehearsal)
+  pub status_is : call.status ≡ code_of (rehearsal_status rehearsal)
+  pub said : Says call (rehearsal_text book.grid rehearsal)
 
 -- `seal`: the files read as a grid, a curve of it, and words of the source that are enough. An envelope for each server
 -- was put: it reads back as that server's points of the lines whose values are the curve's quantities, and whose slopes
 -- are the accepted words, in order. Then the number of prices was said
-pub record Seals (files : List File) (auction bid source out : List ℕ) (status : ℕ)
-    (given now : DeskTold) : Type 0 where
-  pub grid : Grid
-  pub grid_read : ReadsTo files (reads auction AUCTION_LIMIT auction_of) grid
-  pub is_grid : IsGrid grid
-  pub curve : Curve
-  pub curve_read : ReadsTo files (reads bid BID_LIMIT (bid_of grid)) curve
-  pub is_curve : IsCurve curve
-  pub of_grid : IsOfGrid grid curve
-  pub from : BidderSource
-  pub from_is : source_word source ≡ Some from
-  pub words : List ℕ
-  pub words_read : ReadsTo files (own_words_errand grid from) words
-  pub are_words : All IsWord words
-  pub enough : words_wanted grid ≤ length (accepted words)
+pub record Seals (files : List File) (auction bid source out : List ℕ) (call : Call) : Type 0 where
+  pub read : SealRead files auction bid source
+  pub is_grid : IsGrid read.grid.value
+  pub is_curve : IsCurve read.curve.value
+  pub of_grid : IsOfGrid read.grid.value read.curve.value
+  pub are_words : All IsWord read.words.value
+  pub enough : words_wanted read.grid.value ≤ length (accepted read.words.value)
   pub envelopes : Trio (List ℕ)
-  pub read_back : (s : Point) → envelope_of grid s (member envelopes s)
-      ≡ Ok (record { server = s; points = points_at (quantities curve) (accepted words) s })
-  pub is_done : status ≡ 0
-  pub gives : GivesAll given now (three_files out envelopes) (line_of (codes "sealed " ++ decimal grid.prices)) (Ok tt)
+  pub read_back : (s : Point) → envelope_of read.grid.value s (member envelopes s)
+      ≡ Ok (record { server = s; points = points_at (quantities read.curve.value) (accepted read.words.value) s })
+  pub is_done : call.status ≡ 0
+  pub gives : Puts call (three_files out envelopes) (line_of (codes "sealed " ++ decimal read.grid.value.prices))
 
 -- `open`: the files read as a grid, words of servers and points of bidders, which may lie on no line; it was said what
 -- is found over the sums of these points. Where the files hold what bidders sealed of a book, it is its outcome, which
 -- its servers open
-pub record OpensEnvelopes (files : List File) (auction servers list : List ℕ) (status : ℕ)
-    (given now : DeskTold) : Type 0 where
-  pub grid : Grid
-  pub grid_read : ReadsTo files (reads auction AUCTION_LIMIT auction_of) grid
-  pub sources : Servers
-  pub sources_read : ReadsTo files (reads servers SERVERS_LIMIT servers_of) sources
-  pub entries : List ListEntry
-  pub entries_read : ReadsTo files (reads list LIST_LIMIT list_of) entries
-  pub words : AllWords
-  pub words_read : ReadsTo files (all_words_errand (wanted_of None grid) None sources) words
-  pub bidders : List (Trio (List ℕ))
-  pub bidders_read : ReadsTo files (bidders_errand grid [] entries) bidders
+pub record OpensEnvelopes (files : List File) (auction servers list : List ℕ) (call : Call) : Type 0 where
+  pub read : OpenRead files auction servers list
   pub text : List ℕ
   pub text_is :
-      let a = auction_over grid in
-      let inputs = inputs_at grid.prices bidders in
-      let masks = masks_of words.servers in
-      (status ≡ code_of (status_of (points_finish a inputs masks)))
-      × (text ≡ outcome_text grid (points_finish a inputs masks) (points_rounds a inputs masks))
-  pub sealed : (farmers : List BidderWithWords) → HoldEachSealed files grid entries farmers →
-      IsBook (book_with grid farmers) →
-      HaveWords grid farmers →
-      TellsTheEnd (book_with grid farmers) (all_words words.servers (map (λ farmer. farmer.words) farmers)) status text
-  pub servers_open : (farmers : List BidderWithWords) → IsBook (book_with grid farmers) →
-      All (λ farmer. CanDeal (counts_of grid) farmer.words × All IsWord farmer.words) farmers →
-      ServersOpen (book_with grid farmers) (all_words words.servers (map (λ farmer. farmer.words) farmers))
-  pub said : Said given now text
+      let a = auction_over read.grid.value in
+      let inputs = inputs_at read.grid.value.prices read.bidders.value in
+      let masks = masks_of read.words.value.servers in
+      (call.status ≡ code_of (status_of (points_finish a inputs masks)))
+      × (text ≡ outcome_text read.grid.value (points_finish a inputs masks) (points_rounds a inputs masks))
+  pub sealed : (farmers : List BidderWithWords) →
+      let book = book_with read.grid.value farmers in
+      HoldEachSealed files read.grid.value read.entries.value farmers → IsBook book →
+      HaveWords read.grid.value farmers →
+      TellsTheEnd book (all_words read.words.value.servers (map (λ farmer. farmer.words) farmers)) call.status text
+  pub servers_open : (farmers : List BidderWithWords) → IsBook (book_with read.grid.value farmers) →
+      All (λ farmer. CanDeal (counts_of read.grid.value) farmer.words × All IsWord farmer.words) farmers →
+      ServersOpen (book_with read.grid.value farmers)
+      (all_words read.words.value.servers (map (λ farmer. farmer.words) farmers))
+  pub said : Says call text
 
 -- `trial`: the words are two sizes; what servers open of the book that the rule makes of them was said
-pub record RunsTrial (first second : List ℕ) (status : ℕ) (given now : DeskTold) : Type 0 where
+pub record RunsTrial (first second : List ℕ) (call : Call) : Type 0 where
   pub bidders : ℕ
   pub prices : ℕ
   pub sizes : sizes_of first second ≡ Some (bidders, prices)
@@ -196,14 +153,14 @@ pub record RunsTrial (first second : List ℕ) (status : ℕ) (given now : DeskT
   pub words_are : words ≡ all_words (trial_servers (trial_grid prices))
       (map (λ farmer. farmer.words) (trial_farmers (trial_grid prices) bidders))
   pub run : ServersOpen (trial_book (trial_grid prices) bidders) words
-  pub tells : TellsTheEnd (trial_book (trial_grid prices) bidders) words status text
-  pub said : Said given now (sizes_text bidders prices ++ text)
+  pub tells : TellsTheEnd (trial_book (trial_grid prices) bidders) words call.status text
+  pub said : Says call (sizes_text bidders prices ++ text)
 
 -- `worlds`: the files read as two books that agree for the server, and words for the first; there are words for the
 -- second that go with these and with no others. What the server sees of both runs was put, which is the same, and these
 -- words; and how the first run ends was said
 pub record PutsBothWorlds (files : List File) (auction servers book1 book2 : List ℕ) (s : Point) (out : List ℕ)
-    (status : ℕ) (given now : DeskTold) :
+    (call : Call) :
     Type 0 where
   pub first : Book
   pub words : Words
@@ -215,19 +172,18 @@ pub record PutsBothWorlds (files : List File) (auction servers book1 book2 : Lis
   pub second_words : Words
   pub pair : AreOnePair s first words second second_words
   pub text : List ℕ
-  pub tells : TellsTheEnd first words status text
-  pub gives : GivesAll given now
+  pub tells : TellsTheEnd first words call.status text
+  pub gives : Puts call
       ((out ++ codes ".first", transcript_with first words s)
       ∷ (out ++ codes ".second", transcript_with second second_words s)
       ∷ (out ++ codes ".words", bundle_bytes second_words)
       ∷ [])
-      (text ++ line_of (codes "transcripts equal")) (Ok tt)
+      (text ++ line_of (codes "transcripts equal"))
 
 -- `audit`: the files read as a grid and three views of one run, which is that of a book with words: the book that the
 -- points recombine to, and the words of the tapes, with words of the bidders that begin the same run; how its auction
 -- ends was said
-pub record AuditsOneRun (files : List File) (auction one two three : List ℕ) (status : ℕ)
-    (given now : DeskTold) : Type 0 where
+pub record AuditsOneRun (files : List File) (auction one two three : List ℕ) (call : Call) : Type 0 where
   pub read : ReadViews
   pub are_read : ReadsTo files (read_errand auction one two three) read
   pub one_run : OneRun read.grid read.views
@@ -237,5 +193,5 @@ pub record AuditsOneRun (files : List File) (auction one two three : List ℕ) (
   pub same_run : run_of read.grid read.views ≡ setup_for (recombined_book read.grid read.views) words
   pub run : ServersOpen (recombined_book read.grid read.views) words
   pub text : List ℕ
-  pub tells : TellsTheEnd (recombined_book read.grid read.views) words status text
-  pub said : Said given now text
+  pub tells : TellsTheEnd (recombined_book read.grid read.views) words call.status text
+  pub said : Says call text

@@ -11,7 +11,6 @@ use beet_words::{FeList, Tape};
 use std::alloc::Global;
 use std::process::Abort;
 
-/// A server of the auction.
 type Core = ServerCore<AuctionScript>;
 
 /// What is supplied at each of four prices, and then what is demanded.

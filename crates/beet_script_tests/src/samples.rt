@@ -10,7 +10,6 @@ use std::process::Abort;
 /// The word whose bits are all set.
 pub const ONES: u64 = P;
 
-/// Whether the numbers are these.
 pub fn are(numbers: &[Fe], wanted: &[u64]) -> bool {
     numbers
         .iter()

@@ -21,7 +21,6 @@ fn masks(rt: &impl Abort, alloc: Global, rejected: usize) -> Trio<WordList> {
     lists(rt, alloc, [&one, &two, &three])
 }
 
-/// The numbers of these sums.
 fn numbers(rt: &impl Abort, alloc: Global, sums: &[u64]) -> Vec<Fe> {
     let mut numbers = Vec::new(alloc);
     for sum in sums {

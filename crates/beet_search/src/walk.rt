@@ -13,7 +13,7 @@ ghost use Rattle.beet_search.specs.Walk.{plan_at, busy, widest, Fits};
 
 use arrayvec::ArrayVec;
 use beet_bids::Policy;
-use beet_compare::{compare_rounds, compare_wires, refill_compare};
+use beet_compare::{CompareWires, compare_rounds, compare_wires, refill_compare};
 use beet_field::Fe;
 use beet_gates::{Act, Batch, Gates};
 use beet_mask::{mask_rounds, mask_wires, refill_mask};
@@ -183,16 +183,13 @@ impl Walk {
     {
         let mid = (self.lo + self.hi) / 2;
         let (supply, demand) = (mid, self.prices + mid);
-        refill_compare(
-            self.gates,
-            step,
-            self.first + mask_wires(MASK_WORDS),
-            self.first,
+        let wires = CompareWires {
+            first: self.first + mask_wires(MASK_WORDS),
+            mask: self.first,
             supply,
             demand,
-            c,
-            batch,
-        );
+        };
+        refill_compare(self.gates, step, wires, c, batch);
     }
 
     /// Makes a batch that of the next block at this step.

@@ -34,7 +34,6 @@ module _ {S : Type 0} (next : S → ℕ → List ℕ → Batch) where
   abbrev pub coming_at : Core S → Batch
   coming_at c = next c.script c.round c.opened
 
-  -- whether a core has ended
   abbrev pub has_ended : Core S → Bool
   has_ended c = is_end (coming_at c).act
 

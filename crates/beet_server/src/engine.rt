@@ -10,7 +10,7 @@ ghost use Rattle.beet_round.specs.Sides.{peer};
 ghost use Rattle.beet_round.specs.declared.sides.Side.TheVariants.{Low, High};
 ghost use Rattle.beet_server.specs.Steps.{Work, batch_of, sends, handing, passing};
 
-use crate::parts::{Numbers, absorb, append_all, append_lets, of_sender, put_numbers};
+use crate::parts::{Numbers, Tapes, absorb, append_all, append_lets, of_sender, put_numbers};
 use beet_field::{Fe, Point};
 use beet_gates::{Batch, Script};
 use beet_words::Tape;
@@ -21,8 +21,7 @@ use std::marker::Model;
 pub struct Engine<S: Script> {
     me: Point,
     script: S,
-    masks: Tape,
-    coefficients: Tape,
+    tapes: Tapes,
     round: u32,
     wires: Vec<Fe>,
     opened: Vec<Fe>,
@@ -43,8 +42,8 @@ impl<S: Script> Model for Engine<S> {
     ghost view = { λ e. record {
       me = e.me;
       script = e.script;
-      masks = e.masks;
-      coefficients = e.coefficients;
+      masks = e.tapes.masks;
+      coefficients = e.tapes.coefficients;
       round = e.round;
       wires = e.wires.items;
       opened = e.opened.items;
@@ -55,7 +54,7 @@ impl<S: Script> Model for Engine<S> {
     ghost invariant = { λ e. IsSound 3 1 (S.batch_of e.script)
         (bounds_of (S.wires_of e.script) (S.masks_of e.script) (S.coefficients_of e.script))
         (S.rounds_of e.script)
-        e.batch e.round e.wires.items e.opened.items e.masks e.coefficients e.handed
+        e.batch e.round e.wires.items e.opened.items e.tapes.masks e.tapes.coefficients e.handed
         (vec_capacity e.wires) (vec_capacity e.opened)
         × (length e.own.items ≡ if_handed e.handed (size_of e.batch.act))
         × S.is_at e.script e.round e.opened.items e.place };
@@ -101,8 +100,10 @@ impl<S: Script> Engine<S> {
         Engine {
             me,
             script,
-            masks,
-            coefficients,
+            tapes: Tapes {
+                masks,
+                coefficients,
+            },
             round: 0,
             wires,
             opened,
@@ -126,8 +127,7 @@ impl<S: Script> Engine<S> {
         put_numbers(
             &self.batch.act,
             self.wires.as_slice(),
-            &mut self.masks,
-            &mut self.coefficients,
+            &mut self.tapes,
             self.me,
             &mut self.own,
             low,
@@ -206,7 +206,6 @@ impl<S: Script> Engine<S> {
         self.round
     }
 
-    /// The script.
     pub fn script(&self) -> &S
         ensures { result.now ≡ self.now.script }
     {
@@ -224,13 +223,13 @@ impl<S: Script> Engine<S> {
     pub fn masks(&self) -> &Tape
         ensures { result.now ≡ self.now.masks }
     {
-        &self.masks
+        &self.tapes.masks
     }
 
     /// The words from which it draws.
     pub fn coefficients(&self) -> &Tape
         ensures { result.now ≡ self.now.coefficients }
     {
-        &self.coefficients
+        &self.tapes.coefficients
     }
 }

@@ -24,6 +24,13 @@ use beet_words::{Tape, Word};
 /// The numbers of one server for another in a round.
 pub type Numbers = ArrayVec<Fe, MOST_NUMBERS>;
 
+/// The words that a server deals, and those from which it draws numbers.
+#[derive(Drop)]
+pub struct Tapes {
+    pub masks: Tape,
+    pub coefficients: Tape,
+}
+
 /// Appends the lets, each of which may use those before it.
 pub fn append_lets(wires: &mut Vec<Fe>, lets: &[Linear])
     requires below { LetsBelow (length wires.old.items) lets.now }
@@ -126,7 +133,6 @@ pub fn absorb(
     }
 }
 
-/// The products of the pairs.
 pub fn products(wires: &[Fe], pairs: &[(u32, u32)]) -> Numbers
     requires below { PairsBelow (length wires.now) pairs.now }
     requires few { length pairs.now ≤ MOST_NUMBERS }
@@ -222,8 +228,7 @@ fn hide_for_each(
 pub fn put_numbers(
     act: &Act,
     wires: &[Fe],
-    masks: &mut Tape,
-    coefficients: &mut Tape,
+    tapes: &mut Tapes,
     me: Point,
     own: &mut Numbers,
     low: &mut Numbers,
@@ -231,29 +236,29 @@ pub fn put_numbers(
 )
     requires below { ActBelow (length wires.now) act.now }
     requires few { size_of act.now ≤ MOST_NUMBERS }
-    requires words { masks.old.passed + deals_in act.now ≤ length masks.old.words }
-    requires enough { draws_in act.now ≤ length (left_of coefficients.old) }
+    requires words { tapes.old.masks.passed + deals_in act.now ≤ length tapes.old.masks.words }
+    requires enough { draws_in act.now ≤ length (left_of tapes.old.coefficients) }
     ensures own { own.new.items ≡ numbers_for act.now wires.now
-        (slice_index masks.old.words masks.old.passed)
-        (take (draws_in act.now) (left_of coefficients.old)) me }
+        (slice_index tapes.old.masks.words tapes.old.masks.passed)
+        (take (draws_in act.now) (left_of tapes.old.coefficients)) me }
     ensures low { low.new.items ≡ numbers_for act.now wires.now
-        (slice_index masks.old.words masks.old.passed)
-        (take (draws_in act.now) (left_of coefficients.old)) (peer me Low) }
+        (slice_index tapes.old.masks.words tapes.old.masks.passed)
+        (take (draws_in act.now) (left_of tapes.old.coefficients)) (peer me Low) }
     ensures high { high.new.items ≡ numbers_for act.now wires.now
-        (slice_index masks.old.words masks.old.passed)
-        (take (draws_in act.now) (left_of coefficients.old)) (peer me High) }
-    ensures dealt { masks.new ≡ record masks.old { passed = masks.old.passed + deals_in act.now } }
-    ensures drawn { coefficients.new ≡ drawn_from coefficients.old (draws_in act.now) }
+        (slice_index tapes.old.masks.words tapes.old.masks.passed)
+        (take (draws_in act.now) (left_of tapes.old.coefficients)) (peer me High) }
+    ensures dealt { tapes.new.masks ≡ record tapes.old.masks { passed = tapes.old.masks.passed + deals_in act.now } }
+    ensures drawn { tapes.new.coefficients ≡ drawn_from tapes.old.coefficients (draws_in act.now) }
 {
     match act {
         Act::Deal => {
-            let values = bits(masks.next_mask());
-            let slopes = draw(coefficients, 61);
+            let values = bits(tapes.masks.next_mask());
+            let slopes = draw(&mut tapes.coefficients, 61);
             hide_for_each(values.as_slice(), slopes.as_slice(), me, own, low, high);
         }
         Act::Mul(pairs) => {
             let values = products(wires, pairs.as_slice());
-            let slopes = draw(coefficients, pairs.len());
+            let slopes = draw(&mut tapes.coefficients, pairs.len());
             hide_for_each(values.as_slice(), slopes.as_slice(), me, own, low, high);
         }
         Act::Reveal(shown) => {

@@ -306,7 +306,6 @@ impl<S: Script> ServerCore<S> {
         self.engine.me()
     }
 
-    /// The script.
     pub fn script(&self) -> &S
         ensures { result.now ≡ self.now.script }
     {

@@ -229,24 +229,14 @@ module _ (o : Setup) (bounds : Standing) (most t : ℕ) (w : Walks o bounds most
   -- the numbers that a server draws are there
   pub draws-fit : (shared_at o t).drawn + draws_in (coming o t).act ≤ bounds.coefficients
   draws-fit =
-      let s = w.standing in
-      omega (
-        arith,
-        coming-stands.1.2,
-        w.coefficients,
-        acted-coefficients (record s { wires = s.wires + length (coming o t).lets.items }) (coming o t).act,
-      )
+      let s : Standing = record w.standing { wires = w.standing.wires + length (coming o t).lets.items } in
+      omega (arith, coming-stands.1.2, w.coefficients, acted-coefficients s (coming o t).act)
 
   -- and so are the words that it deals
   pub deals-fit : (shared_at o t).dealt + deals_in (coming o t).act ≤ bounds.masks
   deals-fit =
-      let s = w.standing in
-      omega (
-        arith,
-        coming-stands.1.1,
-        w.masks,
-        acted-masks (record s { wires = s.wires + length (coming o t).lets.items }) (coming o t).act,
-      )
+      let s : Standing = record w.standing { wires = w.standing.wires + length (coming o t).lets.items } in
+      omega (arith, coming-stands.1.1, w.masks, acted-masks s (coming o t).act)
 
   -- the points after the batch are within the bounds
   pub wires-fit : (i : Point) → length (member (shared_at o (suc t)).wires i) ≤ bounds.wires

@@ -11,12 +11,12 @@ use Rattle.beet_round.specs.declared.message.RoundMessage.{RoundMessage}
 use Rattle.beet_round.specs.declared.sides.Side.{Side}
 use Rattle.beet_round.specs.declared.sides.Side.TheVariants.{Low, High}
 use Rattle.beet_sharing.specs.Runs.{Setup}
-use Rattle.beet_delivery.specs.Events.{Delivered, with_triple}
+use Rattle.beet_delivery.specs.Events.{Delivered, all_delivered, with_triple}
 use Rattle.beet_server.specs.Answers.{Answers, Keeps}
 use Rattle.beet_server.specs.Cores.{Core, has_ended, setup_of}
 use Rattle.beet_server.specs.Fits.{Fits, IsRound, message_of}
-use Rattle.beet_server.specs.Lockstep.{IsAtRound}
-use Rattle.beet_link.specs.Ends.{IsNext, LinkEnd}
+use Rattle.beet_server.specs.Lockstep.{HasHanded, IsAtRound}
+use Rattle.beet_link.specs.Ends.{IsNext, LinkEnd, one_on}
 use Rattle.beet_link.specs.Streams.{link_at, rounds_from}
 use Rattle.beet_station.specs.declared.station.Station.{Station}
 
@@ -40,6 +40,18 @@ module _ {S : Type 0} (next : S → ℕ → List ℕ → Batch) (inputs most : S
     pub to_high : x.to_high ≡ link_at next inputs most start s (peer s High) x.core.round
     pub from_low : x.from_low ≡ link_at next inputs most start (peer s Low) s x.core.round
     pub from_high : x.from_high ≡ link_at next inputs most start (peer s High) s x.core.round
+
+  -- a server of the run has handed out its messages of a round and put one more on each of its links, and has taken
+  -- none
+  pub record HasPut {Place : Type 0} (start : Trio (Core S)) (s : Point) (before after : Station S Place) : Type 0 where
+    pub is_round : IsRound (setup_of next inputs start) before.core.round
+    pub handed : HasHanded next (setup_of next inputs start) before.core.round (all_delivered before.core.round) s
+        after.core
+    pub keeps : Keeps before.core after.core
+    pub to_low : after.to_low ≡ one_on before.to_low
+    pub to_high : after.to_high ≡ one_on before.to_high
+    pub from_low : after.from_low ≡ before.from_low
+    pub from_high : after.from_high ≡ before.from_high
 
   -- so stand all three
   pub record AreTied {Place : Type 0} (start : Trio (Core S)) (stations : Trio (Station S Place)) : Type 0 where

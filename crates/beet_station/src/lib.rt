@@ -10,4 +10,4 @@ mod station;
 pub use laws::ended_servers_are_as_after_lockstep;
 pub use making::{Links, all_links, mails, stations};
 pub use notes::{DeskNote, Nobody, Sink};
-pub use station::{Mail, Station, serve};
+pub use station::{Mail, Station, put_both, serve};

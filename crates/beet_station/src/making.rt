@@ -72,7 +72,6 @@ pub fn all_links<S: Script>(alloc: Global, cores: &Trio<ServerCore<S>>) -> Resul
     })
 }
 
-/// A server with its ends.
 fn station<S: Script>(core: ServerCore<S>, low: Ends, high: Ends) -> Station<S>
     ensures { result ≡ record {
       core = core;

@@ -42,7 +42,6 @@ pub trait Sink {
         ensures same { origin self.new ≡ origin self.old };
 }
 
-/// Nobody.
 #[derive(Drop)]
 pub struct Nobody;
 

@@ -11,7 +11,7 @@ ghost use Rattle.beet_server.specs.Fits.{Fits};
 ghost use Rattle.beet_link.specs.Ends.{one_on};
 ghost use Rattle.beet_link.specs.Streams.{stream};
 ghost use Rattle.beet_station.specs.Notes.{Awaits, notes_left};
-ghost use Rattle.beet_station.specs.Stations.{HasHeard, IsEnded, IsTied};
+ghost use Rattle.beet_station.specs.Stations.{HasHeard, HasPut, IsEnded, IsTied};
 
 use crate::notes::Sink;
 use beet_field::{Fe, Point, Trio};
@@ -21,6 +21,7 @@ use beet_round::{RoundMessage, Verdict};
 use beet_server::ServerCore;
 use std::snapshot::Snapshot;
 use std::sync::Wait;
+use std::time::Clock;
 
 /// A server with its ends: to and from its lower and its higher peer.
 #[derive(Drop)]
@@ -42,7 +43,7 @@ pub struct Mail {
 
 /// Takes the next message of a link, once it is there, and gives it to the server: what the server says of it, and
 /// the message.
-fn hear<S: Script, R: Wait>(
+fn hear<S: Script, R: Wait + Clock>(
     rt: &R,
     core: &mut ServerCore<S>,
     from: &mut LinkRx,
@@ -74,12 +75,27 @@ fn behind(numbers: &[Fe], place: usize) -> &[Fe]
     &numbers[place..]
 }
 
-/// One round: the server meets the gate, hands out its messages, puts them, takes those of its peers, and tells what
-/// the round opened.
-fn round<S: Script, R: Wait, G: Gate, K: Sink>(
+/// Hands out the two messages of the round, and puts them on the links to the peers.
+pub fn put_both<S: Script, R: Wait>(
     rt: &R,
-    gate: &G,
-    seat: &mut G::Seat,
+    _me: Point,
+    station: &mut Station<S>,
+    mail: Mail,
+    _run: &Snapshot<Trio<ServerCore<S>>>,
+)
+    requires tied { IsTied S.batch_of S.inputs_of S.rounds_of _run.now.value _me station.old }
+    requires going { has_ended S.batch_of station.old.core ≡ false }
+    ensures { HasPut S.batch_of S.inputs_of S.rounds_of _run.now.value _me station.old station.new }
+{
+    let Mail { mut low, mut high } = mail;
+    station.core.hand_out(&mut low, &mut high);
+    station.to_low.put(rt, low);
+    station.to_high.put(rt, high);
+}
+
+/// One round behind the gate: the server puts its messages, takes those of its peers, and tells what the round opened.
+fn round<S: Script, R: Wait + Clock, K: Sink>(
+    rt: &R,
     me: Point,
     station: &mut Station<S>,
     mail: Mail,
@@ -95,24 +111,18 @@ fn round<S: Script, R: Wait, G: Gate, K: Sink>(
         (notes_left S.batch_of S.inputs_of S.rounds_of run.now.value me station.new.core.round) }
     ensures same { K.origin sink.new ≡ K.origin sink.old }
 {
-    let note = GateNote {
-        server: me,
-        round: station.core.round(),
-    };
-    gate.meet(seat, note);
+    let round = station.core.round();
     let before = station.core.opened().len();
-    let Mail { mut low, mut high } = mail;
-    station.core.hand_out(&mut low, &mut high);
-    station.to_low.put(rt, low);
-    station.to_high.put(rt, high);
+    put_both(rt, me, station, mail, run);
     let (_, low) = hear(rt, &mut station.core, &mut station.from_low);
     let (_, high) = hear(rt, &mut station.core, &mut station.from_high);
-    sink.tell(rt, me, note.round, behind(station.core.opened(), before));
+    sink.tell(rt, me, round, behind(station.core.opened(), before));
     Mail { low, high }
 }
 
 /// Runs the server to its end, in the memory of the messages of its mail, and tells of each round that it has passed.
-pub fn serve<S: Script, R: Wait, G: Gate, K: Sink>(
+/// It meets the gate in each round before it puts its messages.
+pub fn serve<S: Script, R: Wait + Clock, G: Gate, K: Sink>(
     rt: &R,
     gate: &G,
     me: Point,
@@ -134,7 +144,12 @@ pub fn serve<S: Script, R: Wait, G: Gate, K: Sink>(
         if station.core.ended() {
             return mail;
         }
-        mail = round(rt, gate, &mut seat, me, station, mail, sink, run);
+        let note = GateNote {
+            server: me,
+            round: station.core.round(),
+        };
+        gate.meet(&mut seat, note);
+        mail = round(rt, me, station, mail, sink, run);
     }
     unreachable!()
 }

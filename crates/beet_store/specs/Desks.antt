@@ -86,7 +86,6 @@ pub record GivesCall (old new : DeskTold) (call : DeskCall) : Type 0 where
   pub recorded : new.calls ≡ old.calls ++ call ∷ []
   pub left : LeavesGiven old.given new.given call
 
--- what a call answered
 abbrev pub answer_of : DeskCall → Done
 answer_of (Put name bytes answer) = answer
 answer_of (Say bytes answer) = answer

@@ -26,7 +26,6 @@ pub record ShelfInMemory : Type 0 where
   pub fetches : List Fetch
   pub calls : CallsSeen
 
--- what is seen of it
 abbrev pub shelf_seen : ShelfInMemory → Seen
 shelf_seen shelf =
     record { told = record { files = Some shelf.files; fetches = shelf.fetches }; faults = shelf.calls.faults }
@@ -46,6 +45,5 @@ pub record DeskInMemory : Type 0 where
   pub history : List DeskCall
   pub calls : CallsSeen
 
--- what is seen of it
 abbrev pub desk_seen : DeskInMemory → DeskSeen
 desk_seen desk = record { told = record { given = Some desk.given; calls = desk.history }; faults = desk.calls.faults }

@@ -118,7 +118,6 @@ fn read_file<R: Files>(
     read_whole(&mut file, alloc, piece, limit)
 }
 
-/// Whether a fetch failed.
 fn is_failed(answer: &Result<Vec<u8>, FetchFault>) -> bool
     ensures { IsTrue result ↔ IsErrOf answer.now Failed }
 {

@@ -22,6 +22,7 @@ use std::snapshot::Snapshot;
 use std::sync::{OnceLock, Wait};
 use std::thread;
 use std::thread::Threads;
+use std::time::Clock;
 
 /// A server, and whom it has told of its rounds.
 pub type Telling<S, K> = (ServerCore<S>, K);
@@ -87,7 +88,12 @@ fn settle<'s, S: Script, K: Drop>(
 
 /// Runs the first server in this thread and the two others in workers: the servers at their end. `Err`: a worker
 /// could not be started, and no server has begun.
-pub fn in_threads<S: Script + Send, R: Threads + Wait + Sync, G: Gate, K: Sink + Send + Drop>(
+pub fn in_threads<
+    S: Script + Send,
+    R: Threads + Wait + Clock + Sync,
+    G: Gate,
+    K: Sink + Send + Drop,
+>(
     rt: &R,
     gate: &G,
     servings: Trio<Serving<S, K>>,
@@ -206,7 +212,7 @@ pub fn rooms<S: Script>(
 
 /// Runs three fresh servers to the end, the second and the third in workers. Where a link finds no memory or a worker
 /// cannot be started, no server has begun, and all three run in lockstep instead, without the gate.
-pub fn run_three<S: Script + Send, R: Threads + Wait + Sync, G: Gate>(
+pub fn run_three<S: Script + Send, R: Threads + Wait + Clock + Sync, G: Gate>(
     rt: &R,
     alloc: Global,
     cores: Trio<ServerCore<S>>,

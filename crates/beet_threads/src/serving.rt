@@ -14,6 +14,7 @@ use beet_station::{Mail, Sink, Station, serve};
 use std::snapshot::Snapshot;
 use std::sync::{OnceLock, OnceToken, Wait};
 use std::thread::{Promise, PromisedHandle, Scope, Threads};
+use std::time::Clock;
 
 /// A server that is to run, with its ends, whom it tells of its rounds, and the three servers as the run began.
 #[derive(Drop)]
@@ -60,7 +61,6 @@ pub fn say<R: Wait>(rt: &R, word: &Word, go: bool) {
     let _said = word.set(rt, go);
 }
 
-/// Waits for the word.
 fn hear_word<'s, R: Wait>(rt: &R, word: &'s Word) -> OnceToken<'s, bool>
     ensures { result.of ≡ word.now.id }
 {
@@ -74,7 +74,7 @@ fn hear_word<'s, R: Wait>(rt: &R, word: &'s Word) -> OnceToken<'s, bool>
 }
 
 /// Waits for the word, and runs the server to its end if it is to run.
-pub fn serve_if_told<'s, S: Script, R: Wait, G: Gate, K: Sink>(
+pub fn serve_if_told<'s, S: Script, R: Wait + Clock, G: Gate, K: Sink>(
     rt: &R,
     gate: &G,
     word: &'s Word,
@@ -114,7 +114,14 @@ pub type Worker<'s, S, K> = PromisedHandle<Served<'s, S, K>, Ends<S, K>>;
 
 /// Starts a worker that runs the server if it is told to. Where no thread can be made it says that no server is to
 /// run, and answers the server.
-pub fn start<'s, E, S: Script + Send + 's, R: Wait + Sync, G: Gate, K: Sink + Send + Drop + 's>(
+pub fn start<
+    's,
+    E,
+    S: Script + Send + 's,
+    R: Wait + Clock + Sync,
+    G: Gate,
+    K: Sink + Send + Drop + 's,
+>(
     scope: &Scope<'s, E>,
     rt: &'s R,
     gate: &'s G,

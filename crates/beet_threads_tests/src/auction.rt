@@ -56,7 +56,6 @@ pub fn grid(rt: &impl Abort) -> Grid
     Grid::new(100, 5, 4, Gates::Chain).expect(rt, "a grid")
 }
 
-/// The curve of a bidder.
 fn curve_of(rt: &impl Abort, alloc: Global, grid: &Grid, bidder: &Bidder) -> Curve
     ensures { IsOfGrid grid.now result }
 {
@@ -103,7 +102,6 @@ pub const SEEDS: Trio<[u8; 32]> = Trio {
     three: [3; 32],
 };
 
-/// The words of these seeds.
 fn words(rt: &impl Abort, alloc: Global, grid: &Grid, seeds: &Trio<[u8; 32]>) -> Trio<ServerWords>
     requires { IsGrid grid.now }
     ensures { result ≡ words_from grid.now seeds.now }

@@ -13,13 +13,13 @@ use std::alloc::Global;
 use std::process::Abort;
 use std::sync::Wait;
 use std::thread::Threads;
+use std::time::Clock;
 
 /// How often the auction is run.
 const RUNS: u32 = 20;
 
 const SENDERS: [Point; 3] = [Point::One, Point::Two, Point::Three];
 
-/// A server of the auction.
 type Core = ServerCore<AuctionScript>;
 
 /// Whether two tapes have the same words and are passed as far.
@@ -51,7 +51,7 @@ fn on_one_thread(rt: &impl Abort, alloc: Global, grid: &Grid, points: &Trio<FeLi
 }
 
 /// The ended servers of the auction in three threads.
-fn in_three<R: Abort + Threads + Wait + Sync>(
+fn in_three<R: Abort + Threads + Wait + Clock + Sync>(
     rt: &R,
     alloc: Global,
     grid: &Grid,
@@ -71,7 +71,7 @@ fn expect_all_same(rt: &impl Abort, ended: &Trio<Core>, wanted: &Trio<Core>) {
 }
 
 /// Runs the auction in three threads, and compares the servers after it.
-fn expect_runs<R: Abort + Threads + Wait + Sync>(
+fn expect_runs<R: Abort + Threads + Wait + Clock + Sync>(
     rt: &R,
     alloc: Global,
     grid: &Grid,

@@ -1,35 +1,12 @@
-ghost use Rattle.std.specs.Prelude.{◌≡◌, false};
-ghost use Rattle.beet_server.specs.Cores.{has_ended};
-ghost use Rattle.beet_station.specs.Stations.{IsTied};
-
 use crate::auction::{SEEDS, grid, points, servers};
 use beet_field::{Point, Trio};
-use beet_gates::Script;
 use beet_link::LinkRx;
 use beet_search::AuctionScript;
-use beet_server::ServerCore;
-use beet_station::{Mail, Station, all_links, mails, stations};
+use beet_station::{Station, all_links, mails, put_both, stations};
 use std::alloc::Global;
 use std::process::Abort;
 use std::snapshot::Snapshot;
 use std::sync::Wait;
-
-/// A server puts its two messages of a round.
-pub fn put_both<S: Script, R: Wait>(
-    rt: &R,
-    _me: Point,
-    station: &mut Station<S>,
-    mail: Mail,
-    _run: &Snapshot<Trio<ServerCore<S>>>,
-)
-    requires tied { IsTied S.batch_of S.inputs_of S.rounds_of _run.now.value _me station.old }
-    requires going { has_ended S.batch_of station.old.core ≡ false }
-{
-    let Mail { mut low, mut high } = mail;
-    station.core.hand_out(&mut low, &mut high);
-    station.to_low.put(rt, low);
-    station.to_high.put(rt, high);
-}
 
 /// Servers 2 and 3 with their ends, after server 1 has put the two messages of round 0.
 fn after_one(

@@ -4,19 +4,20 @@ ghost use Rattle.std.specs.Prelude.{◌≡◌};
 ghost use Rattle.beet_server.specs.Cores.{AreFresh, IsFresh};
 ghost use Rattle.beet_threads_tests.specs.Words.{shown_batch};
 
-use crate::links::{expect_one, put_both};
+use crate::links::expect_one;
 use arrayvec::ArrayVec;
 use beet_field::{Fe, Point, Trio};
 use beet_gates::{Act, Batch, Script};
 use beet_link::{Gate, GateNote, LinkRx};
 use beet_server::ServerCore;
-use beet_station::{Nobody, all_links, mails, serve, stations};
+use beet_station::{Nobody, all_links, mails, put_both, serve, stations};
 use beet_words::{FeList, Tape, WordList};
 use std::alloc::Global;
 use std::process::Abort;
 use std::snapshot::Snapshot;
 use std::sync::atomic::{AtomicU64, Ordering};
 use std::sync::{Mutex, Wait};
+use std::time::Clock;
 
 /// The script that opens its one input.
 #[derive(Clone, Copy)]
@@ -136,7 +137,7 @@ impl<R: Wait + Sync> Gate for Looking<R> {
 
 /// Runs server 1 to its end, after its peers have put their messages of the one round. The gate looks at the far ends
 /// of its links before it puts, and this test once more after that.
-fn expect_later<R: Wait + Abort + Sync + Copy>(rt: &R, alloc: Global) {
+fn expect_later<R: Wait + Clock + Abort + Sync + Copy>(rt: &R, alloc: Global) {
     let cores = three_of_shown(rt, alloc);
     let run = Snapshot::of(&cores);
     let links = all_links(alloc, &cores).expect(rt, "memory");

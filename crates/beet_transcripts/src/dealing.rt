@@ -26,9 +26,7 @@ use std::thread::{Threads, join};
 /// The bidders, in their order, as each server sees them.
 #[derive(Drop)]
 pub struct SeenByAll {
-    one: Vec<Seen>,
-    two: Vec<Seen>,
-    three: Vec<Seen>,
+    servers: Trio<Vec<Seen>>,
 }
 
 impl Model for SeenByAll {
@@ -38,7 +36,8 @@ impl Model for SeenByAll {
 
     ghost Value = { Each (List Shown) };
 
-    ghost view = { λ a. record { one = a.one.items; two = a.two.items; three = a.three.items } };
+    ghost view = { λ a.
+        record { one = a.servers.one.items; two = a.servers.two.items; three = a.servers.three.items } };
 }
 
 impl SeenByAll {
@@ -47,9 +46,7 @@ impl SeenByAll {
         ensures { result ≡ record { one = []; two = []; three = [] } }
     {
         SeenByAll {
-            one: Vec::new(alloc),
-            two: Vec::new(alloc),
-            three: Vec::new(alloc),
+            servers: Trio::of(|_| Vec::new(alloc)),
         }
     }
 
@@ -61,9 +58,9 @@ impl SeenByAll {
           three = self.old.three ++ others.old.three;
         }) }
     {
-        self.one.append(&mut others.one)?;
-        self.two.append(&mut others.two)?;
-        self.three.append(&mut others.three)?;
+        self.servers.one.append(&mut others.servers.one)?;
+        self.servers.two.append(&mut others.servers.two)?;
+        self.servers.three.append(&mut others.servers.three)?;
         Ok(())
     }
 
@@ -72,23 +69,19 @@ impl SeenByAll {
         ensures { result.items ≡ member self at }
     {
         match at {
-            Point::One => self.one,
-            Point::Two => self.two,
-            Point::Three => self.three,
+            Point::One => self.servers.one,
+            Point::Two => self.servers.two,
+            Point::Three => self.servers.three,
         }
     }
 
     /// The bidders as each server sees them, given away.
-    pub(crate) fn into_parts(self) -> Trio<Vec<Seen>>
+    pub fn into_parts(self) -> Trio<Vec<Seen>>
         ensures one { result.one.items ≡ self.one }
         ensures two { result.two.items ≡ self.two }
         ensures three { result.three.items ≡ self.three }
     {
-        Trio {
-            one: self.one,
-            two: self.two,
-            three: self.three,
-        }
+        self.servers
     }
 }
 
@@ -164,8 +157,24 @@ impl SeenByAll {
         ensures not_shown { (s : Point) → shows whom s ≡ false → member self.new s ≡ member self.old s }
     {
         let Trio { one, two, three } = points;
-        show(alloc, whom, Point::One, bidder, words, one, &mut self.one)?;
-        show(alloc, whom, Point::Two, bidder, words, two, &mut self.two)?;
+        show(
+            alloc,
+            whom,
+            Point::One,
+            bidder,
+            words,
+            one,
+            &mut self.servers.one,
+        )?;
+        show(
+            alloc,
+            whom,
+            Point::Two,
+            bidder,
+            words,
+            two,
+            &mut self.servers.two,
+        )?;
         show(
             alloc,
             whom,
@@ -173,7 +182,7 @@ impl SeenByAll {
             bidder,
             words,
             three,
-            &mut self.three,
+            &mut self.servers.three,
         )
     }
 }
@@ -291,9 +300,9 @@ fn deal_by<R: Threads + Sync>(
         return deal_in_order(alloc, grid, whom, bidders, words);
     }
     let middle = bidders.len() / 2;
-    let (few, rest) = bidders.split_at(middle);
-    let (front, back) = words.split_at(middle);
-    deal_both(rt, alloc, grid, whom, threads, few, rest, front, back)
+    let bidders = bidders.split_at(middle);
+    let words = words.split_at(middle);
+    deal_both(rt, alloc, grid, whom, threads, bidders, words)
 }
 
 /// Deals the quantities of two parts at the same time, each by half of the threads, and puts the parts together.
@@ -304,18 +313,19 @@ fn deal_both<R: Threads + Sync>(
     grid: &Grid,
     whom: Option<Point>,
     threads: usize,
-    few: &[Bidder],
-    rest: &[Bidder],
-    front: &[WordList],
-    back: &[WordList],
+    bidders: (&[Bidder], &[Bidder]),
+    words: (&[WordList], &[WordList]),
 ) -> Result<DealtPart, AllocError>
     requires threads { 2 ≤ threads }
-    requires front { CanDealAll grid.now few.now front.now }
-    requires back { CanDealAll grid.now rest.now back.now }
-    ensures { IfOk result (λ part.
-        HasDealt grid.now whom (farmers_of (few.now ++ rest.now) (front.now ++ back.now)) part.totals part.seen) }
+    requires front { CanDealAll grid.now bidders.0.now words.0.now }
+    requires back { CanDealAll grid.now bidders.1.now words.1.now }
+    ensures { IfOk result (λ part. HasDealt grid.now whom
+        (farmers_of (bidders.entry.0.now ++ bidders.entry.1.now) (words.entry.0.now ++ words.entry.1.now))
+        part.totals part.seen) }
 {
     let half = threads.div_ceil(2);
+    let (few, rest) = bidders;
+    let (front, back) = words;
     let (first, second) = join(
         rt,
         || -> Result<DealtPart, AllocError>

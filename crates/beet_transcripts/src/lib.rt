@@ -8,4 +8,4 @@ mod running;
 
 pub use dealing::SeenByAll;
 pub use laws::recorded_views_are_read_again;
-pub use running::{Ran, Ready, SeenRun, make_ready, see_whole};
+pub use running::{Ready, SeenRun, make_ready, see_whole, transcript_of};

@@ -44,7 +44,6 @@ fn read_form(bytes: &[u8]) -> Result<(bool, usize), ReadFault>
     Ok((tells, at))
 }
 
-/// A server.
 #[tactic(auto, unfolding(crate::specs::Transcripts::server_at))]
 fn read_server(bytes: &[u8], at: usize) -> Result<(Point, usize), ReadFault>
     requires { at ≤ length bytes.now }
@@ -89,7 +88,6 @@ fn read_policy(bytes: &[u8], tells: bool, at: usize) -> Result<(Policy, usize), 
     }
 }
 
-/// A grid.
 #[tactic(auto, unfolding(crate::specs::Transcripts::grid_at))]
 fn read_grid(bytes: &[u8], tells: bool, at: usize) -> Result<(Grid, usize), ReadFault>
     requires { at ≤ length bytes.now }
@@ -184,7 +182,6 @@ fn read_seen(
     Ok((Seen { known, points, own }, at))
 }
 
-/// So many bidders.
 fn read_so_many_bidders(
     alloc: Global,
     bytes: &[u8],

@@ -21,7 +21,6 @@ use beet_gates::Gates;
 use beet_words::{push_list, push_number, push_points};
 use std::alloc::{AllocError, Global};
 
-/// Appends numbers.
 fn push_numbers(file: &mut Vec<u8>, numbers: &[u64]) -> Result<(), AllocError>
     ensures { OnOk result (file.new.items ≡ file.old.items ++ numbers_bytes numbers.now) }
 {
@@ -62,7 +61,6 @@ fn policy_field(policy: Policy) -> &'static [u64]
     }
 }
 
-/// Appends a grid.
 fn push_grid(file: &mut Vec<u8>, grid: &Grid) -> Result<(), AllocError>
     ensures bytes { OnOk result (file.new.items ≡ file.old.items ++ grid_bytes grid.now) }
     ensures grid { IsGrid grid.now }
@@ -94,7 +92,6 @@ fn push_seen(file: &mut Vec<u8>, seen: &Seen) -> Result<(), AllocError>
     Ok(())
 }
 
-/// Appends bidders.
 fn push_bidders(file: &mut Vec<u8>, bidders: &[Seen]) -> Result<(), AllocError>
     ensures bytes { OnOk result (file.new.items ≡ file.old.items ++ flat_map seen_bytes bidders.now) }
     ensures numbers { OnOk result (All HasNumbers bidders.now) }
@@ -105,7 +102,6 @@ fn push_bidders(file: &mut Vec<u8>, bidders: &[Seen]) -> Result<(), AllocError>
     Ok(())
 }
 
-/// Appends a message.
 fn push_message(file: &mut Vec<u8>, numbers: &[Fe]) -> Result<(), AllocError>
     ensures bytes { OnOk result (file.new.items ≡ file.old.items ++ counted_bytes number_bytes numbers.now) }
     ensures numbers { OnOk result (All IsElement numbers.now) }

@@ -1,6 +1,6 @@
-use crate::transcript::fault_of;
 use beet_bids::Policy;
 use beet_field::{P, Point};
+use beet_forms::{FaultPlace, ReadFault};
 use beet_view::{View, read_view, write_view};
 use std::alloc::Global;
 use std::process::Abort;
@@ -51,6 +51,18 @@ fn small_with(rt: &impl Abort, place: usize, number: u64) -> [u64; 33] {
     assert!(rt; place < 33);
     numbers[place] = number;
     numbers
+}
+
+/// The offset and the reason that a transcript is refused with.
+fn fault_of(rt: &impl Abort, alloc: Global, bytes: &[u8]) -> Option<(u64, u32)> {
+    assert!(rt; bytes.len() <= 100_000);
+    match read_view(alloc, bytes).err()? {
+        ReadFault::Bad {
+            place: FaultPlace::At(at),
+            reason,
+        } => Some((at, reason)),
+        _ => None,
+    }
 }
 
 /// Compares the offset and the reason that the transcript of these numbers is refused with.

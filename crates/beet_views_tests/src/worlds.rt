@@ -59,7 +59,6 @@ fn book(rt: &impl Abort, alloc: Global, policy: Policy, (known, sell, buy): Only
     Book::new(grid, bidders).expect(rt, "a book")
 }
 
-/// The list of these words.
 fn words(rt: &impl Abort, alloc: Global, numbers: &[u64]) -> WordList {
     let mut words = Vec::new(alloc);
     for number in numbers {

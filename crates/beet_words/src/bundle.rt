@@ -73,7 +73,6 @@ fn up_to(high: u64) -> Allowed
     }
 }
 
-/// A word.
 fn read_word(bytes: &[u8], at: usize) -> Result<(Word, usize), ReadFault>
     requires { at ≤ length bytes.now }
     ensures word { Answers (λ read. read) (word_at bytes.now at) result }
@@ -86,7 +85,6 @@ fn read_word(bytes: &[u8], at: usize) -> Result<(Word, usize), ReadFault>
     Ok((word, at))
 }
 
-/// So many words.
 fn read_words(
     alloc: Global,
     bytes: &[u8],
@@ -117,7 +115,6 @@ pub fn read_list(
     read_words(alloc, bytes, count, at)
 }
 
-/// So many lists.
 fn read_lists(
     alloc: Global,
     bytes: &[u8],
@@ -190,7 +187,6 @@ pub fn read_bundle(alloc: Global, bytes: &[u8]) -> Result<Words, ReadFault>
     Ok(words)
 }
 
-/// Appends words.
 fn push_words(file: &mut Vec<u8>, words: &[Word]) -> Result<(), AllocError>
     ensures { OnOk result (file.new.items ≡ file.old.items ++ flat_map number_bytes words.now) }
 {

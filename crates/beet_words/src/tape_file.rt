@@ -38,7 +38,6 @@ fn line(bytes: &[u8], k: u32) -> &[u8]
     }
 }
 
-/// The number of a line.
 fn read_number(line: &[u8]) -> Option<u64>
     ensures { result ≡ number_in line.now }
 {

@@ -47,7 +47,6 @@ impl Word {
         Word { number: n & P }
     }
 
-    /// The number.
     pub fn value(self) -> u64
         ensures value { result ≡ self }
         ensures below { IsWord result }
@@ -124,7 +123,6 @@ impl WordList {
         })
     }
 
-    /// The list of these items.
     pub fn of(items: Vec<Word>) -> WordList
         ensures { result ≡ items.items }
     {
@@ -200,7 +198,6 @@ impl Model for FeList {
 }
 
 impl FeList {
-    /// The list of these items.
     pub fn of(items: Vec<Fe>) -> FeList
         ensures { result ≡ items.items }
     {

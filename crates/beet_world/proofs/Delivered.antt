@@ -30,7 +30,8 @@ use Rattle.beet_round.proofs.SideFacts.{side_of-peer}
 use Rattle.beet_delivery.specs.Events.{passed, undelivered}
 use Rattle.beet_world.specs.Missing.{is_missing, one_if, six, to_side}
 use Rattle.beet_world.proofs.TwoRounds.{missing-two}
-use Rattle.beet_world.specs.Marks.{mark_at, marked_to, with_mark}
+use Rattle.beet_world.specs.Marks.{mark_at, marked_to}
+use Rattle.beet_world.proofs.MarkFacts.{with_mark}
 use Rattle.beet_world.specs.Worlds.{HoldsWorld, IsCoreOf, IsWorld, World, delivered_in, setup_in, rounds_in}
 use Rattle.beet_world.proofs.Happening.{at_round, counted, given-stands, is-delivered, may-give, sent-at, sent-there}
 use Rattle.beet_world.proofs.Happening.{there-sent, which, within, world-after}
@@ -198,9 +199,11 @@ module _ {S : Type 0} (next : S → ℕ → List ℕ → Batch) (inputs most : S
       (rounds_in next inputs most w) has c.fits in
       record {
         quiet = c.quiet;
-        room = omega (arith, script, k.room s);
-        counted = count;
-        within = omega (arith, script, few, count, most-taken (member cores s) rounds c.going);
+        holds = record {
+          room = omega (arith, script, k.room s);
+          counted = count;
+          within = omega (arith, script, few, count, most-taken (member cores s) rounds c.going);
+        };
       }
     where
       most-taken : (c : Core S) → c.round ≤ rounds_in next inputs most w → (c.handed ≡ true → c.round < rounds_in next inputs most w) →

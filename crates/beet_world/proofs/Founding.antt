@@ -1,5 +1,6 @@
 -- A `World` begins with three fresh cores that have handed out what they had to.
-use Rattle.std.proofs.Common.{◌≡◌, ◌<◌, ◌*◌, ℕ, List, [], true, false, true≢false, sym, ◌∙◌, ap, subst}
+use Rattle.std.proofs.Common.{◌≡◌, ◌<◌, ◌≤◌, ◌*◌, ℕ, List, [], true, false, true≢false, sym, ◌∙◌, ap, subst, arith}
+use Rattle.std.proofs.Common.{Vec, Global, length, vec_capacity}
 use Rattle.std.proofs.lemmas.List.{length-replicate}
 use Rattle.beet_field.specs.Trio.{member}
 use Rattle.beet_field.specs.declared.point.Point.{Point}
@@ -13,6 +14,7 @@ use Rattle.beet_server.specs.Cores.{AreFresh, Core, IsFresh, is_quiet, setup_of}
 use Rattle.beet_delivery.specs.Events.{Delivered, nothing}
 use Rattle.beet_server.specs.Fits.{Fits, messages_from, taken}
 use Rattle.beet_sharing.specs.Runs.{HasRounds, Setup, rounds_among}
+use Rattle.beet_world.specs.Happens.{HasTakenMessages, HoldsMessages}
 use Rattle.beet_world.specs.Marks.{set_of, unmarked}
 use Rattle.beet_world.specs.Worlds.{IsWorld, World, sent_by}
 use Rattle.beet_server.proofs.Beginning.{fresh-all-fit}
@@ -33,6 +35,29 @@ module _ {S : Type 0} (next : S → ℕ → List ℕ → Batch) (inputs most : S
   -- a fresh core has handed out no messages
   pub none-taken : (k : Core S) → IsFresh next inputs k → taken k.round k.handed ≡ 0
   none-taken k is = ap (λ (c : Core S). taken c.round c.handed) is
+
+  -- there is room for what it hands out
+  pub has-room : (k : Core S) (sent : Vec (List RoundMessage) Global) → IsFresh next inputs k → sent.items ≡ [] →
+      most k.script ≤ vec_capacity sent → HoldsMessages (most k.script) k sent
+  has-room k sent is none room =
+      let few : length sent.items ≡ 0 = ap length none in
+      record { room = room; counted = few ∙ sym (none-taken k is); within = omega (arith, few) }
+
+  -- a core that has taken its messages has handed them out
+  pub handed-out : (rounds : ℕ) (old new : Core S) (before after : Vec (List RoundMessage) Global) → before.items ≡ [] →
+      HasTakenMessages next rounds old new before after →
+      ((o : Setup) (x : Delivered) → Fits next o x old → Fits next o x new) →
+      ((o : Setup) (x : Delivered) → Fits next o x old → before.items ≡ sent_by o old → after.items ≡ sent_by o new) →
+      ((o : Setup) (x : Delivered) (rounds : ℕ) → HasRounds o rounds → Fits next o x old → (old.handed ≡ true → old.round < rounds) →
+      new.handed ≡ true → new.round < rounds) →
+      HasHandedOut old new after.items
+  handed-out rounds old new before after none took fits sends going = record {
+    keeps = took.keeps;
+    quiet = took.quiet;
+    fits = fits;
+    sends = λ o x f e. sends o x f (none ∙ e);
+    going = going;
+  }
 
   named : (t : Trio (Core S)) → AreFresh next inputs t → (s : Point) → (member t s).me ≡ s
   named t f = by_point (λ s. (member t s).me ≡ s) f.one.0 f.two.0 f.three.0

@@ -13,11 +13,20 @@ use Rattle.beet_sharing.specs.Runs.{Setup, HasRounds}
 use Rattle.beet_delivery.specs.Events.{Delivered, with_triple}
 use Rattle.beet_server.specs.Cores.{Core, is_quiet, has_ended}
 use Rattle.beet_server.specs.Fits.{Fits, IsRound, message_of, messages_from, taken}
-use Rattle.beet_server.specs.Answers.{Answers, Moves, verdict_on}
+use Rattle.beet_server.specs.Answers.{Answers, Keeps, Moves, verdict_on}
 use Rattle.beet_server.proofs.Passing.{ended_at, round_most}
 use Rattle.beet_world.specs.Worlds.{sent_by}
 use Rattle.beet_world.specs.Happens.{IsGiven, MayGive}
 use Rattle.beet_server.proofs.Rounds.{ready_or}
+
+-- what stays twice stays
+pub keeps-both : {S : Type 0} {old mid new : Core S} → Keeps old mid → Keeps mid new → Keeps old new
+keeps-both first second = record {
+  me = second.me ∙ first.me;
+  script = second.script ∙ first.script;
+  masks = second.masks ∙ first.masks;
+  coefficients = second.coefficients ∙ first.coefficients;
+}
 
 module _ {S : Type 0} (next : S → ℕ → List ℕ → Batch) where
   -- a core that hands out its messages has not done so before, and has not ended

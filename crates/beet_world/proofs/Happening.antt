@@ -22,9 +22,9 @@ use Rattle.beet_delivery.proofs.NetworkFacts.{WasSent, after_append, deliver_sen
 use Rattle.beet_delivery.proofs.ThreeServers.{not_same, same_is, same_not, three-is}
 use Rattle.beet_server.proofs.Passing.{at_passed, away, ended_at, is_round}
 use Rattle.beet_world.specs.Missing.{to_side}
-use Rattle.beet_world.specs.Marks.{mark_at, with_mark}
+use Rattle.beet_world.specs.Marks.{mark_at}
 use Rattle.beet_world.specs.Worlds.{World, StandsIn, IsWorld, delivered_in, setup_in, rounds_in, sent_by}
-use Rattle.beet_world.proofs.MarkFacts.{place-within, set-with_mark}
+use Rattle.beet_world.proofs.MarkFacts.{place-within, set-with_mark, with_mark}
 
 pub which : (s t : Point) → (s ≡ t) ⊎ (s ≢ t)
 which s t = elim (cases_Bool (same s t)) [

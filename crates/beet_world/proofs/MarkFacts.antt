@@ -1,7 +1,7 @@
 -- Marks of delivered messages.
 use Rattle.std.proofs.Common.{◌≡◌, ◌≢◌, ℕ, ◌+◌, ◌*◌, ◌-◌, ◌<◌, ◌≤◌, List, length, Option, Some, None, Bool, true, false}
 use Rattle.std.proofs.Common.{true≢false, inl, inr, arith, refl, sym, ◌∙◌, ap, ◌==◌, ◌&&◌, ◌||◌}
-use Rattle.std.specs.Prelude.{slice_index_or, replicate}
+use Rattle.std.specs.Prelude.{slice_index_or, slice_set, replicate}
 use Rattle.std.proofs.lemmas.Bool.{cases_eq, cases_lt, and_parts, or_cases, or_left, or_right, eq-eqb, eqb-true}
 use Rattle.std.proofs.lemmas.List.{get_or-set_same, get_or-set_other, get_or-replicate, length-replicate}
 use Rattle.std.proofs.Math.ListN.{get_or-eq_default}
@@ -15,7 +15,11 @@ use Rattle.beet_round.specs.declared.sides.Side.TheVariants.{Low, High}
 use Rattle.beet_delivery.specs.Events.{Triple, nothing, same, with_triple}
 use Rattle.beet_delivery.proofs.ThreeServers.{same_is, same_self}
 use Rattle.beet_round.proofs.SideFacts.{side_of-peer}
-use Rattle.beet_world.specs.Marks.{mark_at, marked_to, set_of, unmarked, with_mark}
+use Rattle.beet_world.specs.Marks.{mark_at, marked_to, set_of, unmarked}
+
+-- with the mark of a message
+abbrev pub with_mark : List Bool → Point → Side → ℕ → List Bool
+with_mark marks from side round = slice_set marks (mark_at from side round) true
 
 -- what a mark's place tells: the round, the sender and the side
 one_place : (f g a b r t : ℕ) → 1 ≤ f → f ≤ 3 → 1 ≤ g → g ≤ 3 → a < 2 → b < 2 → 6 * r + (2 * (f - 1) + a) ≡ 6 * t + (2 * (g - 1) + b) →

@@ -9,10 +9,10 @@ use Rattle.std.proofs.lemmas.Bool.Decides.{nat_tests}
 use Rattle.std.proofs.lemmas.List.Sums.{length-filter, sum_by-append}
 use Rattle.beet_field.specs.declared.point.Point.{Point}
 use Rattle.beet_field.specs.declared.point.Point.TheVariants.{One, Two, Three}
-use Rattle.beet_delivery.specs.Events.{Delivered, Triple, all_triples, is_sent, passed, same, triples_of, undelivered, three}
+use Rattle.beet_delivery.specs.Events.{Delivered, Triple, all_triples, is_sent, passed, same, undelivered, three}
 use Rattle.beet_world.specs.Missing.{is_missing, six}
 use Rattle.beet_delivery.proofs.NetworkFacts.{WasSent, passed_in, sent_parts}
-use Rattle.beet_delivery.proofs.ThreeServers.{one_apart, three-is}
+use Rattle.beet_delivery.proofs.ThreeServers.{one_apart, three-is, triples_of}
 
 -- how many messages of a round pass a test
 abbrev pub of_round : (Triple → Bool) → ℕ → ℕ

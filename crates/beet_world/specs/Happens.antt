@@ -12,7 +12,7 @@ use Rattle.beet_round.specs.declared.mailbox.Verdict.{Verdict}
 use Rattle.beet_round.specs.declared.mailbox.Verdict.TheVariants.{Stranger}
 use Rattle.beet_round.specs.declared.message.RoundMessage.{RoundMessage}
 use Rattle.beet_round.specs.declared.sides.Side.{Side}
-use Rattle.beet_server.specs.Answers.{verdict_on}
+use Rattle.beet_server.specs.Answers.{Keeps, verdict_on}
 use Rattle.beet_server.specs.Cores.{Core, is_quiet}
 use Rattle.beet_delivery.specs.Events.{Delivered as Set, Triple, is_sent, passed, with_triple}
 use Rattle.beet_server.specs.Fits.{Fits, IsRound, message_of, taken}
@@ -44,13 +44,25 @@ abbrev pub of_side : Side → RoundMessage → RoundMessage → RoundMessage
 of_side Low low high = low
 of_side High low high = high
 
--- a core has nothing to hand out, and there is room for the messages of all its rounds
-pub record MayTakeMessages {S : Type 0} (next : S → ℕ → List ℕ → Batch) (rounds : ℕ) (c : Core S)
-    (sent : Vec (List RoundMessage) Global) : Type 0 where
-  pub quiet : is_quiet next c ≡ true
+-- what a core has handed out is there, and there is room for the messages of all its rounds
+pub record HoldsMessages {S : Type 0} (rounds : ℕ) (c : Core S) (sent : Vec (List RoundMessage) Global) : Type 0 where
   pub room : rounds ≤ vec_capacity sent
   pub counted : length sent.items ≡ taken c.round c.handed
   pub within : length sent.items ≤ rounds
+
+module _ {S : Type 0} (next : S → ℕ → List ℕ → Batch) (rounds : ℕ) where
+  -- it also has nothing left to hand out
+  pub record MayTakeMessages (c : Core S) (sent : Vec (List RoundMessage) Global) : Type 0 where
+    pub quiet : is_quiet next c ≡ true
+    pub holds : HoldsMessages rounds c sent
+
+  -- and so it is again afterwards: its script and words stay, and the room too
+  pub record HasTakenMessages (old new : Core S) (before after : Vec (List RoundMessage) Global) : Type 0 where
+    pub capacity : vec_capacity after ≡ vec_capacity before
+    pub keeps : Keeps old new
+    pub quiet : is_quiet next new ≡ true
+    pub counted : length after.items ≡ taken new.round new.handed
+    pub within : length after.items ≤ rounds
 
 -- the verdict of a server in a round on a message of the run; one from the server itself is a stranger's, and none is
 -- sent

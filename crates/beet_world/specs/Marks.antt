@@ -1,6 +1,5 @@
 -- A set of delivered messages as marks, six for each round: by round, sender and receiver.
-use Rattle.std.specs.Prelude.{ℕ, ◌+◌, ◌*◌, ◌-◌, List, Option, Some, None, Bool, true, false, slice_index_or, slice_set}
-use Rattle.std.specs.Prelude.{replicate}
+use Rattle.std.specs.Prelude.{ℕ, ◌+◌, ◌*◌, ◌-◌, List, Option, Some, None, Bool, false, slice_index_or, replicate}
 use Rattle.beet_field.specs.Point.{number_of}
 use Rattle.beet_field.specs.declared.point.Point.{Point}
 use Rattle.beet_round.specs.Sides.{place_of, side_of}
@@ -23,7 +22,3 @@ set_of marks = λ from to round. marked_to marks from (side_of from to) round
 -- no mark of so many rounds
 abbrev pub unmarked : ℕ → List Bool
 unmarked rounds = replicate (6 * rounds) false
-
--- with the mark of a message
-abbrev pub with_mark : List Bool → Point → Side → ℕ → List Bool
-with_mark marks from side round = slice_set marks (mark_at from side round) true

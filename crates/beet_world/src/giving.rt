@@ -1,14 +1,12 @@
 //! Messages go out of a server and come to it.
 
-ghost use Rattle.std.specs.Prelude.{◌≡◌, ◌<◌, ◌≤◌, ◌+◌, IfSome, true, false, ℕ, length, vec_capacity};
+ghost use Rattle.std.specs.Prelude.{◌≡◌, ◌<◌, true, ℕ};
 ghost use Rattle.beet_round.specs.declared.sides.Side.{Side as SideOf};
-ghost use Rattle.beet_server.specs.Answers.{Keeps};
-ghost use Rattle.beet_server.specs.Cores.{is_quiet};
 ghost use Rattle.beet_delivery.specs.Events.{Delivered};
-ghost use Rattle.beet_server.specs.Fits.{Fits, taken};
+ghost use Rattle.beet_server.specs.Fits.{Fits};
 ghost use Rattle.beet_sharing.specs.Runs.{HasRounds, Setup};
 ghost use Rattle.beet_world.specs.Worlds.{sent_by};
-ghost use Rattle.beet_world.specs.Happens.{IsGiven, MayGive};
+ghost use Rattle.beet_world.specs.Happens.{HasTakenMessages, HoldsMessages, IsGiven, MayGive, MayTakeMessages};
 
 use beet_gates::Script;
 use beet_round::{RoundMessage, Verdict};
@@ -18,14 +16,9 @@ use beet_server::ServerCore;
 /// those of all rounds. In a run it has at most two turns; the loop ends by the number of rounds,
 /// which holds for every server.
 pub(crate) fn hand_out<S: Script>(core: &mut ServerCore<S>, sent: &mut Vec<[RoundMessage; 2]>)
-    requires room { S.rounds_of core.old.script ≤ vec_capacity sent.old }
-    requires counted { length sent.old.items ≡ taken core.old.round core.old.handed }
-    requires within { length sent.old.items ≤ S.rounds_of core.old.script }
-    ensures capacity { vec_capacity sent.new ≡ vec_capacity sent.old }
-    ensures keeps { Keeps core.old core.new }
-    ensures quiet { is_quiet S.batch_of core.new ≡ true }
-    ensures counted { length sent.new.items ≡ taken core.new.round core.new.handed }
-    ensures within { length sent.new.items ≤ S.rounds_of core.old.script }
+    requires { HoldsMessages (S.rounds_of core.old.script) core.old sent.old }
+    ensures took { HasTakenMessages S.batch_of (S.rounds_of core.old.script) core.old core.new
+        sent.old sent.new }
     ensures fits { (o : Setup) (x : Delivered) → Fits S.batch_of o x core.old
         → Fits S.batch_of o x core.new }
     ensures sends { (o : Setup) (x : Delivered) → Fits S.batch_of o x core.old
@@ -50,15 +43,9 @@ pub(crate) fn give<S: Script>(
     sent: &mut Vec<[RoundMessage; 2]>,
     message: &RoundMessage,
 ) -> Verdict
-    requires quiet { is_quiet S.batch_of core.old ≡ true }
-    requires room { S.rounds_of core.old.script ≤ vec_capacity sent.old }
-    requires counted { length sent.old.items ≡ taken core.old.round core.old.handed }
-    requires within { length sent.old.items ≤ S.rounds_of core.old.script }
-    ensures capacity { vec_capacity sent.new ≡ vec_capacity sent.old }
-    ensures keeps { Keeps core.old core.new }
-    ensures quiet { is_quiet S.batch_of core.new ≡ true }
-    ensures counted { length sent.new.items ≡ taken core.new.round core.new.handed }
-    ensures within { length sent.new.items ≤ S.rounds_of core.old.script }
+    requires { MayTakeMessages S.batch_of (S.rounds_of core.old.script) core.old sent.old }
+    ensures took { HasTakenMessages S.batch_of (S.rounds_of core.old.script) core.old core.new
+        sent.old sent.new }
     ensures given { (o : Setup) (x : Delivered) (rounds : ℕ) (s : SideOf) (t : ℕ)
         → MayGive S.batch_of o x rounds s t core.old sent.old.items message.now
         → IsGiven S.batch_of o x rounds s t core.old core.new sent.new.items result }

@@ -7,12 +7,11 @@ ghost use Rattle.beet_round.specs.Sides.{peer};
 ghost use Rattle.beet_round.specs.declared.mailbox.Verdict.TheVariants.{Old, Repeat};
 ghost use Rattle.beet_round.specs.declared.message.RoundMessage.{RoundMessage as Message};
 ghost use Rattle.beet_round.specs.declared.sides.Side.{Side as SideOf};
-ghost use Rattle.beet_server.specs.Answers.{Keeps};
-ghost use Rattle.beet_server.specs.Cores.{AreFresh, is_quiet};
+ghost use Rattle.beet_server.specs.Cores.{AreFresh};
 ghost use Rattle.beet_delivery.specs.Events.{Delivered, after_from, deliver, has, passed};
 ghost use Rattle.beet_delivery.specs.Events.{undelivered as undelivered_in};
 ghost use Rattle.beet_sharing.specs.Runs.{Setup};
-ghost use Rattle.beet_world.specs.Happens.{IsGiven, MayGive, MayTakeMessages, event_of, of_side};
+ghost use Rattle.beet_world.specs.Happens.{HasTakenMessages, IsGiven, MayGive, MayTakeMessages, event_of, of_side};
 ghost use Rattle.beet_world.specs.Marks.{mark_at, unmarked};
 ghost use Rattle.beet_world.specs.Missing.{is_missing, one_if, six, to_side};
 ghost use Rattle.beet_world.specs.Worlds.{IsCoreOf, delivered_in, named_in, rounds_in};
@@ -109,9 +108,8 @@ fn give_to<S: Script>(
         (member cores.old to) (member sent.old to) }
     ensures others { (s : Point) → s ≢ to → (member cores.new s ≡ member cores.old s)
         × (member sent.new s ≡ member sent.old s) }
-    ensures capacity { vec_capacity (member sent.new to) ≡ vec_capacity (member sent.old to) }
-    ensures keeps { Keeps (member cores.old to) (member cores.new to) }
-    ensures quiet { is_quiet S.batch_of (member cores.new to) ≡ true }
+    ensures took { HasTakenMessages S.batch_of (S.rounds_of (member cores.old to).script)
+        (member cores.old to) (member cores.new to) (member sent.old to) (member sent.new to) }
     ensures given { (o : Setup) (x : Delivered) (rounds : ℕ) (s : SideOf) (t : ℕ)
         → MayGive S.batch_of o x rounds s t (member cores.old to) (member sent.old to).items
         message.now
@@ -181,7 +179,6 @@ impl<S: Script> World<S> {
         })
     }
 
-    /// The core of a server.
     pub fn core(&self, at: Point) -> &ServerCore<S>
         ensures { IsCoreOf S.batch_of S.inputs_of S.rounds_of self.now at result.now }
     {

@@ -25,13 +25,9 @@ returns-in-0 c =
 pub returns-in-1 : goal.returns-in-1
 returns-in-1 c =
     let first = c.args.first in
-    let free = first + 183 in
     rw c.in-1.is (c.set_level.ensures ∙ rw c.bits_less.ensures
-    (table.level-told 30 15 (wire_of (bits_less first)) (λ k. first + 61 + 2 * k) (table.less_one first) (table.same_one first)
-    (wire_of (level_less first free 30)) (wire_of (level_same first free 30)) free free refl
-    (λ k l. bit-less first k (omega (arith, l)))
-    (λ k l. table.less-told first 61 free free refl (λ i. first + 61 + 2 * i) k l)
-    (λ k l. table.same-told first 61 free free refl (λ i. first + 62 + 2 * i) k l)))
+    (table.level-after first 61 (first + 183) (first + 183) refl 15 (wire_of (bits_less first))
+    (λ k. first + 61 + 2 * k) (λ k. first + 62 + 2 * k) (omega arith) (λ k l. bit-less first k (omega (arith, l)))))
 
 pub returns-in-2 : goal.returns-in-2
 returns-in-2 c =
@@ -50,46 +46,27 @@ pub returns-in-3 : goal.returns-in-3
 returns-in-3 c =
     let first = c.args.first in
     let before = first + 183 + 60 + 30 in
-    let free = before + 30 + 15 in
     let d : first + 273 ≡ before = omega arith in
-    let e : first + 318 ≡ free = omega arith in
     rw c.in-3.is (c.set_level-in-3.ensures ∙ rw c.level_less-in-3.ensures
-    (table.level-told 8 4 (wire_of (level_less first (first + 273) 15)) (table.less_two first) (table.less_three first)
-    (table.same_three first)
-    (wire_of (level_less first (first + 318) 8)) (wire_of (level_same first (first + 318) 8)) (first + 318) free e
-    (λ k l. table.less-all first 31 (first + 273) before d (table.less_one first) refl k)
-    (λ k l. table.less-told first 16 (first + 318) free e (table.less_two first) k l)
-    (λ k l. table.same-told first 16 (first + 318) free e (table.same_two first) k l)))
+    (table.level-after first 16 (first + 318) (before + 30 + 15) (omega arith) 4 (wire_of (level_less first (first + 273) 15))
+    (table.less_two first) (table.same_two first) (omega arith)
+    (λ k l. table.less-all first 31 (first + 273) before d (table.less_one first) refl k)))
 
 pub returns-in-4 : goal.returns-in-4
 returns-in-4 c =
     let first = c.args.first in
     let before = first + 183 + 60 + 30 + 30 + 15 in
-    let free = before + 16 + 8 in
-    let d : first + 318 ≡ before = omega arith in
-    let e : first + 342 ≡ free = omega arith in
     rw c.in-4.is (c.set_level-in-4.ensures ∙ rw c.level_less-in-4.ensures
-    (table.level-told 4 2 (wire_of (level_less first (first + 318) 8)) (table.less_three first) (table.less_four first)
-    (table.same_four first)
-    (wire_of (level_less first (first + 342) 4)) (wire_of (level_same first (first + 342) 4)) (first + 342) free e
-    (λ k l. table.less-told first 16 (first + 318) before d (table.less_two first) k l)
-    (λ k l. table.less-told first 8 (first + 342) free e (table.less_three first) k l)
-    (λ k l. table.same-told first 8 (first + 342) free e (table.same_three first) k l)))
+    (table.level-later first 16 (first + 318) before (first + 342) (before + 16 + 8) 2 (table.less_two first) (table.same_two first)
+    (omega arith) (omega arith) (omega arith)))
 
 pub returns-in-5 : goal.returns-in-5
 returns-in-5 c =
     let first = c.args.first in
     let before = first + 183 + 60 + 30 + 30 + 15 + 16 + 8 in
-    let free = before + 8 + 4 in
-    let d : first + 342 ≡ before = omega arith in
-    let e : first + 354 ≡ free = omega arith in
     rw c.in-5.is (c.set_level-in-5.ensures ∙ rw c.level_less-in-5.ensures
-    (table.level-told 2 1 (wire_of (level_less first (first + 342) 4)) (table.less_four first) (table.less_five first)
-    (table.same_five first)
-    (wire_of (level_less first (first + 354) 2)) (wire_of (level_same first (first + 354) 2)) (first + 354) free e
-    (λ k l. table.less-told first 8 (first + 342) before d (table.less_three first) k l)
-    (λ k l. table.less-told first 4 (first + 354) free e (table.less_four first) k l)
-    (λ k l. table.same-told first 4 (first + 354) free e (table.same_four first) k l)))
+    (table.level-later first 8 (first + 342) before (first + 354) (before + 8 + 4) 1 (table.less_three first) (table.same_three first)
+    (omega arith) (omega arith) (omega arith)))
 
 pub returns-in-6 : goal.returns-in-6
 returns-in-6 c =

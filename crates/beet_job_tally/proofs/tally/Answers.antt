@@ -1,4 +1,3 @@
-use Rattle.std.proofs.Common.{arith}
 use Rattle.beet_job_tally.specs.Tally.{tally_job}
 use Rattle.beet_errand.proofs.Frame.{bind, bound, exits, given, no_memory, passed, stopped, tested}
 use Rattle.beet_job_tally.proofs.Tallying.{tells-sums, two-wires}
@@ -48,44 +47,10 @@ returns-clause-reads g c =
     c.in_ok-check_one_price.ensures.one c.in_ok-entries.ensures.few are
     c.inputs-inputs.ensures.values))))))
 
-pub open-requires-clause-one : goal.open-requires-clause-one
-open-requires-clause-one g c =
-    omega (
-      arith,
-      (two-wires _ _ _ _ _ c.in_ok-check_one_price.ensures.one c.in_ok-add_farmers.ensures.gives.1 c.inputs-inputs.ensures.points).one,
-    )
+pub open-requires-clause-lengths : goal.open-requires-clause-lengths
+open-requires-clause-lengths g c =
+    two-wires _ _ _ _ _ c.in_ok-check_one_price.ensures.one c.in_ok-add_farmers.ensures.gives.1 c.inputs-inputs.ensures.points
 
-pub open-requires-clause-two : goal.open-requires-clause-two
-open-requires-clause-two g c =
-    omega (
-      arith,
-      (two-wires _ _ _ _ _ c.in_ok-check_one_price.ensures.one c.in_ok-add_farmers.ensures.gives.1 c.inputs-inputs.ensures.points).two,
-    )
-
-pub open-requires-clause-three : goal.open-requires-clause-three
-open-requires-clause-three g c =
-    omega (
-      arith,
-      (two-wires _ _ _ _ _ c.in_ok-check_one_price.ensures.one c.in_ok-add_farmers.ensures.gives.1 c.inputs-inputs.ensures.points).three,
-    )
-
-pub open-requires-2-clause-one : goal.open-requires-2-clause-one
-open-requires-2-clause-one g c =
-    omega (
-      arith,
-      (two-wires _ _ _ _ _ c.in_ok-check_one_price.ensures.one c.in_ok-add_farmers.ensures.gives.1 c.inputs-inputs.ensures.points).one,
-    )
-
-pub open-requires-2-clause-two : goal.open-requires-2-clause-two
-open-requires-2-clause-two g c =
-    omega (
-      arith,
-      (two-wires _ _ _ _ _ c.in_ok-check_one_price.ensures.one c.in_ok-add_farmers.ensures.gives.1 c.inputs-inputs.ensures.points).two,
-    )
-
-pub open-requires-2-clause-three : goal.open-requires-2-clause-three
-open-requires-2-clause-three g c =
-    omega (
-      arith,
-      (two-wires _ _ _ _ _ c.in_ok-check_one_price.ensures.one c.in_ok-add_farmers.ensures.gives.1 c.inputs-inputs.ensures.points).three,
-    )
+pub open-requires-2-clause-lengths : goal.open-requires-2-clause-lengths
+open-requires-2-clause-lengths g c =
+    two-wires _ _ _ _ _ c.in_ok-check_one_price.ensures.one c.in_ok-add_farmers.ensures.gives.1 c.inputs-inputs.ensures.points

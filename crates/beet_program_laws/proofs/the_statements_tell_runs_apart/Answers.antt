@@ -8,4 +8,4 @@ pub returns-clause-seal : goal.returns-clause-seal
 returns-clause-seal c = no-seal
 
 pub returns-clause-again : goal.returns-clause-again
-returns-clause-again c = λ out desk desk_now s seen other p q. one-transcript out desk desk_now s seen other p q
+returns-clause-again c = λ out call s seen other p q. one-transcript out call s seen other p q

@@ -2,5 +2,5 @@ use Rattle.beet_program_laws.proofs.Accepted.{accepts}
 use Rattle.beet_program_laws.proofs.what_record_puts_is_accepted.Goals as goal
 
 pub returns : goal.returns
-returns c = λ auction servers list out files told told_now desk desk_now status from ran w.
-    accepts files told told_now from desk desk_now status w auction servers list out ran
+returns c = λ files auction servers list out call done.
+    accepts files call done.from done.code auction servers list out done.runs

@@ -20,7 +20,8 @@ AreBelow words = All IsWord words.one × All IsWord words.two × All IsWord word
 
 pub secrets_with-requires : goal.secrets_with-requires
 secrets_with-requires c =
-    c.requires.count ∙ c.requires.enough.count ∙ sym (as-many c.args.first.now.bidders c.args.second.now.bidders c.requires.agree.marks)
+    c.requires.worlds.count ∙ c.requires.worlds.enough.count
+    ∙ sym (as-many c.args.first.now.bidders c.args.second.now.bidders c.requires.worlds.agree.marks)
 
 -- what is held, and what holds beside it of what is read
 beside-holds : {A : Type 0} {B : Type 0} {E : Type 0} (P : A → B → Type 0) (held : A) (read : Result B E) (both : Result (A × B) E) →
@@ -43,7 +44,7 @@ module _ (c : After-grid) where
   below = record {
     masks = subst AreBelow masks-same c.look_at.ensures;
     coefficients = subst AreBelow (λ i. (c.words.view_is i).coefficients) c.look_at-2.ensures;
-    bidders = c.requires.below;
+    bidders = c.requires.worlds.below;
   }
 
   masks-here : c.args.here.now.masks ≡ c.args.words.now.masks
@@ -59,23 +60,23 @@ module _ (c : After-grid) where
       let there = c.in_ok-there.there in
       stands-of c.args.me first second c.args.words.now c.args.words.now.bidders c.args.bidders.now c.in_ok-masks.masks
       there.masks here.inputs there.inputs
-      c.requires.agree c.requires.enough c.requires.limits c.in_ok-there.ensures.limits below refl c.requires.count
+      c.requires.worlds.agree c.requires.worlds.enough c.requires.limits c.in_ok-there.ensures.limits below refl c.requires.worlds.count
       (subst (λ t. MasksMapped c.args.me (losses_of first second) t c.in_ok-masks.masks) masks-same
       c.in_ok-masks.ensures) c.in_ok-there.ensures.masks
-      c.requires.mapped c.requires.inputs c.in_ok-there.ensures.inputs
+      c.requires.worlds.mapped c.requires.inputs c.in_ok-there.ensures.inputs
 
 pub map_coefficients-coefficients-requires-clause-here : goal.map_coefficients-coefficients-requires-clause-here
 map_coefficients-coefficients-requires-clause-here c =
     let grid = (goal.at.map_coefficients-coefficients-requires-clause-here c).After-grid in
     secrets-first c.args.me c.args.first.now c.args.second.now c.args.words.now c.args.bidders.now c.args.here.now
-    c.in_ok-there.there c.requires.agree.grids
+    c.in_ok-there.there c.requires.worlds.agree.grids
     c.grid.result.now c.grid.ensures.value (masks-here grid) (stands grid)
 
 pub map_coefficients-coefficients-requires-clause-there : goal.map_coefficients-coefficients-requires-clause-there
 map_coefficients-coefficients-requires-clause-there c =
     let grid = (goal.at.map_coefficients-coefficients-requires-clause-there c).After-grid in
     secrets-second c.args.me c.args.first.now c.args.second.now c.args.words.now c.args.bidders.now c.args.here.now
-    c.in_ok-there.there c.requires.agree.grids
+    c.in_ok-there.there c.requires.worlds.agree.grids
     c.grid.result.now c.grid.ensures.value (masks-here grid) (stands grid)
 
 pub map_coefficients-coefficients-requires-clause-numbers : goal.map_coefficients-coefficients-requires-clause-numbers
@@ -83,14 +84,14 @@ map_coefficients-coefficients-requires-clause-numbers c =
     let grid = (goal.at.map_coefficients-coefficients-requires-clause-numbers c).After-grid in
     subst (λ t. HasWords (most_coefficients (auction_over c.grid.result.now)) (numbers_of t)) (sym (λ i. (c.words.view_is i).coefficients))
     (numbers-first c.args.me c.args.first.now c.args.second.now c.args.words.now c.args.bidders.now c.args.here.now
-    c.in_ok-there.there c.requires.agree.grids
+    c.in_ok-there.there c.requires.worlds.agree.grids
     c.grid.result.now c.grid.ensures.value (masks-here grid) (stands grid))
 
 pub map_coefficients-coefficients-requires-clause-same : goal.map_coefficients-coefficients-requires-clause-same
 map_coefficients-coefficients-requires-clause-same c =
     let grid = (goal.at.map_coefficients-coefficients-requires-clause-same c).After-grid in
     look-same-in c.args.me c.args.first.now c.args.second.now c.args.words.now c.args.bidders.now c.args.here.now
-    c.in_ok-there.there c.requires.agree.grids
+    c.in_ok-there.there c.requires.worlds.agree.grids
     c.grid.result.now c.grid.ensures.value (masks-here grid) (stands grid)
 
 pub returns : goal.returns
@@ -114,10 +115,10 @@ returns c =
     record {
       masks = subst AreBelow (sym c.in_ok-there.ensures.masks) c.look_at-3.ensures;
       coefficients = low;
-      bidders = c.requires.words;
+      bidders = c.requires.worlds.below';
     } in
     subst (λ masks. WorldsMapped c.args.me first words second (record { masks = masks; coefficients = coefficients; bidders = lists })) is
-    (worlds-mapped c.args.me first second words lists here there c.requires.agree.grids c.grid.result.now
+    (worlds-mapped c.args.me first second words lists here there c.requires.worlds.agree.grids c.grid.result.now
     c.grid.ensures.value (masks-here grid) (stands grid) coefficients moved
     mapped_below))
     c.map_coefficients-coefficients.ensures.mapped c.map_coefficients-coefficients.ensures.below)

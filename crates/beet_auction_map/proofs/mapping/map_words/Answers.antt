@@ -13,27 +13,21 @@ map_bidders-requires-clause-enough c =
     subst (λ l. All (λ list. wanted ≤ length (accepted list)) l) (sym same)
     (all-drawn wanted c.args.words.now.bidders c.requires.enough.bidders)
 
-pub map_for_servers-requires-clause-count : goal.map_for_servers-requires-clause-count
-map_for_servers-requires-clause-count c =
-    let same : c.as_slice.result.now ≡ c.args.words.now.bidders = c.as_slice.ensures.value ∙ (λ i. (c.words.view_is i).bidders) in
-    ap length c.as_slice-2.ensures.value ∙ c.in_ok-bidders.ensures.count ∙ ap length same
-
-pub map_for_servers-requires-clause-mapped : goal.map_for_servers-requires-clause-mapped
-map_for_servers-requires-clause-mapped c =
+pub map_for_servers-requires : goal.map_for_servers-requires
+map_for_servers-requires c =
     let first = c.args.first.now in
     let same : c.as_slice.result.now ≡ c.args.words.now.bidders = c.as_slice.ensures.value ∙ (λ i. (c.words.view_is i).bidders) in
-    subst (λ l. BiddersMapped c.args.me first.bidders c.args.words.now.bidders c.args.second.now.bidders l) (sym c.as_slice-2.ensures.value)
-    (subst (λ l. BiddersMapped c.args.me first.bidders l c.args.second.now.bidders c.in_ok-bidders.bidders.items) same
-    c.in_ok-bidders.ensures.mapped)
-
-pub map_for_servers-requires-clause-below : goal.map_for_servers-requires-clause-below
-map_for_servers-requires-clause-below c =
-    let same : c.as_slice.result.now ≡ c.args.words.now.bidders = c.as_slice.ensures.value ∙ (λ i. (c.words.view_is i).bidders) in
-    subst (All (λ list. All IsWord list)) same c.in_ok-bidders.ensures.below
-
-pub map_for_servers-requires-clause-words : goal.map_for_servers-requires-clause-words
-map_for_servers-requires-clause-words c =
-    subst (All (λ list. All IsWord list)) (sym c.as_slice-2.ensures.value) c.in_ok-bidders.ensures.words
+    let moved = c.as_slice-2.ensures.value in
+    record {
+      enough = c.requires.enough;
+      agree = c.requires.agree;
+      count = ap length moved ∙ c.in_ok-bidders.ensures.count ∙ ap length same;
+      mapped = subst (λ l. BiddersMapped c.args.me first.bidders c.args.words.now.bidders c.args.second.now.bidders l) (sym moved)
+          (subst (λ l. BiddersMapped c.args.me first.bidders l c.args.second.now.bidders c.in_ok-bidders.bidders.items) same
+          c.in_ok-bidders.ensures.mapped);
+      below = subst (All (λ list. All IsWord list)) same c.in_ok-bidders.ensures.below;
+      below' = subst (All (λ list. All IsWord list)) (sym moved) c.in_ok-bidders.ensures.words;
+    }
 
 pub returns : goal.returns
 returns c =

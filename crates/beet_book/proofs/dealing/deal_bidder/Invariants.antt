@@ -1,5 +1,5 @@
 use Rattle.std.proofs.Common.{◌≡◌, ◌+◌, ◌*◌}
-use Rattle.beet_book.specs.Columns.{front}
+use Rattle.beet_book.proofs.Deals.{front}
 use Rattle.beet_book.specs.Dealing.{dealt_points}
 use Rattle.beet_words.specs.Tapes.{drawn_from, left_of}
 use Rattle.beet_book.proofs.dealing.deal_bidder.Given as goal

@@ -9,6 +9,6 @@ loop-values-preserved g c =
     let count : c.len.result ≡ length c.loop-values.values.items = omega arith in
     rw c.in_ok-push.ensures.items
     (row_read _ g.V.NamedRow.value_in c.args.rows.now c.loop-values.rows c.loop-values.values.items
-    (contains_text c.loop-values.names) (contains_text c.read_row.new.names)
+    (contains_text c.loop-values.seen) (contains_text c.read_row.new.seen)
     c.next.new.row c.next.new.self c.in_ok-value.value c.loop-values.invariant is
-    (rw count at c.in_ok-value.ensures.value) c.in_ok-value.ensures.names)
+    (rw count at c.in_ok-value.ensures.value) c.in_ok-value.ensures.seen)

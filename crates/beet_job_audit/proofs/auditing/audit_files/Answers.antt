@@ -11,5 +11,6 @@ returns-in_err-read g c =
 
 pub returns : goal.returns
 returns g c =
-    audited c.args.auction.now c.args.one.now c.args.two.now c.args.three.now c.in_ok-read.read c.answer_views.result
+    audited c.args.files.now.auction.now c.args.files.now.one.now c.args.files.now.two.now c.args.files.now.three.now c.in_ok-read.read
+    c.answer_views.result
     c.in_ok-read.ensures c.answer_views.ensures.done c.answer_views.ensures.answers

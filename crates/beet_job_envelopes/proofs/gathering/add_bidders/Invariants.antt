@@ -1,5 +1,5 @@
 use Rattle.std.proofs.Common.{◌≡◌, drop}
-use Rattle.beet_job_envelopes.specs.Gather.{Gathered}
+use Rattle.beet_job_envelopes.proofs.Gathered.{Gathered}
 use Rattle.beet_job_envelopes.proofs.gathering.add_bidders.Given as goal
 
 abbrev pub invariant-loop-entry : goal.invariant-loop-entry

@@ -9,11 +9,14 @@ use Rattle.beet_job_trial.proofs.adding.+halves.Goals as goal
 pub add_both-returns-clause-tests : goal.add_both-returns-clause-tests
 add_both-returns-clause-tests g t c =
     let grid = c.args.grid.now in
-    let from = c.args.from in
-    let middle = from + c.args.few in
-    let few : Tests (enough_of_each grid (from + 1) (trial_part grid from c.args.few)) c.join_mut-few_added.result.0 = search rules in
-    let rest : Tests (enough_of_each grid (middle + 1) (trial_part grid middle c.args.rest)) c.join_mut-few_added.result.1 = search rules in
-    rw c.and.ensures (tests-both grid from c.args.few c.args.rest middle (c.args.few + c.args.rest) _ _ refl refl few rest)
+    let from = c.args.halves.from in
+    let middle = from + c.args.halves.few in
+    let few : Tests (enough_of_each grid (from + 1) (trial_part grid from c.args.halves.few)) c.join_mut-few_added.result.0 =
+    search rules in
+    let rest : Tests (enough_of_each grid (middle + 1) (trial_part grid middle c.args.halves.rest)) c.join_mut-few_added.result.1 =
+    search rules in
+    rw c.and.ensures (tests-both grid from c.args.halves.few c.args.halves.rest middle
+    (c.args.halves.few + c.args.halves.rest) _ _ refl refl few rest)
 
 pub add_both-returns-clause-adds : goal.add_both-returns-clause-adds
 add_both-returns-clause-adds g t c =

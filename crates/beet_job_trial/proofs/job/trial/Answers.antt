@@ -14,7 +14,7 @@ returns-in-Err-clause-reads g c =
 
 pub run_auction-requires-clause-inputs : goal.run_auction-requires-clause-inputs
 run_auction-requires-clause-inputs g c = λ lifetimes outlive.
-    trial-many c.grid_of-grid.result c.args.bidders c.args.prices c.in-Ok.totals c.inputs.result c.grid_of-grid.ensures c.requires
+    trial-many c.grid_of-grid.result c.args.bidders c.args.prices c.in-Ok.totals c.inputs.result c.grid_of-grid.ensures c.requires.sizes
     c.in-Ok.ensures.carry c.inputs.ensures.points
 
 pub returns-in_err-finish-clause-reads : goal.returns-in_err-finish-clause-reads
@@ -26,7 +26,7 @@ returns-in_err-sized_reply-clause-reads g c = λ seen. exits c.from_residual-in_
 pub returns-clause-reads : goal.returns-clause-reads
 returns-clause-reads g c =
     let ends = trial-ends _ _ c.args.bidders c.args.prices _ _ c.in_ok-finish.finish c.in_ok-finish.rounds
-    c.grid_of-grid.ensures c.in_ok-servers.ensures c.requires
+    c.grid_of-grid.ensures c.in_ok-servers.ensures c.requires.sizes
     c.in-Ok.ensures.carry c.inputs.ensures.points c.in_ok-finish.ensures.ends in
     λ seen. over-grid c.args.bidders c.args.prices c.grid_of-grid.ensures
     (shown (c.in-Ok.ensures.reads seen) (sym (c.in_ok-sized_reply.ensures ∙ ends)))

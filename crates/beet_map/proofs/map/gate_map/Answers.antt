@@ -30,9 +30,9 @@ whole : (g : Over) (c : In_ok-mapped g)
 whole g c a =
     whole_words (g.S.Script.batch_of c.args.script.now)
     (g.S.Script.rounds_of c.args.script.now) c.args.me c.in_ok-rounds.rounds c.args.first.now c.args.second.now a
-    c.args.coefficients.now c.in_ok-mapped.mapped c.in_ok-numbers.numbers c.map_numbers.new.numbers
-    c.in_ok-numbers.ensures.below c.in_ok-numbers.ensures.numbers
-    c.in_ok-map_numbers.ensures c.in_ok-mapped.ensures.numbers c.in_ok-mapped.ensures.places
+    c.args.coefficients.now c.in_ok-mapped.mapped c.in_ok-drawn.drawn c.in_ok-numbers.numbers
+    c.in_ok-drawn.ensures.below c.in_ok-drawn.ensures.numbers
+    c.in_ok-numbers.ensures c.in_ok-mapped.ensures.numbers c.in_ok-mapped.ensures.places
 
 pub map_numbers-requires-clause-may : goal.map_numbers-requires-clause-may
 map_numbers-requires-clause-may g c = (alike g (goal.at.map_numbers-requires-clause-may g c).In_ok-rounds).may
@@ -46,15 +46,15 @@ map_numbers-requires-clause-room g c =
     c.args.me c.args.first.now c.args.second.now c.requires.first c.requires.second
     c.in_ok-rounds.ensures.first_elements c.in_ok-rounds.ensures.second_elements
     c.in_ok-rounds.ensures.same c.in_ok-rounds.rounds c.in_ok-rounds.ensures.rounds
-    c.in_ok-numbers.numbers (subst (λ n. HasWords (script.coefficients_of s) n) (sym c.in_ok-numbers.ensures.numbers) c.requires.numbers)
+    c.in_ok-drawn.drawn (subst (λ n. HasWords (script.coefficients_of s) n) (sym c.in_ok-drawn.ensures.numbers) c.requires.numbers)
 
 pub all_back-requires : goal.all_back-requires
 all_back-requires g c =
     let script = g.S.Script in
     let s = c.args.script.now in
-    fit_back c.args.me c.in_ok-rounds.rounds (begin_in (script.batch_of s) c.args.first.now c.in_ok-numbers.numbers)
-    (begin_in (script.batch_of s) c.args.second.now c.map_numbers.new.numbers) c.args.coefficients.now
-    c.map_numbers.new.numbers c.in_ok-numbers.ensures.numbers refl c.in_ok-map_numbers.ensures
+    fit_back c.args.me c.in_ok-rounds.rounds (begin_in (script.batch_of s) c.args.first.now c.in_ok-drawn.drawn)
+    (begin_in (script.batch_of s) c.args.second.now c.in_ok-numbers.numbers) c.args.coefficients.now
+    c.in_ok-numbers.numbers c.in_ok-drawn.ensures.numbers refl c.in_ok-numbers.ensures
 
 pub returns-clause-mapped : goal.returns-clause-mapped
 returns-clause-mapped g c = (whole g (goal.at.returns-clause-mapped g c).In_ok-mapped

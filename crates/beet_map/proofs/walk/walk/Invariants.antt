@@ -6,9 +6,12 @@ use Rattle.beet_map.proofs.walk.walk.Given as goal
 
 abbrev pub invariant-loop-t : goal.invariant-loop-t
 invariant-loop-t g l = record {
-  first : l.here ≡ shared_at (begin_in (g.S.Script.batch_of l.script) l.first l.drawn) l.t;
-  second : l.there ≡ shared_at (begin_in (g.S.Script.batch_of l.script) l.second l.numbers) l.t;
-  mapped : GateMapped l.me l.t (begin_in (g.S.Script.batch_of l.script) l.first l.drawn)
-      (begin_in (g.S.Script.batch_of l.script) l.second l.numbers);
-  placed : g.S.Script.is_at l.script l.t l.here.opened l.place;
+  secrets : l.here.secrets ≡ l.fn.here.secrets;
+  numbers : l.here.numbers ≡ l.fn.here.numbers;
+  secrets' : l.there.secrets ≡ l.fn.there.secrets;
+  first : l.here.stage ≡ shared_at (begin_in (g.S.Script.batch_of l.script) l.fn.here.secrets.now l.fn.here.numbers) l.t;
+  second : l.there.stage ≡ shared_at (begin_in (g.S.Script.batch_of l.script) l.fn.there.secrets.now l.there.numbers) l.t;
+  mapped : GateMapped l.me l.t (begin_in (g.S.Script.batch_of l.script) l.fn.here.secrets.now l.fn.here.numbers)
+      (begin_in (g.S.Script.batch_of l.script) l.fn.there.secrets.now l.there.numbers);
+  placed : g.S.Script.is_at l.script l.t l.here.stage.opened l.place;
 }

@@ -1,7 +1,8 @@
-use Rattle.std.proofs.Common.{◌≡◌, ◌<◌, ◌+◌, ◌∷◌, [], ◌++◌, false, true≢false, length, length-append, arith, sym, ◌∙◌, ap}
+use Rattle.std.proofs.Common.{◌≡◌, ◌<◌, ◌+◌, ◌∷◌, [], ◌++◌, false, true≢false, length, length-append, arith, sym, refl, subst, ◌∙◌, ap}
 use Rattle.std.proofs.lemmas.Bool.{false_from_ne_true}
-use Rattle.beet_server.specs.Cores.{is_quiet}
-use Rattle.beet_world.proofs.GivenFacts.{goes-more, loud, room-for, sends-more, taken-more}
+use Rattle.beet_server.specs.Cores.{Core, is_quiet}
+use Rattle.beet_world.specs.Happens.{HasTakenMessages}
+use Rattle.beet_world.proofs.GivenFacts.{goes-more, keeps-both, loud, room-for, sends-more, taken-more}
 use Rattle.beet_world.proofs.giving.hand_out.Goals as goal
 
 pub push_reserved-requires : goal.push_reserved-requires
@@ -14,6 +15,19 @@ push_reserved-requires g c =
     (g.S.Script.rounds_of c.loop-turn.core.script) busy c.loop-turn.invariant.counted c.in-Some.ensures.within in
     let same = ap g.S.Script.rounds_of c.loop-turn.invariant.keeps.script in
     omega (arith, more, same, c.requires.room, c.loop-turn.invariant.capacity, c.loop-turn.sent.ok)
+
+pub returns-in_default-clause-took : goal.returns-in_default-clause-took
+returns-in_default-clause-took g c =
+    let next = g.S.Script.batch_of in
+    let inv = c.loop-turn.invariant in
+    subst (λ (k : Core g.row.S.Denot). HasTakenMessages next (g.S.Script.rounds_of c.args.core.now.script) c.args.core.now k
+    c.args.sent.now c.loop-turn.sent) (sym c.in_default.ensures.same) (record {
+      capacity = inv.capacity;
+      keeps = inv.keeps;
+      quiet = c.in_default.ensures.quiet.0 refl;
+      counted = inv.counted;
+      within = inv.within;
+    })
 
 pub returns-in_default-clause-fits : goal.returns-in_default-clause-fits
 returns-in_default-clause-fits g c = λ o x f. c.in_default.ensures.fits o x (c.loop-turn.invariant.fits o x f)
@@ -35,12 +49,7 @@ loop-turn-preserved g c =
     ap length c.push_reserved.ensures.items ∙ length-append c.loop-turn.sent.items (c.in-Some.messages ∷ []) in
     record {
       end = inv.end;
-      keeps = record {
-        me = keeps.me ∙ inv.keeps.me;
-        script = keeps.script ∙ inv.keeps.script;
-        masks = keeps.masks ∙ inv.keeps.masks;
-        coefficients = keeps.coefficients ∙ inv.keeps.coefficients;
-      };
+      keeps = keeps-both inv.keeps keeps;
       capacity = c.push_reserved.ensures.capacity ∙ inv.capacity;
       counted = pushed ∙ ap (λ n. n + 1) inv.counted ∙ sym (taken-more next c.loop-turn.core c.out.new.self both.0 moves);
       pushed = omega (arith, pushed, inv.pushed);

@@ -40,12 +40,12 @@ returns-clause-work g c =
     let e = c.self.inside in
     let next = g.S.Script.batch_of in
     let act = ap (λ (b : Batch). b.act) c.self.invariant.0.coming in
-    let dealt = c.put_numbers.ensures.dealt ∙ ap (λ (a : Act). record e.masks { passed = e.masks.passed + deals_in a }) act in
-    let drawn = c.put_numbers.ensures.drawn ∙ ap (λ (a : Act). drawn_from e.coefficients (draws_in a)) act in
-    let own = c.put_numbers.ensures.own ∙ ap (λ l. numbers_for e.batch.act l (slice_index e.masks.words e.masks.passed)
-    (take (draws_in e.batch.act) (left_of e.coefficients)) e.me) c.as_slice.ensures.value
-    ∙ ap (λ (a : Act). numbers_for a e.wires.items (slice_index e.masks.words e.masks.passed)
-    (take (draws_in a) (left_of e.coefficients)) e.me) act in
+    let dealt = c.put_numbers.ensures.dealt ∙ ap (λ (a : Act). record e.tapes.masks { passed = e.tapes.masks.passed + deals_in a }) act in
+    let drawn = c.put_numbers.ensures.drawn ∙ ap (λ (a : Act). drawn_from e.tapes.coefficients (draws_in a)) act in
+    let own = c.put_numbers.ensures.own ∙ ap (λ l. numbers_for e.batch.act l (slice_index e.tapes.masks.words e.tapes.masks.passed)
+    (take (draws_in e.batch.act) (left_of e.tapes.coefficients)) e.me) c.as_slice.ensures.value
+    ∙ ap (λ (a : Act). numbers_for a e.wires.items (slice_index e.tapes.masks.words e.tapes.masks.passed)
+    (take (draws_in a) (left_of e.tapes.coefficients)) e.me) act in
     (λ i. record {
       me = e.me;
       script = e.script;
@@ -63,8 +63,8 @@ invariant_of-self g c =
     let s = c.self.invariant.0 in
     let handed : c.self.inside.handed ≡ false = ap (λ (w : Work g.row.S.Denot). w.handed) c.self.view_is ∙ c.requires.handed in (
       hands-sound 3 1 _ _ _ _ _ _ _ _ _ _ _ _ s handed _ _ c.put_numbers.ensures.dealt
-          (ap left_of c.put_numbers.ensures.drawn ∙ left-drawn c.self.inside.coefficients (draws_in c.self.inside.batch.act)
-          ∙ ap (λ n. drop n (left_of c.self.inside.coefficients)) (omega arith)),
+          (ap left_of c.put_numbers.ensures.drawn ∙ left-drawn c.self.inside.tapes.coefficients (draws_in c.self.inside.batch.act)
+          ∙ ap (λ n. drop n (left_of c.self.inside.tapes.coefficients)) (omega arith)),
       ap length c.put_numbers.ensures.own ∙ length-numbers_for c.self.inside.batch.act _ _ _ _,
       c.self.invariant.2,
     )

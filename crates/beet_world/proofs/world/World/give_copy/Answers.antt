@@ -86,7 +86,7 @@ invariant_of-self g c =
     (holds-after script.batch_of script.inputs_of script.rounds_of (limits g asks) (seen g asks) c.self.inside.cores c.self.inside.sent
     (g.met.S.Script.lawful _) c.self.invariant c.args.from c.args.side c.args.round there c.args.to c.requires
     c.in-Some.message c.in-Some.ensures.message c.give_to-verdict.new.cores c.give_to-verdict.new.sent c.give_to-verdict.result
-    v.others v.capacity v.keeps v.quiet given)
+    v.others v.took.capacity v.took.keeps v.took.quiet given)
 
 pub returns-clause-delivered : goal.returns-clause-delivered
 returns-clause-delivered g c =

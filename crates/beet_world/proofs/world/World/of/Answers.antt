@@ -1,4 +1,4 @@
-use Rattle.std.proofs.Common.{◌≡◌, ◌≤◌, List, Vec, Global, sym, ◌∙◌, ap, arith, length, vec_capacity}
+use Rattle.std.proofs.Common.{◌≡◌, ◌≤◌, List, Vec, Global, sym, ◌∙◌, ap, arith, vec_capacity}
 use Rattle.beet_field.specs.Trio.{member}
 use Rattle.beet_field.specs.declared.point.Point.TheVariants.{One, Two, Three}
 use Rattle.beet_field.specs.declared.trio.Trio.{Trio}
@@ -7,48 +7,26 @@ use Rattle.beet_round.specs.declared.message.RoundMessage.{RoundMessage}
 use Rattle.beet_server.specs.Cores.{Core, setup_of}
 use Rattle.beet_sharing.proofs.Rounds.{lawful-rounds}
 use Rattle.beet_world.specs.Marks.{unmarked}
-use Rattle.beet_world.proofs.Founding.{HasHandedOut, none-taken, world-begins}
+use Rattle.beet_world.proofs.Founding.{HasHandedOut, handed-out, has-room, world-begins}
 use Rattle.beet_server.proofs.Rounds.{by_point}
 use Rattle.beet_world.proofs.world.World.of.Goals as goal
 
 pub hand_out-requires : goal.hand_out-requires
 hand_out-requires g c =
-    let none : length c.in-Ok.room.0.one.items ≡ 0 = ap length (c.in-Ok.ensures.none One) in
-    record {
-      room = omega (arith, c.in-Ok.ensures.capacity One, c.rounds.ensures, ap g.S.Script.rounds_of c.script.ensures);
-      counted = none ∙ sym (none-taken g.S.Script.batch_of g.S.Script.inputs_of g.S.Script.rounds_of c.args.cores.one c.requires.one.1);
-      within = omega (arith, none);
-    }
+    has-room g.S.Script.batch_of g.S.Script.inputs_of g.S.Script.rounds_of c.args.cores.one _ c.requires.one.1 (c.in-Ok.ensures.none One)
+    (omega (arith, c.in-Ok.ensures.capacity One, c.rounds.ensures, ap g.S.Script.rounds_of c.script.ensures))
 
 pub hand_out-requires-2 : goal.hand_out-requires-2
 hand_out-requires-2 g c =
-    let none : length c.in-Ok.room.0.two.items ≡ 0 = ap length (c.in-Ok.ensures.none Two) in
-    record {
-      room = omega (
-        arith,
-        c.in-Ok.ensures.capacity Two,
-        c.rounds.ensures,
-        ap g.S.Script.rounds_of c.script.ensures,
-        ap g.S.Script.rounds_of c.requires.script_two,
-      );
-      counted = none ∙ sym (none-taken g.S.Script.batch_of g.S.Script.inputs_of g.S.Script.rounds_of c.args.cores.two c.requires.two.1);
-      within = omega (arith, none);
-    }
+    let rounds = c.rounds.ensures ∙ ap g.S.Script.rounds_of (c.script.ensures ∙ sym c.requires.script_two) in
+    has-room g.S.Script.batch_of g.S.Script.inputs_of g.S.Script.rounds_of c.args.cores.two _ c.requires.two.1 (c.in-Ok.ensures.none Two)
+    (omega (arith, c.in-Ok.ensures.capacity Two, rounds))
 
 pub hand_out-requires-3 : goal.hand_out-requires-3
 hand_out-requires-3 g c =
-    let none : length c.in-Ok.room.0.three.items ≡ 0 = ap length (c.in-Ok.ensures.none Three) in
-    record {
-      room = omega (
-        arith,
-        c.in-Ok.ensures.capacity Three,
-        c.rounds.ensures,
-        ap g.S.Script.rounds_of c.script.ensures,
-        ap g.S.Script.rounds_of c.requires.script_three,
-      );
-      counted = none ∙ sym (none-taken g.S.Script.batch_of g.S.Script.inputs_of g.S.Script.rounds_of c.args.cores.three c.requires.three.1);
-      within = omega (arith, none);
-    }
+    let rounds = c.rounds.ensures ∙ ap g.S.Script.rounds_of (c.script.ensures ∙ sym c.requires.script_three) in
+    has-room g.S.Script.batch_of g.S.Script.inputs_of g.S.Script.rounds_of c.args.cores.three _ c.requires.three.1
+    (c.in-Ok.ensures.none Three) (omega (arith, c.in-Ok.ensures.capacity Three, rounds))
 
 pub invariant_of-result : goal.invariant_of-result
 invariant_of-result g c =
@@ -75,37 +53,21 @@ invariant_of-result g c =
     let rounds : c.rounds.result ≡ script.rounds_of first = c.rounds.ensures ∙ ap script.rounds_of c.script.ensures in
     let marks : c.in-Ok.room.1.items ≡ unmarked (script.rounds_of first) = c.in-Ok.ensures.marks ∙ ap unmarked rounds in
     let out = by_point (λ s. HasHandedOut next script.inputs_of script.rounds_of (member start s) (member cores s) (member sent s))
-    (record {
-      keeps = one.keeps;
-      quiet = one.quiet;
-      fits = one.fits;
-      going = one.going;
-      sends = λ o x k e. one.sends o x k (c.in-Ok.ensures.none One ∙ e);
-    })
-    (record {
-      keeps = two.keeps;
-      quiet = two.quiet;
-      fits = two.fits;
-      going = two.going;
-      sends = λ o x k e. two.sends o x k (c.in-Ok.ensures.none Two ∙ e);
-    })
-    (record {
-      keeps = three.keeps;
-      quiet = three.quiet;
-      fits = three.fits;
-      going = three.going;
-      sends = λ o x k e. three.sends o x k (c.in-Ok.ensures.none Three ∙ e);
-    }) in
+    (handed-out next script.inputs_of script.rounds_of _ _ _ _ _ (c.in-Ok.ensures.none One) one.took one.fits one.sends one.going)
+    (handed-out next script.inputs_of script.rounds_of _ _ _ _ _ (c.in-Ok.ensures.none Two) two.took two.fits two.sends two.going)
+    (handed-out next script.inputs_of script.rounds_of _ _ _ _ _ (c.in-Ok.ensures.none Three) three.took three.fits three.sends
+    three.going) in
     rw (c.of-start.ensures, marks) (record {
       is_world = world-begins next script.inputs_of script.rounds_of start cores sent f h out;
       room = by_point (λ s. script.rounds_of first ≤ vec_capacity (member vecs s))
-          (omega (arith, rounds, one.capacity, c.in-Ok.ensures.capacity One))
-          (omega (arith, rounds, two.capacity, c.in-Ok.ensures.capacity Two))
-          (omega (arith, rounds, three.capacity, c.in-Ok.ensures.capacity Three));
-      script = by_point (λ s. (member cores s).script ≡ first) one.keeps.script (two.keeps.script ∙ f.script_two)
-          (three.keeps.script ∙ f.script_three);
-      masks = by_point (λ s. (member cores s).masks.words ≡ (member start s).masks.words) one.keeps.masks two.keeps.masks three.keeps.masks;
+          (omega (arith, rounds, one.took.capacity, c.in-Ok.ensures.capacity One))
+          (omega (arith, rounds, two.took.capacity, c.in-Ok.ensures.capacity Two))
+          (omega (arith, rounds, three.took.capacity, c.in-Ok.ensures.capacity Three));
+      script = by_point (λ s. (member cores s).script ≡ first) one.took.keeps.script (two.took.keeps.script ∙ f.script_two)
+          (three.took.keeps.script ∙ f.script_three);
+      masks = by_point (λ s. (member cores s).masks.words ≡ (member start s).masks.words) one.took.keeps.masks
+          two.took.keeps.masks three.took.keeps.masks;
       coefficients = by_point (λ s. (member cores s).coefficients.words ≡ (member start s).coefficients.words)
-          one.keeps.coefficients two.keeps.coefficients
-          three.keeps.coefficients;
+          one.took.keeps.coefficients two.took.keeps.coefficients
+          three.took.keeps.coefficients;
     })

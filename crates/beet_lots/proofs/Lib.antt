@@ -1,0 +1,2 @@
+pub mod LotFacts
+pub mod LotLaws

@@ -1,0 +1,2 @@
+pub mod LotEvents
+pub mod LotWorlds

@@ -1,0 +1,11 @@
+pub mod Ending
+pub mod Moves
+pub mod Selected
+pub mod Numbers
+pub mod SaleWires
+pub mod SaleClaims
+pub mod SaleFacts
+pub mod SelectionStands
+pub mod SaleStands
+pub mod SaleRun
+pub mod Quietly

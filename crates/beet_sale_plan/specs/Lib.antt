@@ -1,0 +1,5 @@
+pub mod Selections
+pub mod Sale
+pub mod Outcome
+pub mod Kept
+pub mod SaleRuns

@@ -1,0 +1,4 @@
+pub mod Leads
+pub mod Batches
+pub mod Finishes
+pub mod NextFacts

@@ -1,0 +1,38 @@
+use Rattle.std.proofs.Common.{arith, ◌∙◌, ◌≡◌, ◌≢◌, ◌+◌, ◌∷◌, [], List, ℕ, sym}
+use Rattle.beet_gates.specs.declared.Batch.{Batch}
+use Rattle.beet_gates.specs.declared.Linear.{Linear}
+use Rattle.beet_masking.specs.Blocks.{blocks_of}
+use Rattle.beet_sale_plan.specs.Sale.{difference_let}
+use Rattle.beet_sale_plan.specs.Selections.{multiplied, result_wire}
+use Rattle.beet_sale_script.proofs.Batches.{rest-before, rest-end, rest-lets}
+use Rattle.beet_sale_script.proofs.walk.Walk.refill_after_second.Goals as goal
+
+pub set_products-requires-clause-lets : goal.set_products-requires-clause-lets
+set_products-requires-clause-lets c =
+    let g = c.args.self.now.gates in
+    let e : c.args.step + 2 ≡ (blocks_of g).compare_rounds = omega (arith, c.if-step-compare_rounds.true, c.compare_rounds.ensures) in
+    let few = rest-lets g (c.args.free + 3) c.args.mask c.args.c c.args.step c.refill_compare.new.batch c.refill_compare.ensures e in
+    omega (arith, few)
+
+pub returns-then-step-compare_rounds : goal.returns-then-step-compare_rounds
+returns-then-step-compare_rounds c =
+    let w = c.args.self.now in
+    let g = blocks_of w.gates in
+    let e : c.args.step + 2 ≡ g.compare_rounds = omega (arith, c.if-step-compare_rounds.true, c.compare_rounds.ensures) in
+    let o = result_wire g (c.args.free + 3) in
+    let lets : List Linear = difference_let c.args.free (c.args.free + 2) ∷ [] in
+    let pairs : List (ℕ × ℕ) = (o, o + 1) ∷ [] in
+    let f : Batch → Batch = multiplied lets pairs in
+    let at = c.result_wire-o.ensures in
+    let d = c.difference.ensures in
+    let here : c.set_products.new.batch ≡ f c.refill_compare.new.batch =
+    c.set_products.ensures ∙ (λ i. multiplied (d i ∷ []) ((at i, at i + 1) ∷ []) c.refill_compare.new.batch) in
+    here ∙ rest-end w.gates (c.args.free + 3) c.args.mask c.args.c c.args.step c.refill_compare.new.batch c.refill_compare.ensures f e
+
+pub returns-else-step-compare_rounds : goal.returns-else-step-compare_rounds
+returns-else-step-compare_rounds c =
+    let w = c.args.self.now in
+    let g = blocks_of w.gates in
+    let not : c.args.step + 2 ≢ g.compare_rounds = λ e. c.if-step-compare_rounds.false (e ∙ sym c.compare_rounds.ensures) in
+    rest-before w.gates (c.args.free + 3) c.args.mask c.args.c c.args.step c.refill_compare.new.batch c.refill_compare.ensures _ not
+    c.requires.step

@@ -1,0 +1,10 @@
+//! The script of a sealed sale at the second price, as a value.
+#![tactic(auto)]
+
+mod script;
+#[cfg(test)]
+mod tests;
+mod walk;
+
+pub use beet_sale_plan::SaleEnd;
+pub use script::{SalePlace, SaleScript};
