@@ -8,12 +8,11 @@ use Rattle.beet_store.specs.Desks.{DeskTold, Given, LeavesGiven, Replaced, Say}
 use Rattle.beet_words.specs.Bundles.{bundle_bytes}
 use Rattle.beet_errand.specs.Errands.{Answer, Step}
 use Rattle.beet_errand.specs.Fetches.{IsDone}
-use Rattle.beet_errand.specs.Runs.{LeavesAll}
 use Rattle.beet_errand.specs.Tasks.{LeavesShown, ShowsRead, ToShow}
 use Rattle.beet_errand.specs.declared.answer.OwnRefusal.{OwnRefusal}
 use Rattle.beet_errand.specs.declared.answer.OwnRefusal.TheVariants.{OfWorlds, OfAudit}
 use Rattle.beet_errand.specs.declared.answer.Refusal.TheVariants.{Own}
-use Rattle.beet_errand.proofs.Putting.{leaves_all}
+use Rattle.beet_errand.proofs.Putting.{LeavesAll, leaves_all}
 use Rattle.beet_errand.proofs.Statuses.{not_done}
 use Rattle.beet_job_worlds.specs.Answering.{ShowsTheSame, worlds_text}
 use Rattle.beet_job_worlds.specs.Ending.{compared_errand}

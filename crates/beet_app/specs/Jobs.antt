@@ -8,8 +8,10 @@ use Rattle.beet_forms.specs.Names.{is_name_of}
 use Rattle.beet_errand.specs.Errands.{Errand}
 use Rattle.beet_job_tally.specs.Tally.{tally_errand}
 use Rattle.beet_job_clear.specs.Clear.{clear_errand}
+use Rattle.beet_job_watch.specs.Watch.{watch_errand}
 use Rattle.beet_job_rehearse.specs.Rehearse.{rehearse_errand}
 use Rattle.beet_job_record.specs.Records.{record_errand}
+use Rattle.beet_job_witness.specs.Witness.{witness_errand}
 use Rattle.beet_job_envelopes.specs.SourceWords.{source_word}
 use Rattle.beet_job_envelopes.specs.Seal.{seal_errand}
 use Rattle.beet_job_envelopes.specs.Open.{open_errand}
@@ -46,6 +48,7 @@ abbrev pub job_of_three : List ℕ → List ℕ → List ℕ → List ℕ → Op
 job_of_three command first second third =
     if are_names (first ∷ second ∷ third ∷ []) then
     if is_word command (codes "clear") then Some (Answering (clear_errand first second third))
+    else if is_word command (codes "watch") then Some (Answering (watch_errand first second third))
     else if is_word command (codes "open") then Some (Answering (open_errand first second third))
     else None
     else None
@@ -62,6 +65,7 @@ job_of_four command first second third fourth =
     else if is_name_of third then
     if is_word command (codes "rehearse") then Some (Answering (rehearse_errand first second third fourth))
     else if is_word command (codes "record") then Some (Answering (record_errand first second third fourth))
+    else if is_word command (codes "witness") then Some (Answering (witness_errand first second third fourth))
     else if is_word command (codes "audit") then Some (Auditing first second third fourth)
     else None
     else None

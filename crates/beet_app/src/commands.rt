@@ -13,6 +13,8 @@ use beet_job_envelopes::{OpenFiles, SealFiles, SourceWord, read_source_word};
 use beet_job_record::RecordFiles;
 use beet_job_rehearse::RehearseFiles;
 use beet_job_trial::numbers_of_words;
+use beet_job_watch::WatchFiles;
+use beet_job_witness::WitnessFiles;
 use beet_job_worlds::WorldsFiles;
 
 /// A command with its words. Those that stand for files are names.
@@ -20,12 +22,14 @@ use beet_job_worlds::WorldsFiles;
 pub(crate) enum Command<'a> {
     Tally { auction: &'a str, book: &'a str },
     Clear(ClearFiles<'a>),
+    Watch(WatchFiles<'a>),
     Rehearse(RehearseFiles<'a>),
     Record(RecordFiles<'a>),
     Audit(AuditFiles<'a>),
     Worlds(WorldsFiles<'a>, Point),
     Seal(SealFiles<'a>, SourceWord<'a>),
     Open(OpenFiles<'a>),
+    Witness(WitnessFiles<'a>),
     Trial { bidders: u32, prices: u32 },
 }
 
@@ -68,6 +72,12 @@ fn with_three<'a>(
         None
     } else if name == "clear" {
         Some(Command::Clear(ClearFiles {
+            auction,
+            servers,
+            book: third,
+        }))
+    } else if name == "watch" {
+        Some(Command::Watch(WatchFiles {
             auction,
             servers,
             book: third,
@@ -118,6 +128,13 @@ fn with_four<'a>(
             auction: first,
             servers: second,
             book: third,
+            out: fourth,
+        }))
+    } else if name == "witness" {
+        Some(Command::Witness(WitnessFiles {
+            auction: first,
+            servers: second,
+            list: third,
             out: fourth,
         }))
     } else if name == "audit" {

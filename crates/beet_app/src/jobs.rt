@@ -15,6 +15,8 @@ use beet_job_record::record;
 use beet_job_rehearse::rehearse;
 use beet_job_tally::tally;
 use beet_job_trial::trial;
+use beet_job_watch::watch;
+use beet_job_witness::witness;
 use beet_job_worlds::worlds;
 use beet_link::Gate;
 use beet_store::Shelf;
@@ -37,12 +39,14 @@ fn do_job<S: Shelf, R: Threads + Wait + Clock + Sync, G: Gate>(
     match command {
         Command::Tally { auction, book } => tally(alloc, shelf, auction, book),
         Command::Clear(files) => clear(rt, alloc, shelf, &files, gate),
+        Command::Watch(files) => watch(rt, alloc, shelf, &files),
         Command::Rehearse(files) => rehearse(alloc, shelf, &files),
         Command::Record(files) => record(rt, alloc, shelf, &files, gate),
         Command::Audit(files) => audit_files(alloc, shelf, &files),
         Command::Worlds(files, server) => worlds(rt, alloc, shelf, &files, server),
         Command::Seal(files, source) => seal_bid(alloc, shelf, &files, source),
         Command::Open(files) => open_envelopes(rt, alloc, shelf, &files, gate),
+        Command::Witness(files) => witness(rt, alloc, shelf, &files, gate),
         Command::Trial { bidders, prices } => trial(rt, alloc, bidders, prices, gate),
     }
 }

@@ -24,6 +24,7 @@ use std::time::Clock;
 ///
 /// - `tally AUCTION BOOK` opens the sums of supply and demand at an auction of one price.
 /// - `clear AUCTION SERVERS BOOK` runs the auction of a book among three servers.
+/// - `watch AUCTION SERVERS BOOK` does the same, and counts what each server tells an audit desk of its rounds.
 /// - `rehearse AUCTION SERVERS BOOK SCHEDULE` delivers the messages of a schedule, and tells how each server stands.
 /// - `record AUCTION SERVERS BOOK OUT` writes what each server has seen of a run to `OUT.1`, `OUT.2` and `OUT.3`.
 /// - `audit AUCTION T1 T2 T3` tells how the run ended of which three transcripts are what the three servers have seen.
@@ -32,6 +33,7 @@ use std::time::Clock;
 /// - `seal AUCTION BID SOURCE OUT` writes a bid in three envelopes, `OUT.1`, `OUT.2` and `OUT.3`; the source of its
 ///   words is `seed:` and 64 hexadecimal digits, or `tape:` and a name.
 /// - `open AUCTION SERVERS LIST` runs the auction of the envelopes that a list names.
+/// - `witness AUCTION SERVERS LIST OUT` does the same, and writes what each server has seen of it as `record` does.
 /// - `trial BIDDERS PRICES` runs the auction of a book that is made by a rule, of 0 to 2,000 bidders and 1 to 4,096
 ///   prices.
 ///
@@ -42,10 +44,10 @@ use std::time::Clock;
 /// transcripts are not those of one run; 9 for a bidder or a server whose tape holds too few words. At 2, 3, 5, 7, 8
 /// and 9 the line that tells the cause is said, and no file is put. The text is said after all files were put.
 ///
-/// In `clear`, `record`, `open` and `trial` three servers run at the same time, the first on the caller's thread and
-/// two in workers. Each meets the gate once in each round, before it puts its messages of the round. So `run` may wait,
-/// and what is promised holds if it returns. Where a worker cannot be started or a link finds no memory, no server has
-/// begun, and the same three run in lockstep on the caller's thread, without the gate.
+/// In `clear`, `watch`, `record`, `open`, `witness` and `trial` three servers run at the same time. Each meets the gate
+/// once in each round, before it puts its messages of the round; in `watch` there is no gate. So `run` may wait, and
+/// what is promised holds if it returns. If a worker cannot be started or a link finds no memory, no server has begun,
+/// and the same three run in lockstep, without the gate.
 pub fn run<S: Shelf, K: Desk, R: Threads + Wait + Clock + Sync, G: Gate>(
     rt: &R,
     alloc: Global,

@@ -1,7 +1,7 @@
 -- The ends of the errand of each job.
 use Rattle.std.proofs.Common.{◌≡◌, inl, inr, ℕ, List, [], ◌∷◌, ◌++◌, Option, Some, None, Bool, true, false}
 use Rattle.std.proofs.Common.{if◌then◌else◌, option_map, IfSome, ap, refl, subst, sym}
-use Rattle.std.specs.Prelude.{◌&&◌, codes, ◌==◌, ◌+◌, map}
+use Rattle.std.specs.Prelude.{◌&&◌, codes, ◌==◌, ◌+◌, length, map}
 use Rattle.beet_field.specs.Point.{server_of}
 use Rattle.beet_field.specs.declared.point.Point.{Point}
 use Rattle.beet_field.specs.declared.point.Point.TheVariants.{One, Two, Three as ThreeAt}
@@ -47,8 +47,10 @@ use Rattle.beet_run.specs.Outcomes.{status_of}
 use Rattle.beet_run.proofs.StatusFacts.{status-done}
 use Rattle.beet_job_tally.specs.Tally.{not_one_price, tally_errand, tally_job, tallied}
 use Rattle.beet_job_clear.specs.Clear.{clear_errand}
+use Rattle.beet_job_watch.specs.Watch.{watch_errand}
 use Rattle.beet_job_rehearse.specs.Rehearse.{rehearse_errand}
 use Rattle.beet_job_record.specs.Records.{record_errand}
+use Rattle.beet_job_witness.specs.Witness.{kept_job, list_job, witness_errand, witness_job}
 use Rattle.beet_job_envelopes.specs.Gather.{bidders_errand, envelopes_errand}
 use Rattle.beet_job_envelopes.specs.Open.{entries_job, open_errand, open_job}
 use Rattle.beet_job_envelopes.specs.Seal.{seal_errand, seal_job}
@@ -72,7 +74,8 @@ use Rattle.beet_forms.specs.Names.{is_name_of}
 use Rattle.beet_app_laws.specs.Leavings.{last_word}
 use Rattle.beet_app_laws.proofs.Faults.{HasLine, difference-line, finds-never}
 use Rattle.beet_app_laws.proofs.Answers.{EndsWell, IsAnswer, StepsWell, all-words-well, bidders-well, curves-well}
-use Rattle.beet_app_laws.proofs.Answers.{either, enough-well, limited-well, loaded-well, reads-well, refused-well}
+use Rattle.beet_app_laws.proofs.Answers.{either, enough-well, limited-well, loaded-well, product-well, reads-well}
+use Rattle.beet_app_laws.proofs.Answers.{refused-well}
 use Rattle.beet_app_laws.proofs.Answers.{servers-enough, words-well}
 
 rehearsal-done : (one : Bool) → IsDone (if one then Spent else Done)
@@ -95,6 +98,10 @@ module _ (out : List ℕ) where
 
   clear-well : (auction servers book : List ℕ) → EndsWell out (clear_errand auction servers book)
   clear-well auction servers book = loaded-well out auction servers book _ (λ loaded.
+      inl (status-done (book_finish (book_with loaded.grid loaded.farmers) (masks_of loaded.servers)), inl refl))
+
+  watch-well : (auction servers book : List ℕ) → EndsWell out (watch_errand auction servers book)
+  watch-well auction servers book = loaded-well out auction servers book _ (λ loaded.
       inl (status-done (book_finish (book_with loaded.grid loaded.farmers) (masks_of loaded.servers)), inl refl))
 
   rehearse-well : (auction servers book schedule : List ℕ) →
@@ -142,6 +149,28 @@ module _ (out : List ℕ) where
       reads-well out auction AUCTION_LIMIT auction_of _ (λ grid.
       reads-well out servers SERVERS_LIMIT servers_of _ (λ sources.
       reads-well out list LIST_LIMIT list_of _ (λ entries. entries-well grid sources entries)))
+
+  kept-well : (grid : Grid) (sources : Servers) (entries : List ListEntry) →
+      EndsWell out (kept_job out grid sources entries Ends)
+  unfolding kept_job
+  kept-well grid sources entries =
+      all-words-well out grid None sources _ (λ words. sealed-well grid [] entries _ (λ bidders.
+      inl (
+        status-done (points_finish (auction_over grid) (inputs_at grid.prices bidders) (masks_of words.servers)),
+        inr (inl refl),
+      )))
+
+  list-well : (grid : Grid) (sources : Servers) (list : List ℕ) → EndsWell out (list_job out grid sources list Ends)
+  unfolding list_job
+  list-well grid sources list =
+      reads-well out list LIST_LIMIT list_of _ (λ entries.
+      product-well out list grid (length entries) _ (kept-well grid sources entries))
+
+  witness-well : (auction servers list : List ℕ) → EndsWell out (witness_errand auction servers list out)
+  unfolding witness_job
+  witness-well auction servers list =
+      reads-well out auction AUCTION_LIMIT auction_of _ (λ grid.
+      reads-well out servers SERVERS_LIMIT servers_of _ (λ sources. list-well grid sources list))
 
   each-enough : (grid : Grid) (number : ℕ) (farmers : List BidderWithWords) (next : Errand) → EndsWell out next →
       EndsWell out (enough_of_each grid number farmers next)
@@ -205,26 +234,41 @@ module _ (out : List ℕ) where
       (if is_word command (codes "trial") then trial else None) (tally-well first second)
       (choice (is_word command (codes "trial")) trial None (sized (sizes_of first second)) tt)
 
-  open-or : (command first second third : List ℕ) →
-      JobEndsWell (if is_word command (codes "open") then Some (Answering (open_errand first second third)) else None)
+  abbrev open_or : List ℕ → List ℕ → List ℕ → List ℕ → Option Job
+  open_or command first second third =
+      if is_word command (codes "open") then Some (Answering (open_errand first second third)) else None
+
+  abbrev watch_or : List ℕ → List ℕ → List ℕ → List ℕ → Option Job
+  watch_or command first second third =
+      if is_word command (codes "watch") then Some (Answering (watch_errand first second third))
+      else open_or command first second third
+
+  abbrev clear_or : List ℕ → List ℕ → List ℕ → List ℕ → Option Job
+  clear_or command first second third =
+      if is_word command (codes "clear") then Some (Answering (clear_errand first second third))
+      else watch_or command first second third
+
+  open-or : (command first second third : List ℕ) → JobEndsWell (open_or command first second third)
   open-or command first second third =
       choice (is_word command (codes "open")) (Some (Answering (open_errand first second third))) None
       (open-well first second third) tt
 
-  clear-or : (command first second third : List ℕ) →
-      JobEndsWell (if is_word command (codes "clear") then Some (Answering (clear_errand first second third))
-      else if is_word command (codes "open") then Some (Answering (open_errand first second third)) else None)
+  watch-or : (command first second third : List ℕ) → JobEndsWell (watch_or command first second third)
+  watch-or command first second third =
+      choice (is_word command (codes "watch")) (Some (Answering (watch_errand first second third)))
+      (open_or command first second third)
+      (watch-well first second third) (open-or command first second third)
+
+  clear-or : (command first second third : List ℕ) → JobEndsWell (clear_or command first second third)
   clear-or command first second third =
       choice (is_word command (codes "clear")) (Some (Answering (clear_errand first second third)))
-      (if is_word command (codes "open") then Some (Answering (open_errand first second third)) else None)
-      (clear-well first second third) (open-or command first second third)
+      (watch_or command first second third)
+      (clear-well first second third) (watch-or command first second third)
 
   three-words-well : (command first second third : List ℕ) → JobEndsWell (job_of_three command first second third)
   three-words-well command first second third =
-      choice (are_names (first ∷ second ∷ third ∷ []))
-      (if is_word command (codes "clear") then Some (Answering (clear_errand first second third))
-      else if is_word command (codes "open") then Some (Answering (open_errand first second third)) else None)
-      None (clear-or command first second third) tt
+      choice (are_names (first ∷ second ∷ third ∷ [])) (clear_or command first second third) None
+      (clear-or command first second third) tt
 
   sourced : (auction bid : List ℕ) (source : Option BidderSource) →
       JobEndsWell (option_map (λ from. Answering (seal_errand auction bid from out)) source)
@@ -235,10 +279,15 @@ module _ (out : List ℕ) where
   audit_or command first second third =
       if is_word command (codes "audit") then Some (Auditing first second third out) else None
 
+  abbrev witness_or : List ℕ → List ℕ → List ℕ → List ℕ → Option Job
+  witness_or command first second third =
+      if is_word command (codes "witness") then Some (Answering (witness_errand first second third out))
+      else audit_or command first second third
+
   abbrev record_or : List ℕ → List ℕ → List ℕ → List ℕ → Option Job
   record_or command first second third =
       if is_word command (codes "record") then Some (Answering (record_errand first second third out))
-      else audit_or command first second third
+      else witness_or command first second third
 
   abbrev rehearse_or : List ℕ → List ℕ → List ℕ → List ℕ → Option Job
   rehearse_or command first second third =
@@ -252,11 +301,17 @@ module _ (out : List ℕ) where
   audit-well command first second third =
       choice (is_word command (codes "audit")) (Some (Auditing first second third out)) None tt tt
 
+  witness-or : (command first second third : List ℕ) → JobEndsWell (witness_or command first second third)
+  witness-or command first second third =
+      choice (is_word command (codes "witness")) (Some (Answering (witness_errand first second third out)))
+      (audit_or command first second third)
+      (witness-well first second third) (audit-well command first second third)
+
   record-or : (command first second third : List ℕ) → JobEndsWell (record_or command first second third)
   record-or command first second third =
       choice (is_word command (codes "record")) (Some (Answering (record_errand first second third out)))
-      (audit_or command first second third)
-      (record-well first second third) (audit-well command first second third)
+      (witness_or command first second third)
+      (record-well first second third) (witness-or command first second third)
 
   rehearse-or : (command first second third : List ℕ) → JobEndsWell (rehearse_or command first second third)
   rehearse-or command first second third =

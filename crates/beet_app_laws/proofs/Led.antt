@@ -37,7 +37,7 @@ use Rattle.beet_job_worlds.specs.Ending.{ShowsWorlds, compared_errand, unless_di
 use Rattle.beet_job_worlds.specs.Reading.{Both, both_errand, first_book, second_book, words_read}
 use Rattle.beet_job_worlds.proofs.DifferenceFacts.{no-difference}
 use Rattle.beet_app.specs.Jobs.{Job, Answering, Comparing, Auditing, job_of}
-use Rattle.beet_app_laws.specs.Calls.{Call, IsOf, RunsJob, RunsWords}
+use Rattle.beet_app_laws.specs.Calls.{Call, IsOf, RunsJob, RunsJobOf}
 use Rattle.beet_app_laws.specs.Dues.{EndsAsDue, IsDue, IsDueOfAudit, IsDueOfViews, status_of_first}
 
 module _ (files : List File) where
@@ -275,7 +275,7 @@ module _ (files : List File) (call : Call) (from : IsOf files call) (due : Statu
       w.read w.shown is) r
 
 pub led : (words : List (List ℕ)) (files : List File) (call : Call) (due : Status) →
-    IsOf files call → RunsWords words call → IsDue files (job_of words) due → EndsAsDue due call.status
+    IsOf files call → RunsJobOf words call → IsDue files (job_of words) due → EndsAsDue due call.status
 led words files call due from r is = job-led files call from due (job_of words) r is
 
 module _ (files : List File) (call : Call) (e : call.shelf.files ≡ Some files) where
@@ -298,5 +298,5 @@ module _ (files : List File) (call : Call) (e : call.shelf.files ≡ Some files)
 
 -- over a shelf that tells its files, the answers of a run are of them
 pub told-from : (words : List (List ℕ)) (files : List File) (call : Call) → call.shelf.files ≡ Some files →
-    RunsWords words call → IsOf files call
+    RunsJobOf words call → IsOf files call
 told-from words files call e r = job-from files call e (job_of words) r

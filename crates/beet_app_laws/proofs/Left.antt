@@ -8,7 +8,7 @@ use Rattle.beet_store.specs.declared.desk.PutFault.{PutFault}
 use Rattle.beet_store.specs.declared.desk.PutFault.TheVariants.{Failed, OutOfMemory as NoMemoryToPut}
 use Rattle.beet_errand.specs.Errands.{Answer, Errand, Ends, Step, Wants, answers, refuses}
 use Rattle.beet_errand.specs.Fetches.{IsDone, Went}
-use Rattle.beet_errand.specs.Runs.{EndsBy, GivesAll, LeavesAll, Runs, RunsOut, Said, status_after}
+use Rattle.beet_errand.specs.Runs.{EndsBy, GivesAll, Runs, RunsOut, Said, status_after}
 use Rattle.beet_errand.specs.Statuses.{code_of}
 use Rattle.beet_errand.specs.Tasks.{RunsTask, Shows, ToShow}
 use Rattle.beet_errand.specs.Texts.{usage_text}
@@ -20,13 +20,13 @@ use Rattle.beet_errand.specs.declared.answer.Status.{Status}
 use Rattle.beet_errand.specs.declared.answer.Status.TheVariants.{Done as JobDone, MasksSpent, OutOfMemory as NoMemory}
 use Rattle.beet_errand.specs.declared.answer.Status.TheVariants.{WriteFault, Refused as IsRefused}
 use Rattle.beet_errand.proofs.Statuses.{not_done, same_end}
-use Rattle.beet_errand.proofs.Putting.{leaves_all}
+use Rattle.beet_errand.proofs.Putting.{LeavesAll, leaves_all}
 use Rattle.beet_app.specs.Doing.{task_of}
 use Rattle.beet_app.specs.Jobs.{Job, Answering, Comparing, Auditing, job_of}
 use Rattle.beet_job_worlds.specs.Ending.{ShowsWorlds, compared_errand, worlds_task}
 use Rattle.beet_job_audit.specs.Ending.{ShowsAudit}
 use Rattle.beet_job_audit.specs.Reading.{read_errand}
-use Rattle.beet_app_laws.specs.Calls.{Call, RunsWords}
+use Rattle.beet_app_laws.specs.Calls.{Call, RunsJobOf}
 use Rattle.beet_app_laws.specs.Leavings.{AreOutputs, EndsShort, IsRefusal, LeavesBy, SaysNothing, last_word}
 use Rattle.beet_app_laws.specs.Refusals.{IsLineOf}
 use Rattle.beet_app_laws.proofs.Answers.{EndsWell, IsAnswer, StepsWell, refused-well, went-well}
@@ -191,5 +191,5 @@ module _ (out : List ℕ) (call : Call) where
       shows-left OfAudit (read_errand auction one two three) (ShowsAudit auction one two three) told told_now
       (read-well out auction one two three) (λ answer shown. audited-well out shown.value answer shown.shown) r
 
-pub left : (words : List (List ℕ)) (call : Call) → RunsWords words call → LeavesBy (last_word words) call
+pub left : (words : List (List ℕ)) (call : Call) → RunsJobOf words call → LeavesBy (last_word words) call
 left words call r = job-left (last_word words) call (job_of words) call.shelf call.shelf_now (job-well words) r

@@ -6,4 +6,3 @@ pub mod Led
 pub mod Telling
 pub mod Reading
 pub mod Recorded
-pub mod Needed

@@ -5,7 +5,7 @@ use Rattle.std.proofs.lemmas.List.{append_cancel_left}
 use Rattle.beet_store.specs.Files.{Fetch, File, Told}
 use Rattle.beet_errand.specs.Errands.{Answer, Errand, Ends, Step, answers, refuses}
 use Rattle.beet_errand.specs.Fetches.{IsRead, Leads}
-use Rattle.beet_errand.specs.Records.{RecordsAnswer, calls_of}
+use Rattle.beet_errand.specs.Records.{calls_of}
 use Rattle.beet_errand.specs.Runs.{Runs}
 use Rattle.beet_errand.specs.Statuses.{code_of}
 use Rattle.beet_errand.specs.Tasks.{RunsTask, ShowsRead, ToAnswer, ToShow}
@@ -14,7 +14,7 @@ use Rattle.beet_errand.specs.declared.answer.OwnRefusal.{OwnRefusal}
 use Rattle.beet_errand.specs.declared.answer.OwnRefusal.TheVariants.{OfWorlds, OfAudit}
 use Rattle.beet_errand.specs.declared.answer.Refusal.TheVariants.{Usage}
 use Rattle.beet_errand.specs.declared.answer.Status.TheVariants.{Done as JobDone}
-use Rattle.beet_errand.proofs.Records.{records_task}
+use Rattle.beet_errand.proofs.Records.{RecordsAnswer, records_task}
 use Rattle.beet_errand.proofs.Statuses.{same_end}
 use Rattle.beet_job_worlds.specs.Answering.{ShowsTheSame}
 use Rattle.beet_job_worlds.specs.Ending.{compared_errand}
@@ -22,7 +22,7 @@ use Rattle.beet_job_worlds.specs.Reading.{both_errand, first_book, second_book, 
 use Rattle.beet_job_audit.specs.Ending.{TellsFinding}
 use Rattle.beet_job_audit.specs.Reading.{read_errand}
 use Rattle.beet_app.specs.Jobs.{Job, Answering, Comparing, Auditing, job_of}
-use Rattle.beet_app_laws.specs.Calls.{Call, RunsJob, RunsWords}
+use Rattle.beet_app_laws.specs.Calls.{Call, RunsJob, RunsJobOf}
 use Rattle.beet_app_laws.specs.Recorded.{LeadsJob, LeadsToShow, LeadsToStop, RecordsBy, RecordsJob}
 
 -- the calls tell what they give
@@ -162,6 +162,6 @@ module _ (call : Call) (one : call.status ≢ 1) (four : call.status ≢ 4) wher
   of-job (Some (Auditing auction one two three)) r =
       showing OfAudit (read_errand auction one two three) (read_errand auction one two three) TellsFinding r
 
-pub records : (words : List (List ℕ)) (call : Call) → RunsWords words call → call.status ≢ 1 → call.status ≢ 4 →
+pub records : (words : List (List ℕ)) (call : Call) → RunsJobOf words call → call.status ≢ 1 → call.status ≢ 4 →
     RecordsJob (job_of words) call
 records words call r one four = of-job call one four (job_of words) r

@@ -22,8 +22,8 @@ abbrev pub RunsJob : Option Job → Call → Type 0
 RunsJob job call = RunsTask (task_of job) call.shelf call.shelf_now call.desk call.desk_now call.status
 
 -- the call ran the job that these words name
-abbrev pub RunsWords : List (List ℕ) → Call → Type 0
-RunsWords words call = RunsJob (job_of words) call
+abbrev pub RunsJobOf : List (List ℕ) → Call → Type 0
+RunsJobOf words call = RunsJob (job_of words) call
 
 -- what the shelf answered in the call is of these files
 abbrev pub IsOf : List File → Call → Type 0
@@ -40,5 +40,5 @@ Says call text = Said call.desk call.desk_now text
 -- the call ran these words over these files, and ended with status 0 or 6
 pub record IsDoneCall (files : List File) (words : List (List ℕ)) (call : Call) : Type 0 where
   pub from : IsOf files call
-  pub runs : RunsWords words call
+  pub runs : RunsJobOf words call
   pub code : IsDoneCode call.status

@@ -1,4 +1,4 @@
--- The status to which the files of a job lead, where every one of them is fetched.
+-- The status to which the files of a job lead, if every one of them is fetched.
 use Rattle.std.specs.Prelude.{◌≡◌, ◌⊎◌, ℕ, List, [], Option, Some, None}
 use Rattle.beet_store.specs.Files.{File}
 use Rattle.beet_auction.specs.Endings.{book_finish}
@@ -22,8 +22,8 @@ use Rattle.beet_app.specs.Jobs.{Job, Answering, Comparing, Auditing}
 abbrev pub status_of_first : Both → Status
 status_of_first both = status_of (book_finish (first_book both) (words_read both).masks)
 
--- three transcripts that are read lead to the end of their run where they are of one, and to their refusal where they
--- are not
+-- three transcripts that are read lead to the end of their run if they are of one, and to their refusal if they are
+-- not
 abbrev pub IsDueOfViews : ReadViews → Status → Type 0
 IsDueOfViews read due =
     (OneRun read.grid read.views × (due ≡ (run_answer read).status))

@@ -5,4 +5,3 @@ pub mod Dues
 pub mod Held
 pub mod Readings
 pub mod Recorded
-pub mod Needed

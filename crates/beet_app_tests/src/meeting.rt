@@ -243,11 +243,12 @@ pub(crate) const OUTCOME: &str = "price 110\nvolume 35\nrounds 255\n";
 
 pub(crate) const TRIAL: &str = "bidders 0 prices 1\nprice 1000\nvolume 0\nrounds 128\n";
 
-/// The jobs that run in threads, with their rounds and their texts.
-const MEETINGS: [(&str, u64, &str); 4] = [
+/// The jobs that run in threads under the gate, with their rounds and their texts.
+const MEETINGS: [(&str, u64, &str); 5] = [
     (CLEAR, 255, OUTCOME),
     (RECORD, 255, OUTCOME),
     ("open g.auc s.srv made", 255, OUTCOME),
+    ("witness g.auc s.srv made w", 255, OUTCOME),
     ("trial 0 1", 128, TRIAL),
 ];
 

@@ -41,8 +41,13 @@ const BOTH_WORLDS: [Put; 3] = [
 
 const ENVELOPES: [Put; 3] = [("e.1", 104), ("e.2", 104), ("e.3", 104)];
 
-/// What is said of a tally, of a schedule of no message, of two worlds and of a sealed bid.
+const SEEN: [Put; 3] = [("w.1", 34_800), ("w.2", 34_800), ("w.3", 34_800)];
+
+/// What is said of a tally, of a watched auction, of a schedule of no message, of two worlds and of a sealed bid.
 const SUMS: &str = "supply 80\ndemand 35\n";
+
+const COUNTS: &str = "price 110\nvolume 35\nrounds 255\nserver 1 notes 255 opened 7\n\
+    server 2 notes 255 opened 7\nserver 3 notes 255 opened 7\n";
 
 const WAITING: &str =
     "server 1 round 0 waiting\nserver 2 round 0 waiting\nserver 3 round 0 waiting\nundelivered 6\n";
@@ -63,7 +68,7 @@ type Job = (
 );
 
 /// A case of each job.
-const JOBS: [Job; 9] = [
+const JOBS: [Job; 11] = [
     (
         "tally g1.auc tapes.book",
         &["g1.auc", "tapes.book", "dan.bid", "two", "eva.bid", "pair"],
@@ -75,6 +80,12 @@ const JOBS: [Job; 9] = [
         &["g.auc", "s.srv", "b.book", "anna.bid", "bo.bid", "carl.bid"],
         &[],
         OUTCOME,
+    ),
+    (
+        "watch g.auc s.srv b.book",
+        &["g.auc", "s.srv", "b.book", "anna.bid", "bo.bid", "carl.bid"],
+        &[],
+        COUNTS,
     ),
     (
         "rehearse g.auc s.srv b.book none.sch",
@@ -125,6 +136,14 @@ const JOBS: [Job; 9] = [
             "g.auc", "s.srv", "made", "a.1", "a.2", "a.3", "b.1", "b.2", "b.3", "c.1", "c.2", "c.3",
         ],
         &[],
+        OUTCOME,
+    ),
+    (
+        "witness g.auc s.srv made w",
+        &[
+            "g.auc", "s.srv", "made", "a.1", "a.2", "a.3", "b.1", "b.2", "b.3", "c.1", "c.2", "c.3",
+        ],
+        &SEEN,
         OUTCOME,
     ),
     ("trial 0 1", &[], &[], TRIAL),

@@ -42,7 +42,7 @@ abbrev pub Ends : Book → Words → Type 0
 Ends book words = HasRounds (setup_for book words) (rounds_for book words)
 
 -- words that are enough for the first book, a second book that agrees with it for server s, and words of the second
--- book's bidders that are mapped from those of the first; all words are below 2^61
+-- book's bidders that are mapped from those of the first; all bidders' words are below 2^61
 pub record HasBidders (s : Point) (first : Book) (words : Words) (second : Book) (bidders : List (List ℕ)) :
     Type 0 where
   pub enough : AreEnough first words

@@ -14,7 +14,7 @@ use beet_field::Trio;
 use beet_link::Gate;
 use beet_load::ServerWords;
 use beet_plan::Finish;
-use beet_run::{finish_at, start_servers};
+use beet_run::{end_of, start_servers};
 use beet_search::AuctionScript;
 use beet_server::ServerCore;
 use beet_threads::run_three;
@@ -64,8 +64,5 @@ pub fn run_auction<R: Threads + Wait + Clock + Sync, G: Gate>(
     ensures ends { IfOk result (λ run. EndsAuction grid.now inputs words run.0 run.1) }
 {
     let ended = run_servers(rt, alloc, grid, inputs, words, gate)?;
-    let run = (finish_at(&ended.one), ended.one.round());
-    // One call lets them go: else the proof of this way out goes through each of their parts.
-    drop(ended);
-    Ok(run)
+    Ok(end_of(ended))
 }

@@ -52,7 +52,7 @@ pub record HeaderFits (grid : Grid) (first : Viewed) (s : Point) (view : Viewed)
 abbrev pub Header : Grid → Trio Viewed → Point → Option AuditFault → Type 0
 Header grid views s = Wants (HeaderFits grid views.one s (member views s)) (HeaderDiffers s)
 
--- the bidder at a place of a view, where there is one, and else one without points
+-- the bidder at a place of a view, if there is one, and else one without points
 abbrev pub bidder_at : Viewed → ℕ → Seen
 bidder_at view i = slice_index_or view.bidders i (record { known = None; points = []; own = None })
 
@@ -60,11 +60,11 @@ bidder_at view i = slice_index_or view.bidders i (record { known = None; points 
 abbrev pub points_of_bidder : Trio Viewed → ℕ → Trio (List ℕ)
 points_of_bidder views i = of_each (λ view. (bidder_at view i).points) views
 
--- each server has two points for each price of the bidder at this place
+-- the bidder at this place has two points for each price at each server
 abbrev pub HasPoints : ℕ → Trio Viewed → ℕ → Type 0
 HasPoints prices views i = HasLengths (points_of_bidder views i) (2 * prices)
 
--- each view has the bidder at this place, with its points
+-- each view is over this number of prices, and has the bidder at this place with its points
 pub record IsBidderOf (prices : ℕ) (views : Trio Viewed) (i : ℕ) : Type 0 where
   pub lengths : HasPoints prices views i
   pub there : (s : Point) → i < length (member views s).bidders
@@ -95,7 +95,7 @@ abbrev pub Lines : ℕ → ℕ → Trio (List ℕ) → Side → Option AuditFaul
 Lines prices i points side =
     EachBelow prices (λ k. Wants (IsLine (points_on points (first_of prices side + k))) (NotALine (i + 1) k side))
 
--- what is bought and sold at a place, where these are the quantities: both are within the limit, buy does not rise from
+-- what is bought and sold at a place, if these are the quantities: both are within the limit, buy does not rise from
 -- the place before, and sell does not fall
 pub record IsStep (prices : ℕ) (values : ℕ → ℕ) (k : ℕ) : Type 0 where
   pub buy_limit : values k ≤ LARGEST_QUANTITY

@@ -17,7 +17,7 @@ use Rattle.beet_load.specs.Wholes.{CanStart}
 use Rattle.beet_view.specs.BookViews.{names, seen_at, view_for}
 use Rattle.beet_view.specs.declared.view.Seen.{Seen}
 use Rattle.beet_transcripts.proofs.FittingViews.{own-kept}
-use Rattle.beet_transcripts.proofs.HasRuns.{seen-all}
+use Rattle.beet_transcripts.proofs.BookRuns.{seen-all}
 use Rattle.beet_audit.specs.Audits.{bidder_at}
 use Rattle.beet_audit_laws.proofs.KeptWords.{IsKeptAt}
 use Rattle.beet_audit_laws.proofs.ThirdFacts.{IsSound, kept-from}

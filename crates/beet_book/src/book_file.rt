@@ -5,7 +5,7 @@ ghost use Rattle.beet_forms.specs.Faults.{Answers};
 ghost use Rattle.beet_book.specs.BookFiles.{book_of};
 
 use crate::entries::{Entry, read_entry};
-use crate::named_file::{NamedRow, read_named};
+use crate::named_file::{NamedRow, ONE_TOO_MANY, read_named};
 use beet_forms::{LONGEST_FILE, Name, ReadFault, Row};
 use beet_words::MOST_BIDDERS;
 use std::alloc::Global;
@@ -45,5 +45,5 @@ pub fn read_book(alloc: Global, bytes: &[u8]) -> Result<Vec<Entry>, ReadFault>
     ensures reads { Answers (λ entries. entries.items) (book_of bytes.now) result }
     ensures few { IfOk result (λ entries. length entries.items ≤ MOST_BIDDERS) }
 {
-    read_named(alloc, b"beet-book", bytes)
+    read_named(alloc, ONE_TOO_MANY, b"beet-book", bytes)
 }

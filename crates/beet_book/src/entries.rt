@@ -35,7 +35,7 @@ pub struct Entry {
 }
 
 /// The server that knows the bidder, where `0` stands for none.
-fn read_known(text: &[u8]) -> Option<Option<Point>>
+pub fn read_known(text: &[u8]) -> Option<Option<Point>>
     ensures { result ≡ known_of text.now }
 {
     if text == b"0".as_slice() {
@@ -45,7 +45,11 @@ fn read_known(text: &[u8]) -> Option<Option<Point>>
 }
 
 /// Where a bidder's words come from, by the kind and the text.
-fn read_source(alloc: Global, kind: &[u8], text: &[u8]) -> Result<Option<BidderSource>, AllocError>
+pub fn read_source(
+    alloc: Global,
+    kind: &[u8],
+    text: &[u8],
+) -> Result<Option<BidderSource>, AllocError>
     ensures { IfOk result (λ source. source ≡ source_of kind.now text.now) }
 {
     if kind == b"seed".as_slice() {

@@ -14,8 +14,8 @@ mod threads;
 
 pub use book_file::{BOOK_LIMIT, MOST_PRODUCT, OVER_PRODUCT, read_book};
 pub use dealing::{Dealt, deal_bidder, deal_many};
-pub use entries::{BAD_SOURCE, BidderSource, Entry};
-pub use named_file::{NamedRow, ONE_TOO_MANY, SAME_NAME, TOO_MANY, read_named};
+pub use entries::{BAD_SOURCE, BidderSource, Entry, read_known, read_source};
+pub use named_file::{NamedRow, ONE_TOO_MANY, SAME_NAME, TOO_MANY, read_named, read_named_rows};
 pub use server_file::{SERVERS_LIMIT, read_servers};
 pub use sources::{ServerSource, Servers};
 pub use summing::{MOST_IN_BLOCK, Totals};

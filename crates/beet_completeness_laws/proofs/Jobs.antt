@@ -1,8 +1,8 @@
 -- What is right for a job leads it to its end, job by job.
 use Rattle.std.proofs.Common.{◌≡◌, ◌∷◌, ◌==◌, ◌≤◌, ◌+◌, ℕ, Bool, true, false, List, [], length, Option, Some, None}
-use Rattle.std.proofs.Common.{if◌then◌else◌, refl, sym, ap, ◌∙◌}
+use Rattle.std.proofs.Common.{if◌then◌else◌, ◌*◌, arith, refl, sym, ap, ◌∙◌}
 use Rattle.std.specs.Prelude.{◌||◌, codes, option_map}
-use Rattle.std.proofs.lemmas.Bool.{eq-eqb}
+use Rattle.std.proofs.lemmas.Bool.{eq-eqb, le-ltb}
 use Rattle.std.proofs.lemmas.List.Elements.{All-head, All-tail}
 use Rattle.beet_field.specs.Point.{server_of}
 use Rattle.beet_field.specs.declared.point.Point.{Point}
@@ -23,7 +23,7 @@ use Rattle.beet_book.specs.BookFiles.{book_of}
 use Rattle.beet_book.specs.Farmers.{BidderWithWords, book_with}
 use Rattle.beet_book.specs.PointSums.{inputs_at}
 use Rattle.beet_book.specs.ServerFiles.{servers_of}
-use Rattle.beet_book.specs.declared.book_file.TheConstants.{BOOK_LIMIT}
+use Rattle.beet_book.specs.declared.book_file.TheConstants.{BOOK_LIMIT, MOST_PRODUCT}
 use Rattle.beet_book.specs.declared.entries.BidderSource.{BidderSource}
 use Rattle.beet_book.specs.declared.server_file.TheConstants.{SERVERS_LIMIT}
 use Rattle.beet_farmer.specs.Lists.{list_of}
@@ -38,22 +38,25 @@ use Rattle.beet_world.specs.Worlds.{named_in}
 use Rattle.beet_world.specs.declared.schedule.Delivery.{Delivery}
 use Rattle.beet_world.specs.declared.schedule.TheConstants.{SCHEDULE_LIMIT}
 use Rattle.beet_auction_map.specs.declared.agreeing.MapFault.{MapFault}
-use Rattle.beet_errand.specs.Errands.{Errand, answers, reads}
+use Rattle.beet_errand.specs.Errands.{Errand, answers, bad_file, reads}
 use Rattle.beet_errand.specs.declared.answer.Status.TheVariants.{Done, MasksSpent as Spent}
 use Rattle.beet_load.specs.Counts.{counts_of, words_wanted}
 use Rattle.beet_load.specs.Wanted.{wanted_of}
 use Rattle.beet_load.specs.Farmers.{farmers_errand}
 use Rattle.beet_load.specs.Loading.{AuctionWithBidders, loaded_errand}
 use Rattle.beet_load.specs.Servers.{HaveEnough, ServerWords, all_words_errand, enough_of_all, masks_of}
+use Rattle.beet_load.specs.Limits.{over_product, within_product}
 use Rattle.beet_load.specs.Wholes.{limited_errand}
 use Rattle.beet_load.proofs.Farming.{words_pass}
 use Rattle.beet_load.proofs.ServerSteps.{counts_pass}
 use Rattle.beet_job_tally.specs.Tally.{one_price, tally_errand, tally_job}
 use Rattle.beet_job_clear.specs.Clear.{clear_errand}
+use Rattle.beet_job_watch.specs.Watch.{watch_errand}
 use Rattle.beet_job_rehearse.specs.Rehearse.{is_spent, rehearsal_status, rehearse_errand}
 use Rattle.beet_job_rehearse.specs.Standings.{rehearsal_of}
 use Rattle.beet_job_rehearse.specs.declared.standing.Standing.TheVariants.{Ended, Waiting}
 use Rattle.beet_job_record.specs.Records.{record_errand}
+use Rattle.beet_job_witness.specs.Witness.{kept_job, list_job, witness_errand, witness_job}
 use Rattle.beet_job_envelopes.specs.Gather.{bidders_errand}
 use Rattle.beet_job_envelopes.specs.Open.{entries_job, open_errand, open_job}
 use Rattle.beet_job_envelopes.specs.Seal.{own_words_errand, seal_errand, seal_job}
@@ -69,7 +72,7 @@ use Rattle.beet_app.specs.Jobs.{Answering, Auditing, Comparing, Job, are_names, 
 use Rattle.beet_app_laws.specs.Calls.{Call}
 use Rattle.beet_app_laws.specs.Dues.{status_of_first}
 use Rattle.beet_completeness_laws.specs.Complete.{CanAudit, CanCompare, CanOpen, CanRehearse, CanClear, CanSeal, CanTally}
-use Rattle.beet_completeness_laws.specs.Complete.{CanRunTrial}
+use Rattle.beet_completeness_laws.specs.Complete.{CanRunTrial, CanWitness}
 use Rattle.beet_completeness_laws.specs.WithoutFault.{IsDoneOrShort, RunsWithoutFault}
 use Rattle.beet_completeness_laws.proofs.Audits.{audit-done}
 use Rattle.beet_completeness_laws.proofs.Leading.{IsDoneOver, book-done, book-ends, done-or-short, passes, passes-both}
@@ -78,7 +81,7 @@ use Rattle.beet_completeness_laws.proofs.Leading.{passes-done, points-done, then
 -- ---- errands
 
 module _ (files : List File) where
-  tally-done : (auction list : List ℕ) → CanTally files auction list → IsDoneOver files (tally_errand auction list)
+  pub tally-done : (auction list : List ℕ) → CanTally files auction list → IsDoneOver files (tally_errand auction list)
   unfolding tally_job
   tally-done auction list can =
       let grid : Grid = can.read.grid.value in
@@ -88,19 +91,25 @@ module _ (files : List File) where
       then-done files (farmers_errand (wanted_of None grid) grid None [] can.read.entries.value) can.read.farmers.value _
       can.read.farmers.is refl)))
 
-  clear-done : (auction servers list : List ℕ) → CanClear files (loaded_errand auction servers list) →
+  pub clear-done : (auction servers list : List ℕ) → CanClear files (loaded_errand auction servers list) →
       IsDoneOver files (clear_errand auction servers list)
   clear-done auction servers list can =
       then-done files (loaded_errand auction servers list) can.loaded _ can.loaded_read
       (book-done (book_with can.loaded.grid can.loaded.farmers) (masks_of can.loaded.servers) can.masks)
 
-  record-done : (auction servers list out : List ℕ) → CanClear files (limited_errand auction servers list) →
+  watch-done : (auction servers list : List ℕ) → CanClear files (loaded_errand auction servers list) →
+      IsDoneOver files (watch_errand auction servers list)
+  watch-done auction servers list can =
+      then-done files (loaded_errand auction servers list) can.loaded _ can.loaded_read
+      (book-done (book_with can.loaded.grid can.loaded.farmers) (masks_of can.loaded.servers) can.masks)
+
+  pub record-done : (auction servers list out : List ℕ) → CanClear files (limited_errand auction servers list) →
       IsDoneOver files (record_errand auction servers list out)
   record-done auction servers list out can =
       then-done files (limited_errand auction servers list) can.loaded _ can.loaded_read
       (book-done (book_with can.loaded.grid can.loaded.farmers) (masks_of can.loaded.servers) can.masks)
 
-  seal-done : (auction bid source out : List ℕ) (can : CanSeal files auction bid source) →
+  pub seal-done : (auction bid source out : List ℕ) (can : CanSeal files auction bid source) →
       IsDoneOver files (seal_errand auction bid can.from out)
   unfolding seal_job
   seal-done auction bid source out can =
@@ -108,7 +117,7 @@ module _ (files : List File) where
       then-done files (reads bid BID_LIMIT (bid_of can.grid.value)) can.curve.value _ can.curve.is (
       then-done files (own_words_errand can.grid.value can.from) can.words.value _ can.words.is refl))
 
-  open-done : (auction servers list : List ℕ) → CanOpen files auction servers list →
+  pub open-done : (auction servers list : List ℕ) → CanOpen files auction servers list →
       IsDoneOver files (open_errand auction servers list)
   unfolding open_job entries_job
   open-done auction servers list can =
@@ -122,6 +131,30 @@ module _ (files : List File) where
       then-done files (bidders_errand grid [] entries) can.read.bidders.value _ can.read.bidders.is
       (points-done (auction_over grid) (inputs_at grid.prices can.read.bidders.value)
       (masks_of can.read.words.value.servers) can.masks)))))
+
+  -- bidders within the limit pass it
+  within-passes : (list : List ℕ) (grid : Grid) (count : ℕ) (next : Errand) → count * grid.prices ≤ MOST_PRODUCT →
+      within_product 0 list grid count next ≡ next
+  within-passes list grid count next few = ap (λ (b : Bool). if b then bad_file list over_product else next)
+      (le-ltb MOST_PRODUCT (0 + count * grid.prices) (omega (arith, few)))
+
+  witness-done : (auction servers list out : List ℕ) → CanWitness files auction servers list →
+      IsDoneOver files (witness_errand auction servers list out)
+  unfolding witness_job list_job kept_job
+  witness-done auction servers list out can =
+      let read = can.opens.read in
+      let grid : Grid = read.grid.value in
+      let entries : List ListEntry = read.entries.value in
+      then-done files (reads auction AUCTION_LIMIT auction_of) grid _ read.grid.is (
+      then-done files (reads servers SERVERS_LIMIT servers_of) read.sources.value _ read.sources.is (
+      then-done files (reads list LIST_LIMIT list_of) entries _ read.entries.is (
+      passes-done files (within_product 0 list grid (length entries)) _
+      (within-passes list grid (length entries) _ can.within) (
+      then-done files (all_words_errand (wanted_of None grid) None read.sources.value) read.words.value _
+      read.words.is (
+      then-done files (bidders_errand grid [] entries) read.bidders.value _ read.bidders.is
+      (points-done (auction_over grid) (inputs_at grid.prices read.bidders.value)
+      (masks_of read.words.value.servers) can.opens.masks))))))
 
   -- ---- a rehearsal
 
@@ -139,7 +172,7 @@ module _ (files : List File) where
       let three = not-spent o (passed rounds x Three == rounds) (passed rounds x Three) in
       λ i. if sym one i || sym two i || sym three i then Spent else Done
 
-  rehearse-done : (auction servers list name : List ℕ) (loaded : AuctionWithBidders) (schedule : List Delivery) →
+  pub rehearse-done : (auction servers list name : List ℕ) (loaded : AuctionWithBidders) (schedule : List Delivery) →
       CanRehearse files auction servers list name loaded schedule →
       IsDoneOver files (rehearse_errand auction servers list name)
   rehearse-done auction servers list name loaded schedule can =
@@ -170,7 +203,7 @@ module _ (files : List File) where
       (words_pass None number (words_wanted grid) farmer.words (All-head enough farmer farmers h)).passes _
       ∙ farmers-pass grid (number + 1) farmers (All-tail enough farmer farmers h) next
 
-  trial-done : (first second : List ℕ) (can : CanRunTrial first second) →
+  pub trial-done : (first second : List ℕ) (can : CanRunTrial first second) →
       IsDoneOver files (trial_errand can.bidders can.prices)
   trial-done first second can =
       let grid = trial_grid can.prices in
@@ -182,7 +215,7 @@ module _ (files : List File) where
 
   -- ---- two worlds
 
-  compared-done : (auction servers list1 list2 server : List ℕ)
+  pub compared-done : (auction servers list1 list2 server : List ℕ)
       (can : CanCompare files auction servers list1 list2 server) →
       IsDoneOver files (compared_errand auction servers list1 list2 can.s (λ both. answers (status_of_first both) []))
   compared-done auction servers list1 list2 server can =
@@ -213,6 +246,15 @@ module _ (files : List File) (call : Call) where
       (passes (are_names (auction ∷ servers ∷ list ∷ [])) job w.job w.named)
       (clear-done files auction servers list can)
 
+  pub watch : (auction servers list : List ℕ) →
+      RunsWithoutFault files (codes "watch" ∷ auction ∷ servers ∷ list ∷ []) call →
+      CanClear files (loaded_errand auction servers list) → IsDoneOrShort call
+  watch auction servers list w can =
+      let job = Some (Answering (watch_errand auction servers list)) in
+      done-or-short files _ call w job
+      (passes (are_names (auction ∷ servers ∷ list ∷ [])) job w.job w.named)
+      (watch-done files auction servers list can)
+
   pub opened : (auction servers list : List ℕ) →
       RunsWithoutFault files (codes "open" ∷ auction ∷ servers ∷ list ∷ []) call →
       CanOpen files auction servers list → IsDoneOrShort call
@@ -239,6 +281,15 @@ module _ (files : List File) (call : Call) where
       done-or-short files _ call w job
       (passes-both (are_names (auction ∷ servers ∷ out ∷ [])) (is_name_of list) job w.job w.named)
       (record-done files auction servers list out can)
+
+  pub witness : (auction servers list out : List ℕ) →
+      RunsWithoutFault files (codes "witness" ∷ auction ∷ servers ∷ list ∷ out ∷ []) call →
+      CanWitness files auction servers list → IsDoneOrShort call
+  witness auction servers list out w can =
+      let job = Some (Answering (witness_errand auction servers list out)) in
+      done-or-short files _ call w job
+      (passes-both (are_names (auction ∷ servers ∷ out ∷ [])) (is_name_of list) job w.job w.named)
+      (witness-done files auction servers list out can)
 
   pub audit : (auction one two three : List ℕ) →
       RunsWithoutFault files (codes "audit" ∷ auction ∷ one ∷ two ∷ three ∷ []) call →

@@ -1,6 +1,6 @@
 -- What is right for a job over these files: each file that it reads is held, in its grammar and within its limits, and
 -- tapes hold the words that are wanted, so that the job reads a value; and its masks suffice.
-use Rattle.std.specs.Prelude.{◌≡◌, ℕ, List, length, Some, false}
+use Rattle.std.specs.Prelude.{◌≡◌, ◌≤◌, ◌*◌, ℕ, List, length, Some, false}
 use Rattle.beet_field.specs.Point.{server_of}
 use Rattle.beet_field.specs.declared.point.Point.{Point}
 use Rattle.beet_field.specs.declared.trio.Trio.{Trio}
@@ -10,6 +10,7 @@ use Rattle.beet_bids.specs.Books.{Book}
 use Rattle.beet_bids.specs.Outcomes.{clearing_place}
 use Rattle.beet_book.specs.Farmers.{book_with}
 use Rattle.beet_book.specs.PointSums.{inputs_at}
+use Rattle.beet_book.specs.declared.book_file.TheConstants.{MOST_PRODUCT}
 use Rattle.beet_plan.specs.Auction.{auction_over}
 use Rattle.beet_masking.specs.Masks.{is_spent, mask_at}
 use Rattle.beet_plan.specs.Search.{path}
@@ -47,7 +48,7 @@ pub record CanTally (files : List File) (auction book : List ℕ) : Type 0 where
   pub read : TallyRead files auction book
   pub one_price : read.grid.value.prices ≡ 1
 
--- `clear` and `record`: by this step an auction is read with its servers and its book, and the masks suffice
+-- `clear`, `watch` and `record`: by this step an auction is read with its servers and its book, and the masks suffice
 pub record CanClear (files : List File) (step : Step AuctionWithBidders) : Type 0 where
   pub loaded : AuctionWithBidders
   pub loaded_read : ReadsTo files step loaded
@@ -72,6 +73,11 @@ pub record CanOpen (files : List File) (auction servers list : List ℕ) : Type 
       let grid = read.grid.value in
       MasksSuffice grid.prices (points_place (auction_over grid) (inputs_at grid.prices read.bidders.value))
       (masks_of read.words.value.servers)
+
+-- `witness`: so it is, and the bidders of the list, each counted once for each price, are within the limit
+pub record CanWitness (files : List File) (auction servers list : List ℕ) : Type 0 where
+  pub opens : CanOpen files auction servers list
+  pub within : length opens.read.entries.value * opens.read.grid.value.prices ≤ MOST_PRODUCT
 
 -- `trial`: the words are two sizes, the seeds of the rule give words that are enough, and the masks suffice
 pub record CanRunTrial (first second : List ℕ) : Type 0 where

@@ -3,7 +3,7 @@ use Rattle.std.specs.Prelude.{◌≡◌, ◌⊎◌, ℕ, List, Some}
 use Rattle.beet_store.specs.Causes.{Rose}
 use Rattle.beet_store.specs.Files.{File}
 use Rattle.beet_app.specs.Jobs.{Job, job_of}
-use Rattle.beet_app_laws.specs.Calls.{Call, IsOf, RunsWords}
+use Rattle.beet_app_laws.specs.Calls.{Call, IsOf, RunsJobOf}
 
 -- a run on words that name a job, over a shelf whose answers are of these files, in which neither the count of faults
 -- of the shelf nor that of the desk rose: what the clauses `runs`, `read` and `write` of `run` say of it
@@ -11,7 +11,7 @@ pub record RunsWithoutFault (files : List File) (words : List (List ℕ)) (call 
   pub job : Job
   pub named : job_of words ≡ Some job
   pub from : IsOf files call
-  pub runs : RunsWords words call
+  pub runs : RunsJobOf words call
   pub shelf_faults : ℕ
   pub shelf_faults_now : ℕ
   pub read : call.status ≡ 3 → Rose shelf_faults shelf_faults_now

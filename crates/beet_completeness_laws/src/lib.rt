@@ -1,4 +1,5 @@
-//! Completeness: what is right is done. There is no code here: the laws are contracts of functions that do nothing.
+//! Each command ends with status 0 if its files are in order, no call of the outside fails and memory suffices: the
+//! contracts of functions that do nothing.
 #![tactic(auto)]
 
 ghost use Rattle.std.specs.Prelude.{◌≡◌, ℕ, List, [], ◌∷◌, codes};
@@ -21,7 +22,7 @@ ghost use Rattle.beet_job_rehearse.specs.StandingTexts.{rehearsal_text};
 ghost use Rattle.beet_app_laws.specs.Calls.{Call, Says};
 ghost use Rattle.beet_app_laws.specs.Held.{IsHeld};
 ghost use Rattle.beet_completeness_laws.specs.Complete.{CanAudit, CanCompare, CanOpen, CanRehearse, CanClear, CanSeal};
-ghost use Rattle.beet_completeness_laws.specs.Complete.{CanTally, CanRunTrial};
+ghost use Rattle.beet_completeness_laws.specs.Complete.{CanTally, CanRunTrial, CanWitness};
 ghost use Rattle.beet_completeness_laws.specs.Kinds.{FileKind, ValueOf};
 ghost use Rattle.beet_completeness_laws.specs.WithoutFault.{IsDoneOrShort, RunsWithoutFault};
 
@@ -34,6 +35,9 @@ pub fn what_is_right_is_done()
         CanTally files auction book → IsDoneOrShort call }
     ensures clear { (files : List File) (auction servers book : List ℕ) (call : Call) →
         RunsWithoutFault files (codes "clear" ∷ auction ∷ servers ∷ book ∷ []) call →
+        CanClear files (loaded_errand auction servers book) → IsDoneOrShort call }
+    ensures watch { (files : List File) (auction servers book : List ℕ) (call : Call) →
+        RunsWithoutFault files (codes "watch" ∷ auction ∷ servers ∷ book ∷ []) call →
         CanClear files (loaded_errand auction servers book) → IsDoneOrShort call }
     ensures rehearse { (files : List File) (auction servers book name : List ℕ) (loaded : AuctionWithBidders)
         (schedule : List Delivery) (call : Call) →
@@ -56,6 +60,9 @@ pub fn what_is_right_is_done()
     ensures opened { (files : List File) (auction servers list : List ℕ) (call : Call) →
         RunsWithoutFault files (codes "open" ∷ auction ∷ servers ∷ list ∷ []) call →
         CanOpen files auction servers list → IsDoneOrShort call }
+    ensures witness { (files : List File) (auction servers list out : List ℕ) (call : Call) →
+        RunsWithoutFault files (codes "witness" ∷ auction ∷ servers ∷ list ∷ out ∷ []) call →
+        CanWitness files auction servers list → IsDoneOrShort call }
     ensures trial { (files : List File) (first second : List ℕ) (call : Call) →
         RunsWithoutFault files (codes "trial" ∷ first ∷ second ∷ []) call →
         CanRunTrial first second → IsDoneOrShort call }

@@ -16,17 +16,19 @@ pub record Sender : Type 0 where
   pub notes : List DeskNote
   pub pushed : ℕ
 
--- the desk's end: its queue, all notes of each server, in order, and the notes that were taken, in order
+-- the desk's end: its queue, for how many notes that has room, all notes of each server, in order, and the notes that
+-- were taken, in order
 pub record Receiver : Type 0 where
   pub queue : TableId
+  pub room : ℕ
   pub notes : Trio (List DeskNote)
   pub taken : List DeskNote
 
 abbrev pub sender_at_start : TableId → Trio (List DeskNote) → Point → Sender
 sender_at_start queue notes s = record { queue = queue; server = s; notes = member notes s; pushed = 0 }
 
-abbrev pub receiver_at_start : TableId → Trio (List DeskNote) → Receiver
-receiver_at_start queue notes = record { queue = queue; notes = notes; taken = [] }
+abbrev pub receiver_at_start : TableId → ℕ → Trio (List DeskNote) → Receiver
+receiver_at_start queue room notes = record { queue = queue; room = room; notes = notes; taken = [] }
 
 -- the notes of one server, in order
 abbrev pub of_server : Point → List DeskNote → List DeskNote
@@ -48,7 +50,7 @@ abbrev pub IsNextTaken : Receiver → DeskNote → Type 0
 IsNextTaken e note = slice_get (member e.notes note.server) (length (of_server note.server e.taken)) ≡ Some note
 
 abbrev pub one_received : DeskNote → Receiver → Receiver
-one_received note e = record { queue = e.queue; notes = e.notes; taken = e.taken ++ note ∷ [] }
+one_received note e = record { queue = e.queue; room = e.room; notes = e.notes; taken = e.taken ++ note ∷ [] }
 
 -- what was taken of each server, in order, is the first of its notes, each whole and once
 abbrev pub AreFirst : Trio (List DeskNote) → List DeskNote → Type 0

@@ -47,8 +47,8 @@ impl Model for NoteTx {
         × AreFrom t.server (member (known t.pass).streams t.server) };
 }
 
-/// The desk's end. Contracts see which queue it is of, the notes of each server in the run, in order, and those that
-/// were taken, in the order in which they were taken.
+/// The desk's end. Contracts see which queue it is of, for how many notes that has room, the notes of each server in
+/// the run, in order, and those that were taken, in the order in which they were taken.
 #[derive(Drop)]
 pub struct NoteRx {
     pub(crate) queue: Arc<Queue<DeskNote>, Global>,
@@ -58,7 +58,7 @@ pub struct NoteRx {
 impl Model for NoteRx {
     ghost use Rattle.std.specs.Prelude.{◌≡◌, true};
     ghost use Rattle.std.specs.Arc.{arc_value};
-    ghost use Rattle.crossbeam_queue.specs.Passes.{view as known, IsPassOf};
+    ghost use Rattle.crossbeam_queue.specs.Passes.{view as known, IsPassOf, ruled_capacity};
     ghost use Rattle.beet_queue.specs.Rule.{no_one};
     ghost use Rattle.beet_desk.specs.Ends.{Receiver, AreFirst};
 
@@ -66,6 +66,7 @@ impl Model for NoteRx {
 
     ghost view = { λ t. record {
       queue = t.pass.table_id;
+      room = ruled_capacity (arc_value t.queue);
       notes = (known t.pass).streams;
       taken = (known t.pass).taken;
     } };

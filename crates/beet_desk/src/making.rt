@@ -1,6 +1,6 @@
 //! How the queue of notes is made.
 
-ghost use Rattle.std.specs.Prelude.{◌≡◌, ◌≤◌, ◌<◌, ◌*◌, ◌^◌, IfOk};
+ghost use Rattle.std.specs.Prelude.{◌≡◌, ◌≤◌, ◌<◌, ◌*◌, ◌^◌, IfOk, max};
 ghost use Rattle.beet_field.specs.Trio.{member};
 ghost use Rattle.beet_field.specs.declared.point.Point.{Point as Server};
 ghost use Rattle.beet_server.specs.Cores.{AreFresh};
@@ -19,7 +19,8 @@ use std::marker::Brand;
 use std::sync::Arc;
 
 /// The queue for the notes of the run of three fresh servers: an end for each of them, and that of the desk. It has
-/// room for all notes, so that no push is refused, and no other call takes memory. The only error is want of memory.
+/// room for a note of each server on each round that the script may have, and at least for three. That is for all of
+/// them, so that no push is refused; no other call takes memory. The only error is want of memory.
 pub fn note_queue<S: Script>(
     alloc: Global,
     cores: &Trio<ServerCore<S>>,
@@ -29,7 +30,8 @@ pub fn note_queue<S: Script>(
     ensures senders { IfOk result (λ ends. (s : Server) → member ends.0 s
         ≡ sender_at_start ends.1.queue (notes_from S.batch_of S.inputs_of S.rounds_of cores.now) s) }
     ensures receiver { IfOk result (λ ends. ends.1
-        ≡ receiver_at_start ends.1.queue (notes_from S.batch_of S.inputs_of S.rounds_of cores.now)) }
+        ≡ receiver_at_start ends.1.queue (max (3 * S.rounds_of cores.now.one.script) 3)
+        (notes_from S.batch_of S.inputs_of S.rounds_of cores.now)) }
     ensures small { IfOk result (λ ends. (s : Server) → AreSmall (member ends.1.notes s)) }
 {
     let capacity = (3 * cores.one.script().rounds() as usize).max(3);
@@ -46,7 +48,7 @@ fn open<K: Named<DeskNote>, S: Script>(
     requires room { all_named K.streams ≤ capacity }
     requires named { (s : Server) → AreFrom s (member K.streams s) }
     ensures senders { IfOk result (λ ends. (s : Server) → member ends.0 s ≡ sender_at_start ends.1.queue K.streams s) }
-    ensures receiver { IfOk result (λ ends. ends.1 ≡ receiver_at_start ends.1.queue K.streams) }
+    ensures receiver { IfOk result (λ ends. ends.1 ≡ receiver_at_start ends.1.queue capacity K.streams) }
 {
     let (queue, mut pass) = Queue::ruled(alloc, capacity)?;
     let one = queue.another::<GivesAway<K, ToOne>>(&mut pass);

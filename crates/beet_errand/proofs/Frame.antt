@@ -1,5 +1,5 @@
 -- Calls over a shelf, one after another.
-use Rattle.std.proofs.Common.{◌≡◌, ◌∙◌, ℕ, List, Result, Ok, Err, IfOk, IfErr, arith, refl, sym, subst}
+use Rattle.std.proofs.Common.{◌≡◌, ◌≤◌, ◌∙◌, ℕ, List, Result, Ok, Err, IfOk, IfErr, arith, refl, sym, subst}
 use Rattle.std.specs.Prelude.{IsErrAnd}
 use Rattle.std.proofs.lemmas.Result.{err_from_is_err_and}
 use Rattle.beet_store.specs.Files.{Seen}
@@ -8,7 +8,7 @@ use Rattle.beet_forms.specs.Faults.{Reading, Answers}
 use Rattle.beet_forms.specs.declared.faults.ReadFault.{ReadFault}
 use Rattle.beet_forms.specs.declared.faults.ReadFault.TheVariants.{Bad, OutOfMemory as MemoryOut}
 use Rattle.beet_errand.specs.Errands.{Answer, Errand, Ends, Step, ◌>>=◌, ◌>>◌, gives, refuses, judged}
-use Rattle.beet_errand.specs.Fetches.{ReadsFor, Reads, Reached, Tests, Does, CauseOf, Causes, Judges, Refuses}
+use Rattle.beet_errand.specs.Fetches.{ReadsFor, Reads, Tests, CauseOf, Causes, Counts, Finishes, Judges, Refuses, Went}
 use Rattle.beet_errand.specs.declared.answer.Refusal.{Refusal}
 use Rattle.beet_errand.specs.declared.answer.Refusal.TheVariants.{BadFile}
 use Rattle.beet_errand.specs.declared.answer.Stop.{Stop}
@@ -147,6 +147,12 @@ pub computed : {B U : Type 0} {view : U → B} {seen : Seen} {b : B} (result : R
 computed (Ok value) is memory = given (sym is)
 computed (Err stop) is memory = rw memory no_memory
 
+-- a whole job does what its errand says and no more: it has gone to its end, or it stops with a cause
+pub record Does (old now : Seen) (errand : Errand) (result : Result Answer Stop) : Type 0 where
+  pub finishes : Finishes old.told now.told errand result
+  pub cause : Counts old.faults now.faults result
+  pub later : old.faults ≤ now.faults
+
 -- a job whose answer is given
 pub does : {old now : Seen} {job : Step Answer} (result : Result Answer Stop) →
     Reads (λ answer. answer) old now job result → Does old now (job Ends) result
@@ -171,6 +177,11 @@ first_fails OutOfMemory t = record { passes = tt; cause = λ count. refl }
 pub test_exits : {test : Errand → Errand} {stop : Stop} {result : Result (Unit {0}) Stop} →
     IsErrAnd result (λ e. e ≡ stop) → Tests test (Err stop) → Tests test result
 test_exits {result = result} e t = let p = err_from_is_err_and result e in rw (p.1, p.2) t
+
+-- what was read so far of a step leaves it with another, which goes on with the same value
+pub record Reached {A : Type 0} (old now : Seen) (step rest : Step A) : Type 0 where
+  pub went : (next : A → Errand) → Went old.told now.told (step next) (rest next)
+  pub kept : now.faults ≡ old.faults
 
 -- a loop: nothing is read yet
 pub reached_none : {A : Type 0} {seen : Seen} {step : Step A} → Reached seen seen step step

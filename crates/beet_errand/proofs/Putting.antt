@@ -1,15 +1,20 @@
 -- Files that are put in order, and the text that is said after them.
 use Rattle.std.proofs.Common.{◌≡◌, ◌≤◌, ◌<◌, ◌⊎◌, inl, inr, ℕ, List, [], ◌∷◌, ◌+◌, length, drop, get_or, Ok, Err, refl, sym, ◌∙◌, ap}
+use Rattle.std.proofs.Common.{Option}
 use Rattle.std.proofs.lemmas.List.{drop_more, drop_all}
 use Rattle.beet_store.specs.Causes.{Rose}
 use Rattle.beet_store.specs.Files.{File}
-use Rattle.beet_store.specs.Desks.{DeskTold, Put, Say, Done, HasPutCause, GivesCall}
+use Rattle.beet_store.specs.Desks.{DeskTold, Put, Say, Done, Given, HasPutCause, GivesCall, LeavesGiven}
 use Rattle.beet_store.specs.declared.desk.PutFault.{PutFault}
 use Rattle.beet_store.specs.declared.desk.PutFault.TheVariants.{Failed, OutOfMemory}
 use Rattle.beet_errand.specs.Statuses.{code_of}
 use Rattle.beet_errand.specs.declared.answer.Status.{Status}
 use Rattle.beet_errand.specs.declared.answer.Status.TheVariants.{WriteFault, OutOfMemory as NoMemory}
-use Rattle.beet_errand.specs.Runs.{GivesAll, LeavesAll, status_after}
+use Rattle.beet_errand.specs.Runs.{CallsAll, GivesAll, status_after}
+
+-- what calls that give files and a text leave, if the desk tells it
+abbrev pub LeavesAll : Option Given → Option Given → List File → List ℕ → Done → Type 0
+LeavesAll = CallsAll LeavesGiven
 
 -- what the calls of a desk left
 pub leaves_all : (old now : DeskTold) (files : List File) (text : List ℕ) (done : Done) →

@@ -1,15 +1,30 @@
 -- What a run has recorded.
 use Rattle.std.proofs.Common.{◌≡◌, ◌≢◌, ◌++◌, inl, inr, ℕ, List, [], ◌∷◌, Ok, Err, ap, ◌∙◌, append_assoc}
 use Rattle.beet_store.specs.Desks.{DeskCall, DeskTold, Done, Put}
-use Rattle.beet_store.specs.Files.{File, Told}
+use Rattle.beet_store.specs.Files.{Fetch, File, Told}
 use Rattle.beet_store.specs.declared.desk.PutFault.TheVariants.{Failed, OutOfMemory as NoMemoryToPut}
 use Rattle.beet_errand.specs.Errands.{Answer, Errand, Ends, Wants}
-use Rattle.beet_errand.specs.Fetches.{Went}
-use Rattle.beet_errand.specs.Records.{RecordsAnswer, RecordsTask, calls_of}
+use Rattle.beet_errand.specs.Fetches.{Leads, Went}
+use Rattle.beet_errand.specs.Records.{calls_of}
 use Rattle.beet_errand.specs.Runs.{EndsBy, GivesAll, status_after}
 use Rattle.beet_errand.specs.Statuses.{code_of}
-use Rattle.beet_errand.specs.Tasks.{RunsTask, Task}
+use Rattle.beet_errand.specs.Tasks.{OfTask, RunsTask, Task}
 use Rattle.beet_errand.proofs.Tasks.{of_more}
+
+-- what the shelf was asked and answered leads the errand to an answer, whose status is the run's, and what the desk was
+-- given is this answer, whole, in order and once
+pub record RecordsAnswer (errand : Errand) (old now : Told) (desk desk_now : DeskTold) (status : ℕ) : Type 0 where
+  pub fetches : List Fetch
+  pub recorded : now.fetches ≡ old.fetches ++ fetches
+  pub answer : Answer
+  pub leads : Leads fetches errand (Ends answer)
+  pub code : status ≡ code_of answer.status
+  pub calls : desk_now.calls ≡ desk.calls ++ calls_of answer.files answer.text
+
+-- the errand of a task has led to such a record
+abbrev pub RecordsTask : Task → Told → Told → DeskTold → DeskTold → ℕ → Type 0
+RecordsTask task told told_now desk desk_now status =
+    OfTask task told told_now (λ before errand. RecordsAnswer errand before told_now desk desk_now status)
 
 -- calls that are all taken are recorded
 pub all_recorded : (old now : DeskTold) (files : List File) (text : List ℕ) → GivesAll old now files text (Ok tt) →

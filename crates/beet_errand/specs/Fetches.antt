@@ -103,11 +103,6 @@ pub record ReadsFor {A T : Type 0} (shows : T → A → Type 0) (old now : Seen)
 abbrev pub Reads : {A T : Type 0} → (T → A) → Seen → Seen → Step A → Result T Stop → Type 0
 Reads view old now step result = ReadsFor (λ value a. a ≡ view value) old now step result
 
--- what was read so far of a step leaves it with another, which goes on with the same value
-pub record Reached {A : Type 0} (old now : Seen) (step rest : Step A) : Type 0 where
-  pub went : (next : A → Errand) → Went old.told now.told (step next) (rest next)
-  pub kept : now.faults ≡ old.faults
-
 -- a test passes, or it stops with a cause; it fetches nothing
 pub record Tests (test : Errand → Errand) (result : Result (Unit {0}) Stop) : Type 0 where
   pub passes : Passes test result
@@ -122,9 +117,3 @@ abbrev pub Finishes : Told → Told → Errand → Result Answer Stop → Type 0
 Finishes old now errand (Ok answer) = Went old now errand (Ends answer)
 Finishes old now errand (Err (Refused refusal line)) = Went old now errand (refuses refusal line.items)
 Finishes old now errand (Err OutOfMemory) = (rest : Errand) × Went old now errand rest
-
--- a whole job does what its errand says and no more: it has gone to its end, or it stops with a cause
-pub record Does (old now : Seen) (errand : Errand) (result : Result Answer Stop) : Type 0 where
-  pub finishes : Finishes old.told now.told errand result
-  pub cause : Counts old.faults now.faults result
-  pub later : old.faults ≤ now.faults

@@ -1,8 +1,7 @@
 -- What a run of the program does.
-use Rattle.std.specs.Prelude.{◌≡◌, ◌≤◌, ◌⊎◌, ℕ, List, [], ◌∷◌, Option, Result, Ok, Err}
+use Rattle.std.specs.Prelude.{◌≡◌, ◌≤◌, ◌⊎◌, ℕ, List, [], ◌∷◌, Result, Ok, Err}
 use Rattle.beet_store.specs.Files.{File, Told}
-use Rattle.beet_store.specs.Desks.{DeskCall, DeskSeen, DeskTold, Done, Given, GivesCall, HasPutCause, LeavesGiven, Put}
-use Rattle.beet_store.specs.Desks.{Say}
+use Rattle.beet_store.specs.Desks.{DeskCall, DeskSeen, DeskTold, Done, GivesCall, HasPutCause, Put, Say}
 use Rattle.beet_store.specs.declared.desk.PutFault.{PutFault}
 use Rattle.beet_store.specs.declared.desk.PutFault.TheVariants.{Failed, OutOfMemory as NoMemoryToPut}
 use Rattle.beet_errand.specs.Errands.{Answer, Errand, Ends, Wants, text_answer}
@@ -28,10 +27,6 @@ CallsAll {T = T} Call old now (file ∷ files) text done =
 -- the desk has recorded these calls and no other
 abbrev pub GivesAll : DeskTold → DeskTold → List File → List ℕ → Done → Type 0
 GivesAll = CallsAll GivesCall
-
--- what these calls leave, where the desk tells it
-abbrev pub LeavesAll : Option Given → Option Given → List File → List ℕ → Done → Type 0
-LeavesAll = CallsAll LeavesGiven
 
 -- files and a text are given to a desk: why the last call answered as it did, and what the calls left
 pub record Gives (old now : DeskSeen) (files : List File) (text : List ℕ) (done : Done) : Type 0 where

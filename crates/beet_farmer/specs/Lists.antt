@@ -6,6 +6,7 @@ use Rattle.beet_forms.specs.Rows.{rows_of, four_of}
 use Rattle.beet_forms.specs.declared.faults.TheConstants.{BAD_ROW}
 use Rattle.beet_book.specs.Entries.{name_of}
 use Rattle.beet_book.specs.NamedRows.{named_file}
+use Rattle.beet_book.specs.declared.named_file.TheConstants.{ONE_TOO_MANY}
 use Rattle.beet_farmer.specs.declared.list_file.ListEntry.{ListEntry}
 
 -- the entry of the names of a row, or the reason against them
@@ -25,4 +26,4 @@ entry_in row = entry_of_fields (four_of row)
 
 -- what a list reads as: at most 2,000 bidders, no two of one name
 abbrev pub list_of : List ℕ → Reading (List ListEntry)
-list_of bytes = named_file entry_in (codes "beet-list" ∷ codes "1" ∷ []) (rows_of bytes)
+list_of bytes = named_file entry_in ONE_TOO_MANY (codes "beet-list" ∷ codes "1" ∷ []) (rows_of bytes)

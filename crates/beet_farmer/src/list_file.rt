@@ -10,7 +10,7 @@ ghost use Rattle.beet_book.specs.Entries.{name_of};
 ghost use Rattle.beet_book.specs.NamedRows.{first_field, reading_at};
 ghost use Rattle.beet_farmer.specs.Lists.{entry_in, entry_of, list_of};
 
-use beet_book::{NamedRow, read_named};
+use beet_book::{NamedRow, ONE_TOO_MANY, read_named};
 use beet_field::Trio;
 use beet_forms::{BAD_ROW, Name, ReadFault, Row, beside, four_fields};
 use std::alloc::Global;
@@ -94,5 +94,5 @@ pub fn read_list(alloc: Global, bytes: &[u8]) -> Result<Vec<ListEntry>, ReadFaul
     ensures reads { Answers (λ entries. entries.items) (list_of bytes.now) result }
     ensures few { IfOk result (λ entries. length entries.items ≤ MOST_BIDDERS) }
 {
-    read_named(alloc, b"beet-list", bytes)
+    read_named(alloc, ONE_TOO_MANY, b"beet-list", bytes)
 }

@@ -1,6 +1,5 @@
 pub mod Standings
 pub mod Lengths
-pub mod Dealers
 pub mod Inputs
 pub mod Pairing
 pub mod Choices

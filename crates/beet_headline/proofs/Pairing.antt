@@ -37,20 +37,10 @@ use Rattle.beet_auction_map.proofs.MasksBack.{agree-back, books-back}
 use Rattle.beet_turned.proofs.Small.{mapped-masks}
 use Rattle.beet_auction_map.proofs.WorldFacts.{Stands, enough-numbers, look-same-in, secrets-first, secrets-second, worlds-mapped}
 use Rattle.beet_headline.specs.Statements.{AreOnePair, AreTwoBooks, CanRun}
-use Rattle.beet_headline.proofs.Dealers.{MovedDealers, dealers-there}
+use Rattle.beet_trades.proofs.AllWords.{all-are}
+use Rattle.beet_trades.proofs.DealersThere.{MovedDealers, dealers-there}
 use Rattle.beet_headline.proofs.Inputs.{lines-there, lines_of, values-small}
 use Rattle.beet_headline.proofs.Lengths.{as-long}
-
-words-of : (list : List ℕ) → ((n : ℕ) → IsWord (slice_index list n)) → All IsWord list
-words-of list few = All-from_get_or IsWord list 0 (λ i lt. few i)
-
-all-are : (masks coefficients : Trio (List ℕ)) (bidders : List (List ℕ)) → AreMasks masks → AreAllWords coefficients →
-    All (λ list. All IsWord list) bidders → AreWords (record { masks = masks; coefficients = coefficients; bidders = bidders })
-all-are masks coefficients bidders m c all = record {
-  masks = (m.one, m.two, m.three);
-  coefficients = (words-of coefficients.one (c One), words-of coefficients.two (c Two), words-of coefficients.three (c Three));
-  bidders = all;
-}
 
 -- mask words and bidders' words of the second world, and the lines of both
 module _ (s : Point) (first second : Book) (two : AreTwoBooks s first second) (words : Words) (runs : CanRun first words) where

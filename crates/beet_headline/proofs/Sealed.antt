@@ -22,7 +22,7 @@ use Rattle.beet_farmer.specs.Sealing.{envelope_for, sealed_envelope}
 use Rattle.beet_farmer.specs.declared.envelope.Envelope.{Envelope}
 use Rattle.beet_farmer.proofs.SealedAgain.{item, long, member-dealt, sealed-again}
 use Rattle.beet_headline.specs.Envelopes.{AreOneEnvelope, AreTwoBids, CanSeal, DifferInSlopes}
-use Rattle.beet_headline.proofs.Dealers.{moved}
+use Rattle.beet_trades.proofs.DealersThere.{moved}
 
 -- quantities are numbers of the field
 pub quantity-element : (curve : Curve) → IsCurve curve → (n : ℕ) → IsElement (quantity curve n)

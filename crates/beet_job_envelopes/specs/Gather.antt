@@ -1,5 +1,5 @@
 -- What is read of the bidders of a list: three envelopes of each.
-use Rattle.std.specs.Prelude.{ℕ, List, [], ◌∷◌, ◌++◌}
+use Rattle.std.specs.Prelude.{◌≡◌, ℕ, List, [], ◌∷◌, ◌++◌, length}
 use Rattle.beet_field.specs.declared.point.Point.TheVariants.{One, Two, Three}
 use Rattle.beet_field.specs.declared.trio.Trio.{Trio}
 use Rattle.beet_bids.specs.Grids.{Grid}
@@ -23,3 +23,9 @@ bidders_errand grid read [] = gives read
 bidders_errand grid read (entry ∷ entries) = do
   points ← envelopes_errand grid entry.envelopes
   bidders_errand grid (read ++ points ∷ []) entries
+
+-- the points of bidders, one for each of these entries, are taken
+pub record HasGathered {T : Type 0} (has_taken : Grid → List (Trio (List ℕ)) → T → Type 0) (grid : Grid)
+    (entries : List ListEntry) (gathered : T) (bidders : List (Trio (List ℕ))) : Type 0 where
+  pub taken : has_taken grid bidders gathered
+  pub count : length bidders ≡ length entries

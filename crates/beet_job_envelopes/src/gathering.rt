@@ -1,12 +1,12 @@
-//! Reading the envelopes of the bidders of a list, and adding up their points.
+//! Reading the envelopes of the bidders of a list, and handing on their points.
 
-ghost use Rattle.std.specs.Prelude.{◌≡◌, ◌*◌, [], IfOk, length};
+ghost use Rattle.std.specs.Prelude.{◌≡◌, ◌*◌, ◌++◌, ◌∷◌, [], ℕ, IfOk, List, OnOk, length};
+ghost use Rattle.beet_field.specs.declared.trio.Trio.{Trio as Each};
 ghost use Rattle.beet_book.specs.Dealing.{HasLengths};
 ghost use Rattle.beet_farmer.specs.Envelopes.{envelope_of};
 ghost use Rattle.beet_errand.specs.Errands.{reads};
 ghost use Rattle.beet_errand.specs.Fetches.{Reads, ReadsFor};
-ghost use Rattle.beet_job_envelopes.specs.Gather.{bidders_errand, envelopes_errand};
-ghost use Rattle.beet_book.specs.PointSums.{AddsUp};
+ghost use Rattle.beet_job_envelopes.specs.Gather.{HasGathered, bidders_errand, envelopes_errand};
 ghost use Rattle.beet_farmer.specs.declared.envelope.TheConstants.{ENVELOPE_LIMIT};
 
 use beet_bids::Grid;
@@ -15,7 +15,7 @@ use beet_errand::{Stop, fetch_file, judge};
 use beet_farmer::{ENVELOPE_LIMIT, Envelope, ListEntry, read_envelope};
 use beet_field::{Point, Trio};
 use beet_store::Shelf;
-use std::alloc::Global;
+use std::alloc::{AllocError, Global};
 
 /// The envelope of a file, for this server.
 fn read_envelope_file<S: Shelf>(
@@ -62,28 +62,56 @@ fn read_bidder<S: Shelf>(
     ))
 }
 
-/// Reads the envelopes of each bidder in order, and adds up the points.
-pub(crate) fn add_bidders<S: Shelf>(
+/// What takes the points of the bidders of a list, one bidder after another.
+pub trait Gathers: Drop {
+    ghost use Rattle.std.specs.Prelude.{ℕ, List};
+    ghost use Rattle.beet_field.specs.declared.trio.Trio.{Trio as Each};
+    ghost use Rattle.beet_bids.specs.Grids.{Grid as Lattice};
+
+    /// It has taken the points of these bidders, over this grid, and no others.
+    ghost has_taken: { Lattice → List (Each (List ℕ)) → Self → Type 0 };
+
+    /// It, before the first bidder.
+    fn begin(alloc: Global, grid: &Grid) -> Result<Self, AllocError>
+        ensures { IfOk result (has_taken grid.now []) };
+
+    /// Takes the points of one bidder more.
+    fn take(&mut self, grid: &Grid, points: Dealt) -> Result<(), AllocError>
+        requires lengths { HasLengths points (2 * grid.now.prices) }
+        requires taken { (bidders : List (Each (List ℕ))) × has_taken grid.now bidders self.old }
+        ensures { (bidders : List (Each (List ℕ))) → has_taken grid.now bidders self.old
+            → OnOk result (has_taken grid.now (bidders ++ points ∷ []) self.new) };
+}
+
+impl Gathers for Totals {
+    ghost use Rattle.beet_book.specs.PointSums.{AddsUp};
+
+    ghost has_taken = { λ grid bidders totals. AddsUp grid totals bidders };
+
+    fn begin(alloc: Global, grid: &Grid) -> Result<Totals, AllocError> {
+        Totals::new(alloc, grid)
+    }
+
+    fn take(&mut self, _grid: &Grid, points: Dealt) -> Result<(), AllocError> {
+        self.add(&points);
+        Ok(())
+    }
+}
+
+/// Reads the envelopes of each bidder in order, and hands on the points.
+pub fn gather_bidders<S: Shelf, B: Gathers>(
     alloc: Global,
     shelf: &mut S,
     grid: &Grid,
     entries: &[ListEntry],
-) -> Result<Totals, Stop>
-    ensures { ReadsFor (AddsUp grid.now) (S.seen shelf.old) (S.seen shelf.new)
+) -> Result<B, Stop>
+    ensures { ReadsFor (HasGathered B.has_taken grid.now entries.now) (S.seen shelf.old) (S.seen shelf.new)
         (bidders_errand grid.now [] entries.now) result }
 {
-    let mut totals = Totals::new(alloc, grid)?;
+    let mut gathered = B::begin(alloc, grid)?;
     for entry in entries {
-        // One call each lets them go: else the proof of each way out goes through each of their parts.
-        let dealt = match read_bidder(alloc, shelf, grid, entry) {
-            Ok(dealt) => dealt,
-            Err(stop) => {
-                drop(totals);
-                return Err(stop);
-            }
-        };
-        totals.add(&dealt);
-        drop(dealt);
+        let points = read_bidder(alloc, shelf, grid, entry)?;
+        gathered.take(grid, points)?;
     }
-    Ok(totals)
+    Ok(gathered)
 }

@@ -1,16 +1,17 @@
 //! The job `open`.
 
-ghost use Rattle.std.specs.Prelude.{IfOk};
+ghost use Rattle.std.specs.Prelude.{◌≤◌, IfOk, length};
 ghost use Rattle.beet_farmer.specs.Lists.{list_of};
 ghost use Rattle.beet_errand.specs.Errands.{reads};
 ghost use Rattle.beet_errand.specs.Fetches.{IsDone, Reads};
 ghost use Rattle.beet_job_envelopes.specs.Open.{entries_job, open_job};
 ghost use Rattle.beet_farmer.specs.declared.list_file.TheConstants.{LIST_LIMIT};
+ghost use Rattle.beet_words.specs.declared.bundle.TheConstants.{MOST_BIDDERS};
 
-use crate::gathering::add_bidders;
+use crate::gathering::gather_bidders;
 use beet_auction_run::run_auction;
 use beet_bids::Grid;
-use beet_book::Servers;
+use beet_book::{Servers, Totals};
 use beet_errand::{Reply, Stop, fetch_file, judge};
 use beet_farmer::{LIST_LIMIT, ListEntry, read_list};
 use beet_link::Gate;
@@ -23,8 +24,13 @@ use std::thread::Threads;
 use std::time::Clock;
 
 /// The bidders of a list file.
-fn read_entries<S: Shelf>(alloc: Global, shelf: &mut S, name: &str) -> Result<Vec<ListEntry>, Stop>
-    ensures { Reads (λ entries. entries.items) (S.seen shelf.old) (S.seen shelf.new)
+pub fn read_entries<S: Shelf>(
+    alloc: Global,
+    shelf: &mut S,
+    name: &str,
+) -> Result<Vec<ListEntry>, Stop>
+    ensures few { IfOk result (λ entries. length entries.items ≤ MOST_BIDDERS) }
+    ensures reads { Reads (λ entries. entries.items) (S.seen shelf.old) (S.seen shelf.new)
         (reads name.now LIST_LIMIT list_of) result }
 {
     let bytes = fetch_file(alloc, shelf, name, LIST_LIMIT)?;
@@ -46,7 +52,7 @@ fn open_entries<S: Shelf, R: Threads + Wait + Clock + Sync, G: Gate>(
         (entries_job grid.now sources.now entries.now) result }
 {
     let words = read_words(alloc, shelf, &auction_wants(None, grid), sources, None)?;
-    let totals = match add_bidders(alloc, shelf, grid, entries) {
+    let totals = match gather_bidders::<S, Totals>(alloc, shelf, grid, entries) {
         Ok(totals) => totals,
         Err(stop) => {
             // One call lets them go: else the proof of this way out goes through each of their parts.

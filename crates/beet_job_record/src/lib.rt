@@ -2,6 +2,5 @@
 #![tactic(auto)]
 
 mod recording;
-mod transcripts;
 
 pub use recording::{RecordFiles, record};

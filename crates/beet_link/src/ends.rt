@@ -18,12 +18,13 @@ use std::time::{Clock, Duration, Instant};
 /// a message is on its way if each server has a processor, and not much longer than to sleep and to be woken.
 pub(crate) const MOST_LOOKS: u32 = 2_000;
 
-/// How many looks more a receiver makes the next time after looks that found its message. After looks in vain it
-/// makes half as many: so it sleeps soon if the other server cannot run while it looks. A message that was there
-/// before it looked tells nothing of that.
+/// How many more looks a receiver makes the next time if it found its message by looking. If it looked in vain, it
+/// makes about half as many: so it soon looks little if the other server cannot run meanwhile. A message that was there
+/// before it looked changes nothing.
 const MORE_LOOKS: u32 = 16;
 
-/// The longest that a turn is given up for while only servers share the processor, in microseconds: each takes a few.
+/// If a turn comes back later than this, in microseconds, the receiver takes it that a busy process had it. A server
+/// mostly has it for a few.
 const LONGEST_TURN: u64 = 200;
 
 /// The most turns that a receiver gives up for one message before it sleeps.
@@ -109,8 +110,7 @@ impl LinkTx {
 }
 
 impl LinkRx {
-    /// Takes the front of the link. `None` where the other server's next put has not ended, and then nothing changes.
-    /// No memory is taken.
+    /// Takes the front of the link. `None` if the other server's next put has not ended. No memory is taken.
     pub fn take<R: Wait>(&mut self, _rt: &R) -> Option<Box<RoundMessage>>
         ensures taken { IfSome result (λ m. IsNext self.old m.value × (self.new ≡ one_on self.old)) }
         ensures empty { IfNone result (self.new ≡ self.old) }
@@ -155,10 +155,10 @@ impl LinkRx {
         None
     }
 
-    /// Gives up its turn a few times, and takes the front of the link if it is there then. To sleep and to be woken
-    /// costs several times as much. But a busy process that has the turn keeps it for a whole time slice: once a turn
-    /// came back so late, the receiver of this link gives up none for the rest of the run. If the clock cannot be read,
-    /// it sleeps.
+    /// Gives up its turn until the front of the link is there, and takes it. That costs less than to sleep and to be
+    /// woken if only servers share the processor. A busy process may keep the turn for a whole time slice: after one
+    /// turn longer than `LONGEST_TURN` this receiver gives up none for the rest of the run. It stops with `None` then,
+    /// after `MOST_TURNS` turns, and if the clock cannot be read.
     fn give_way<R: Wait + Clock>(&mut self, rt: &R) -> Option<Box<RoundMessage>>
         ensures taken { IfSome result (λ m. IsNext self.old m.value × (self.new ≡ one_on self.old)) }
         ensures empty { IfNone result (self.new ≡ self.old) }

@@ -44,7 +44,7 @@ impl Sleeper {
         self.state.store(AWAKE, Ordering::SeqCst);
     }
 
-    /// Wakes the receiver if it sleeps. Where it does not, this only reads.
+    /// Wakes the receiver if it sleeps. If it does not, this only reads.
     pub fn wake(&self) {
         let state = &self.state;
         if state.load(Ordering::SeqCst) == ASLEEP && state.swap(AWAKE, Ordering::SeqCst) == ASLEEP {

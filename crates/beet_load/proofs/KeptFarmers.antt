@@ -14,18 +14,31 @@ use Rattle.beet_bids.specs.declared.book.Bidder.{Bidder}
 use Rattle.beet_book.specs.declared.entries.Entry.{Entry}
 use Rattle.beet_book.specs.Farmers.{BidderWithWords, farmers_of}
 use Rattle.beet_errand.specs.Errands.{reads}
-use Rattle.beet_errand.specs.Fetches.{ReadsFor, Reads, Reached}
+use Rattle.beet_errand.specs.Fetches.{ReadsFor, Reads}
 use Rattle.beet_errand.specs.declared.answer.Stop.{Stop}
-use Rattle.beet_errand.proofs.Frame.{reached_none, reached_more, reached_last, stopped}
+use Rattle.beet_errand.proofs.Frame.{Reached, reached_none, reached_more, reached_last, stopped}
 use Rattle.beet_load.specs.declared.wanted.Wanted.{Wanted}
 use Rattle.beet_load.specs.Farmers.{list_at, farmer_errand, farmers_errand}
-use Rattle.beet_load.specs.Counts.{counts_of}
+use Rattle.beet_load.specs.Counts.{Counts, counts_of}
 use Rattle.beet_load.specs.Loading.{AuctionWithBidders}
 use Rattle.beet_load.specs.Servers.{ServerWords, HaveEnough, AreCut}
-use Rattle.beet_load.specs.Wholes.{AreKept, CanDeal, CanStart, IsFarmer, KeepsBidders, KeepsBids, KeepsFarmer}
-use Rattle.beet_load.specs.Wholes.{all_words, bids_errand, by_server}
+use Rattle.beet_load.specs.Wholes.{AreKept, CanDeal, CanStart, IsFarmer, all_words, bids_errand, by_server}
 use Rattle.beet_load.proofs.Summing.{next_entry, none_left}
 use Rattle.beet_bids.specs.declared.bid_file.TheConstants.{BID_LIMIT}
+
+-- these bidders are read and kept, and the others of the entries are left
+pub record KeepsBidders (wanted : Wanted) (grid : Grid) (lists : Option (List (List ℕ))) (entries rest : List Entry)
+    (old now : Seen) (farmers : List BidderWithWords) : Type 0 where
+  pub read : Reached old now (farmers_errand wanted grid lists [] entries)
+      (farmers_errand wanted grid lists farmers rest)
+  pub count : length farmers + length rest ≡ length entries
+  pub each : All (IsFarmer wanted.counts grid) farmers
+
+-- one bidder is kept after the others
+pub record KeepsFarmer (counts : Counts) (grid : Grid) (before after : List BidderWithWords)
+    (farmer : BidderWithWords) : Type 0 where
+  pub is_farmer : IsFarmer counts grid farmer
+  pub kept : after ≡ before ++ farmer ∷ []
 
 -- no bidder is read yet
 pub keeps_none : {wanted : Wanted} (grid : Grid) (lists : Option (List (List ℕ))) (entries : List Entry) (seen : Seen) →
@@ -112,6 +125,12 @@ pub kept-same : (grid : Grid) (servers : Trio ServerWords) (kept : List BidderWi
     loaded ≡ record { grid = book.grid; servers = by_server made; farmers = farmers_of book.bidders made.bidders } →
     loaded ≡ record { grid = grid; servers = servers; farmers = kept }
 kept-same grid servers kept bidders all book made f b m loaded l = l ∙ rw (b, m, f) refl
+
+-- the bidders of the first entries are read without their words, and kept
+pub record KeepsBids (grid : Grid) (entries rest : List Entry) (old now : Seen) (bidders : List Bidder) : Type 0 where
+  pub read : Reached old now (bids_errand grid [] entries) (bids_errand grid bidders rest)
+  pub count : length bidders + length rest ≡ length entries
+  pub of_grid : All (λ bidder. IsOfGrid grid bidder.curve) bidders
 
 -- no bid is read yet
 pub bids_none : (grid : Grid) (entries : List Entry) (seen : Seen) → KeepsBids grid entries entries seen seen []

@@ -16,16 +16,32 @@ use Rattle.beet_bids.specs.declared.curve.TheConstants.{LARGEST_QUANTITY}
 use Rattle.beet_bids.specs.Sums.{supply_at, demand_at}
 use Rattle.beet_book.specs.declared.entries.Entry.{Entry}
 use Rattle.beet_book.specs.Dealing.{quantities}
-use Rattle.beet_book.specs.Totals.{Totals, none_of, points_on, summed_quantities, CarriesValues}
+use Rattle.beet_book.specs.Totals.{Totals, AddsQuantities, none_of, points_on, summed_quantities, CarriesValues}
 use Rattle.beet_book.proofs.Summed.{shares-none, summed-more, supply-recombined, demand-recombined}
-use Rattle.beet_load.specs.Collecting.{curves_of, AddsFarmer, AddsFarmers, AreCollected, Collects}
+use Rattle.beet_load.specs.Collecting.{curves_of, AddsFarmers, AreCollected}
 use Rattle.beet_load.specs.declared.wanted.Wanted.{Wanted}
 use Rattle.beet_load.specs.Farmers.{list_at, farmer_errand, farmers_errand, bidders_of}
 use Rattle.beet_book.specs.Farmers.{BidderWithWords}
 use Rattle.beet_errand.specs.Fetches.{ReadsFor}
 use Rattle.beet_errand.specs.declared.answer.Stop.{Stop}
-use Rattle.beet_errand.proofs.Frame.{reached_none, reached_more, reached_last, stopped}
+use Rattle.beet_errand.proofs.Frame.{Reached, reached_none, reached_more, reached_last, stopped}
 use Rattle.beet_words.specs.declared.bundle.TheConstants.{MOST_BIDDERS}
+
+-- so many bidders are read, and the points of their quantities are added up
+pub record Collects (wanted : Wanted) (grid : Grid) (lists : Option (List (List ℕ))) (entries rest : List Entry)
+    (old now : Seen) (totals : Totals) (count : ℕ) : Type 0 where
+  pub farmers : List BidderWithWords
+  pub read : Reached old now (farmers_errand wanted grid lists [] entries)
+      (farmers_errand wanted grid lists farmers rest)
+  pub many : length farmers ≡ count
+  pub adds : AddsFarmers grid totals farmers
+
+-- the points of the quantities of one bidder are added
+pub record AddsFarmer (grid : Grid) (before after : Totals) (farmer : BidderWithWords) : Type 0 where
+  pub of_grid : IsOfGrid grid farmer.bidder.curve
+  pub curve : IsCurve farmer.bidder.curve
+  pub values : AddsQuantities farmer.bidder.curve before.points after.points
+  pub prices : after.prices ≡ before.prices
 
 -- no bidder is read yet
 pub collects_none : {wanted : Wanted} (grid : Grid) (lists : Option (List (List ℕ))) (entries : List Entry) (seen : Seen) →

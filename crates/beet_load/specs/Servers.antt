@@ -113,7 +113,7 @@ three_errand wanted sources = do
 abbrev pub wrong_count : Fault
 wrong_count = record { place = At 8; reason = WRONG_COUNT }
 
--- the words of a bundle, which has so many bidders where a number is given
+-- the words of a bundle, which has so many bidders if a number is given
 abbrev pub counted : Option ℕ → Reading Words → Reading Words
 counted None reading = reading
 counted (Some count) (Ok words) = if length words.bidders == count then Ok words else Err wrong_count
@@ -139,7 +139,7 @@ abbrev pub enough_of_all : Wanted → Trio ServerWords → Errand → Errand
 enough_of_all wanted servers next =
     enough_of wanted 1 servers.one (enough_of wanted 2 servers.two (enough_of wanted 3 servers.three next))
 
--- all words, for so many bidders where their number is given
+-- all words, for so many bidders if their number is given
 abbrev pub all_words_errand : Wanted → Option ℕ → Servers → Step AllWords
 all_words_errand wanted count (Three sources) = do
   servers ← three_errand wanted sources

@@ -1,7 +1,6 @@
 -- Reading an auction, its servers and its book, where the whole book is kept.
-use Rattle.std.specs.Prelude.{◌≡◌, ◌≤◌, ◌+◌, ℕ, List, [], ◌∷◌, ◌++◌, length, All, Option, None}
+use Rattle.std.specs.Prelude.{◌≡◌, ◌≤◌, ℕ, List, [], ◌∷◌, ◌++◌, length, All, Option, None}
 use Rattle.beet_field.specs.declared.trio.Trio.{Trio}
-use Rattle.beet_store.specs.Files.{Seen}
 use Rattle.beet_words.specs.Words.{accepted}
 use Rattle.beet_words.specs.Bundles.{Words}
 use Rattle.beet_bids.specs.Grids.{Grid}
@@ -13,14 +12,11 @@ use Rattle.beet_book.specs.BookFiles.{book_of}
 use Rattle.beet_book.specs.declared.entries.Entry.{Entry}
 use Rattle.beet_book.specs.Farmers.{BidderWithWords}
 use Rattle.beet_errand.specs.Errands.{Step, ◌>>=◌, ◌>>◌, gives, reads}
-use Rattle.beet_errand.specs.Fetches.{Reached}
 use Rattle.beet_load.specs.Counts.{Counts, counts_of, with_spare}
-use Rattle.beet_load.specs.Farmers.{farmers_errand}
 use Rattle.beet_load.specs.Limits.{within_product}
 use Rattle.beet_load.specs.Loading.{AuctionWithBidders, rest_errand}
 use Rattle.beet_load.specs.Servers.{ServerWords, HaveEnough, AreCut, masks_of, coefficients_of}
 use Rattle.beet_load.specs.Settings.{Setting, setting_errand}
-use Rattle.beet_load.specs.declared.wanted.Wanted.{Wanted}
 use Rattle.beet_book.specs.declared.book_file.TheConstants.{BOOK_LIMIT}
 use Rattle.beet_bids.specs.declared.bid_file.TheConstants.{BID_LIMIT}
 
@@ -79,29 +75,9 @@ pub record IsFarmer (counts : Counts) (grid : Grid) (farmer : BidderWithWords) :
   pub of_grid : IsOfGrid grid farmer.bidder.curve
   pub words : CanDeal counts farmer.words
 
--- these bidders are read and kept, and the others of the entries are left
-pub record KeepsBidders (wanted : Wanted) (grid : Grid) (lists : Option (List (List ℕ))) (entries rest : List Entry)
-    (old now : Seen) (farmers : List BidderWithWords) : Type 0 where
-  pub read : Reached old now (farmers_errand wanted grid lists [] entries)
-      (farmers_errand wanted grid lists farmers rest)
-  pub count : length farmers + length rest ≡ length entries
-  pub each : All (IsFarmer wanted.counts grid) farmers
-
 -- what is kept of all bidders of the entries
 pub record AreKept (counts : Counts) (grid : Grid) (entries : List Entry)
     (kept farmers : List BidderWithWords) : Type 0 where
   pub same : farmers ≡ kept
   pub count : length kept ≡ length entries
   pub each : All (IsFarmer counts grid) kept
-
--- one bidder is kept after the others
-pub record KeepsFarmer (counts : Counts) (grid : Grid) (before after : List BidderWithWords)
-    (farmer : BidderWithWords) : Type 0 where
-  pub is_farmer : IsFarmer counts grid farmer
-  pub kept : after ≡ before ++ farmer ∷ []
-
--- the bidders of the first entries are read without their words, and kept
-pub record KeepsBids (grid : Grid) (entries rest : List Entry) (old now : Seen) (bidders : List Bidder) : Type 0 where
-  pub read : Reached old now (bids_errand grid [] entries) (bids_errand grid bidders rest)
-  pub count : length bidders + length rest ≡ length entries
-  pub of_grid : All (λ bidder. IsOfGrid grid bidder.curve) bidders

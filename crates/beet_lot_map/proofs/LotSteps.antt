@@ -1,6 +1,6 @@
 -- The lots of two sessions, one after another.
-use Rattle.std.proofs.Common.{◌≡◌, ◌<◌, ◌≤◌, ◌+◌, ◌-◌, ℕ, suc, Bool, true, false, nat_lt, List, [], ◌∷◌, ◌++◌, length, get_or, Some, inl}
-use Rattle.std.proofs.Common.{inr, refl, sym, ap, ◌∙◌, subst, arith, slice_get, length-append}
+use Rattle.std.proofs.Common.{◌≡◌, ◌<◌, ◌≤◌, ◌+◌, ◌-◌, ℕ, suc, Bool, true, false, nat_lt, List, [], ◌∷◌, ◌++◌, length, get_or, Some}
+use Rattle.std.proofs.Common.{inr, refl, sym, ap, ◌∙◌, subst, arith, slice_get}
 use Rattle.std.proofs.lemmas.Grind.{common_steps}
 use Rattle.std.proofs.lemmas.List.{get_or_append_left, get_or-append_right}
 use Rattle.std.proofs.lemmas.Option.{get_or_from_slice_get, same_Some, slice_get-get_or, slice_get_within}
@@ -9,9 +9,12 @@ use Rattle.beet_words.specs.Bundles.{Words}
 use Rattle.beet_bids.specs.Books.{Book}
 use Rattle.beet_auction_map.specs.Agreement.{Agree}
 use Rattle.beet_auction_map.specs.ViewsWith.{transcript_with}
-use Rattle.beet_lot_map.specs.LotMaps.{AgreeBefore, LotMapped, MappedBefore, RefusesAt, RefusesLot, RefusesSession, SessionMapped}
-use Rattle.beet_lot_map.specs.LotMaps.{session_transcripts}
+use Rattle.beet_auction_map.specs.Enough.{AreEnough}
+use Rattle.beet_lot_map.specs.LotMaps.{AgreeBefore, AreEnoughEach, LotMapped, MappedBefore, RefusesAt, RefusesLot}
+use Rattle.beet_lot_map.specs.LotMaps.{SessionMapped, session_transcripts}
+use Rattle.beet_auction_map.specs.declared.agreeing.MapFault.TheVariants.{OutOfMemory as MapOutOfMemory}
 use Rattle.beet_lot_map.specs.declared.mapping.SessionFault.{SessionFault}
+use Rattle.beet_lot_map.specs.declared.mapping.SessionFault.TheVariants.{OutOfMemory}
 
 below : (k n : ℕ) → nat_lt k n ≡ true → k < n
 below k n h = grind (arith, common_steps)
@@ -31,6 +34,32 @@ at-end xs x y k many e =
     ∙ get_or_from_slice_get (xs ++ x ∷ []) k y y e where
       first : (n : ℕ) → n ≡ 0 → get_or (x ∷ []) n y ≡ x
       first n z = rw z refl
+
+-- the words of the lots before a place are enough
+abbrev pub AreEnoughBefore : List Book → List Words → ℕ → Type 0
+AreEnoughBefore firsts words n =
+    (k : ℕ) (book : Book) (held : Words) → k < n → slice_get firsts k ≡ Some book → slice_get words k ≡ Some held →
+    AreEnough book held
+
+-- the words of one lot more are enough
+pub enough-more : (firsts : List Book) (words : List Words) (n : ℕ) (first : Book) (held : Words) → slice_get firsts n ≡ Some first →
+    slice_get words n ≡ Some held → AreEnoughBefore firsts words n → AreEnough first held → AreEnoughBefore firsts words (n + 1)
+enough-more firsts words n first held is_first is_held before here k b w lt eb ew = go (nat_lt k n) refl where
+  go : (c : Bool) → nat_lt k n ≡ c → AreEnough b w
+  go true is = before k b w (below k n is) eb ew
+  go false is =
+      let ge = not-below k n is in
+      let same : n ≡ k = omega arith in
+      let eb0 = same_Some first b (sym is_first ∙ ap (slice_get firsts) same ∙ eb) in
+      let ew0 = same_Some held w (sym is_held ∙ ap (slice_get words) same ∙ ew) in
+      subst (λ (x : Book). AreEnough x w) eb0 (subst (λ (x : Words). AreEnough first x) ew0 here)
+
+-- those of all lots are
+pub enough-all : (firsts : List Book) (words : List Words) (n : ℕ) → length firsts ≤ n → AreEnoughBefore firsts words n →
+    AreEnoughEach firsts words
+enough-all firsts words n all before k b w eb ew =
+    let within = slice_get_within firsts k b eb in
+    before k b w (omega (arith, within, all)) eb ew
 
 module _ (s : Point) (firsts : List Book) (words : List Words) (seconds : List Book) where
   -- no lot is mapped yet
@@ -77,6 +106,10 @@ module _ (s : Point) (firsts : List Book) (words : List Words) (seconds : List B
       before = agree-before lists;
       here = here;
     }
+
+    -- or memory ran out after it
+    pub no-memory-here : length words ≡ length firsts → Agree s first second → RefusesAt s firsts seconds OutOfMemory n
+    no-memory-here lists agree = refused-here lists OutOfMemory (inr (agree.grids, (MapOutOfMemory, refl, agree)))
 
 -- a server sees the same of both sessions
 pub views-same : (s : Point) (firsts : List Book) (words : List Words) (seconds : List Book) (mapped : List Words) →

@@ -60,13 +60,12 @@ pub record RefusesAt (s : Point) (firsts seconds : List Book) (fault : SessionFa
   pub before : AgreeBefore s firsts seconds n
   pub here : RefusesLot s (n + 1) first second fault
 
--- why the words of a session are not mapped: there are other numbers of lots, or else a first lot that does not agree,
--- or memory ran out
+-- why the words of a session are not mapped: there are other numbers of lots, or else a first lot that does not agree;
+-- or memory ran out at a lot that agrees, as all before it do
 abbrev pub RefusesSession : Point → List Book → List Book → SessionFault → Type 0
 RefusesSession s firsts seconds fault =
     ((length seconds ≢ length firsts) × (fault ≡ LotsDiffer (length firsts) (length seconds)))
     ⊎ ((length seconds ≡ length firsts) × ((n : ℕ) × RefusesAt s firsts seconds fault n))
-    ⊎ ((length seconds ≡ length firsts) × (fault ≡ NoMemory))
 
 -- the words of so many lots are mapped, each in the one way there is
 abbrev pub MappedBefore : Point → List Book → List Words → List Book → List Words → ℕ → Type 0

@@ -2,5 +2,7 @@
 #![tactic(auto)]
 
 mod mapping;
+mod wanted;
 
 pub use mapping::{SessionFault, session_map};
+pub use wanted::enough_each;

@@ -9,7 +9,7 @@ use beet_auction_map::{MapFault, world_map};
 use beet_bids::{Book, Outcome};
 use beet_field::Point;
 use beet_words::Words;
-use std::alloc::{AllocError, Global};
+use std::alloc::{AllocFailed, Global};
 
 /// Why the words of a session are not mapped to those of a second one: the first thing that tells the sessions apart,
 /// or want of memory. Lots and bidders are counted from 1.
@@ -29,13 +29,13 @@ pub enum SessionFault {
     OutOfMemory,
 }
 
-impl From<AllocError> for SessionFault {
+impl<T: Drop> From<AllocFailed<T>> for SessionFault {
     ghost use Rattle.std.specs.Prelude.{◌≡◌};
     ghost use Rattle.beet_lot_map.specs.declared.mapping.SessionFault.TheVariants.{OutOfMemory};
 
     ghost from_gives = { λ _ fault. fault ≡ OutOfMemory };
 
-    fn from(_error: AllocError) -> SessionFault {
+    fn from(_error: AllocFailed<T>) -> SessionFault {
         SessionFault::OutOfMemory
     }
 }
@@ -78,7 +78,7 @@ fn map_lot(
 /// of `world_map`, each the only ones that go with the words of the first. The sessions are refused if they have
 /// different numbers of lots, and then by the first lot in which the grids differ, or the books do not agree for the
 /// server; lots are counted from 1. There is one list of words for each first book, with enough words for it. Want of
-/// memory comes only if there are as many lots.
+/// memory comes only at a lot that agrees, as all before it do.
 pub fn session_map(
     alloc: Global,
     me: Point,
@@ -98,10 +98,10 @@ pub fn session_map(
     if second.len() != first.len() {
         return Err(SessionFault::LotsDiffer(first.len() as u32, second.len() as u32));
     }
-    let mut mapped = Vec::with_capacity(alloc, first.len())?;
+    let mut mapped = Vec::new(alloc);
     for i in 0..first.len() {
         let lot = map_lot(alloc, me, i as u32 + 1, &first[i], &second[i], &words[i])?;
-        mapped.push_reserved(lot);
+        mapped.push(lot)?;
     }
     Ok(mapped)
 }

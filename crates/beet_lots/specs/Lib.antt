@@ -1,2 +1,3 @@
 pub mod LotEvents
 pub mod LotWorlds
+pub mod LotRows

@@ -3,6 +3,7 @@
 
 mod laws;
 mod lots;
+mod rows;
 
 pub use laws::{
     each_lot_opens_its_own_outcome, each_lot_stands_by_its_own_events, events_add_up,

@@ -14,9 +14,16 @@ use Rattle.beet_words.specs.Words.{IsWord, accepted, ones_in}
 use Rattle.beet_words.proofs.WordLists.{ones-long, words_same}
 use Rattle.beet_map.specs.Mapped.{moved_of}
 use Rattle.beet_map.proofs.Moves.{moved_back, moved_same}
-use Rattle.beet_mapped.specs.Dealers.{Party, Dealer, DealerMapped, DealersMapped, dealers_of, point_for, slope_for}
+use Rattle.beet_mapped.specs.Dealers.{Party, Dealer, DealerMapped, DealersMapped, dealers_of}
 use Rattle.beet_turned.proofs.MasksBack.{all-at}
 use Rattle.beet_mapped.proofs.WordPlaces.{accepted-length, accepted-small}
+
+-- the slope for the n-th quantity: the n-th number drawn from the words; and the point at i of that quantity
+abbrev pub slope_for : Dealer → ℕ → ℕ
+slope_for dealer n = slice_index (accepted dealer.words) n
+
+abbrev pub point_for : Dealer → Point → ℕ → ℕ
+point_for dealer i n = point_of (slice_index dealer.party.quantities n) (slope_for dealer n) i
 
 -- a party is known to a server, or not
 pub known-or : (known : Option Point) (s : Point) → (known ≡ Some s) ⊎ (known ≢ Some s)

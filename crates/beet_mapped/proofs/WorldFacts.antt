@@ -17,24 +17,33 @@ use Rattle.beet_masking.proofs.Words.{word-small}
 use Rattle.beet_round.specs.Sides.{peer}
 use Rattle.beet_round.specs.declared.sides.Side.TheVariants.{Low, High}
 use Rattle.beet_sharing.specs.Runs.{Setup, numbers_of, rounds_among}
-use Rattle.beet_sharing.specs.Seen.{round_seen, rounds_seen}
+use Rattle.beet_sharing.specs.Seen.{SeenRun, round_seen, rounds_seen, run_seen}
 use Rattle.beet_sharing.proofs.Rounds.{among-few, among-rounds}
 use Rattle.beet_map.specs.Mapped.{AreWords as AreAllWords, GateMapped, LooksAlike, run_with}
+use Rattle.beet_map.specs.Secrets.{shares_of}
 use Rattle.beet_map_laws.specs.Pairs.{GoTogether}
 use Rattle.beet_turned.specs.MappedMasks.{MasksMapped}
 use Rattle.beet_turned.proofs.MaskFacts.{own-same}
 use Rattle.beet_turned.proofs.MasksBack.{masks-back, masks-only}
 use Rattle.beet_mapped.specs.Dealers.{Party, DealersMapped, dealers_of}
-use Rattle.beet_mapped.specs.Trades.{AreInputLines, IsOnly, Trade, TradesMapped, dealers_in, rounds_in, seen_in}
-use Rattle.beet_mapped.specs.Trades.{setup_in}
+use Rattle.beet_mapped.specs.Trades.{IsOnly, Trade, TradesMapped, dealers_in, rounds_in, setup_in}
 use Rattle.beet_mapped.proofs.DealerFacts.{AreElements, dealers-only, dealers-back, words-told, told-parties}
 use Rattle.beet_mapped.proofs.DealerFacts.{dealers-words, dealers-elements}
+
+-- what a server sees of the run
+abbrev pub seen_in : Trade → Words → Point → SeenRun
+seen_in trade words s =
+    run_seen (setup_in trade words) s (rounds_in trade words) (member words.masks s) (member words.coefficients s)
 
 pub are-masks : (words : Words) → AreWords words → AreMasks words.masks
 are-masks words w = record { one = w.masks.0; two = w.masks.1; three = w.masks.2 }
 
 pub all-words : (words : Words) → AreWords words → AreAllWords words.coefficients
 all-words words w s = word-small (member words.coefficients s) (at-each (All IsWord) words.coefficients w.coefficients s)
+
+-- lines with the inputs as their points
+abbrev pub AreInputLines : Trade → List (List ℕ) → List Line → Type 0
+AreInputLines trade words lines = (i : Point) → shares_of lines i ≡ member (trade.inputs words) i
 
 -- the setup of a world of lines is that of the trade
 begun : (next : ℕ → List ℕ → Batch) (trade : Trade) (words : Words) (lines : List Line) → trade.next ≡ next →

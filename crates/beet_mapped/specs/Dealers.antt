@@ -3,7 +3,6 @@
 use Rattle.std.specs.Prelude.{◌≡◌, ◌≢◌, ◌<◌, ◌≤◌, ◌==◌, ℕ, List, [], ◌∷◌, length, slice_index, slice_get, Option, Some}
 use Rattle.std.specs.Prelude.{nat_lt, if◌then◌else◌}
 use Rattle.beet_field.specs.declared.point.Point.{Point}
-use Rattle.beet_shamir.specs.Line.{point_of}
 use Rattle.beet_words.specs.Words.{accepted, ones, ones_in}
 use Rattle.beet_map.specs.Mapped.{moved_of}
 
@@ -22,13 +21,6 @@ abbrev pub dealers_of : List Party → List (List ℕ) → List Dealer
 dealers_of [] words = []
 dealers_of (party ∷ parties) [] = []
 dealers_of (party ∷ parties) (list ∷ words) = record { party = party; words = list } ∷ dealers_of parties words
-
--- the slope for the n-th quantity: the n-th number drawn from the words; and the point at i of that quantity
-abbrev pub slope_for : Dealer → ℕ → ℕ
-slope_for dealer n = slice_index (accepted dealer.words) n
-
-abbrev pub point_for : Dealer → Point → ℕ → ℕ
-point_for dealer i n = point_of (slice_index dealer.party.quantities n) (slope_for dealer n) i
 
 -- the n-th accepted word in the second world: moved for each quantity; a word that is all ones stays
 abbrev pub slope_mapped : Point → List ℕ → List ℕ → ℕ → ℕ → ℕ

@@ -6,11 +6,8 @@ use Rattle.beet_field.specs.declared.trio.Trio.{Trio}
 use Rattle.beet_words.specs.Bundles.{Words, AreWords}
 use Rattle.beet_words.specs.Words.{ones_in}
 use Rattle.beet_gates.specs.declared.Batch.{Batch}
-use Rattle.beet_shamir.specs.declared.Line.{Line}
 use Rattle.beet_sharing.specs.Runs.{Setup, numbers_of, rounds_among}
-use Rattle.beet_sharing.specs.Seen.{SeenRun, run_seen}
 use Rattle.beet_map.specs.Mapped.{GateMapped}
-use Rattle.beet_map.specs.Secrets.{shares_of}
 use Rattle.beet_mapped.specs.Dealers.{Party, Dealer, DealersMapped, dealers_of}
 use Rattle.beet_turned.specs.MappedMasks.{MasksMapped}
 
@@ -21,7 +18,7 @@ pub record Trade : Type 0 where
   pub parties : List Party
   pub inputs : List (List ℕ) → Trio (List ℕ)
 
--- what the servers begin with, where the parties have these words
+-- what the servers begin with, if the parties have these words
 abbrev pub setup_in : Trade → Words → Setup
 setup_in trade words = record {
   next = trade.next;
@@ -33,15 +30,10 @@ setup_in trade words = record {
 abbrev pub rounds_in : Trade → Words → ℕ
 rounds_in trade words = rounds_among (setup_in trade words) trade.most
 
--- what a server sees of the run
-abbrev pub seen_in : Trade → Words → Point → SeenRun
-seen_in trade words s =
-    run_seen (setup_in trade words) s (rounds_in trade words) (member words.masks s) (member words.coefficients s)
-
 abbrev pub dealers_in : Trade → Words → List Dealer
 dealers_in trade words = dealers_of trade.parties words.bidders
 
--- the words of two worlds, mapped for server s, where the numbers that are compared lose so much. There are as many
+-- the words of two worlds, mapped for server s, if the numbers that are compared lose these amounts. There are as many
 -- lists, and all numbers are words. Of the coefficient words those that are all ones stand at the same places, those of
 -- s are the same, and the numbers drawn in the first run are mapped
 pub record TradesMapped (s : Point) (losses : List ℕ) (first : Trade) (words : Words) (second : Trade) (words' : Words)
@@ -58,7 +50,3 @@ pub record TradesMapped (s : Point) (losses : List ℕ) (first : Trade) (words :
 -- no other words are so
 abbrev pub IsOnly : (Words → Type 0) → Words → Type 0
 IsOnly mapped words = (other : Words) → mapped other → other ≡ words
-
--- lines with the inputs as their points
-abbrev pub AreInputLines : Trade → List (List ℕ) → List Line → Type 0
-AreInputLines trade words lines = (i : Point) → shares_of lines i ≡ member (trade.inputs words) i

@@ -51,7 +51,7 @@ use Rattle.beet_app_laws.specs.Held.{IsHeld}
 use Rattle.beet_app_laws.proofs.Led.{led, read-to}
 use Rattle.beet_app_laws.proofs.Reading.{reads-to}
 use Rattle.beet_app_laws.proofs.Telling.{one-value, told-views}
-use Rattle.beet_app_laws.specs.Calls.{Call, IsOf, RunsJob, RunsWords, Says}
+use Rattle.beet_app_laws.specs.Calls.{Call, IsOf, RunsJob, RunsJobOf, Says}
 use Rattle.beet_program_laws.specs.Again.{record_words}
 use Rattle.beet_program_laws.specs.Accepted.{HoldsRun, IsAccepted, Stand, audit_words}
 use Rattle.beet_program_laws.specs.Outcomes.{three_files}
@@ -262,7 +262,7 @@ module _ (files : List File) (call : Call) (from : IsOf files call) (w : IsDoneC
             });
       }
 
-  pub accepts : RunsWords (record_words auction servers list out) call → IsAccepted files auction out call
+  pub accepts : RunsJobOf (record_words auction servers list out) call → IsAccepted files auction out call
   accepts ran =
       let job = Some (Answering (record_errand auction servers list out)) in
       let r' = named files call from w (are_names (auction ∷ servers ∷ out ∷ []))

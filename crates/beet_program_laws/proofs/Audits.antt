@@ -55,7 +55,7 @@ use Rattle.beet_app.specs.Jobs.{Auditing, are_names}
 use Rattle.beet_errand.specs.Overs.{ReadsTo, answer_over}
 use Rattle.beet_app_laws.proofs.Led.{read-to}
 use Rattle.beet_app_laws.proofs.Telling.{one-value, told-views}
-use Rattle.beet_app_laws.specs.Calls.{Call, IsOf, RunsJob, RunsWords}
+use Rattle.beet_app_laws.specs.Calls.{Call, IsOf, RunsJob, RunsJobOf}
 use Rattle.beet_program_laws.specs.Commands.{AuditsOneRun}
 use Rattle.beet_program_laws.proofs.Ends.{WentOut, named, servers-open, shown-ends, tells}
 use Rattle.beet_program_laws.proofs.Files.{AreFew, any-reads, counted-are, then-reads, words-are}
@@ -295,7 +295,7 @@ module _ (files : List File) (call : Call) (from : IsOf files call) (w : IsDoneC
       shows.shown.found shows.shown.one_run
       (subst (λ (a : Answer). WentOut a call) shows.shown.is put)) r
 
-  pub audits : RunsWords (codes "audit" ∷ auction ∷ one ∷ two ∷ three ∷ []) call → Audited
+  pub audits : RunsJobOf (codes "audit" ∷ auction ∷ one ∷ two ∷ three ∷ []) call → Audited
   audits ran =
       let job = Some (Auditing auction one two three) in
       let r = named files call from w (are_names (auction ∷ one ∷ three ∷ []))

@@ -66,10 +66,10 @@ bid-is grid bytes curve e =
 
 -- the row that is one too many is refused
 too-many : (taken : Bool) (number : ℕ) (row : Row) → number ≡ ONE_TOO_MANY →
-    result_err (named_in entry_in taken number row) ≢ None
+    result_err (named_in entry_in ONE_TOO_MANY taken number row) ≢ None
 too-many taken number row e none =
     let at : (number == ONE_TOO_MANY) ≡ true = eq-eqb number ONE_TOO_MANY e in
-    let refused : result_err (named_in entry_in taken number row) ≡ Some TOO_MANY = rw at refl in
+    let refused : result_err (named_in entry_in ONE_TOO_MANY taken number row) ≡ Some TOO_MANY = rw at refl in
     cc
 
 few-rows : (judge : ℕ → Row → Option ℕ) (number : ℕ) (rows : List Row) → ((row : Row) → judge ONE_TOO_MANY row ≢ None) →
@@ -90,10 +90,10 @@ fewer : {A B : Type 0} (f : A → Option B) (xs : List A) → length (filter_map
 fewer f [] = omega arith
 fewer f (x ∷ xs) = omega (arith, cons-few (f x) (filter_map f xs) (length xs) (fewer f xs))
 
-book-rows-few : (rows : List Row) (entries : List Entry) → named_rows entry_in rows ≡ Ok entries →
+book-rows-few : (rows : List Row) (entries : List Entry) → named_rows entry_in 2 ONE_TOO_MANY rows ≡ Ok entries →
     length entries ≤ MOST_BIDDERS
 book-rows-few rows entries e =
-    let judge = reason_against entry_in rows in
+    let judge = reason_against entry_in 2 ONE_TOO_MANY rows in
     let values = filter_map (λ row. result_ok (entry_in row)) rows in
     let read = read-is (first_row_fault judge 2 rows) values entries e in
     let few = few-rows judge 2 rows (λ row none. too-many
@@ -101,7 +101,7 @@ book-rows-few rows entries e =
     omega (arith, few, fewer (λ (row : Row). result_ok (entry_in row)) rows, ap (λ (l : List Entry). length l) read.1)
 
 chosen-few : (b : Bool) (rows : List Row) (entries : List Entry) (fault : Fault) →
-    (if b then named_rows entry_in rows else Err fault) ≡ Ok entries → length entries ≤ MOST_BIDDERS
+    (if b then named_rows entry_in 2 ONE_TOO_MANY rows else Err fault) ≡ Ok entries → length entries ≤ MOST_BIDDERS
 chosen-few true rows entries fault e = book-rows-few rows entries e
 chosen-few false rows entries fault e = absurd cc
 

@@ -50,8 +50,8 @@ use Rattle.beet_load.specs.Wanted.{wanted_of}
 use Rattle.beet_load.specs.Loading.{AuctionWithBidders, loaded_errand}
 use Rattle.beet_load.specs.Servers.{ServerWords, all_words_errand, coefficients_of, masks_of}
 use Rattle.beet_load.specs.Wholes.{CanDeal, all_words, limited_errand}
-use Rattle.beet_run.specs.Outcomes.{outcome_answer}
-use Rattle.beet_job_clear.specs.Clear.{clear_errand, cleared}
+use Rattle.beet_run.specs.Outcomes.{cleared, outcome_answer}
+use Rattle.beet_job_clear.specs.Clear.{clear_errand}
 use Rattle.beet_job_rehearse.specs.Rehearse.{rehearse_errand, rehearse_job, rehearsed}
 use Rattle.beet_job_rehearse.specs.Standings.{rehearsal_of, standing_of}
 use Rattle.beet_job_rehearse.specs.declared.standing.Standing.TheVariants.{Waiting, Ended}
@@ -65,9 +65,9 @@ use Rattle.beet_job_worlds.proofs.SecondWords.{words-uncut}
 use Rattle.beet_app.specs.Jobs.{Answering, are_names}
 use Rattle.beet_errand.specs.Overs.{ReadsTo}
 use Rattle.beet_app_laws.proofs.Telling.{one-value, told-each, told-list, told-trio}
-use Rattle.beet_app_laws.specs.Calls.{Call, IsOf, Puts, RunsWords}
+use Rattle.beet_app_laws.specs.Calls.{Call, IsOf, Puts, RunsJobOf}
 use Rattle.beet_app_laws.specs.Readings.{OpenRead}
-use Rattle.beet_program_laws.specs.Commands.{Clears, OpensEnvelopes, RecordsRun, ShowsStandings}
+use Rattle.beet_program_laws.specs.Commands.{Clears, OpensEnvelopes, RecordsRun, ShowsStandings, TellsOfEnvelopes}
 use Rattle.beet_load.specs.WholeViews.{loaded_with}
 use Rattle.beet_program_laws.specs.Outcomes.{IsShown, ServersOpen, TellsTheEnd, transcript_files}
 use Rattle.beet_program_laws.proofs.Ends.{WentOut, found, named, servers-open, tells}
@@ -126,7 +126,7 @@ module _ (files : List File) (call : Call) (from : IsOf files call) (w : IsDoneC
     said = out.calls;
   }
 
-  pub clears : (auction servers list : List ℕ) → RunsWords (codes "clear" ∷ auction ∷ servers ∷ list ∷ []) call →
+  pub clears : (auction servers list : List ℕ) → RunsJobOf (codes "clear" ∷ auction ∷ servers ∷ list ∷ []) call →
       Clears files auction servers list call
   clears auction servers list ran =
       let r = named files call from w (are_names (auction ∷ servers ∷ list ∷ []))
@@ -150,7 +150,7 @@ module _ (files : List File) (call : Call) (from : IsOf files call) (w : IsDoneC
   }
 
   pub records : (auction servers list out : List ℕ) →
-      RunsWords (codes "record" ∷ auction ∷ servers ∷ list ∷ out ∷ []) call →
+      RunsJobOf (codes "record" ∷ auction ∷ servers ∷ list ∷ out ∷ []) call →
       RecordsRun files auction servers list out call
   records auction servers list out ran =
       let job = Some (Answering (record_errand auction servers list out)) in
@@ -250,7 +250,7 @@ module _ (files : List File) where
       (any-yield files names.three ENVELOPE_LIMIT (envelope_of grid Three)) (λ three h3.
       gives-yield files (λ points. Unit {0}) (points_in (record { one = one; two = two; three = three })) tt)))
 
-  sealed-yield : (grid : Grid) (read : List (Trio (List ℕ))) (entries : List ListEntry) →
+  pub sealed-yield : (grid : Grid) (read : List (Trio (List ℕ))) (entries : List ListEntry) →
       Yields files (bidders_errand grid read entries) (λ bidders. Unit {0})
   sealed-yield grid read [] = gives-yield files (λ bidders. Unit {0}) read tt
   sealed-yield grid read (entry ∷ entries) =
@@ -260,7 +260,7 @@ module _ (files : List File) where
       (λ points h. sealed-yield grid (read ++ points ∷ []) entries)
 
   -- files that hold what bidders sealed are read as the points that they sealed, and as no others
-  points-sealed : (grid : Grid) (entries : List ListEntry) (bidders : List (Trio (List ℕ))) (farmers : List BidderWithWords) →
+  pub points-sealed : (grid : Grid) (entries : List ListEntry) (bidders : List (Trio (List ℕ))) (farmers : List BidderWithWords) →
       IsGrid grid →
       ReadsTo files (bidders_errand grid [] entries) bidders → IsBook (book_with grid farmers) →
       HaveWords grid farmers →
@@ -325,6 +325,36 @@ farmers-read grid farmers b each = λ k d lt.
       words = (each k d lt).1;
     }
 
+-- what is told of envelopes that are read so
+pub tells-of : (files : List File) (auction servers list : List ℕ) (read : OpenRead files auction servers list) →
+    IsGrid read.grid.value → CanServeAll read.grid.value read.words.value.servers → (status : ℕ) →
+    status ≡ code_of (opened_answer read.grid.value read.words.value.servers read.bidders.value).status →
+    TellsOfEnvelopes files auction servers list read status
+    (opened_answer read.grid.value read.words.value.servers read.bidders.value).text
+tells-of files auction servers list read limits can_serve status code =
+    let grid : Grid = read.grid.value in
+    let read_words : Trio ServerWords = read.words.value.servers in
+    let bidders : List (Trio (List ℕ)) = read.bidders.value in
+    record {
+      text_is = (code, refl);
+      sealed = λ farmers held b enough.
+          let book = book_with grid farmers in
+          let masks = masks_of read_words in
+          let same : opened_answer grid read_words bidders
+          ≡ outcome_answer grid (book_finish book masks) (book_rounds book masks) =
+          ap (opened_answer grid read_words)
+          (points-sealed files grid read.entries.value bidders farmers limits read.bidders.is b enough held)
+          ∙ outcome-sealed grid farmers read_words b enough in
+          let words = all_words read_words (map (λ (farmer : BidderWithWords). farmer.words) farmers) in
+          subst (λ (x : Answer). TellsTheEnd book words status x.text) (sym same)
+          (tells book words status (code ∙ ap (λ (x : Answer). code_of x.status) same));
+      servers_open = λ farmers b each.
+          let few : length farmers ≤ MOST_BIDDERS =
+          omega (arith, length-map farmers (λ (f : BidderWithWords). f.bidder), b.few) in
+          servers-open (the_book grid read_words farmers) (the_words grid read_words farmers) b
+          (can-run grid read_words farmers few (farmers-read grid farmers b each) can_serve);
+    }
+
 module _ (files : List File) (call : Call) (from : IsOf files call) (w : IsDoneCode call.status) where
   rehearsed-by : (auction servers list name : List ℕ) (answer : Answer) →
       IsRehearsed files auction servers list name answer →
@@ -351,7 +381,7 @@ module _ (files : List File) (call : Call) (from : IsOf files call) (w : IsDoneC
         said = out.calls;
       }
 
-  pub rehearses : (auction servers list schedule : List ℕ) → RunsWords (codes "rehearse" ∷ auction ∷ servers ∷ list ∷ schedule ∷ []) call →
+  pub rehearses : (auction servers list schedule : List ℕ) → RunsJobOf (codes "rehearse" ∷ auction ∷ servers ∷ list ∷ schedule ∷ []) call →
       ShowsStandings files auction servers list schedule call
   rehearses auction servers list schedule ran =
       let job = Some (Answering (rehearse_errand auction servers list schedule)) in
@@ -366,35 +396,17 @@ module _ (files : List File) (call : Call) (from : IsOf files call) (w : IsDoneC
   opened-by : (auction servers list : List ℕ) (answer : Answer) → IsOpened files auction servers list answer →
       WentOut answer call → OpensEnvelopes files auction servers list call
   opened-by auction servers list answer t o =
-      let grid : Grid = t.read.grid.value in
-      let read_words : Trio ServerWords = t.read.words.value.servers in
-      let bidders : List (Trio (List ℕ)) = t.read.bidders.value in
-      let out : WentOut (opened_answer grid read_words bidders) call = subst (λ (a : Answer). WentOut a call) t.is o in
+      let told : Answer = opened_answer t.read.grid.value t.read.words.value.servers t.read.bidders.value in
+      let out : WentOut told call = subst (λ (a : Answer). WentOut a call) t.is o in
       record {
         read = t.read;
-        text = (opened_answer grid read_words bidders).text;
-        text_is = (out.code, refl);
-        sealed = λ farmers held b enough.
-            let book = book_with grid farmers in
-            let masks = masks_of read_words in
-            let same : opened_answer grid read_words bidders
-            ≡ outcome_answer grid (book_finish book masks) (book_rounds book masks) =
-            ap (opened_answer grid read_words)
-            (points-sealed files grid t.read.entries.value bidders farmers t.limits t.read.bidders.is b enough held)
-            ∙ outcome-sealed grid farmers read_words b enough in
-            let words = all_words read_words (map (λ (farmer : BidderWithWords). farmer.words) farmers) in
-            subst (λ (x : Answer). TellsTheEnd book words call.status x.text) (sym same)
-            (tells book words call.status (out.code ∙ ap (λ (x : Answer). code_of x.status) same));
-        servers_open = λ farmers b each.
-            let few : length farmers ≤ MOST_BIDDERS =
-            omega (arith, length-map farmers (λ (f : BidderWithWords). f.bidder), b.few) in
-            servers-open (the_book grid read_words farmers) (the_words grid read_words farmers) b
-            (can-run grid read_words farmers few (farmers-read grid farmers b each) t.can_serve);
+        text = told.text;
+        tells = tells-of files auction servers list t.read t.limits t.can_serve call.status out.code;
         said = out.calls;
       }
 
   pub opens : (auction servers list : List ℕ) →
-      RunsWords (codes "open" ∷ auction ∷ servers ∷ list ∷ []) call →
+      RunsJobOf (codes "open" ∷ auction ∷ servers ∷ list ∷ []) call →
       OpensEnvelopes files auction servers list call
   opens auction servers list ran =
       let r = named files call from w (are_names (auction ∷ servers ∷ list ∷ []))

@@ -13,4 +13,5 @@ pub mod SecondBook
 pub mod SecondWorlds
 pub mod Audits
 pub mod Accepted
-pub mod Telling
+pub mod Watching
+pub mod Witnessing

@@ -29,7 +29,7 @@ use Rattle.beet_load.specs.WordTexts.{too_few_text}
 use Rattle.beet_job_envelopes.specs.Seal.{own_words_errand, seal_errand, seal_job, sealed_answer}
 use Rattle.beet_job_envelopes.specs.SourceWords.{source_word}
 use Rattle.beet_app.specs.Jobs.{Answering, are_names, seal_of}
-use Rattle.beet_app_laws.specs.Calls.{Call, IsOf, RunsJob, RunsWords}
+use Rattle.beet_app_laws.specs.Calls.{Call, IsOf, RunsJob, RunsJobOf}
 use Rattle.beet_app_laws.specs.Readings.{Read}
 use Rattle.beet_program_laws.specs.Commands.{Seals}
 use Rattle.beet_program_laws.proofs.Ends.{WentOut, found, named, no-job}
@@ -139,7 +139,7 @@ module _ (files : List File) (call : Call) (from : IsOf files call) (w : IsDoneC
       sealed-by auction bid word source out f.value e f.holds f.out
 
   pub seals : (auction bid word out : List ℕ) →
-      RunsWords (codes "seal" ∷ auction ∷ bid ∷ word ∷ out ∷ []) call →
+      RunsJobOf (codes "seal" ∷ auction ∷ bid ∷ word ∷ out ∷ []) call →
       Seals files auction bid word out call
   seals auction bid word out ran =
       by-source auction bid word out (source_word word) refl

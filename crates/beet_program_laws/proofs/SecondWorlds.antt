@@ -31,7 +31,7 @@ use Rattle.beet_job_worlds.proofs.SecondWords.{bundle-fits, can-run, words-uncut
 use Rattle.beet_app.specs.Jobs.{Answering, Comparing, are_names}
 use Rattle.beet_app_laws.proofs.Led.{read-to}
 use Rattle.beet_app_laws.proofs.Telling.{one-value, told-both}
-use Rattle.beet_app_laws.specs.Calls.{Call, IsOf, Puts, RunsJob, RunsWords}
+use Rattle.beet_app_laws.specs.Calls.{Call, IsOf, Puts, RunsJob, RunsJobOf}
 use Rattle.beet_program_laws.specs.Again.{IsPutAgain, PutsFor, record_words}
 use Rattle.beet_program_laws.proofs.Ends.{WentOut, found, named, no-job, shown-ends}
 use Rattle.beet_program_laws.proofs.Grids.{grid-is}
@@ -87,7 +87,7 @@ module _ (held : List File) (call : Call) (from : IsOf held call)
 
   puts-for : transcript_for second words s ≡ seen →
       Yields held (limited_errand name servers list) (λ loaded. loaded ≡ loaded_with second words) →
-      RunsWords (record_words name servers list put) call →
+      RunsJobOf (record_words name servers list put) call →
       PutsFor s seen put call
   puts-for is yields ran =
       let job = Some (Answering (record_errand name servers list put)) in
@@ -168,7 +168,7 @@ module _ (files : List File) (call : Call) (from : IsOf files call)
   by-server (Some s) e ran =
       compared files call from w auction servers list1 list2 s server out e ran
 
-  pub puts-again : RunsWords (codes "worlds" ∷ auction ∷ servers ∷ list1 ∷ list2 ∷ server ∷ out ∷ []) call →
+  pub puts-again : RunsJobOf (codes "worlds" ∷ auction ∷ servers ∷ list1 ∷ list2 ∷ server ∷ out ∷ []) call →
       IsPutAgain files auction list2 server out call
   puts-again ran =
       by-server (server_of server) refl

@@ -17,7 +17,7 @@ use Rattle.beet_load.specs.Farmers.{farmers_errand}
 use Rattle.beet_load.specs.Wanted.{wanted_of}
 use Rattle.beet_job_tally.specs.Tally.{not_one_price, tallied, tally_errand, tally_job}
 use Rattle.beet_app.specs.Jobs.{Answering, are_names}
-use Rattle.beet_app_laws.specs.Calls.{Call, IsOf, RunsWords}
+use Rattle.beet_app_laws.specs.Calls.{Call, IsOf, RunsJobOf}
 use Rattle.beet_app_laws.specs.Readings.{TallyRead}
 use Rattle.beet_program_laws.specs.Commands.{Tallies}
 use Rattle.beet_program_laws.proofs.Ends.{WentOut, found, named}
@@ -78,7 +78,7 @@ module _ (files : List File) (call : Call) (from : IsOf files call) (w : IsDoneC
       }
 
   pub tallies : (auction list : List ℕ) →
-      RunsWords (codes "tally" ∷ auction ∷ list ∷ []) call →
+      RunsJobOf (codes "tally" ∷ auction ∷ list ∷ []) call →
       Tallies files auction list call
   tallies auction list ran =
       let r = named files call from w (are_names (auction ∷ list ∷ []))

@@ -36,7 +36,7 @@ use Rattle.beet_job_trial.specs.Sizes.{from_low, number_within, sizes_of}
 use Rattle.beet_job_trial.specs.Trial.{trial_answer, trial_errand, trial_job, trial_over}
 use Rattle.beet_job_trial.proofs.Curves.{is-curve, is-of-grid}
 use Rattle.beet_app.specs.Jobs.{Answering}
-use Rattle.beet_app_laws.specs.Calls.{Call, IsOf, RunsJob, RunsWords}
+use Rattle.beet_app_laws.specs.Calls.{Call, IsOf, RunsJob, RunsJobOf}
 use Rattle.beet_program_laws.specs.Commands.{RunsTrial}
 use Rattle.beet_program_laws.proofs.Ends.{WentOut, found, no-job, servers-open, tells}
 use Rattle.beet_program_laws.proofs.Files.{seed-are}
@@ -185,5 +185,5 @@ module _ (files : List File) (call : Call) (from : IsOf files call) (w : IsDoneC
         said = out.calls;
       }
 
-  pub tries : (first second : List ℕ) → RunsWords (codes "trial" ∷ first ∷ second ∷ []) call → RunsTrial first second call
+  pub tries : (first second : List ℕ) → RunsJobOf (codes "trial" ∷ first ∷ second ∷ []) call → RunsTrial first second call
   tries first second ran = tried first second (sizes_of first second) refl ran

@@ -31,7 +31,7 @@ use Rattle.beet_app.specs.Jobs.{Comparing, are_names}
 use Rattle.beet_errand.specs.Overs.{ReadsTo, answer_over}
 use Rattle.beet_app_laws.proofs.Led.{read-to}
 use Rattle.beet_app_laws.proofs.Telling.{one-value, told-both}
-use Rattle.beet_app_laws.specs.Calls.{Call, IsOf, Puts, RunsJob, RunsWords}
+use Rattle.beet_app_laws.specs.Calls.{Call, IsOf, Puts, RunsJob, RunsJobOf}
 use Rattle.beet_program_laws.specs.Commands.{PutsBothWorlds}
 use Rattle.beet_program_laws.proofs.Ends.{WentOut, named, no-job, shown-ends, tells}
 use Rattle.beet_program_laws.proofs.Jobs.{runs-in}
@@ -144,7 +144,7 @@ module _ (files : List File) (call : Call) (from : IsOf files call) (w : IsDoneC
   by-server (Some s) e ran =
       (s, e, compares files call from w auction servers list1 list2 s out ran)
 
-  pub compares-worlds : RunsWords (codes "worlds" ∷ auction ∷ servers ∷ list1 ∷ list2 ∷ server ∷ out ∷ []) call →
+  pub compares-worlds : RunsJobOf (codes "worlds" ∷ auction ∷ servers ∷ list1 ∷ list2 ∷ server ∷ out ∷ []) call →
       (s : Point) × (server_of server ≡ Some s)
       × PutsBothWorlds files auction servers list1 list2 s out call
   compares-worlds ran =

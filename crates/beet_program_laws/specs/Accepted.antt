@@ -6,7 +6,7 @@ use Rattle.beet_store.specs.Files.{File, bytes_of}
 use Rattle.beet_store.specs.Desks.{Given}
 use Rattle.beet_errand.specs.Errands.{file_for}
 use Rattle.beet_app.specs.Jobs.{job_of}
-use Rattle.beet_app_laws.specs.Calls.{Call, IsOf, Puts, RunsWords, Says}
+use Rattle.beet_app_laws.specs.Calls.{Call, IsOf, Puts, RunsJobOf, Says}
 use Rattle.beet_program_laws.specs.Outcomes.{three_files}
 
 -- the words of an audit of four files
@@ -44,4 +44,4 @@ pub record IsAccepted (files : List File) (auction out : List ℕ) (call : Call)
   pub accepted : (held : List File) (audit : Call) (name one two three : List ℕ) →
       HoldsRun files held auction transcripts name one two three →
       job_of (audit_words name one two three) ≢ None →
-      IsOf held audit → RunsWords (audit_words name one two three) audit → AuditsAlike call.status text audit
+      IsOf held audit → RunsJobOf (audit_words name one two three) audit → AuditsAlike call.status text audit

@@ -2,8 +2,9 @@
 -- these files.
 use Rattle.std.specs.Prelude.{◌≡◌, ◌≤◌, ◌++◌, ℕ, List, [], ◌∷◌, All, length, map, codes, decimal, Some}
 use Rattle.std.specs.Prelude.{Ok}
-use Rattle.beet_field.specs.Trio.{member, of_each}
+use Rattle.beet_field.specs.Trio.{member, of_each, trio_of}
 use Rattle.beet_field.specs.declared.point.Point.{Point}
+use Rattle.beet_field.specs.declared.point.Point.TheVariants.{One, Two, Three}
 use Rattle.beet_field.specs.declared.trio.Trio.{Trio}
 use Rattle.beet_store.specs.Files.{File}
 use Rattle.beet_words.specs.Bundles.{Words, bundle_bytes}
@@ -20,6 +21,7 @@ use Rattle.beet_plan.specs.Auction.{auction_over}
 use Rattle.beet_delivery.specs.Events.{after, undelivered}
 use Rattle.beet_auction.specs.AnyPoints.{points_finish, points_rounds}
 use Rattle.beet_auction.specs.Setups.{rounds_for, setup_for}
+use Rattle.beet_desk.specs.Counts.{count_in}
 use Rattle.beet_world.specs.Schedules.{schedule_of}
 use Rattle.beet_world.specs.Worlds.{named_in}
 use Rattle.beet_world.specs.declared.schedule.Delivery.{Delivery}
@@ -31,7 +33,7 @@ use Rattle.beet_errand.specs.Statuses.{code_of}
 use Rattle.beet_errand.specs.Texts.{line_of}
 use Rattle.beet_load.specs.Counts.{counts_of, words_wanted}
 use Rattle.beet_load.specs.Loading.{loaded_errand}
-use Rattle.beet_load.specs.Servers.{masks_of}
+use Rattle.beet_load.specs.Servers.{coefficients_of, masks_of}
 use Rattle.beet_load.specs.Wholes.{CanDeal, all_words, limited_errand}
 use Rattle.beet_run.specs.OutcomeTexts.{outcome_text}
 use Rattle.beet_run.specs.Outcomes.{status_of}
@@ -42,7 +44,12 @@ use Rattle.beet_job_envelopes.specs.SealedBooks.{HaveWords, HoldEachSealed}
 use Rattle.beet_job_trial.specs.Rules.{trial_book, trial_farmers, trial_grid, trial_servers}
 use Rattle.beet_job_trial.specs.Sizes.{sizes_of}
 use Rattle.beet_job_trial.specs.Trial.{sizes_text}
+use Rattle.beet_job_watch.specs.Watch.{count_text}
 use Rattle.beet_job_worlds.specs.Reading.{both_errand}
+use Rattle.beet_view.specs.BookViews.{view_of_book}
+use Rattle.beet_view.specs.Transcripts.{view_bytes}
+use Rattle.beet_transcripts.specs.RunsOn.{view_of_points}
+use Rattle.beet_witness_laws.specs.SealedCurves.{AreSealed}
 use Rattle.beet_audit.specs.Audits.{recombined_book, run_of}
 use Rattle.beet_audit.specs.OneRuns.{OneRun}
 use Rattle.beet_job_audit.specs.Reading.{read_errand}
@@ -76,7 +83,20 @@ pub record Clears (files : List File) (auction servers book_file : List ℕ) (ca
   pub tells : TellsTheEnd book words call.status text
   pub said : Says call text
 
--- `record`: so it is, and before the text the transcripts of the run were put
+-- `watch`: the same was said, and then of each server how many notes the desk counted and how many numbers they name:
+-- the rounds of the run of this book among three servers, and the numbers that it opens
+pub record Watches (files : List File) (auction servers book_file : List ℕ) (call : Call) : Type 0 where
+  pub book : Book
+  pub words : Words
+  pub read : ReadsTo files (loaded_errand auction servers book_file) (loaded_with book words)
+  pub run : ServersOpen book words
+  pub text : List ℕ
+  pub tells : TellsTheEnd book words call.status text
+  pub said :
+      let count = count_in (setup_for book words) (rounds_for book words) in
+      Says call (text ++ count_text One count ++ count_text Two count ++ count_text Three count)
+
+-- `record`: what `clear` says was said, and before the text the transcripts of the run were put
 pub record RecordsRun (files : List File) (auction servers book_file out : List ℕ) (call : Call) : Type 0 where
   pub book : Book
   pub words : Words
@@ -120,28 +140,50 @@ pub record Seals (files : List File) (auction bid source out : List ℕ) (call :
   pub is_done : call.status ≡ 0
   pub gives : Puts call (three_files out envelopes) (line_of (codes "sealed " ++ decimal read.grid.value.prices))
 
--- `open`: the files read as a grid, words of servers and points of bidders, which may lie on no line; it was said what
--- is found over the sums of these points. Where the files hold what bidders sealed of a book, it is its outcome, which
--- its servers open
-pub record OpensEnvelopes (files : List File) (auction servers list : List ℕ) (call : Call) : Type 0 where
-  pub read : OpenRead files auction servers list
-  pub text : List ℕ
+-- of a grid, words of servers and points of bidders that are read, which may lie on no line, the status and the text
+-- tell what is found over the sums of these points. If the files hold what bidders sealed of a book, it is its outcome,
+-- which its servers open
+pub record TellsOfEnvelopes (files : List File) (auction servers list : List ℕ)
+    (read : OpenRead files auction servers list) (status : ℕ) (text : List ℕ) : Type 0 where
   pub text_is :
       let a = auction_over read.grid.value in
       let inputs = inputs_at read.grid.value.prices read.bidders.value in
       let masks = masks_of read.words.value.servers in
-      (call.status ≡ code_of (status_of (points_finish a inputs masks)))
+      (status ≡ code_of (status_of (points_finish a inputs masks)))
       × (text ≡ outcome_text read.grid.value (points_finish a inputs masks) (points_rounds a inputs masks))
   pub sealed : (farmers : List BidderWithWords) →
       let book = book_with read.grid.value farmers in
       HoldEachSealed files read.grid.value read.entries.value farmers → IsBook book →
       HaveWords read.grid.value farmers →
-      TellsTheEnd book (all_words read.words.value.servers (map (λ farmer. farmer.words) farmers)) call.status text
+      TellsTheEnd book (all_words read.words.value.servers (map (λ farmer. farmer.words) farmers)) status text
   pub servers_open : (farmers : List BidderWithWords) → IsBook (book_with read.grid.value farmers) →
       All (λ farmer. CanDeal (counts_of read.grid.value) farmer.words × All IsWord farmer.words) farmers →
       ServersOpen (book_with read.grid.value farmers)
       (all_words read.words.value.servers (map (λ farmer. farmer.words) farmers))
+
+-- `open`: the files read as these, and it was said
+pub record OpensEnvelopes (files : List File) (auction servers list : List ℕ) (call : Call) : Type 0 where
+  pub read : OpenRead files auction servers list
+  pub text : List ℕ
+  pub tells : TellsOfEnvelopes files auction servers list read call.status text
   pub said : Says call text
+
+-- `witness`: so it is, and before the text it was put what each server sees of the run on these points. If the files
+-- hold what bidders sealed of a book, and no server knows one of them, it is what the server sees of the book's auction
+pub record WitnessesEnvelopes (files : List File) (auction servers list out : List ℕ) (call : Call) : Type 0 where
+  pub read : OpenRead files auction servers list
+  pub text : List ℕ
+  pub tells : TellsOfEnvelopes files auction servers list read call.status text
+  pub gives :
+      let seen = view_of_points read.grid.value read.bidders.value read.words.value.servers in
+      Puts call (three_files out (trio_of (λ s. view_bytes (seen s)))) text
+  pub sealed : (farmers : List BidderWithWords) →
+      let grid = read.grid.value in
+      let words = read.words.value.servers in
+      HoldEachSealed files grid read.entries.value farmers → IsBook (book_with grid farmers) →
+      HaveWords grid farmers → AreSealed farmers → (s : Point) →
+      view_of_points grid read.bidders.value words s
+      ≡ view_of_book grid farmers (masks_of words) (coefficients_of words) s
 
 -- `trial`: the words are two sizes; what servers open of the book that the rule makes of them was said
 pub record RunsTrial (first second : List ℕ) (call : Call) : Type 0 where

@@ -11,10 +11,11 @@ ghost use Rattle.beet_field.specs.Point.{server_of};
 ghost use Rattle.beet_field.specs.declared.point.Point.{Point};
 ghost use Rattle.beet_store.specs.Files.{File};
 ghost use Rattle.beet_app_laws.specs.Calls.{Call, IsDoneCall};
-ghost use Rattle.beet_program_laws.specs.Again.{IsPutAgain, PutsFor, record_words};
+ghost use Rattle.beet_program_laws.specs.Again.{IsPutAgain, record_words};
 ghost use Rattle.beet_program_laws.specs.Accepted.{IsAccepted, audit_words};
 ghost use Rattle.beet_program_laws.specs.Commands.{AuditsOneRun, Clears, OpensEnvelopes, PutsBothWorlds, RecordsRun};
-ghost use Rattle.beet_program_laws.specs.Commands.{RunsTrial, Seals, ShowsStandings, Tallies};
+ghost use Rattle.beet_program_laws.specs.Commands.{RunsTrial, Seals, ShowsStandings, Tallies, Watches};
+ghost use Rattle.beet_program_laws.specs.Commands.{WitnessesEnvelopes};
 
 /// `tally AUCTION BOOK` says the sums of what the bidders of the book sell and buy.
 pub fn what_tally_says_are_the_sums_of_the_bids()
@@ -29,7 +30,15 @@ pub fn what_clear_says_is_what_servers_open()
         IsDoneCall files (codes "clear" ∷ auction ∷ servers ∷ book ∷ []) call → Clears files auction servers book call }
 {}
 
-/// `record AUCTION SERVERS BOOK OUT` says the same, and puts the transcripts of this run.
+/// `watch AUCTION SERVERS BOOK` says the same, and then of each server the rounds of this run and how many numbers it
+/// opens.
+pub fn what_watch_counts_is_the_run()
+    ensures { (files : List File) (auction servers book : List ℕ) (call : Call) →
+        IsDoneCall files (codes "watch" ∷ auction ∷ servers ∷ book ∷ []) call →
+        Watches files auction servers book call }
+{}
+
+/// `record AUCTION SERVERS BOOK OUT` says what `clear` says, and puts the transcripts of this run.
 pub fn what_record_puts_is_what_servers_see()
     ensures { (files : List File) (auction servers book out : List ℕ) (call : Call) →
         IsDoneCall files (record_words auction servers book out) call → RecordsRun files auction servers book out call }
@@ -56,6 +65,14 @@ pub fn what_open_says_is_what_was_sealed()
     ensures { (files : List File) (auction servers list : List ℕ) (call : Call) →
         IsDoneCall files (codes "open" ∷ auction ∷ servers ∷ list ∷ []) call →
         OpensEnvelopes files auction servers list call }
+{}
+
+/// `witness AUCTION SERVERS LIST OUT` says the same, and puts what each server sees of the run on the points of the
+/// envelopes.
+pub fn what_witness_puts_is_what_servers_see_of_envelopes()
+    ensures { (files : List File) (auction servers list out : List ℕ) (call : Call) →
+        IsDoneCall files (codes "witness" ∷ auction ∷ servers ∷ list ∷ out ∷ []) call →
+        WitnessesEnvelopes files auction servers list out call }
 {}
 
 /// `trial BIDDERS PRICES` says what the servers of the book that the rule makes open.
@@ -94,13 +111,4 @@ pub fn recording_the_second_world_puts_its_transcript()
     ensures { (files : List File) (auction servers book1 book2 server out : List ℕ) (call : Call) →
         IsDoneCall files (codes "worlds" ∷ auction ∷ servers ∷ book1 ∷ book2 ∷ server ∷ out ∷ []) call →
         IsPutAgain files auction book2 server out call }
-{}
-
-/// These statements do not hold of whatever was done: of no files there is no tally and no sealed bid, and what a desk
-/// was given tells which transcript was put for a server.
-pub fn the_statements_tell_runs_apart()
-    ensures tally { (auction book : List ℕ) (call : Call) → Tallies [] auction book call → ⊥ }
-    ensures seal { (auction bid source out : List ℕ) (call : Call) → Seals [] auction bid source out call → ⊥ }
-    ensures again { (out : List ℕ) (call : Call) (s : Point) (seen other : List ℕ) →
-        PutsFor s seen out call → PutsFor s other out call → seen ≡ other }
 {}

@@ -16,6 +16,7 @@ use Rattle.beet_auction.proofs.Ends.{book-ends}
 use Rattle.beet_book.specs.Farmers.{book_with}
 use Rattle.beet_load.specs.Loading.{IsKeptOf, AuctionWithInputs, AuctionWithBidders}
 use Rattle.beet_load.specs.Servers.{ServerWords, masks_of}
+use Rattle.beet_run.specs.Outcomes.{cleared, outcome_answer}
 use Rattle.beet_run.specs.Runs.{EndsAuction, setup_with}
 use Rattle.beet_run.proofs.ShareLines.{shares-lines}
 
@@ -45,3 +46,10 @@ book-run book inputs words finish rounds b x h =
     one-end (auction_over book.grid) (setup_with book.grid inputs words) rounds
     (book_rounds book (masks_of words)) finish (book_finish book (masks_of words))
     h.ends (book-ends book (setup_with book.grid inputs words) x.slopes b h.masks refl (shares-lines book inputs b x))
+
+-- so the answer for an auction that is read tells the finish and the rounds of the run
+pub tells-run : (kept : AuctionWithInputs) (loaded : AuctionWithBidders) (finish : Finish) (rounds : ℕ) → IsKeptOf kept loaded →
+    EndsAuction kept.grid kept.inputs kept.servers finish rounds → cleared loaded ≡ outcome_answer kept.grid finish rounds
+tells-run kept loaded finish rounds k run =
+    let ends = book-run (book_with kept.grid loaded.farmers) kept.inputs kept.servers finish rounds k.book k.shares run in
+    rw (k.grid, k.servers, ends.0, ends.1) refl

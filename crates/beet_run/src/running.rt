@@ -1,14 +1,16 @@
 //! Three servers begin a script, and run it to its end on one thread; those of an auction.
 
-ghost use Rattle.std.specs.Prelude.{◌≡◌, ◌*◌, IfErr, IfOk, All, Some, length};
+ghost use Rattle.std.specs.Prelude.{◌≡◌, ◌*◌, ℕ, IfErr, IfOk, All, List, Some, length};
 ghost use Rattle.beet_field.specs.Trio.{member};
+ghost use Rattle.beet_bids.specs.Grids.{Grid as Prices};
 ghost use Rattle.beet_words.specs.Words.{IsWord};
 ghost use Rattle.beet_gates.specs.Plans.{plan_finish};
 ghost use Rattle.beet_plan.specs.Auction.{auction_plan};
 ghost use Rattle.beet_server.specs.Cores.{IsFresh, fresh};
 ghost use Rattle.beet_load.specs.Counts.{counts_of};
-ghost use Rattle.beet_load.specs.Servers.{HaveEnough};
-ghost use Rattle.beet_run.specs.Runs.{CanStart, HasEndedRun, HaveRunScript, HaveRunToEnd, StartScript, Starts};
+ghost use Rattle.beet_load.specs.Servers.{HaveEnough, ServerWords as Lists};
+ghost use Rattle.beet_run.specs.Runs.{CanStart, EndsAuction, HasEndedRun, HaveRunScript, HaveRunToEnd, StartScript};
+ghost use Rattle.beet_run.specs.Runs.{Starts};
 
 use beet_bids::Grid;
 use beet_errand::Stop;
@@ -127,4 +129,33 @@ pub fn run_on_one_thread(
     ensures ended { IfOk result (HaveRunToEnd grid.now inputs words) }
 {
     run_script(alloc, AuctionScript::over(grid), inputs, words)
+}
+
+/// How the auction that three servers have run to its end has ended, and after how many rounds. The servers are let go.
+pub fn end_of(ended: Trio<ServerCore<AuctionScript>>) -> (Finish, u32)
+    requires { HasEndedRun ended.one }
+    ensures { (grid : Prices) (inputs : Trio (List ℕ)) (words : Trio Lists) → HaveRunToEnd grid inputs words ended →
+        EndsAuction grid inputs words result.0 result.1 }
+{
+    let run = (finish_at(&ended.one), ended.one.round());
+    // One call lets them go: else the proof of this way out goes through each of their parts.
+    drop(ended);
+    run
+}
+
+/// Runs the auction that three servers begin with these points and words to its end on the caller's thread, round by
+/// round: how it ends, and after how many rounds. Want of memory is the only error, and comes before the first round.
+pub fn end_on_one_thread(
+    alloc: Global,
+    grid: &Grid,
+    inputs: Trio<FeList>,
+    words: Trio<ServerWords>,
+) -> Result<(Finish, u32), Stop>
+    requires enough { HaveEnough (counts_of grid.now) words }
+    requires inputs { (i : Point) → length (member inputs i) ≡ 2 * grid.now.prices }
+    ensures memory { IfErr result (λ stop. stop ≡ Stop.OutOfMemory) }
+    ensures ends { IfOk result (λ run. EndsAuction grid.now inputs words run.0 run.1) }
+{
+    let ended = run_on_one_thread(alloc, grid, inputs, words)?;
+    Ok(end_of(ended))
 }

@@ -1,11 +1,11 @@
 -- What is kept of all bids is the sale's winner and price, and there is one winner and one price.
-use Rattle.std.proofs.Common.{◌≡◌, ◌≢◌, ℕ, zero, suc, ◌+◌, ◌-◌, ◌<◌, ◌≤◌, ◌⊎◌, inl, inr, true, false, List, length}
+use Rattle.std.proofs.Common.{◌≡◌, ◌≢◌, ℕ, zero, suc, ◌+◌, ◌<◌, ◌≤◌, ◌⊎◌, inl, inr, true, false, List, length}
 use Rattle.std.proofs.Common.{slice_index, refl, sym, ◌∙◌, arith}
 use Rattle.std.specs.Prelude.{nat_le}
 use Rattle.std.proofs.lemmas.Bool.{cases_eq, cases_lt}
 use Rattle.std.proofs.lemmas.Bool.Decides.{nat_tests}
+use Rattle.beet_sale_plan.specs.Outcome.{IsPrice, IsSale, IsWinner}
 use Rattle.beet_sale_plan.specs.Kept.{Kept, kept_after, kept_all, kept_first, kept_of}
-use Rattle.beet_sale_plan.specs.Outcome.{IsGreatest, IsPrice, IsSale, IsWinner}
 
 -- of the first m bids the greatest, its bidder and the greatest of the others are kept; of one bid there is no other
 pub record SoFar (bid : ℕ → ℕ) (m : ℕ) (k : Kept) : Type 0 where

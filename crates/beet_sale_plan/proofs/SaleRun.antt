@@ -1,6 +1,6 @@
 -- How a sale's run on plain values ends, and after how many rounds.
-use Rattle.std.proofs.Common.{◌≡◌, ℕ, zero, suc, ◌+◌, ◌-◌, ◌*◌, ◌^◌, ◌<◌, ◌≤◌, Bool, List, [], ◌∷◌, ◌++◌, length, slice_index}
-use Rattle.std.proofs.Common.{slice_get, Some, None, refl, sym, ap, ◌∙◌, arith, append-nil, length-append}
+use Rattle.std.proofs.Common.{◌≡◌, ℕ, zero, suc, ◌^◌, ◌<◌, ◌≤◌, Bool, List, [], ◌∷◌, ◌++◌, length, slice_index}
+use Rattle.std.proofs.Common.{slice_get, Some, None, refl, sym, ap, ◌∙◌, arith}
 use Rattle.std.specs.Prelude.{if◌then◌else◌}
 use Rattle.std.specs.List.{zip}
 use Rattle.beet_field.specs.Field.{add_of}
@@ -15,18 +15,18 @@ use Rattle.beet_gates.proofs.Segments.{index-append, index-new}
 use Rattle.beet_gates.proofs.Sums.{value-three_terms}
 use Rattle.beet_compare.specs.Compare.{doubled}
 use Rattle.beet_masking.specs.Blocks.{blocks_of}
-use Rattle.beet_masking.specs.Masks.{AreMasks, is_spent, mask_at}
+use Rattle.beet_masking.specs.Masks.{AreMasks, mask_at}
 use Rattle.beet_masking.proofs.AlikeMasks.{Alike}
 use Rattle.beet_masking.proofs.Counts.{spent-start}
 use Rattle.beet_masking.proofs.Places.{along-start, some-place}
 use Rattle.beet_masking.proofs.Rounds.{rounds-whole}
 use Rattle.beet_masking.proofs.Words.{deals-words}
-use Rattle.beet_sale_plan.specs.Kept.{kept_of, kept_first, compared_of}
 use Rattle.beet_sale_plan.specs.Sale.{Sale, bidders_of, sale_plan, sale_batch, comparisons, most_rounds, most_masks}
 use Rattle.beet_sale_plan.specs.Sale.{most_coefficients, most_wires}
 use Rattle.beet_sale_plan.specs.SaleRuns.{SaleEnds}
 use Rattle.beet_sale_plan.specs.declared.SaleEnd.{SaleEnd}
 use Rattle.beet_sale_plan.specs.declared.SaleEnd.TheVariants.{MasksSpent}
+use Rattle.beet_sale_plan.specs.Kept.{kept_of, kept_first, compared_of}
 use Rattle.beet_sale_plan.proofs.Ending.{may-select}
 use Rattle.beet_sale_plan.proofs.SaleClaims.{end_of, sale-claim}
 use Rattle.beet_sale_plan.proofs.SaleStands.{plan-stands, follows-itself}

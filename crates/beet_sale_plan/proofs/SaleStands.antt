@@ -1,5 +1,5 @@
 -- The law of a sale's script.
-use Rattle.std.proofs.Common.{◌≡◌, ℕ, zero, suc, ◌+◌, ◌-◌, ◌*◌, ◌<◌, ◌≤◌, List, [], ◌∷◌, length, Option, Some, None, refl, arith}
+use Rattle.std.proofs.Common.{◌≡◌, ℕ, zero, suc, ◌+◌, ◌*◌, ◌<◌, ◌≤◌, List, [], ◌∷◌, length, Option, Some, None, refl, arith}
 use Rattle.std.proofs.Common.{zero-add}
 use Rattle.beet_gates.specs.declared.Linear.{Linear}
 use Rattle.beet_gates.specs.declared.Gates.{Gates}

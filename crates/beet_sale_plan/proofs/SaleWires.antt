@@ -1,5 +1,5 @@
 -- The wires that the two selections of a bid append.
-use Rattle.std.proofs.Common.{◌≡◌, ℕ, ◌+◌, ◌-◌, ◌^◌, ◌<◌, ◌≤◌, List, [], ◌∷◌, ◌++◌, map, length, slice_index, Option, Some, None}
+use Rattle.std.proofs.Common.{◌≡◌, ℕ, ◌+◌, ◌-◌, ◌^◌, ◌<◌, ◌≤◌, List, [], ◌∷◌, ◌++◌, map, length, slice_index, Option, Some}
 use Rattle.std.proofs.Common.{refl, ap, sym, ◌∙◌, arith, append_assoc, length-append}
 use Rattle.std.specs.Prelude.{min, max}
 use Rattle.std.proofs.lemmas.List.{get_or-append-add}
@@ -11,10 +11,10 @@ use Rattle.beet_gates.proofs.ClearFacts.{length-with_lets}
 use Rattle.beet_gates.proofs.Segments.{index-append, index-new}
 use Rattle.beet_gates.proofs.Sums.{value-three_terms}
 use Rattle.beet_masking.specs.Blocks.{Blocks}
-use Rattle.beet_sale_plan.specs.Kept.{Kept, kept_after}
 use Rattle.beet_sale_plan.specs.Sale.{best_lets, best_wire, difference_let, sum_let, rest_let, less_let, first_selection}
 use Rattle.beet_sale_plan.specs.Sale.{second_selection}
 use Rattle.beet_sale_plan.specs.Selections.{result_wire}
+use Rattle.beet_sale_plan.specs.Kept.{Kept, kept_after}
 use Rattle.beet_sale_plan.proofs.Moves.{with_lets-grow}
 use Rattle.beet_sale_plan.proofs.Numbers.{bit_of, difference, sum, rest, less, more, selected-greater, selected-who}
 use Rattle.beet_sale_plan.proofs.Numbers.{rest-lesser, kept-best, kept-who, kept-next, kept-small}

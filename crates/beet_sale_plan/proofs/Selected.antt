@@ -8,7 +8,7 @@ use Rattle.beet_gates.specs.Plans.{Plan, Block}
 use Rattle.beet_gates.proofs.PlanRuns.{opened_by, plan_rounds}
 use Rattle.beet_gates.proofs.ClearFacts.{length-with_lets}
 use Rattle.beet_gates.proofs.PlanFacts.{opened-new}
-use Rattle.beet_gates.proofs.PlanNumbers.{Leads, leads-then, leads-block}
+use Rattle.beet_gates.proofs.PlanNumbers.{leads-then, leads-block}
 use Rattle.beet_gates.proofs.Segments.{index-append}
 use Rattle.beet_compare.specs.Compare.{doubled, is_doubled_even}
 use Rattle.beet_masking.specs.Blocks.{Blocks, after_mask}

@@ -1,20 +1,19 @@
 -- How a walk has ended, and that a winner's number is small.
-use Rattle.std.proofs.Common.{◌≡◌, ℕ, zero, suc, ◌+◌, ◌≤◌, ◌<◌, ◌^◌, List, [], ◌∷◌, ◌++◌, length, slice_index, Option, Some, None, refl, ap}
-use Rattle.std.proofs.Common.{sym, ◌∙◌, arith, inl, inr, true, false}
+use Rattle.std.proofs.Common.{◌≡◌, ℕ, zero, suc, ◌≤◌, ◌<◌, ◌^◌, List, [], ◌∷◌, ◌++◌, slice_index, Option, Some, None, refl, ap}
+use Rattle.std.proofs.Common.{sym, ◌∙◌, arith, true, false}
 use Rattle.std.specs.Prelude.{IfSome, Bool, if◌then◌else◌}
 use Rattle.std.proofs.lemmas.List.Elements.{All-get_or}
 use Rattle.beet_gates.specs.Batches.{end_batch}
 use Rattle.beet_gates.specs.Plans.{Plan, Ended, Block, Quiet, Last, plan_finish}
-use Rattle.beet_masking.specs.Accepting.{until_accepted}
 use Rattle.beet_masking.specs.Blocks.{blocks_of}
 use Rattle.beet_masking.specs.Masks.{is_spent, mask_at}
-use Rattle.beet_sale_plan.specs.Kept.{kept_of}
 use Rattle.beet_sale_plan.specs.Outcome.{IsBid}
 use Rattle.beet_sale_plan.specs.Sale.{Sale, bidders_of, comparisons, sale_plan, sold}
 use Rattle.beet_sale_plan.specs.SaleRuns.{AreOpened, SaleEnds}
 use Rattle.beet_sale_plan.specs.declared.SaleEnd.{SaleEnd}
 use Rattle.beet_sale_plan.specs.declared.SaleEnd.TheVariants.{MasksSpent, Sold as SoldEnd}
 use Rattle.beet_sale_plan.specs.declared.TheConstants.{MOST_SALE_BIDDERS}
+use Rattle.beet_sale_plan.specs.Kept.{kept_of}
 use Rattle.beet_sale_plan.proofs.Quietly.{quietly-finish}
 use Rattle.beet_sale_plan.proofs.SaleFacts.{kept-few}
 use Rattle.beet_sale_plan.proofs.SaleRun.{sale-run}

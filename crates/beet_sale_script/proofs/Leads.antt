@@ -1,7 +1,7 @@
 -- The plan that is left after a number.
 use Rattle.std.proofs.Common.{◌≡◌, ℕ, zero, suc, ◌+◌, ◌-◌, ◌<◌, ◌≤◌, [], ◌∷◌, length, Option, Some, None, refl, ap, sym, ◌∙◌}
 use Rattle.std.proofs.Common.{arith, inl, inr, ◌≢◌, eq-eqb, ne_eqb}
-use Rattle.std.specs.Prelude.{if◌then◌else◌, ◌==◌}
+use Rattle.std.specs.Prelude.{◌==◌}
 use Rattle.std.proofs.lemmas.Bool.{cases_eq, cases_Bool}
 use Rattle.beet_gates.specs.declared.Linear.{Linear}
 use Rattle.beet_gates.specs.declared.Gates.{Gates}

@@ -9,6 +9,8 @@ mod bits;
 #[cfg(test)]
 mod gates;
 #[cfg(test)]
+mod lots;
+#[cfg(test)]
 mod map;
 #[cfg(test)]
 mod product;

@@ -9,7 +9,7 @@ use beet_field::{Fe, MOST_NUMBERS, Point};
 use beet_queue::FromServer;
 use std::sync::Wait;
 
-/// What a server tells of a round that it has passed: the numbers that the round opened, none where it opened none.
+/// What a server tells of a round that it has passed: the numbers that the round opened, none if it opened none.
 #[derive(Debug, Drop)]
 pub struct DeskNote {
     pub server: Point,

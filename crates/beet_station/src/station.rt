@@ -41,8 +41,7 @@ pub struct Mail {
     pub high: Box<RoundMessage>,
 }
 
-/// Takes the next message of a link, once it is there, and gives it to the server: what the server says of it, and
-/// the message.
+/// Waits for the next message of a link, and gives it to the server. The message comes back, to be written anew.
 fn hear<S: Script, R: Wait + Clock>(
     rt: &R,
     core: &mut ServerCore<S>,
@@ -75,7 +74,7 @@ fn behind(numbers: &[Fe], place: usize) -> &[Fe]
     &numbers[place..]
 }
 
-/// Hands out the two messages of the round, and puts them on the links to the peers.
+/// Sends both messages of the round, in the memory of the mail. It never waits.
 pub fn put_both<S: Script, R: Wait>(
     rt: &R,
     _me: Point,

@@ -16,11 +16,11 @@ use std::thread::Threads;
 use std::time::Clock;
 
 /// How often the auction is run.
-const RUNS: u32 = 20;
+pub const RUNS: u32 = 20;
 
 const SENDERS: [Point; 3] = [Point::One, Point::Two, Point::Three];
 
-type Core = ServerCore<AuctionScript>;
+pub type Core = ServerCore<AuctionScript>;
 
 /// Whether two tapes have the same words and are passed as far.
 fn are_same_tapes(one: &Tape, two: &Tape) -> bool {
@@ -44,7 +44,12 @@ fn expect_same(rt: &impl Abort, one: &Core, two: &Core) {
 }
 
 /// The ended servers of the auction on one thread.
-fn on_one_thread(rt: &impl Abort, alloc: Global, grid: &Grid, points: &Trio<FeList>) -> Trio<Core>
+pub fn on_one_thread(
+    rt: &impl Abort,
+    alloc: Global,
+    grid: &Grid,
+    points: &Trio<FeList>,
+) -> Trio<Core>
     requires { IsGrid grid.now }
 {
     lockstep(servers(rt, alloc, grid, points, &SEEDS))
@@ -64,7 +69,7 @@ fn in_three<R: Abort + Threads + Wait + Clock + Sync>(
 }
 
 /// Compares the servers after the auction.
-fn expect_all_same(rt: &impl Abort, ended: &Trio<Core>, wanted: &Trio<Core>) {
+pub fn expect_all_same(rt: &impl Abort, ended: &Trio<Core>, wanted: &Trio<Core>) {
     expect_same(rt, &ended.one, &wanted.one);
     expect_same(rt, &ended.two, &wanted.two);
     expect_same(rt, &ended.three, &wanted.three);

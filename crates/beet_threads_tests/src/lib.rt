@@ -1,5 +1,5 @@
-//! The tests of three servers in threads and of the links between them, which are proved over the contracts of their
-//! crates alone.
+//! The tests of three servers in threads, also while the desk watches, and of the links between them, which are proved
+//! over the contracts of their crates alone.
 #![tactic(auto)]
 
 #[cfg(test)]
@@ -10,3 +10,5 @@ mod ends;
 mod links;
 #[cfg(test)]
 mod meeting;
+#[cfg(test)]
+mod watched;

@@ -49,7 +49,7 @@ use Rattle.beet_view.proofs.ViewAgain.{view_in-view}
 use Rattle.beet_view.proofs.ViewLength.{view_bytes-short}
 use Rattle.beet_view.specs.declared.view.Seen.{Seen}
 use Rattle.beet_auction.specs.Setups.{setup_for, rounds_for}
-use Rattle.beet_transcripts.proofs.HasRuns.{is-book, inputs-long, seen-all}
+use Rattle.beet_transcripts.proofs.BookRuns.{is-book, inputs-long, seen-all}
 use Rattle.beet_book.specs.declared.book_file.TheConstants.{MOST_PRODUCT}
 use Rattle.beet_forms.specs.declared.faults.TheConstants.{LONGEST_FILE}
 

@@ -1,3 +1,4 @@
 pub mod DealtPoints
-pub mod HasRuns
+pub mod RunsOnFacts
+pub mod BookRuns
 pub mod FittingViews

@@ -1,2 +1,3 @@
 pub mod DealtBooks
-pub mod BookRuns
+pub mod Writing
+pub mod RunsOn

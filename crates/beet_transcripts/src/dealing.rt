@@ -1,6 +1,7 @@
 //! What the bidders of a book deal, and what each server sees of them.
 
-ghost use Rattle.std.specs.Prelude.{◌≡◌, ◌≤◌, ◌++◌, ◌∷◌, [], IfOk, OnOk, All, List, Option, length, map, false, true};
+ghost use Rattle.std.specs.Prelude.{◌≡◌, ◌≤◌, ◌++◌, ◌∷◌, [], IfOk, OnOk, All, List, None, Option, length, map, false};
+ghost use Rattle.std.specs.Prelude.{true};
 ghost use Rattle.beet_field.specs.Trio.{member};
 ghost use Rattle.std.specs.Thread.{IsSync};
 ghost use Rattle.beet_bids.specs.Curves.{IsOfGrid};
@@ -10,6 +11,7 @@ ghost use Rattle.beet_load.specs.Counts.{counts_of};
 ghost use Rattle.beet_load.specs.Wholes.{CanDeal};
 ghost use Rattle.beet_view.specs.BookViews.{seen_at, own_at, seen_with};
 ghost use Rattle.beet_transcripts.specs.DealtBooks.{CanDealAll, HasDealt, shows};
+ghost use Rattle.beet_transcripts.specs.RunsOn.{seen_sealed};
 
 use beet_bids::{Bidder, Book, Curve, Grid};
 use beet_book::{FEWEST_FOR_TWO, Totals, deal_bidder, workers};
@@ -40,14 +42,36 @@ impl Model for SeenByAll {
         record { one = a.servers.one.items; two = a.servers.two.items; three = a.servers.three.items } };
 }
 
+/// A bidder of which nobody knows more than these points.
+fn sealed(points: FeList) -> Seen
+    ensures { result ≡ record { known = None; points = points; own = None } }
+{
+    Seen {
+        known: None,
+        points,
+        own: None,
+    }
+}
+
 impl SeenByAll {
     /// No bidder yet.
-    fn new(alloc: Global) -> SeenByAll
+    pub fn new(alloc: Global) -> SeenByAll
         ensures { result ≡ record { one = []; two = []; three = [] } }
     {
         SeenByAll {
             servers: Trio::of(|_| Vec::new(alloc)),
         }
+    }
+
+    /// Appends a bidder of which nobody knows more than these points, as each server sees it.
+    pub fn push_sealed(&mut self, points: Trio<FeList>) -> Result<(), AllocError>
+        ensures { OnOk result ((s : Point) → member self.new s ≡ member self.old s ++ seen_sealed s points ∷ []) }
+    {
+        let Trio { one, two, three } = points;
+        self.servers.one.push(sealed(one))?;
+        self.servers.two.push(sealed(two))?;
+        self.servers.three.push(sealed(three))?;
+        Ok(())
     }
 
     /// The bidders of others after these.
@@ -76,7 +100,7 @@ impl SeenByAll {
     }
 
     /// The bidders as each server sees them, given away.
-    pub fn into_parts(self) -> Trio<Vec<Seen>>
+    pub(crate) fn into_parts(self) -> Trio<Vec<Seen>>
         ensures one { result.one.items ≡ self.one }
         ensures two { result.two.items ≡ self.two }
         ensures three { result.three.items ≡ self.three }

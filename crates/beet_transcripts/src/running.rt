@@ -9,7 +9,7 @@ ghost use Rattle.beet_load.specs.Counts.{counts_of};
 ghost use Rattle.beet_load.specs.Servers.{cut_servers};
 ghost use Rattle.beet_load.specs.Wholes.{CanStart};
 ghost use Rattle.beet_auction.specs.Endings.{book_finish, book_rounds};
-ghost use Rattle.beet_transcripts.specs.BookRuns.{CanWrite, Writes};
+ghost use Rattle.beet_transcripts.specs.Writing.{CanWrite, Writes};
 ghost use Rattle.beet_transcripts.specs.DealtBooks.{shows};
 ghost use Rattle.beet_view.specs.BookViews.{seen_at, transcript_for};
 
@@ -30,7 +30,7 @@ use std::marker::Sync;
 use std::thread::Threads;
 
 /// The transcript of a server that has ended, with the bidders as it sees them.
-pub fn transcript_of(
+pub(crate) fn transcript_of(
     alloc: Global,
     core: &ServerCore<AuctionScript>,
     grid: &Grid,

@@ -3,6 +3,8 @@
 #![tactic(auto)]
 
 #[cfg(test)]
+mod sessions;
+#[cfg(test)]
 mod trial;
 #[cfg(test)]
 mod view;

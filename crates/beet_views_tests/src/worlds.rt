@@ -30,26 +30,31 @@ fn turned_masks(rt: HostRuntime) {
 }
 
 /// A bidder: the server that knows it, and what it sells and buys at the one price.
-type Only = (Option<Point>, u64, u64);
+pub(crate) type Only = (Option<Point>, u64, u64);
 
 /// A bidder that no server knows, and the same where it sells one more.
-const UNKNOWN: Only = (None, 40, 35);
+pub(crate) const UNKNOWN: Only = (None, 40, 35);
 
-const SELLS_MORE: Only = (None, 41, 35);
+pub(crate) const SELLS_MORE: Only = (None, 41, 35);
 
 /// The first where there is too little supply for a price.
-const SELLS_LESS: Only = (None, 34, 35);
+pub(crate) const SELLS_LESS: Only = (None, 34, 35);
 
 /// The first where it buys one less.
 const BUYS_LESS: Only = (None, 40, 34);
 
 /// The same bidders where server 2 knows them.
-const KNOWN: Only = (Some(Point::Two), 40, 35);
+pub(crate) const KNOWN: Only = (Some(Point::Two), 40, 35);
 
-const KNOWN_SELLS_MORE: Only = (Some(Point::Two), 41, 35);
+pub(crate) const KNOWN_SELLS_MORE: Only = (Some(Point::Two), 41, 35);
 
 /// A book of one bidder over a grid of one price with this policy.
-fn book(rt: &impl Abort, alloc: Global, policy: Policy, (known, sell, buy): Only) -> Book {
+pub(crate) fn book(
+    rt: &impl Abort,
+    alloc: Global,
+    policy: Policy,
+    (known, sell, buy): Only,
+) -> Book {
     let grid = Grid::new(100, 5, 1, Gates::Chain).expect(rt, "a grid");
     let grid = grid.with_policy(policy);
     let buy = vec![in alloc; buy].expect(rt, "memory");
@@ -174,7 +179,7 @@ fn differences(
 
 /// Outcomes with the one price: the volume of 35 is that of the first bidder's book, and of 34 that of one that buys
 /// less.
-const VOLUME: Outcome = Outcome::Price {
+pub(crate) const VOLUME: Outcome = Outcome::Price {
     place: 0,
     price: 100,
     volume: Some(35),
@@ -462,7 +467,7 @@ fn words_that_are_enough(rt: HostRuntime) {
 }
 
 /// Words for a book of one price and one bidder: masks 7, 9, 11 of server 1, and the bidder's words 3 and 4.
-fn words_of_one(rt: &impl Abort, alloc: Global) -> Words {
+pub(crate) fn words_of_one(rt: &impl Abort, alloc: Global) -> Words {
     Words {
         masks: lists(rt, alloc, [&[7, 9, 11], &[0, 0, 0], &[0, 0, 0]]),
         coefficients: many_each(rt, alloc, [(2, 1_536), (0, 1_536), (1, 1_540)]),

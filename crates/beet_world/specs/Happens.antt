@@ -51,12 +51,12 @@ pub record HoldsMessages {S : Type 0} (rounds : ℕ) (c : Core S) (sent : Vec (L
   pub within : length sent.items ≤ rounds
 
 module _ {S : Type 0} (next : S → ℕ → List ℕ → Batch) (rounds : ℕ) where
-  -- it also has nothing left to hand out
+  -- and it has nothing left to hand out
   pub record MayTakeMessages (c : Core S) (sent : Vec (List RoundMessage) Global) : Type 0 where
     pub quiet : is_quiet next c ≡ true
     pub holds : HoldsMessages rounds c sent
 
-  -- and so it is again afterwards: its script and words stay, and the room too
+  -- after it took messages the same is so again; its name, script, words and room stay
   pub record HasTakenMessages (old new : Core S) (before after : Vec (List RoundMessage) Global) : Type 0 where
     pub capacity : vec_capacity after ≡ vec_capacity before
     pub keeps : Keeps old new

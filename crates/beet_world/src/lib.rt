@@ -9,7 +9,7 @@ mod world;
 
 pub use schedule::{
     BAD_DELIVERY, Delivery, LATEST_ROUND, MOST_DELIVERIES, ONE_DELIVERY_TOO_MANY, SCHEDULE_LIMIT,
-    TOO_MANY_DELIVERIES, read_schedule,
+    ScheduleRow, TOO_MANY_DELIVERIES, read_delivery, read_schedule, read_schedule_rows,
 };
 pub use stepping::lockstep;
 pub use world::{Event, World};

@@ -1,8 +1,10 @@
 //! The reader of schedules.
 
-ghost use Rattle.std.specs.Prelude.{◌≡◌, ◌≤◌, length};
+ghost use Rattle.std.specs.Prelude.{◌≡◌, ◌≤◌, ℕ, List, Option, length};
 ghost use Rattle.beet_forms.specs.Faults.{Answers};
-ghost use Rattle.beet_world.specs.Schedules.{delivery_in, delivery_at, deliveries_of, schedule_in, schedule_of};
+ghost use Rattle.beet_forms.specs.Rows.{rows_of};
+ghost use Rattle.beet_world.specs.Schedules.{delivery_in, delivery_at, delivery_named, deliveries_of, schedule_in};
+ghost use Rattle.beet_world.specs.Schedules.{schedule_of};
 
 use beet_field::Point;
 use beet_forms::{LONGEST_FILE, ReadFault, Row, RowReader, number, three_fields};
@@ -37,13 +39,20 @@ pub struct Delivery {
     pub round: u32,
 }
 
-/// The delivery of a row, or none where the row is not of its form.
-fn read_delivery(row: &Row) -> Option<Delivery>
-    ensures { result ≡ delivery_in row.now }
+/// What the rows of a schedule after the first are read as.
+pub trait ScheduleRow: Drop {
+    /// The delivery of a row in a schedule for so many lots, or none where the row is not of its form.
+    ghost row_in: { ℕ → List (List ℕ) → Option Self };
+
+    /// The delivery of a row in a schedule for so many lots.
+    fn read(lots: u32, row: &Row) -> Option<Self>
+        ensures { result ≡ row_in lots row.now };
+}
+
+/// The delivery of the fields FROM, TO and ROUND, or none where they are not of their form.
+pub fn read_delivery(from: &[u8], to: &[u8], round: &[u8]) -> Option<Delivery>
+    ensures { result ≡ delivery_named from.now to.now round.now }
 {
-    let Some((from, to, round)) = three_fields(row) else {
-        return None;
-    };
     let (Some(from), Some(to)) = (Point::of_digit(from), Point::of_digit(to)) else {
         return None;
     };
@@ -60,29 +69,48 @@ fn read_delivery(row: &Row) -> Option<Delivery>
     })
 }
 
+/// The delivery of a row, or none where the row is not of its form.
+fn read_row(row: &Row) -> Option<Delivery>
+    ensures { result ≡ delivery_in row.now }
+{
+    let (from, to, round) = three_fields(row)?;
+    read_delivery(from, to, round)
+}
+
+impl ScheduleRow for Delivery {
+    ghost use Rattle.beet_world.specs.Schedules.{delivery_in};
+
+    ghost row_in = { λ _ row. delivery_in row };
+
+    fn read(_lots: u32, row: &Row) -> Option<Delivery> {
+        read_row(row)
+    }
+}
+
 /// The delivery of the row with this number, or the reason against the row.
-fn read_row(number: u32, row: &Row) -> Result<Delivery, u32>
-    ensures { result ≡ delivery_at number row.now }
+fn read_at<D: ScheduleRow>(lots: u32, number: u32, row: &Row) -> Result<D, u32>
+    ensures { result ≡ delivery_at (D.row_in lots) number row.now }
 {
     if number == ONE_DELIVERY_TOO_MANY {
         return Err(TOO_MANY_DELIVERIES);
     }
-    read_delivery(row).ok_or(BAD_DELIVERY)
+    D::read(lots, row).ok_or(BAD_DELIVERY)
 }
 
 /// The deliveries, of the rows that are left, which are those after the first.
-fn read_deliveries(
+fn read_deliveries<D: ScheduleRow>(
     alloc: Global,
+    lots: u32,
     rows: &mut RowReader,
     row: &mut Row,
-) -> Result<Vec<Delivery>, ReadFault>
+) -> Result<Vec<D>, ReadFault>
     requires { length rows.old ≤ LONGEST_FILE }
-    ensures { Answers (λ deliveries. deliveries.items) (deliveries_of rows.old) result }
+    ensures { Answers (λ deliveries. deliveries.items) (deliveries_of (D.row_in lots) rows.old) result }
 {
     let mut deliveries = Vec::new(alloc);
     while rows.next(row)? {
         let number = deliveries.len() as u32 + 2;
-        match read_row(number, row) {
+        match read_at(lots, number, row) {
             Ok(delivery) => deliveries.push(delivery)?,
             Err(reason) => return Err(ReadFault::at_row(number, reason)),
         }
@@ -90,29 +118,48 @@ fn read_deliveries(
     Ok(deliveries)
 }
 
-/// The deliveries of a schedule, of all its rows.
-fn read_rows(alloc: Global, rows: &mut RowReader, row: &mut Row) -> Result<Vec<Delivery>, ReadFault>
+/// The deliveries of a schedule of this kind, of all its rows.
+fn read_rows<D: ScheduleRow>(
+    alloc: Global,
+    lots: u32,
+    kind: &[u8],
+    rows: &mut RowReader,
+    row: &mut Row,
+) -> Result<Vec<D>, ReadFault>
     requires { length rows.old ≤ LONGEST_FILE }
-    ensures { Answers (λ deliveries. deliveries.items) (schedule_in rows.old) result }
+    ensures { Answers (λ deliveries. deliveries.items) (schedule_in (D.row_in lots) kind.now rows.old) result }
 {
-    if !rows.begins_with(row, b"beet-schedule", b"1")? {
+    if !rows.begins_with(row, kind, b"1")? {
         return Err(ReadFault::at_row(1, BAD_DELIVERY));
     }
-    read_deliveries(alloc, rows, row)
+    read_deliveries(alloc, lots, rows, row)
 }
 
-/// The deliveries of a schedule file, in order: the row `beet-schedule,1` and then at most
-/// 1,000,000 rows `FROM,TO,ROUND`. An error is `OutOfMemory`, or a fault in the file.
+/// The deliveries of a schedule file of this kind for so many lots, in order: the row of the kind and `1`, and then at
+/// most 1,000,000 rows. An error is `OutOfMemory`, or a fault in the file.
 ///
 /// The first row with a fault is named. Its reason is [`TOO_MANY_DELIVERIES`] for row 1,000,002, and else
-/// [`BAD_DELIVERY`]: for a row 1 that is missing or another one, and for a row that has not three
-/// fields, whose FROM or TO is not `1`, `2` or `3`, whose FROM is its TO, or whose ROUND is no number
-/// up to 999,999.
+/// [`BAD_DELIVERY`]: for a row 1 that is missing or another one, and for a row that is not of its form.
+pub fn read_schedule_rows<D: ScheduleRow>(
+    alloc: Global,
+    lots: u32,
+    kind: &[u8],
+    bytes: &[u8],
+) -> Result<Vec<D>, ReadFault>
+    requires { length bytes.now ≤ LONGEST_FILE }
+    ensures { Answers (λ deliveries. deliveries.items) (schedule_in (D.row_in lots) kind.now (rows_of bytes.now)) result }
+{
+    let mut rows = RowReader::new(alloc, bytes);
+    let mut row = Row::new(alloc);
+    read_rows(alloc, lots, kind, &mut rows, &mut row)
+}
+
+/// The deliveries of a schedule file, in order: the row `beet-schedule,1` and then at most 1,000,000 rows
+/// `FROM,TO,ROUND`, as `read_schedule_rows` reads them. A row is not of its form that has not three fields, whose FROM
+/// or TO is not `1`, `2` or `3`, whose FROM is its TO, or whose ROUND is no number up to 999,999.
 pub fn read_schedule(alloc: Global, bytes: &[u8]) -> Result<Vec<Delivery>, ReadFault>
     requires { length bytes.now ≤ LONGEST_FILE }
     ensures { Answers (λ deliveries. deliveries.items) (schedule_of bytes.now) result }
 {
-    let mut rows = RowReader::new(alloc, bytes);
-    let mut row = Row::new(alloc);
-    read_rows(alloc, &mut rows, &mut row)
+    read_schedule_rows(alloc, 1, b"beet-schedule", bytes)
 }

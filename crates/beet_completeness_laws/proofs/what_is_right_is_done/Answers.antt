@@ -1,4 +1,5 @@
-use Rattle.beet_completeness_laws.proofs.Jobs.{audit, clear, opened, recorded, rehearse, seal, tally, trial, worlds}
+use Rattle.beet_completeness_laws.proofs.Jobs.{audit, clear, opened, recorded, rehearse, seal, tally, trial, watch, witness}
+use Rattle.beet_completeness_laws.proofs.Jobs.{worlds}
 use Rattle.beet_completeness_laws.proofs.Rehearsals.{said}
 use Rattle.beet_completeness_laws.proofs.what_is_right_is_done.Goals as goal
 
@@ -7,6 +8,9 @@ returns-clause-tally c = λ files auction list call w can. tally files call auct
 
 pub returns-clause-clear : goal.returns-clause-clear
 returns-clause-clear c = λ files auction servers list call w can. clear files call auction servers list w can
+
+pub returns-clause-watch : goal.returns-clause-watch
+returns-clause-watch c = λ files auction servers list call w can. watch files call auction servers list w can
 
 pub returns-clause-rehearse : goal.returns-clause-rehearse
 returns-clause-rehearse c = λ files auction servers list name loaded schedule call w can.
@@ -24,6 +28,9 @@ returns-clause-seal c = λ files auction bid source out call w can. seal files c
 
 pub returns-clause-opened : goal.returns-clause-opened
 returns-clause-opened c = λ files auction servers list call w can. opened files call auction servers list w can
+
+pub returns-clause-witness : goal.returns-clause-witness
+returns-clause-witness c = λ files auction servers list out call w can. witness files call auction servers list out w can
 
 pub returns-clause-trial : goal.returns-clause-trial
 returns-clause-trial c = λ files first second call w can. trial files call first second w can

@@ -4,8 +4,7 @@ use Rattle.beet_field.specs.declared.point.Point.{Point}
 use Rattle.beet_errand.proofs.Frame.{bound, exits, given, no_memory, stopped}
 use Rattle.beet_load.specs.Loading.{AuctionWithInputs}
 use Rattle.beet_run.specs.Runs.{EndsAuction}
-use Rattle.beet_run.proofs.BookRuns.{kept-many}
-use Rattle.beet_job_clear.proofs.Clearing.{tells-run}
+use Rattle.beet_run.proofs.BookRuns.{kept-many, tells-run}
 use Rattle.beet_job_clear.proofs.clear.Goals as goal
 
 pub returns-in_err-loaded-clause-reads : goal.returns-in_err-loaded-clause-reads

@@ -3,8 +3,12 @@ use Rattle.std.specs.Prelude.{string_bytes}
 use Rattle.beet_app.specs.Commands.{job_for}
 use Rattle.beet_app.proofs.Words.{by_words, too_few, six_words, too_many}
 use Rattle.beet_app.proofs.commands.read_command.Goals.{in_default-via-then-words-lt3}
-use Rattle.beet_app.proofs.commands.read_command.Goals.{in_default-via-else-words-lt3+else-words-lt4+else-words-lt5+else-words-lt6+then-words-lt7}
-use Rattle.beet_app.proofs.commands.read_command.Goals.{in_default-via-else-words-lt3+else-words-lt4+else-words-lt5+else-words-lt6+else-words-lt7+else-words-lt8}
+use Rattle.beet_app.proofs.commands.read_command.Goals.{
+  in_default-via-else-words-lt3+else-words-lt4+else-words-lt5+else-words-lt6+then-words-lt7,
+}
+use Rattle.beet_app.proofs.commands.read_command.Goals.{
+  in_default-via-else-words-lt3+else-words-lt4+else-words-lt5+else-words-lt6+else-words-lt7+else-words-lt8,
+}
 use Rattle.beet_app.proofs.commands.read_command.Goals as goal
 
 pub returns-in_default-clause-job : goal.returns-in_default-clause-job

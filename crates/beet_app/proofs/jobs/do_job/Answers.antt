@@ -7,6 +7,8 @@ use Rattle.beet_job_record.specs.Records.{record_job}
 use Rattle.beet_job_rehearse.specs.Rehearse.{rehearse_job}
 use Rattle.beet_job_tally.specs.Tally.{tally_job}
 use Rattle.beet_job_trial.specs.Trial.{trial_job}
+use Rattle.beet_job_watch.specs.Watch.{watch_job}
+use Rattle.beet_job_witness.specs.Witness.{witness_job}
 use Rattle.beet_app.proofs.Running.{done_ends}
 use Rattle.beet_app.proofs.jobs.do_job.Goals as goal
 
@@ -20,6 +22,12 @@ returns-in-Clear g c =
     let files = c.in-Clear.files in
     rw c.in-Clear.is (answers_task (clear_job files.auction.now files.servers.now files.book.now) _
     c.clear.ensures.done c.clear.ensures.reads)
+
+pub returns-in-Watch : goal.returns-in-Watch
+returns-in-Watch g c =
+    let files = c.in-Watch.files in
+    rw c.in-Watch.is (answers_task (watch_job files.auction.now files.servers.now files.book.now) _
+    c.watch.ensures.done c.watch.ensures.reads)
 
 pub returns-in-Rehearse : goal.returns-in-Rehearse
 returns-in-Rehearse g c =
@@ -50,6 +58,12 @@ returns-in-Open g c =
     let files = c.in-Open.files in
     rw c.in-Open.is (answers_task (open_job files.auction.now files.servers.now files.list.now) _
     c.open_envelopes.ensures.done c.open_envelopes.ensures.reads)
+
+pub returns-in-Witness : goal.returns-in-Witness
+returns-in-Witness g c =
+    let files = c.in-Witness.files in
+    rw c.in-Witness.is (answers_task (witness_job files.auction.now files.servers.now files.list.now files.out.now) _
+    c.witness.ensures.done c.witness.ensures.reads)
 
 pub returns-in-Trial : goal.returns-in-Trial
 returns-in-Trial g c =

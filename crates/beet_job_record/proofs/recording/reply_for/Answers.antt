@@ -1,21 +1,38 @@
-use Rattle.std.proofs.Common.{refl, ap, ◌∙◌}
+use Rattle.std.proofs.Common.{refl, ◌∙◌}
 use Rattle.std.proofs.lemmas.Result.{err_from_is_err_and}
-use Rattle.beet_errand.specs.Errands.{Answer}
-use Rattle.beet_run.specs.Outcomes.{outcome_answer}
-use Rattle.beet_transcripts.specs.BookRuns.{Ran as Shown}
-use Rattle.beet_job_record.proofs.Recorded.{reply-is}
+use Rattle.beet_transcripts.proofs.BookRuns.{can-show, ends-book, inputs-enough, tapes-enough, view-for}
+use Rattle.beet_job_record.proofs.Recorded.{answer-book}
 use Rattle.beet_job_record.proofs.recording.reply_for.Goals as goal
+
+pub run_servers-requires-clause-enough : goal.run_servers-requires-clause-enough
+run_servers-requires-clause-enough g c = λ lifetimes outlive.
+    let whole = c.args.whole in
+    let h = c.in_ok-begun.ensures in
+    tapes-enough whole.book whole.words h.book whole.runs _ h.grid _ h.inputs _ h.tapes
+
+pub run_servers-requires-clause-inputs : goal.run_servers-requires-clause-inputs
+run_servers-requires-clause-inputs g c = λ lifetimes outlive.
+    let whole = c.args.whole in
+    let h = c.in_ok-begun.ensures in
+    inputs-enough whole.book whole.words h.book whole.runs _ h.grid _ h.inputs _ h.tapes
+
+pub reply_of_run-requires-clause-shown : goal.reply_of_run-requires-clause-shown
+reply_of_run-requires-clause-shown g c = λ lifetimes outlive.
+    let whole = c.args.whole in
+    let h = c.in_ok-begun.ensures in
+    λ s. can-show whole.book whole.words h.book whole.runs _ h.grid _ h.inputs _ h.tapes s _ (h.seen s refl)
+
+pub reply_of_run-requires-clause-run : goal.reply_of_run-requires-clause-run
+reply_of_run-requires-clause-run g c = λ lifetimes outlive. (_, _, c.in_ok-cores.ensures.ended)
 
 pub returns-clause-reply : goal.returns-clause-reply
 returns-clause-reply g c =
-    ap (λ (a : Answer). record a { files = c.in_ok-files.files.items }) c.reply.view_is
-    ∙ reply-is c.args.out.now c.args.whole c.in_ok-ran.ran c.ran.inside.grid c.in_ok-reply.reply _
-    c.in_ok-transcripts.transcripts c.args.whole.runs.lists c.in_ok-ran.ensures.run
-    (ap (λ (r : Shown). r.grid) c.ran.view_is)
-    (c.in_ok-reply.ensures ∙ ap (λ (r : Shown). outcome_answer c.ran.inside.grid r.finish r.rounds) c.ran.view_is)
-    (c.in_ok-transcripts.ensures _ _ c.in_ok-ran.ensures.run) c.in_ok-files.ensures
-
-pub returns-in_err-reply-clause-memory : goal.returns-in_err-reply-clause-memory
-returns-in_err-reply-clause-memory g c =
-    let p = err_from_is_err_and c.from_residual-in_err-reply.result c.from_residual-in_err-reply.ensures.1 in
-    rw (p.1, p.2) refl
+    let whole = c.args.whole in
+    let h = c.in_ok-begun.ensures in
+    let ran = c.in_ok-cores.ensures.ended in
+    c.in_ok-reply_of_run.ensures _ _ _ _ (record {
+      ran = ran;
+      ends = ends-book whole.book whole.words h.book whole.runs _ h.grid _ h.inputs _ h.tapes ran.starts.are_masks;
+    })
+    ∙ answer-book c.args.out.now whole _ _ _ _ whole.runs.lists h.grid
+    (λ s. view-for whole.book whole.words h.book whole.runs _ h.grid _ h.inputs _ h.tapes s _ (h.seen s refl))

@@ -1,5 +1,5 @@
 use Rattle.std.proofs.Common.{drop, option_map}
-use Rattle.beet_load.specs.Collecting.{Collects}
+use Rattle.beet_load.proofs.Summing.{Collects}
 use Rattle.beet_load.specs.Wanted.{wanted_of}
 use Rattle.beet_load.proofs.collecting.add_farmers.Given as goal
 

@@ -1,5 +1,5 @@
 use Rattle.std.proofs.Common.{◌≤◌, ◌≡◌, drop, length, vec_capacity}
-use Rattle.beet_load.specs.Wholes.{KeepsBids}
+use Rattle.beet_load.proofs.KeptFarmers.{KeepsBids}
 use Rattle.beet_load.proofs.curves.read_bids.Given as goal
 
 abbrev pub invariant-loop-entry : goal.invariant-loop-entry

@@ -1,5 +1,5 @@
 use Rattle.std.proofs.Common.{drop, option_map}
-use Rattle.beet_load.specs.Wholes.{KeepsBidders}
+use Rattle.beet_load.proofs.KeptFarmers.{KeepsBidders}
 use Rattle.beet_load.proofs.keeping.read_farmers.Given as goal
 
 abbrev pub invariant-loop-i : goal.invariant-loop-i

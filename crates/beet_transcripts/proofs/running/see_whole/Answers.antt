@@ -1,25 +1,23 @@
-use Rattle.std.proofs.Common.{map, refl, subst, sym, ◌∙◌}
+use Rattle.std.proofs.Common.{ap, subst, ◌∙◌}
 use Rattle.beet_delivery.proofs.ThreeServers.{same_self}
-use Rattle.beet_field.specs.declared.point.Point.{Point}
-use Rattle.beet_book.specs.Farmers.{farmers_of}
 use Rattle.beet_plan.specs.Auction.{Auction}
 use Rattle.beet_server.specs.Cores.{Core}
-use Rattle.beet_sharing.proofs.Lined.{member-trio}
-use Rattle.beet_view.specs.BookViews.{seen_at}
-use Rattle.beet_transcripts.specs.BookRuns.{Writes}
-use Rattle.beet_transcripts.proofs.HasRuns.{can-show, can-write, inputs-enough, ran-shown, tapes-enough, transcript-shown}
+use Rattle.beet_view.specs.Transcripts.{view_bytes}
+use Rattle.beet_transcripts.specs.Writing.{Writes}
+use Rattle.beet_transcripts.proofs.BookRuns.{can-show, ends-book, inputs-enough, tapes-enough, view-for}
+use Rattle.beet_transcripts.proofs.RunsOnFacts.{can-write, ends-so, transcript-on}
 use Rattle.beet_run.proofs.Ending.{has-ended-run}
 use Rattle.beet_transcripts.proofs.running.see_whole.Goals as goal
 
 pub run_on_one_thread-requires-clause-enough : goal.run_on_one_thread-requires-clause-enough
 run_on_one_thread-requires-clause-enough g c =
     let h = c.in_ok-begun.ensures in
-    tapes-enough c.args.book.now c.args.words.now h.book c.requires _ h.grid _ refl _ h.inputs _ h.tapes
+    tapes-enough c.args.book.now c.args.words.now h.book c.requires _ h.grid _ h.inputs _ h.tapes
 
 pub run_on_one_thread-requires-clause-inputs : goal.run_on_one_thread-requires-clause-inputs
 run_on_one_thread-requires-clause-inputs g c =
     let h = c.in_ok-begun.ensures in
-    inputs-enough c.args.book.now c.args.words.now h.book c.requires _ h.grid _ refl _ h.inputs _ h.tapes
+    inputs-enough c.args.book.now c.args.words.now h.book c.requires _ h.grid _ h.inputs _ h.tapes
 
 pub finish_at-finish-requires : goal.finish_at-finish-requires
 finish_at-finish-requires g c =
@@ -29,36 +27,31 @@ finish_at-finish-requires g c =
 pub transcript_of-transcript-requires : goal.transcript_of-transcript-requires
 transcript_of-transcript-requires g c =
     let h = c.in_ok-begun.ensures in
-    let ran = c.in_ok-cores.ensures.ended in
-    let has = ran-shown c.args.book.now c.args.words.now h.book c.requires _ h.grid _ refl _ h.inputs _ h.tapes
-    _ _ _ _ ran.starts ran.ended c.finish_at-finish.ensures c.round-rounds.ensures in
-    can-write _ c.args.at _ _ (can-show c.args.book.now c.args.words.now h.book c.requires _ has ran.ended.at_end) c.get.ensures
-    (c.into_one-seen.ensures ∙ h.seen c.args.at (same_self c.args.at) ∙ sym (member-trio (λ (s : Point). map
-    (seen_at c.args.book.now.grid s) (farmers_of c.args.book.now.bidders c.args.words.now.bidders)) c.args.at))
+    let shown = h.seen c.args.at (same_self c.args.at) in
+    can-write _ _ _ _ c.in_ok-cores.ensures.ended c.args.at _ _ _
+    (can-show c.args.book.now c.args.words.now h.book c.requires _ h.grid _ h.inputs _ h.tapes c.args.at _ shown)
+    c.get.ensures c.into_one-seen.ensures
 
 pub returns-clause-transcript : goal.returns-clause-transcript
 returns-clause-transcript g c =
     let h = c.in_ok-begun.ensures in
-    let ran = c.in_ok-cores.ensures.ended in
-    let has = ran-shown c.args.book.now c.args.words.now h.book c.requires _ h.grid _ refl _ h.inputs _ h.tapes
-    _ _ _ _ ran.starts ran.ended c.finish_at-finish.ensures c.round-rounds.ensures in
-    transcript-shown c.args.book.now c.args.words.now _ c.args.at _ _ has
-    (c.into_one-seen.ensures ∙ h.seen c.args.at (same_self c.args.at) ∙ sym (member-trio (λ (s : Point). map
-    (seen_at c.args.book.now.grid s) (farmers_of c.args.book.now.bidders c.args.words.now.bidders)) c.args.at))
+    let shown = h.seen c.args.at (same_self c.args.at) in
+    transcript-on _ _ _ _ c.in_ok-cores.ensures.ended c.args.at _ _ _ c.into_one-seen.ensures
     (subst (λ (core : Core Auction). Writes core c.in_ok-begun.begun.grid c.into_one-seen.result.items
     c.in_ok-transcript.field-0.items) c.get.ensures
     c.in_ok-transcript.ensures)
+    ∙ ap view_bytes (view-for c.args.book.now c.args.words.now h.book c.requires _ h.grid _ h.inputs _ h.tapes c.args.at _ shown)
 
 pub returns-clause-finish : goal.returns-clause-finish
 returns-clause-finish g c =
     let h = c.in_ok-begun.ensures in
     let ran = c.in_ok-cores.ensures.ended in
-    (ran-shown c.args.book.now c.args.words.now h.book c.requires _ h.grid _ refl _ h.inputs _ h.tapes
-    _ _ _ _ ran.starts ran.ended c.finish_at-finish.ensures c.round-rounds.ensures).finish
+    (ends-so _ _ _ _ ran _ _ _ _ c.finish_at-finish.ensures c.round-rounds.ensures
+    (ends-book c.args.book.now c.args.words.now h.book c.requires _ h.grid _ h.inputs _ h.tapes ran.starts.are_masks)).0
 
 pub returns-clause-rounds : goal.returns-clause-rounds
 returns-clause-rounds g c =
     let h = c.in_ok-begun.ensures in
     let ran = c.in_ok-cores.ensures.ended in
-    (ran-shown c.args.book.now c.args.words.now h.book c.requires _ h.grid _ refl _ h.inputs _ h.tapes
-    _ _ _ _ ran.starts ran.ended c.finish_at-finish.ensures c.round-rounds.ensures).rounds
+    (ends-so _ _ _ _ ran _ _ _ _ c.finish_at-finish.ensures c.round-rounds.ensures
+    (ends-book c.args.book.now c.args.words.now h.book c.requires _ h.grid _ h.inputs _ h.tapes ran.starts.are_masks)).1

@@ -1,6 +1,6 @@
 use Rattle.std.proofs.Common.{ap, sym, arith, ◌∙◌, ◌+◌, ◌∷◌, []}
 use Rattle.beet_masking.specs.Blocks.{blocks_of}
-use Rattle.beet_sale_plan.specs.Sale.{best_wire, sum_let, rest_let}
+use Rattle.beet_sale_plan.specs.Sale.{sum_let, rest_let}
 use Rattle.beet_sale_plan.specs.Selections.{lets_before}
 use Rattle.beet_sale_script.proofs.Batches.{masked-few, masked-second}
 use Rattle.beet_sale_script.proofs.walk.Walk.refill_second.Goals as goal

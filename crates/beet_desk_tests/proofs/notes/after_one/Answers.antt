@@ -1,0 +1,48 @@
+use Rattle.std.proofs.Common.{◌≡◌, ap, subst, sym, ◌∙◌}
+use Rattle.beet_field.specs.Trio.{member}
+use Rattle.beet_field.specs.declared.point.Point.TheVariants.{One, Two, Three}
+use Rattle.beet_field.specs.declared.trio.Trio.{Trio}
+use Rattle.beet_server.proofs.Rounds.{by_point}
+use Rattle.beet_desk.specs.Ends.{AreOf, Sender}
+use Rattle.beet_desk.proofs.RunFacts.{in-ok, starts-told}
+use Rattle.beet_desk_tests.proofs.Taken.{taken-queue}
+use Rattle.beet_desk_tests.specs.contracts.wide.WideScript.TheImpl.{ghosts}
+use Rattle.beet_desk_tests.proofs.notes.after_one.Goals as goal
+
+pub servings-servings-requires-clause-one_told : goal.servings-servings-requires-clause-one_told
+servings-servings-requires-clause-one_told g c =
+    let made = in-ok _ c.expect-senders.result _ c.expect-senders.ensures c.note_queue.ensures.senders in
+    starts-told ghosts.batch_of ghosts.inputs_of ghosts.rounds_of c.three_of_wide-cores.result _ c.expect-senders.result.0.one One
+    c.runs-runs.result.one.value c.stations.result.one.core (made One) c.runs-runs.ensures.one
+    (ap (λ k. k.round) (c.stations.ensures.cores.0 ∙ c.three_of_wide-cores.ensures.one.1))
+
+pub servings-servings-requires-clause-two_told : goal.servings-servings-requires-clause-two_told
+servings-servings-requires-clause-two_told g c =
+    let made = in-ok _ c.expect-senders.result _ c.expect-senders.ensures c.note_queue.ensures.senders in
+    starts-told ghosts.batch_of ghosts.inputs_of ghosts.rounds_of c.three_of_wide-cores.result _ c.expect-senders.result.0.two Two
+    c.runs-runs.result.two.value c.stations.result.two.core (made Two) c.runs-runs.ensures.two
+    (ap (λ k. k.round) (c.stations.ensures.cores.1 ∙ c.three_of_wide-cores.ensures.two.1))
+
+pub servings-servings-requires-clause-three_told : goal.servings-servings-requires-clause-three_told
+servings-servings-requires-clause-three_told g c =
+    let made = in-ok _ c.expect-senders.result _ c.expect-senders.ensures c.note_queue.ensures.senders in
+    starts-told ghosts.batch_of ghosts.inputs_of ghosts.rounds_of c.three_of_wide-cores.result _ c.expect-senders.result.0.three Three
+    c.runs-runs.result.three.value c.stations.result.three.core (made Three) c.runs-runs.ensures.three
+    (ap (λ k. k.round) (c.stations.ensures.cores.2 ∙ c.three_of_wide-cores.ensures.three.1))
+
+pub close-requires : goal.close-requires
+close-requires g c =
+    let made = in-ok _ c.expect-senders.result _ c.expect-senders.ensures c.note_queue.ensures.senders in
+    let queue = taken-queue c.expect-senders.result.1 c.take.new.self c.take.result c.take.ensures.taken in
+    let ends = c.in-Ok.ends in
+    let told : Trio Sender = record { one = ends.one.1; two = ends.two.1; three = ends.three.1 } in
+    subst (AreOf c.take.new.self) (sym c.apart-cores.ensures.told) (record {
+      queues = by_point (λ s. (member told s).queue ≡ c.take.new.self.queue)
+          (ap (λ e. e.queue) c.in-Ok.ensures.one.2 ∙ ap (λ e. e.queue) (c.servings-servings.ensures.one.2 ∙ made One) ∙ sym queue)
+          (ap (λ e. e.queue) c.in-Ok.ensures.two.2 ∙ ap (λ e. e.queue) (c.servings-servings.ensures.two.2 ∙ made Two) ∙ sym queue)
+          (ap (λ e. e.queue) c.in-Ok.ensures.three.2 ∙ ap (λ e. e.queue) (c.servings-servings.ensures.three.2 ∙ made Three) ∙ sym queue);
+      servers = by_point (λ s. (member told s).server ≡ s)
+          (ap (λ e. e.server) c.in-Ok.ensures.one.2 ∙ ap (λ e. e.server) (c.servings-servings.ensures.one.2 ∙ made One))
+          (ap (λ e. e.server) c.in-Ok.ensures.two.2 ∙ ap (λ e. e.server) (c.servings-servings.ensures.two.2 ∙ made Two))
+          (ap (λ e. e.server) c.in-Ok.ensures.three.2 ∙ ap (λ e. e.server) (c.servings-servings.ensures.three.2 ∙ made Three));
+    })

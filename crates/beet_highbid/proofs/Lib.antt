@@ -1,0 +1,2 @@
+pub mod SeenBids
+pub mod Pairs

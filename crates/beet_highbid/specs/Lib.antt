@@ -1,0 +1,2 @@
+pub mod SaleViews
+pub mod SalePairs

@@ -1,0 +1,8 @@
+//! A sealed sale at the second price, and what one server can tell of it.
+#![tactic(auto)]
+
+mod laws;
+mod mapping;
+
+pub use laws::sales_that_sell_alike_look_the_same;
+pub use mapping::sale_map;

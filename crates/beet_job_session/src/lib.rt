@@ -1,0 +1,8 @@
+//! The job `session`: the auctions of several lots among the same three servers, one after another.
+#![tactic(auto)]
+
+mod reading;
+mod running;
+mod telling;
+
+pub use running::{SessionFiles, session};

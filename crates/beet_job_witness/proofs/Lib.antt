@@ -1,0 +1,2 @@
+pub mod KeepingSteps
+pub mod Witnessed

@@ -1,0 +1,73 @@
+-- What the servers begin with, and the answer of the job.
+use Rattle.std.proofs.Common.{◌≡◌, ◌≤◌, ◌*◌, ℕ, List, [], ◌∷◌, length, get_or, All, arith, sym, ◌∙◌, ap, subst}
+use Rattle.std.proofs.lemmas.List.{length-map}
+use Rattle.std.proofs.lemmas.List.Elements.{All-map}
+use Rattle.beet_field.specs.Trio.{member}
+use Rattle.beet_field.specs.declared.point.Point.{Point}
+use Rattle.beet_field.specs.declared.point.Point.TheVariants.{One, Two, Three}
+use Rattle.beet_field.specs.declared.trio.Trio.{Trio}
+use Rattle.beet_bids.specs.Grids.{Grid}
+use Rattle.beet_book.specs.Dealing.{HasLengths}
+use Rattle.beet_book.specs.PointSums.{inputs_at}
+use Rattle.beet_book.specs.Totals.{Totals, wires_of}
+use Rattle.beet_masking.specs.Masks.{AreMasks}
+use Rattle.beet_plan.specs.Auction.{auction_over}
+use Rattle.beet_errand.specs.Errands.{file_for}
+use Rattle.beet_auction.specs.AnyPoints.{points_finish, points_rounds}
+use Rattle.beet_load.specs.Servers.{ServerWords, masks_of}
+use Rattle.beet_run.specs.Runs.{EndsAuction}
+use Rattle.beet_view.specs.Transcripts.{view_bytes}
+use Rattle.beet_view.specs.Views.{IsSeenAt}
+use Rattle.beet_view.specs.declared.view.Seen.{Seen}
+use Rattle.beet_transcripts.specs.RunsOn.{CanShow, answer_on, file_on, seen_sealed, view_of_points, view_on}
+use Rattle.beet_job_envelopes.proofs.OpenSteps.{points-end, sums-first}
+use Rattle.beet_job_envelopes.specs.Open.{opened_answer}
+use Rattle.beet_job_witness.specs.Witness.{KeepsPoints, witnessed_answer, witnessed_file}
+use Rattle.beet_words.specs.declared.bundle.TheConstants.{MOST_BIDDERS}
+
+length-at : (points : Trio (List ℕ)) (n : ℕ) (s : Point) → HasLengths points n → length (member points s) ≡ n
+length-at points n One h = h.one
+length-at points n Two h = h.two
+length-at points n Three h = h.three
+
+sealed-seen : (grid : Grid) (s : Point) (points : Trio (List ℕ)) → HasLengths points (2 * grid.prices) →
+    IsSeenAt s grid (seen_sealed s points)
+sealed-seen grid s points h = record { points = length-at points (2 * grid.prices) s h; own = λ e. cc e }
+
+module _ (grid : Grid) (totals : Totals) (seen : Trio (List Seen)) (bidders : List (Trio (List ℕ)))
+    (kept : KeepsPoints grid totals seen bidders) where
+  -- the bidders can be shown to each server
+  pub can-show : length bidders ≤ MOST_BIDDERS → (s : Point) → CanShow grid s (member seen s)
+  can-show few s = record {
+    few = omega (arith, ap length (kept.shown s), length-map bidders (seen_sealed s), few);
+    seen = subst (All (IsSeenAt s grid)) (sym (kept.shown s))
+        (All-map (IsSeenAt s grid) (seen_sealed s) bidders
+        (λ i d lt. sealed-seen grid s (get_or bidders i d) (kept.lengths i d lt)));
+  }
+
+  module _ (inputs : Trio (List ℕ)) (are : inputs ≡ wires_of totals) (words : Trio ServerWords) where
+    first : inputs ≡ inputs_at grid.prices bidders
+    first = sums-first grid totals bidders inputs kept.sums are
+
+    -- their run ends with what the points open
+    pub ends-kept : AreMasks (masks_of words) →
+        EndsAuction grid inputs words (points_finish (auction_over grid) (inputs_at grid.prices bidders) (masks_of words))
+        (points_rounds (auction_over grid) (inputs_at grid.prices bidders) (masks_of words))
+    ends-kept masks =
+        subst (λ (x : Trio (List ℕ)). EndsAuction grid x words
+        (points_finish (auction_over grid) (inputs_at grid.prices bidders) (masks_of words))
+        (points_rounds (auction_over grid) (inputs_at grid.prices bidders) (masks_of words)))
+        (sym first) (points-end grid bidders words masks)
+
+    -- and what is answered for it is the answer of the job
+    pub answer-witnessed : (out : List ℕ) →
+        answer_on out grid inputs words seen (points_finish (auction_over grid) (inputs_at grid.prices bidders) (masks_of words))
+        (points_rounds (auction_over grid) (inputs_at grid.prices bidders) (masks_of words))
+        ≡ witnessed_answer out grid words bidders
+    answer-witnessed out =
+        let view : (s : Point) → view_on grid inputs words (member seen s) s ≡ view_of_points grid bidders words s = λ s.
+        ap (λ (x : Trio (List ℕ)). view_on grid x words (member seen s) s) first
+        ∙ ap (λ (l : List Seen). view_on grid (inputs_at grid.prices bidders) words l s) (kept.shown s) in
+        let file : (s : Point) → file_on out grid inputs words seen s ≡ witnessed_file out grid words bidders s = λ s j.
+        (file_for out s, view_bytes (view s j)) in
+        λ j. record (opened_answer grid words bidders) { files = file One j ∷ file Two j ∷ file Three j ∷ [] }

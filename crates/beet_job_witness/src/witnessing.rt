@@ -1,0 +1,119 @@
+//! The job `witness`.
+
+ghost use Rattle.std.specs.Prelude.{◌≤◌, IfOk, length};
+ghost use Rattle.beet_errand.specs.Fetches.{IsDone, Reads};
+ghost use Rattle.beet_job_witness.specs.Witness.{kept_job, list_job, witness_job};
+ghost use Rattle.beet_words.specs.declared.bundle.TheConstants.{MOST_BIDDERS};
+
+use crate::keeping::KeptBidders;
+use beet_auction_run::run_servers;
+use beet_bids::Grid;
+use beet_book::Servers;
+use beet_errand::{Reply, Stop};
+use beet_farmer::ListEntry;
+use beet_job_envelopes::{gather_bidders, read_entries};
+use beet_link::Gate;
+use beet_load::{AllWords, auction_wants, check_product, read_grid, read_sources, read_words};
+use beet_store::Shelf;
+use beet_transcripts::reply_of_run;
+use std::alloc::Global;
+use std::sync::Wait;
+use std::thread::Threads;
+use std::time::Clock;
+
+/// The reply for the bids in the envelopes of these entries.
+fn witness_entries<S: Shelf, R: Threads + Wait + Clock + Sync, G: Gate>(
+    rt: &R,
+    alloc: Global,
+    shelf: &mut S,
+    grid: &Grid,
+    sources: &Servers,
+    entries: &[ListEntry],
+    out: &str,
+    gate: &G,
+) -> Result<Reply, Stop>
+    requires { length entries.now ≤ MOST_BIDDERS }
+    ensures done { IfOk result (λ reply. IsDone reply.status) }
+    ensures reads { Reads (λ reply. reply) (S.seen shelf.old) (S.seen shelf.new)
+        (kept_job out.now grid.now sources.now entries.now) result }
+{
+    let words = read_words(alloc, shelf, &auction_wants(None, grid), sources, None)?;
+    let kept = match gather_bidders::<S, KeptBidders>(alloc, shelf, grid, entries) {
+        Ok(kept) => kept,
+        Err(stop) => {
+            // One call lets them go: else the proof of this way out goes through each of their parts.
+            drop(words);
+            return Err(stop);
+        }
+    };
+    let AllWords { servers, bidders } = words;
+    drop(bidders);
+    let KeptBidders { totals, seen } = kept;
+    let cores = run_servers(rt, alloc, grid, totals.inputs(), servers, gate)?;
+    Ok(reply_of_run(rt, alloc, grid, seen, cores, out)?)
+}
+
+/// The reply for the bids in the envelopes of a list file. Right after it was read, the list is refused at row 0 for
+/// the reason 6 if its bidders, each counted once for each price, are more than 500,000.
+fn witness_list<S: Shelf, R: Threads + Wait + Clock + Sync, G: Gate>(
+    rt: &R,
+    alloc: Global,
+    shelf: &mut S,
+    grid: &Grid,
+    sources: &Servers,
+    list: &str,
+    out: &str,
+    gate: &G,
+) -> Result<Reply, Stop>
+    ensures done { IfOk result (λ reply. IsDone reply.status) }
+    ensures reads { Reads (λ reply. reply) (S.seen shelf.old) (S.seen shelf.new)
+        (list_job out.now grid.now sources.now list.now) result }
+{
+    let entries = read_entries(alloc, shelf, list)?;
+    check_product(alloc, 0, list, grid, entries.len())?;
+    let witnessed = witness_entries(
+        rt,
+        alloc,
+        shelf,
+        grid,
+        sources,
+        entries.as_slice(),
+        out,
+        gate,
+    );
+    // One call lets them go: else the proof of this way out goes through each of their parts.
+    drop(entries);
+    witnessed
+}
+
+/// The names of the files of the job, and the name with which those that it puts begin.
+#[derive(Clone, Copy)]
+pub struct WitnessFiles<'a> {
+    pub auction: &'a str,
+    pub servers: &'a str,
+    pub list: &'a str,
+    pub out: &'a str,
+}
+
+/// Opens the envelopes of a list as the job `open` does, in threads and under the gate where `run_servers` says so.
+/// What each server has seen is put into the file of the name `out`, a dot and the server's number; the text is that of
+/// `open`. The points in the envelopes need not lie on lines.
+pub fn witness<S: Shelf, R: Threads + Wait + Clock + Sync, G: Gate>(
+    rt: &R,
+    alloc: Global,
+    shelf: &mut S,
+    files: &WitnessFiles<'_>,
+    gate: &G,
+) -> Result<Reply, Stop>
+    ensures done { IfOk result (λ reply. IsDone reply.status) }
+    ensures reads { Reads (λ reply. reply) (S.seen shelf.old) (S.seen shelf.new)
+        (witness_job files.now.auction.now files.now.servers.now files.now.list.now files.now.out.now) result }
+{
+    let grid = read_grid(alloc, shelf, files.auction)?;
+    let sources = read_sources(alloc, shelf, files.servers)?;
+    let witnessed = witness_list(
+        rt, alloc, shelf, &grid, &sources, files.list, files.out, gate,
+    );
+    drop(sources);
+    witnessed
+}

@@ -1,0 +1,3 @@
+pub mod SessionFiles
+pub mod SeedFiles
+pub mod LotSchedules

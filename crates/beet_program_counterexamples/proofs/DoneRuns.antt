@@ -1,0 +1,293 @@
+-- What is right for a command has a run in which it is done.
+use Rattle.std.proofs.Common.{◌≡◌, ◌≢◌, ◌<◌, inl, inr, ℕ, List, [], ◌∷◌, Bool, true, false, Option, Some, None, Ok, if◌then◌else◌}
+use Rattle.std.proofs.Common.{refl, sym, ap, subst, ◌∙◌, arith}
+use Rattle.std.specs.Prelude.{codes, option_map}
+use Rattle.beet_field.specs.Point.{server_of}
+use Rattle.beet_field.specs.Trio.{of_each}
+use Rattle.beet_field.specs.declared.point.Point.{Point}
+use Rattle.beet_store.specs.Causes.{Rose}
+use Rattle.beet_store.specs.Files.{File, Told}
+use Rattle.beet_forms.specs.Names.{is_name_of}
+use Rattle.beet_words.specs.Bundles.{Words}
+use Rattle.beet_bids.specs.Books.{Book}
+use Rattle.beet_book.specs.declared.entries.BidderSource.{BidderSource}
+use Rattle.beet_world.specs.declared.schedule.Delivery.{Delivery}
+use Rattle.beet_view.specs.BookViews.{transcript_for}
+use Rattle.beet_headline.specs.Statements.{AreOnePair, AreTwoBooks}
+use Rattle.beet_headline.proofs.Pairing.{second-there}
+use Rattle.beet_errand.specs.Errands.{Answer, Errand, Ends, Step, answers}
+use Rattle.beet_errand.specs.Fetches.{IsRead}
+use Rattle.beet_errand.specs.Overs.{ReadsTo, answer_over}
+use Rattle.beet_errand.specs.Records.{calls_of}
+use Rattle.beet_errand.specs.Runs.{Runs}
+use Rattle.beet_errand.specs.Statuses.{code_of}
+use Rattle.beet_errand.specs.declared.answer.Status.TheVariants.{Done}
+use Rattle.beet_errand.proofs.Steps.{went_none}
+use Rattle.beet_load.specs.Loading.{AuctionWithBidders, loaded_errand}
+use Rattle.beet_load.specs.Wholes.{limited_errand}
+use Rattle.beet_audit.specs.Audits.{recombined_book}
+use Rattle.beet_audit.proofs.OneRunFacts.{right-from_one}
+use Rattle.beet_job_tally.specs.Tally.{tally_errand}
+use Rattle.beet_job_clear.specs.Clear.{clear_errand}
+use Rattle.beet_job_rehearse.specs.Rehearse.{rehearse_errand}
+use Rattle.beet_job_record.specs.Records.{record_errand}
+use Rattle.beet_job_envelopes.specs.Open.{open_errand}
+use Rattle.beet_job_envelopes.specs.Seal.{seal_errand}
+use Rattle.beet_job_trial.specs.Trial.{trial_errand}
+use Rattle.beet_job_audit.specs.Ending.{ShowsAudit, TellsFinding, run_answer}
+use Rattle.beet_job_audit.specs.Reading.{read_errand}
+use Rattle.beet_job_audit.specs.declared.reading.ReadViews.{ReadViews}
+use Rattle.beet_job_worlds.specs.Answering.{ShowsTheSame, agreed_answer}
+use Rattle.beet_job_worlds.specs.Ending.{ShowsWorlds}
+use Rattle.beet_job_worlds.specs.Reading.{Both, both_errand, first_book, second_book, words_read}
+use Rattle.beet_job_worlds.proofs.SecondWords.{can-run, same-transcripts}
+use Rattle.beet_app.specs.Jobs.{Answering, Auditing, Comparing, Job, are_names, job_of, seal_of}
+use Rattle.beet_app_laws.specs.Calls.{Call, IsOf, RunsJob, RunsJobOf}
+use Rattle.beet_app_laws.proofs.Led.{from-told}
+use Rattle.beet_app_laws.proofs.Telling.{one-value, told-both, told-views}
+use Rattle.beet_program_laws.proofs.Jobs.{runs-in}
+use Rattle.beet_program_laws.proofs.Read.{can-run-cut}
+use Rattle.beet_program_laws.proofs.Worlds.{is-both}
+use Rattle.beet_completeness_laws.specs.Complete.{CanAudit, CanClear, CanCompare, CanOpen, CanRehearse, CanRunTrial}
+use Rattle.beet_completeness_laws.specs.Complete.{CanSeal, CanTally}
+use Rattle.beet_completeness_laws.proofs.Jobs.{clear-done, open-done, record-done, rehearse-done, seal-done, tally-done}
+use Rattle.beet_completeness_laws.proofs.Jobs.{trial-done}
+use Rattle.beet_completeness_laws.proofs.Leading.{IsDoneOver, book-done}
+use Rattle.beet_program_counterexamples.specs.HasRun.{HasRun}
+use Rattle.beet_program_counterexamples.proofs.Deciding.{passes-to}
+use Rattle.beet_program_counterexamples.proofs.Loading.{both-decides, read-decides}
+use Rattle.beet_program_counterexamples.proofs.RunsOver.{desk_of, given-all, led-over, run-over, shelf_of}
+
+-- words that name a job pass the test before it
+pub past : (b : Bool) (job : Option Job) → (if b then job else None) ≢ None → (if b then job else None) ≡ job
+past true job not = refl
+past false job not = absurd (not refl)
+
+-- and two tests, one after the other
+past-both : (b c : Bool) (job : Option Job) → (if b then if c then job else None else None) ≢ None →
+    (if b then if c then job else None else None) ≡ job
+past-both true true job not = refl
+past-both true false job not = absurd (not refl)
+past-both false c job not = absurd (not refl)
+
+no-rise : Rose 0 0 → ⊥
+no-rise rose =
+    let never : 0 < 0 = rose (λ e. absurd (omega (arith, e))) in absurd (omega (arith, never))
+
+module _ (files : List File) (words : List (List ℕ)) where
+  -- a call that ran a job and ended with status 0
+  has-run : (job : Job) (call : Call) → job_of words ≡ Some job → IsOf files call → RunsJob (Some job) call →
+      call.status ≡ 0 → HasRun files words
+  has-run job call named from ran zero = record {
+    call = call;
+    runs = record {
+      job = job;
+      named = named;
+      from = from;
+      runs = subst (λ (j : Option Job). RunsJob j call) (sym named) ran;
+      shelf_faults = 0;
+      shelf_faults_now = 0;
+      read = λ e. absurd (omega (arith, e, zero));
+      shelf_rests = no-rise;
+      desk_faults = 0;
+      desk_faults_now = 0;
+      write = λ e. absurd (omega (arith, e, zero));
+      desk_rests = no-rise;
+    };
+    done = zero;
+  }
+
+  -- a call in which the shelf has answered so, and the desk has taken this answer
+  abbrev pub call_with : Told → Answer → Call
+  call_with now answer = record {
+    shelf = shelf_of files [];
+    shelf_now = now;
+    desk = desk_of [];
+    desk_now = desk_of (calls_of answer.files answer.text);
+    status = code_of answer.status;
+  }
+
+  -- the call in which an errand is led by the files
+  abbrev pub call_over : Errand → Call
+  call_over errand = call_with (shelf_of files (led-over files errand).0) (answer_over files errand)
+
+  pub over-is : (errand : Errand) → IsOf files (call_over errand)
+  over-is errand = record {
+    fetches = (led-over files errand).0;
+    recorded = refl;
+    answered = (led-over files errand).1;
+  }
+
+  pub over-runs : (errand : Errand) → RunsJob (Some (Answering errand)) (call_over errand)
+  over-runs errand = run-over files errand (answer_over files errand) (led-over files errand)
+
+  -- an errand that the files lead to its end has a run
+  errand-run : (errand : Errand) → job_of words ≡ Some (Answering errand) → IsDoneOver files errand →
+      HasRun files words
+  errand-run errand named done =
+      has-run (Answering errand) (call_over errand) named (over-is errand) (over-runs errand) (sym (ap code_of done))
+
+  -- so has an answer, after what was read
+  answer-runs : (now : Told) (answer : Answer) →
+      Runs (Ends answer) now now (desk_of []) (desk_of (calls_of answer.files answer.text)) (code_of answer.status)
+  answer-runs now answer = record {
+    rest = Ends answer;
+    went = went_none now (Ends answer);
+    ends = inl (record { done = Ok tt; calls = given-all [] answer.files answer.text; code = refl });
+  }
+
+  -- what was read of the files is of them
+  read-is : {A : Type 0} (now : Told) (answer : Answer) (step : Step A) (value : A) →
+      IsRead (shelf_of files []) now step value → IsOf files (call_with now answer)
+  read-is now answer step value is =
+      from-told files (shelf_of files []) now _ _ refl (is (λ value. answers Done []))
+
+-- ---- errands
+
+module _ (files : List File) where
+  pub tally : (auction list : List ℕ) → job_of (codes "tally" ∷ auction ∷ list ∷ []) ≢ None →
+      CanTally files auction list → HasRun files (codes "tally" ∷ auction ∷ list ∷ [])
+  tally auction list not can =
+      let errand = tally_errand auction list in
+      errand-run files (codes "tally" ∷ auction ∷ list ∷ []) errand
+      (past (are_names (auction ∷ list ∷ [])) (Some (Answering errand)) not) (tally-done files auction list can)
+
+  pub clear : (auction servers list : List ℕ) → job_of (codes "clear" ∷ auction ∷ servers ∷ list ∷ []) ≢ None →
+      CanClear files (loaded_errand auction servers list) →
+      HasRun files (codes "clear" ∷ auction ∷ servers ∷ list ∷ [])
+  clear auction servers list not can =
+      let errand = clear_errand auction servers list in
+      errand-run files (codes "clear" ∷ auction ∷ servers ∷ list ∷ []) errand
+      (past (are_names (auction ∷ servers ∷ list ∷ [])) (Some (Answering errand)) not)
+      (clear-done files auction servers list can)
+
+  pub opened : (auction servers list : List ℕ) → job_of (codes "open" ∷ auction ∷ servers ∷ list ∷ []) ≢ None →
+      CanOpen files auction servers list → HasRun files (codes "open" ∷ auction ∷ servers ∷ list ∷ [])
+  opened auction servers list not can =
+      let errand = open_errand auction servers list in
+      errand-run files (codes "open" ∷ auction ∷ servers ∷ list ∷ []) errand
+      (past (are_names (auction ∷ servers ∷ list ∷ [])) (Some (Answering errand)) not)
+      (open-done files auction servers list can)
+
+  pub rehearse : (auction servers list name : List ℕ) (loaded : AuctionWithBidders) (schedule : List Delivery) →
+      job_of (codes "rehearse" ∷ auction ∷ servers ∷ list ∷ name ∷ []) ≢ None →
+      CanRehearse files auction servers list name loaded schedule →
+      HasRun files (codes "rehearse" ∷ auction ∷ servers ∷ list ∷ name ∷ [])
+  rehearse auction servers list name loaded schedule not can =
+      let errand = rehearse_errand auction servers list name in
+      errand-run files (codes "rehearse" ∷ auction ∷ servers ∷ list ∷ name ∷ []) errand
+      (past-both (are_names (auction ∷ servers ∷ name ∷ [])) (is_name_of list) (Some (Answering errand)) not)
+      (rehearse-done files auction servers list name loaded schedule can)
+
+  pub recorded : (auction servers list out : List ℕ) →
+      job_of (codes "record" ∷ auction ∷ servers ∷ list ∷ out ∷ []) ≢ None →
+      CanClear files (limited_errand auction servers list) →
+      HasRun files (codes "record" ∷ auction ∷ servers ∷ list ∷ out ∷ [])
+  recorded auction servers list out not can =
+      let errand = record_errand auction servers list out in
+      errand-run files (codes "record" ∷ auction ∷ servers ∷ list ∷ out ∷ []) errand
+      (past-both (are_names (auction ∷ servers ∷ out ∷ [])) (is_name_of list) (Some (Answering errand)) not)
+      (record-done files auction servers list out can)
+
+  pub seal : (auction bid source out : List ℕ) →
+      job_of (codes "seal" ∷ auction ∷ bid ∷ source ∷ out ∷ []) ≢ None → CanSeal files auction bid source →
+      HasRun files (codes "seal" ∷ auction ∷ bid ∷ source ∷ out ∷ [])
+  seal auction bid source out not can =
+      let job_from : BidderSource → Job = λ from. Answering (seal_errand auction bid from out) in
+      errand-run files (codes "seal" ∷ auction ∷ bid ∷ source ∷ out ∷ []) (seal_errand auction bid can.from out)
+      (past (are_names (auction ∷ bid ∷ out ∷ [])) (seal_of auction bid source out) not
+      ∙ ap (option_map job_from) can.from_is)
+      (seal-done files auction bid source out can)
+
+  pub trial : (first second : List ℕ) → CanRunTrial first second →
+      HasRun files (codes "trial" ∷ first ∷ second ∷ [])
+  trial first second can =
+      let job_of_sizes : ℕ × ℕ → Job = λ sizes. Answering (trial_errand sizes.0 sizes.1) in
+      errand-run files (codes "trial" ∷ first ∷ second ∷ []) (trial_errand can.bidders can.prices)
+      (ap (option_map job_of_sizes) can.sizes) (trial-done files first second can)
+
+  -- ---- two worlds
+
+  worlds-at : (auction servers list1 list2 server out : List ℕ)
+      (can : CanCompare files auction servers list1 list2 server) →
+      job_of (codes "worlds" ∷ auction ∷ servers ∷ list1 ∷ list2 ∷ server ∷ out ∷ [])
+      ≡ Some (Comparing auction servers list1 list2 can.s out) →
+      HasRun files (codes "worlds" ∷ auction ∷ servers ∷ list1 ∷ list2 ∷ server ∷ out ∷ [])
+  worlds-at auction servers list1 list2 server out can named =
+      let step = both_errand auction servers list1 list2 in
+      let both : Both = can.both in
+      let first : Book = first_book both in
+      let second : Book = second_book both in
+      let words : Words = words_read both in
+      let h = is-both files auction servers list1 list2 both can.both_read in
+      let run = runs-in both.first h.first in
+      let starts = can-run-cut both.first.grid both.first.servers both.first.farmers h.first.few h.first.farmers
+      h.first.servers in
+      let two : AreTwoBooks can.s first second =
+      record { first_book = run.is_book; second_book = h.second; agree = can.agree } in
+      let (mapped, pair) = second-there can.s first second words two run.can_run in
+      let answer : Answer = agreed_answer out first words (transcript_for first words can.s) mapped in
+      let shown : ShowsTheSame can.s out first words second answer = record {
+        agree = can.agree;
+        second_words = mapped;
+        mapped = pair.mapped;
+        only = pair.only_second;
+        back = pair.only_first;
+        seen = transcript_for first words can.s;
+        first_seen = refl;
+        second_seen = same-transcripts can.s first second words mapped starts
+            (can-run can.s first second words mapped starts can.agree.grids pair.mapped pair.second_runs.enough)
+            pair.transcripts;
+        is = refl;
+      } in
+      let (now, same, read) = passes-to files step both (both-decides files auction servers list1 list2) can.both_read
+      (λ other r. one-value files step other both r can.both_read told-both) (shelf_of files []) refl in
+      has-run files (codes "worlds" ∷ auction ∷ servers ∷ list1 ∷ list2 ∷ server ∷ out ∷ [])
+      (Comparing auction servers list1 list2 can.s out)
+      (call_with files (codes "worlds" ∷ auction ∷ servers ∷ list1 ∷ list2 ∷ server ∷ out ∷ []) now answer) named
+      (read-is files (codes "worlds" ∷ auction ∷ servers ∷ list1 ∷ list2 ∷ server ∷ out ∷ []) now answer step both read)
+      (inl (
+        answer,
+        record { value = both; read = read; shown = shown },
+        answer-runs files (codes "worlds" ∷ auction ∷ servers ∷ list1 ∷ list2 ∷ server ∷ out ∷ []) now answer,
+      ))
+      (sym (ap code_of (book-done first words.masks can.masks)))
+
+  pub worlds : (auction servers list1 list2 server out : List ℕ) →
+      job_of (codes "worlds" ∷ auction ∷ servers ∷ list1 ∷ list2 ∷ server ∷ out ∷ []) ≢ None →
+      CanCompare files auction servers list1 list2 server →
+      HasRun files (codes "worlds" ∷ auction ∷ servers ∷ list1 ∷ list2 ∷ server ∷ out ∷ [])
+  worlds auction servers list1 list2 server out not can =
+      let job_at : Point → Job = λ s. Comparing auction servers list1 list2 s out in
+      worlds-at auction servers list1 list2 server out can
+      (past (are_names (auction ∷ servers ∷ list1 ∷ list2 ∷ out ∷ [])) (option_map job_at (server_of server)) not
+      ∙ ap (option_map job_at) can.server_is)
+
+  -- ---- an audit
+
+  pub audit : (auction one two three : List ℕ) → job_of (codes "audit" ∷ auction ∷ one ∷ two ∷ three ∷ []) ≢ None →
+      CanAudit files auction one two three → HasRun files (codes "audit" ∷ auction ∷ one ∷ two ∷ three ∷ [])
+  audit auction one two three not can =
+      let step = read_errand auction one two three in
+      let views : ReadViews = can.read in
+      let answer : Answer = run_answer views in
+      let shown : TellsFinding views answer = record {
+        found = None;
+        finds = right-from_one views.grid views.views can.one_run;
+        one_run = can.one_run;
+        is = refl;
+      } in
+      let (now, same, read) = passes-to files step views (read-decides files auction one two three) can.views_read
+      (λ other r. one-value files step other views r can.views_read told-views) (shelf_of files []) refl in
+      let job = Auditing auction one two three in
+      has-run files (codes "audit" ∷ auction ∷ one ∷ two ∷ three ∷ []) job
+      (call_with files (codes "audit" ∷ auction ∷ one ∷ two ∷ three ∷ []) now answer)
+      (past-both (are_names (auction ∷ one ∷ three ∷ [])) (is_name_of two) (Some job) not)
+      (read-is files (codes "audit" ∷ auction ∷ one ∷ two ∷ three ∷ []) now answer step views read)
+      (inl (
+        answer,
+        record { value = views; read = read; shown = shown },
+        answer-runs files (codes "audit" ∷ auction ∷ one ∷ two ∷ three ∷ []) now answer,
+      ))
+      (sym (ap code_of (book-done (recombined_book views.grid views.views)
+      (of_each (λ view. view.masks) views.views) can.masks)))

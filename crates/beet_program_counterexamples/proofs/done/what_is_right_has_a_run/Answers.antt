@@ -1,0 +1,30 @@
+use Rattle.beet_program_counterexamples.proofs.DoneRuns.{audit, clear, opened, recorded, rehearse, seal, tally, trial}
+use Rattle.beet_program_counterexamples.proofs.DoneRuns.{worlds}
+use Rattle.beet_program_counterexamples.proofs.done.what_is_right_has_a_run.Goals as goal
+
+pub returns-clause-tally : goal.returns-clause-tally
+returns-clause-tally c = tally
+
+pub returns-clause-clear : goal.returns-clause-clear
+returns-clause-clear c = clear
+
+pub returns-clause-rehearse : goal.returns-clause-rehearse
+returns-clause-rehearse c = rehearse
+
+pub returns-clause-recorded : goal.returns-clause-recorded
+returns-clause-recorded c = recorded
+
+pub returns-clause-seal : goal.returns-clause-seal
+returns-clause-seal c = seal
+
+pub returns-clause-opened : goal.returns-clause-opened
+returns-clause-opened c = opened
+
+pub returns-clause-trial : goal.returns-clause-trial
+returns-clause-trial c = trial
+
+pub returns-clause-worlds : goal.returns-clause-worlds
+returns-clause-worlds c = worlds
+
+pub returns-clause-audit : goal.returns-clause-audit
+returns-clause-audit c = audit

@@ -1,0 +1,3 @@
+pub mod SaleRows
+pub mod Sales
+pub mod SaleFiles

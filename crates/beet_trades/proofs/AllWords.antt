@@ -1,0 +1,21 @@
+-- Words of three servers and of those who deal, each below 2^61.
+use Rattle.std.proofs.Common.{ℕ, List, slice_index}
+use Rattle.std.specs.Prelude.{All}
+use Rattle.std.proofs.lemmas.List.Elements.{All-from_get_or}
+use Rattle.beet_field.specs.declared.point.Point.TheVariants.{One, Two, Three}
+use Rattle.beet_field.specs.declared.trio.Trio.{Trio}
+use Rattle.beet_words.specs.Bundles.{AreWords}
+use Rattle.beet_words.specs.Words.{IsWord}
+use Rattle.beet_masking.specs.Masks.{AreMasks}
+use Rattle.beet_map.specs.Mapped.{AreWords as AreAllWords}
+
+words-of : (list : List ℕ) → ((n : ℕ) → IsWord (slice_index list n)) → All IsWord list
+words-of list few = All-from_get_or IsWord list 0 (λ i lt. few i)
+
+pub all-are : (masks coefficients : Trio (List ℕ)) (bidders : List (List ℕ)) → AreMasks masks → AreAllWords coefficients →
+    All (λ list. All IsWord list) bidders → AreWords (record { masks = masks; coefficients = coefficients; bidders = bidders })
+all-are masks coefficients bidders m c all = record {
+  masks = (m.one, m.two, m.three);
+  coefficients = (words-of coefficients.one (c One), words-of coefficients.two (c Two), words-of coefficients.three (c Three));
+  bidders = all;
+}

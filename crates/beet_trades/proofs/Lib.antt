@@ -1,0 +1,6 @@
+pub mod Drawn
+pub mod EnoughFacts
+pub mod ReadRuns
+pub mod DealersThere
+pub mod AllWords
+pub mod Disagreeing

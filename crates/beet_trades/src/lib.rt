@@ -1,0 +1,6 @@
+//! Two worlds of any trade: what is enough for them, what is read, and how the words of the servers are mapped.
+#![tactic(auto)]
+
+mod servers;
+
+pub use servers::{copy_of, look_at, map_servers};

@@ -1,0 +1,3 @@
+pub mod PointRuns
+pub mod SealedViews
+pub mod SameTexts
