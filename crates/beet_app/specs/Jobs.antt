@@ -1,11 +1,10 @@
 -- The table of commands: a row for each, with its words and the job that they name.
-use Rattle.std.specs.Prelude.{ℕ, List, [], ◌∷◌, Option, Some, None, option_map, Bool, ◌&&◌, if◌then◌else◌, codes}
-use Rattle.std.specs.Prelude.{nat_eq, true}
-use Rattle.std.specs.Cmp.Lexicographic.{pointwise}
+use Rattle.std.specs.Prelude.{ℕ, List, [], ◌∷◌, Option, Some, None, option_map, ◌&&◌, if◌then◌else◌, codes}
 use Rattle.beet_field.specs.Point.{server_of}
 use Rattle.beet_field.specs.declared.point.Point.{Point}
 use Rattle.beet_forms.specs.Names.{is_name_of}
 use Rattle.beet_errand.specs.Errands.{Errand}
+use Rattle.beet_command.specs.Words.{are_names, is_word}
 use Rattle.beet_job_tally.specs.Tally.{tally_errand}
 use Rattle.beet_job_clear.specs.Clear.{clear_errand}
 use Rattle.beet_job_watch.specs.Watch.{watch_errand}
@@ -24,15 +23,6 @@ pub data Job : Type 0 where
   Answering : Errand → Job
   Comparing : List ℕ → List ℕ → List ℕ → List ℕ → Point → List ℕ → Job
   Auditing : List ℕ → List ℕ → List ℕ → List ℕ → Job
-
--- whether a word is this text
-abbrev pub is_word : List ℕ → List ℕ → Bool
-is_word word text = pointwise nat_eq word text
-
--- whether these words are names of files
-abbrev pub are_names : List (List ℕ) → Bool
-are_names [] = true
-are_names (word ∷ words) = is_name_of word && are_names words
 
 -- the job of a command with two words
 abbrev pub job_of_two : List ℕ → List ℕ → List ℕ → Option Job

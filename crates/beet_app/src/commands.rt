@@ -1,12 +1,11 @@
 //! Reading the words of a command.
 
 ghost use Rattle.std.specs.Prelude.{◌≡◌, IfSome, map, option_map, string_bytes};
-ghost use Rattle.beet_forms.specs.Names.{is_name_of};
 ghost use Rattle.beet_app.specs.Commands.{HasSizes, job_for};
 ghost use Rattle.beet_app.specs.Jobs.{job_of, job_of_four, job_of_six, job_of_three, job_of_two};
 
+use beet_command::is_file;
 use beet_field::Point;
-use beet_forms::is_name;
 use beet_job_audit::AuditFiles;
 use beet_job_clear::ClearFiles;
 use beet_job_envelopes::{OpenFiles, SealFiles, SourceWord, read_source_word};
@@ -31,13 +30,6 @@ pub(crate) enum Command<'a> {
     Open(OpenFiles<'a>),
     Witness(WitnessFiles<'a>),
     Trial { bidders: u32, prices: u32 },
-}
-
-/// Whether a word is the name of a file.
-fn is_file(word: &str) -> bool
-    ensures { result ≡ is_name_of word.now }
-{
-    is_name(word.as_bytes())
 }
 
 /// The command of a name with two words.

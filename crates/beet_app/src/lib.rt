@@ -10,7 +10,6 @@ ghost use Rattle.beet_app.specs.Showing.{Shows};
 mod commands;
 mod jobs;
 
-pub use beet_errand::Status;
 use beet_errand::end_run;
 use beet_link::Gate;
 use beet_store::{Desk, Shelf};

@@ -51,7 +51,7 @@ use Rattle.beet_job_watch.specs.Watch.{watch_errand}
 use Rattle.beet_job_rehearse.specs.Rehearse.{rehearse_errand}
 use Rattle.beet_job_record.specs.Records.{record_errand}
 use Rattle.beet_job_witness.specs.Witness.{kept_job, list_job, witness_errand, witness_job}
-use Rattle.beet_job_envelopes.specs.Gather.{bidders_errand, envelopes_errand}
+use Rattle.beet_gathering.specs.Gather.{bidders_errand, envelopes_errand}
 use Rattle.beet_job_envelopes.specs.Open.{entries_job, open_errand, open_job}
 use Rattle.beet_job_envelopes.specs.Seal.{seal_errand, seal_job}
 use Rattle.beet_job_envelopes.specs.SourceWords.{source_word}
@@ -68,7 +68,8 @@ use Rattle.beet_audit.specs.declared.fault.AuditFault.{AuditFault}
 use Rattle.beet_job_audit.specs.Ending.{TellsFinding, audit_answer}
 use Rattle.beet_job_audit.specs.Reading.{read_errand}
 use Rattle.beet_job_audit.specs.declared.reading.ReadViews.{ReadViews}
-use Rattle.beet_app.specs.Jobs.{Job, Answering, Comparing, Auditing, are_names, is_word, job_of, job_of_two}
+use Rattle.beet_command.specs.Words.{are_names, is_word}
+use Rattle.beet_app.specs.Jobs.{Job, Answering, Comparing, Auditing, job_of, job_of_two}
 use Rattle.beet_app.specs.Jobs.{job_of_three, job_of_four, job_of_six, seal_of}
 use Rattle.beet_forms.specs.Names.{is_name_of}
 use Rattle.beet_app_laws.specs.Leavings.{last_word}

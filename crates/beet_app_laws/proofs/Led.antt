@@ -1,6 +1,6 @@
 -- The status to which files lead.
 use Rattle.std.proofs.Common.{◌≡◌, ◌≢◌, ◌⊎◌, inl, inr, ℕ, List, [], ◌∷◌, Option, Some, None, Ok, Err, length}
-use Rattle.std.proofs.Common.{arith, ap, sym, subst, ◌∙◌, refl}
+use Rattle.std.proofs.Common.{Bool, true, false, if◌then◌else◌, arith, ap, sym, subst, ◌∙◌, refl}
 use Rattle.std.specs.Prelude.{IsSomeAnd, MatchOption}
 use Rattle.std.proofs.lemmas.List.{append_cancel_left}
 use Rattle.beet_field.specs.declared.point.Point.{Point}
@@ -176,7 +176,8 @@ runs-led files told told_now from errand (Ends answer) desk now status due is we
 runs-led files told told_now from errand (Ends answer) desk now status due is went (inr out) = inr (inl out.code)
 runs-led files told told_now from errand (Wants name limit next) desk now status due is went out = inr (inl out.code)
 
-run-led : (files : List File) (told told_now : Told) (from : FromFiles files told told_now) (errand : Errand)
+-- a run of an errand ends with the status to which its files lead
+pub run-led : (files : List File) (told told_now : Told) (from : FromFiles files told told_now) (errand : Errand)
     (desk now : DeskTold) (status : ℕ) (due : Status) →
     due ≡ (answer_over files errand).status → Runs errand told told_now desk now status → EndsAsDue due status
 run-led files told told_now from errand desk now status due is r =
@@ -191,8 +192,19 @@ end-led told told_now answer given now status due is r =
       go (inl out) = ended status due answer out.done (inr is) out.code
       go (inr out) = inr (inl out.code)
 
+-- words that name a job pass the test before it
+pub past : (b : Bool) (job : Option Job) → (if b then job else None) ≢ None → (if b then job else None) ≡ job
+past true job not = refl
+past false job not = absurd (not refl)
+
+-- and two tests, one after the other
+pub past-both : (b c : Bool) (job : Option Job) → (if b then if c then job else None else None) ≢ None →
+    (if b then if c then job else None else None) ≡ job
+past-both true c job not = past c job not
+past-both false c job not = absurd (not refl)
+
 -- books without a difference go on together
-passed : (difference : Option MapFault) (next : Errand) (P : Errand → Type 0) → difference ≡ None →
+pub passed : (difference : Option MapFault) (next : Errand) (P : Errand → Type 0) → difference ≡ None →
     P (unless_differing difference next) → P next
 passed None next P e h = h
 passed (Some fault) next P e h = absurd cc

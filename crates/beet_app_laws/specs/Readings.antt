@@ -17,7 +17,7 @@ use Rattle.beet_errand.specs.Overs.{ReadsTo}
 use Rattle.beet_load.specs.Farmers.{farmers_errand}
 use Rattle.beet_load.specs.Servers.{all_words_errand}
 use Rattle.beet_load.specs.Wanted.{wanted_of}
-use Rattle.beet_job_envelopes.specs.Gather.{bidders_errand}
+use Rattle.beet_gathering.specs.Gather.{bidders_errand}
 use Rattle.beet_job_envelopes.specs.Seal.{own_words_errand}
 use Rattle.beet_job_envelopes.specs.SourceWords.{source_word}
 

@@ -43,7 +43,8 @@ const ENVELOPES: [Put; 3] = [("e.1", 104), ("e.2", 104), ("e.3", 104)];
 
 const SEEN: [Put; 3] = [("w.1", 34_800), ("w.2", 34_800), ("w.3", 34_800)];
 
-/// What is said of a tally, of a watched auction, of a schedule of no message, of two worlds and of a sealed bid.
+/// What is said of a tally, of a watched auction, of a schedule of no message, of two worlds, of a sealed bid and of
+/// two lots.
 const SUMS: &str = "supply 80\ndemand 35\n";
 
 const COUNTS: &str = "price 110\nvolume 35\nrounds 255\nserver 1 notes 255 opened 7\n\
@@ -55,6 +56,9 @@ const WAITING: &str =
 const EQUAL: &str = "price 110\nvolume 35\nrounds 255\ntranscripts equal\n";
 
 const SEALED: &str = "sealed 4\n";
+
+const LOTS: &str =
+    "lot north\nprice 110\nvolume 35\nrounds 255\nlot south\nprice 100\nvolume 35\nrounds 128\n";
 
 /// A file that is put, and its length.
 type Put = (&'static str, usize);
@@ -68,7 +72,7 @@ type Job = (
 );
 
 /// A case of each job.
-const JOBS: [Job; 11] = [
+const JOBS: [Job; 12] = [
     (
         "tally g1.auc tapes.book",
         &["g1.auc", "tapes.book", "dan.bid", "two", "eva.bid", "pair"],
@@ -147,6 +151,15 @@ const JOBS: [Job; 11] = [
         OUTCOME,
     ),
     ("trial 0 1", &[], &[], TRIAL),
+    (
+        "session day.ses s.srv",
+        &[
+            "day.ses", "s.srv", "g.auc", "b.book", "anna.bid", "bo.bid", "carl.bid", "g1.auc",
+            "b1.book", "dan.bid",
+        ],
+        &[],
+        LOTS,
+    ),
 ];
 
 /// All files that the jobs fetch.

@@ -1,6 +1,7 @@
 use beet_app::run;
 use beet_errand::{NewFile, Reply, Status, give_answer};
 use beet_link::{FreeGate, Gate};
+use beet_session_app::run_session;
 use beet_store::{Held, MemoryDesk, MemoryShelf};
 use std::alloc::Global;
 use std::process::Abort;
@@ -9,8 +10,8 @@ use std::thread::Threads;
 use std::time::Clock;
 
 /// An auction of four prices with three bidders, another book of them that has the same outcome, an auction of one
-/// price with a bidder, and a list of no envelopes.
-const FILES: [(&str, &str); 14] = [
+/// price with a bidder, a list of no envelopes, and a session of both auctions.
+const FILES: [(&str, &str); 15] = [
     (
         "g.auc",
         "beet-auction,1\nbase,100\ntick,5\nprices,4\ngates,chain\n",
@@ -55,6 +56,10 @@ const FILES: [(&str, &str); 14] = [
     ),
     ("dan.bid", "beet-bid,1\n100,35,40\n"),
     ("none.lst", "beet-list,1\n"),
+    (
+        "day.ses",
+        "beet-session,1\nnorth,g.auc,b.book\nsouth,g1.auc,b1.book\n",
+    ),
     (
         "made.srv",
         "beet-servers,1\n1,tape,made,made\n2,tape,made,made\n3,tape,made,made\n",
@@ -124,7 +129,12 @@ pub(crate) fn run_over<G: Gate>(
 ) -> u8 {
     let words = words_of(rt, alloc, line);
     let mut shelf = MemoryShelf::new(files, only(rt, alloc, fetch));
-    run(rt, alloc, &words, &mut shelf, desk, gate)
+    match words.as_slice() {
+        [command, ..] if command.as_str() == "session" => {
+            run_session(alloc, &words, &mut shelf, desk)
+        }
+        _ => run(rt, alloc, &words, &mut shelf, desk, gate),
+    }
 }
 
 /// Does the job of a line over the files, where this call of the desk fails: its status.
@@ -149,7 +159,7 @@ pub(crate) fn expect_said(rt: &impl Abort, desk: &MemoryDesk, text: &str) {
 }
 
 /// Does a job with the file that is made, where this call of the desk fails, and compares its status and its text.
-fn expect_job(
+pub(crate) fn expect_job(
     rt: &(impl Abort + Threads + Wait + Clock + Sync),
     alloc: Global,
     line: &str,
@@ -180,10 +190,11 @@ fn expect_too_long(
     expect_job(rt, alloc, line, made.as_str(), 0, 5, text);
 }
 
-/// A book and a schedule that are a byte too long.
+/// A book, a session and a schedule that are a byte too long.
 #[test]
 fn files_are_too_long(rt: HostRuntime) {
     expect_too_long(&rt, rt.alloc(), "clear g.auc s.srv made", 4_194_305);
+    expect_too_long(&rt, rt.alloc(), "session made s.srv", 65_537);
     let rehearse = "rehearse g.auc s.srv b.book made";
     expect_too_long(&rt, rt.alloc(), rehearse, 16_777_217);
 }

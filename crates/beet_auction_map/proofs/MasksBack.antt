@@ -1,8 +1,7 @@
 -- Books that agree do so both ways, and what their comparisons lose is made up on the way back.
-use Rattle.std.proofs.Common.{◌≡◌, ℕ, List, map, slice_get, Some, sym, ap, subst, ◌∙◌, arith}
-use Rattle.std.specs.Prelude.{All, option_map}
+use Rattle.std.proofs.Common.{◌≡◌, ℕ, List, map, sym, subst, ◌∙◌, arith}
+use Rattle.std.specs.Prelude.{All}
 use Rattle.std.proofs.lemmas.List.Elements.{All-map}
-use Rattle.std.proofs.lemmas.Option.{same_Some, slice_get-map}
 use Rattle.std.proofs.lemmas.Simd.{map-map}
 use Rattle.beet_field.specs.Field.{IsElement, neg_of, sub_of}
 use Rattle.beet_field.specs.declared.point.Point.{Point}
@@ -14,22 +13,17 @@ use Rattle.beet_masking.specs.Masks.{AreMasks}
 use Rattle.beet_plan.specs.Search.{path}
 use Rattle.beet_turned.specs.MappedMasks.{MasksMapped}
 use Rattle.beet_turned.proofs.MasksBack.{masks-back}
+use Rattle.beet_trades.proofs.Disagreeing.{mark-at}
 use Rattle.beet_auction_map.specs.Agreement.{Agree}
 use Rattle.beet_auction_map.specs.Losses.{doubled_at, losses_of, lost_at}
 use Rattle.beet_auction_map.proofs.Agreed.{prices-same, clearing-same}
-
-pub get-map : {A B : Type 0} (f : A → B) (xs : List A) (k : ℕ) (x : A) → slice_get xs k ≡ Some x → slice_get (map f xs) k ≡ Some (f x)
-get-map f xs k x e = slice_get-map f xs k ∙ ap (option_map f) e
 
 pub agree-back : (s : Point) (first second : Book) → Agree s first second → Agree s second first
 agree-back s first second a = record {
   grids = sym a.grids;
   marks = sym a.marks;
-  own = λ k one other e f known.
-      let m = get-map (λ (b : Bidder). b.known) second.bidders k one e in
-      let n = get-map (λ (b : Bidder). b.known) first.bidders k other f in
-      let same : one.known ≡ other.known = same_Some one.known other.known (sym m ∙ ap (λ l. slice_get l k) a.marks ∙ n) in
-      sym (a.own k other one f e (sym same ∙ known));
+  own = λ k one other e f known. sym (a.own k other one f e
+      (mark-at (λ (b : Bidder). b.known) second.bidders first.bidders k one other (sym a.marks) e f ∙ known));
   outcomes = sym a.outcomes;
 }
 

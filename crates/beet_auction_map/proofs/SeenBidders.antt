@@ -14,7 +14,7 @@ use Rattle.beet_book.specs.Dealing.{quantities}
 use Rattle.beet_book.specs.Farmers.{BidderWithWords, point_for}
 use Rattle.beet_book.proofs.Quantities.{quantities-many}
 use Rattle.beet_view.specs.BookViews.{kept_if, names, seen_at}
-use Rattle.beet_auction_map.specs.Enough.{HasAccepted}
+use Rattle.beet_trades.specs.Enough.{HasAccepted}
 use Rattle.beet_mapped.specs.Dealers.{DealerMapped, DealersMapped}
 use Rattle.beet_mapped.proofs.DealerFacts.{first-mapped, known-or, point-same, rest-mapped}
 use Rattle.beet_auction_map.proofs.BidderFacts.{SameOwn, curve-elements, dealer_of}

@@ -1,9 +1,7 @@
--- The words of the second world: what is said of them.
+-- Two books that agree look the same to one server, if the mask words and the bidders' words are mapped.
 use Rattle.std.proofs.Common.{◌≡◌, ◌≤◌, ◌*◌, ℕ, List, map, take, length, refl, sym, ap, subst, ◌∙◌, arith}
 use Rattle.std.proofs.lemmas.List.{length-map}
-use Rattle.beet_field.specs.Trio.{member}
 use Rattle.beet_field.specs.declared.point.Point.{Point}
-use Rattle.beet_field.specs.declared.point.Point.TheVariants.{One, Two, Three}
 use Rattle.beet_field.specs.declared.trio.Trio.{Trio}
 use Rattle.beet_shamir.specs.declared.Line.{Line}
 use Rattle.beet_words.specs.Bundles.{Words, AreWords}
@@ -14,7 +12,7 @@ use Rattle.beet_bids.specs.Curves.{IsCurve, IsOfGrid}
 use Rattle.beet_bids.specs.Grids.{Grid}
 use Rattle.beet_bids.specs.declared.book.Bidder.{Bidder}
 use Rattle.beet_bids.proofs.BookSums.{length-sums}
-use Rattle.beet_plan.specs.Auction.{auction_batch, most_coefficients, most_masks, most_rounds, auction_over}
+use Rattle.beet_plan.specs.Auction.{Auction, auction_batch, auction_over, most_coefficients, most_masks, most_rounds}
 use Rattle.beet_plan.specs.Kept.{words_kept}
 use Rattle.beet_book.specs.Farmers.{farmers_of}
 use Rattle.beet_sharing.specs.Runs.{HasRounds, Setup, numbers_of}
@@ -27,137 +25,120 @@ use Rattle.beet_view.specs.BookViews.{seen_at}
 use Rattle.beet_view.specs.Views.{run_in, view_with_run}
 use Rattle.beet_map.specs.Mapped.{LooksAlike}
 use Rattle.beet_map.specs.Refused.{HasSecrets}
-use Rattle.beet_map.specs.Secrets.{Secrets}
+use Rattle.beet_map_laws.specs.Pairs.{GoTogether}
 use Rattle.beet_turned.specs.MappedMasks.{MasksMapped}
 use Rattle.beet_turned.proofs.MaskFacts.{own-same}
 use Rattle.beet_mapped.proofs.WorldFacts.{Stands as Trades, are-masks, back, look as trades-look, only}
 use Rattle.beet_mapped.proofs.WorldFacts.{rounds-same as trades-rounds, seen-same, trades-mapped}
+use Rattle.beet_trades.specs.Enough.{HasAccepted}
+use Rattle.beet_trades.specs.Servers.{CanMap, LookSameMapped, world_with}
+use Rattle.beet_trades.proofs.Disagreeing.{as-many}
+use Rattle.beet_trades.proofs.Drawn.{numbers-enough}
+use Rattle.beet_trades.proofs.ReadRuns.{seen-read-same}
 use Rattle.beet_auction_map.specs.Agreement.{Agree}
-use Rattle.beet_auction_map.specs.Enough.{AreEnough, HasAccepted}
+use Rattle.beet_auction_map.specs.Enough.{AreEnough, wants_over}
 use Rattle.beet_auction_map.specs.InputLines.{AreInputLines}
 use Rattle.beet_auction_map.specs.Losses.{losses_of}
 use Rattle.beet_auction_map.specs.MappedBidders.{BiddersMapped, party_of}
 use Rattle.beet_auction_map.specs.MappedWords.{Mapped, trade_of}
 use Rattle.beet_auction_map.specs.Moments.{SameAfter}
 use Rattle.beet_auction_map.specs.ViewsWith.{view_with}
-use Rattle.beet_auction_map.specs.Worlds.{GoTogetherIn, LookSameIn, WorldsMapped}
+use Rattle.beet_auction_map.specs.Worlds.{WorldsMapped}
 use Rattle.beet_auction_map.proofs.BidderFacts.{bidders-have, farmers-mapped, inputs-same, parties-elements, same-own}
 use Rattle.beet_auction_map.proofs.BookWorlds.{opens-alike}
-use Rattle.beet_auction_map.proofs.CutRuns.{cut_seen, farmers-cut, farmers-have, seen-cut}
-use Rattle.beet_auction_map.proofs.Drawn.{drawn-of}
+use Rattle.beet_auction_map.proofs.CutRuns.{farmers-cut, farmers-have, reads}
 use Rattle.beet_auction_map.proofs.EnoughFacts.{mapped-enough}
-use Rattle.beet_auction_map.proofs.Marks.{as-many}
 use Rattle.beet_auction_map.proofs.MasksBack.{losses-small}
 use Rattle.beet_auction_map.proofs.SeenBidders.{seen-all}
 
--- what holds once both books agree, and the masks and the bidders' words are mapped
-pub record Stands (me : Point) (first second : Book) (words : Words) (masks : Trio (List ℕ)) (bidders : List (List ℕ))
-    (lines lines' : List Line) : Type 0 where
+-- what holds once both books agree, and the bidders' words are mapped
+pub record Stands (me : Point) (first second : Book) (words : Words) (bidders : List (List ℕ)) (lines lines' : List Line) : Type 0 where
   pub agree : Agree me first second
   pub enough : AreEnough first words
   pub is_book : IsBook first
   pub is_book' : IsBook second
   pub are_words : AreWords words
   pub lists : length bidders ≡ length words.bidders
-  pub masks_mapped : MasksMapped me (losses_of first second) words.masks masks
   pub bidders_mapped : BiddersMapped me first.bidders words.bidders second.bidders bidders
   pub here : AreInputLines first words.bidders lines
   pub there : AreInputLines second bidders lines'
 
-has-secrets : (book : Book) (words : List (List ℕ)) (masks : Trio (List ℕ)) (lines : List Line) → AreInputLines book words lines →
-    HasWords (most_masks (auction_over book.grid)) masks →
-    HasSecrets (2 * book.grid.prices) (most_masks (auction_over book.grid)) (record { inputs = lines; masks = masks })
-has-secrets book words masks lines a h = record {
-  inputs = sym (length-map lines (λ (l : Line). l.value)) ∙ ap length a.values ∙ length-sums book;
-  masks = h;
-}
+-- a line for each of the book's sums
+many-lines : (book : Book) (words : List (List ℕ)) (lines : List Line) → AreInputLines book words lines →
+    length lines ≡ 2 * book.grid.prices
+many-lines book words lines a = sym (length-map lines (λ (l : Line). l.value)) ∙ ap length a.values ∙ length-sums book
 
-enough-masks : (me : Point) (first second : Book) (masks masks' : Trio (List ℕ)) (n : ℕ) →
-    MasksMapped me (losses_of first second) masks masks' → HasWords n masks → HasWords n masks'
-enough-masks me first second masks masks' n m h =
-    let one = m.lengths One in
-    let two = m.lengths Two in
-    let three = m.lengths Three in
-    (omega (arith, one, h.0), omega (arith, two, h.1), omega (arith, three, h.2))
-
-pub enough-numbers : (book : Book) (words : Words) → AreEnough book words →
-    HasWords (most_coefficients (auction_over book.grid)) (numbers_of words.coefficients)
-enough-numbers book words e =
-    let n : ℕ = most_coefficients (auction_over book.grid) in
-    (drawn-of n words.coefficients.one e.one, drawn-of n words.coefficients.two e.two, drawn-of n words.coefficients.three e.three)
+abbrev over : Grid → List Bidder → Book
+over grid bidders = record { grid = grid; bidders = bidders }
 
 -- two books over one grid
-module _ (me : Point) (grid : Grid) (bidders others : List Bidder) (words : Words) (masks : Trio (List ℕ))
-    (lists : List (List ℕ)) (lines lines' : List Line)
-    (s : Stands me (record { grid = grid; bidders = bidders })
-    (record { grid = grid; bidders = others }) words masks lists lines lines') where
+module _ (me : Point) (grid : Grid) (bidders others : List Bidder) (words : Words) (lists : List (List ℕ)) (lines lines' : List Line)
+    (s : Stands me (over grid bidders) (over grid others) words lists lines lines') where
   abbrev first : Book
-  first = record { grid = grid; bidders = bidders }
+  first = over grid bidders
 
   abbrev second : Book
-  second = record { grid = grid; bidders = others }
+  second = over grid others
 
-  abbrev world : Secrets
-  world = record { inputs = lines; masks = words.masks }
+  abbrev auction : Auction
+  auction = auction_over grid
 
-  abbrev world' : Secrets
-  world' = record { inputs = lines'; masks = masks }
+  many : length others ≡ length bidders
+  many = as-many (λ (b : Bidder). b.known) bidders others s.agree.marks
 
-  count : length lists ≡ length others
-  count = s.lists ∙ s.enough.count ∙ sym (as-many bidders others s.agree.marks)
+  secrets-here : HasSecrets (2 * grid.prices) (most_masks auction) (world_with lines words.masks)
+  secrets-here = record { inputs = many-lines first words.bidders lines s.here; masks = s.enough.masks }
 
-  trades : Trades me (losses_of first second) (trade_of first) (trade_of second) words masks lists lines lines'
-  trades = record {
-    script = refl;
-    most = refl;
-    lost = losses-small first second;
-    elements = parties-elements bidders s.is_book.curves;
-    elements' = parties-elements others s.is_book'.curves;
-    count = s.enough.count ∙ sym (length-map bidders party_of);
-    count' = length-map others party_of ∙ as-many bidders others s.agree.marks ∙ sym (length-map bidders party_of);
-    are_words = s.are_words;
-    lists_same = s.lists;
-    masks_mapped = s.masks_mapped;
-    dealers_mapped = s.bidders_mapped;
-    here = s.here.points;
-    there = s.there.points;
-  }
+  lines-there : length lines' ≡ 2 * grid.prices
+  lines-there = many-lines second lists lines' s.there
 
-  pub secrets-here : HasSecrets (2 * grid.prices) (most_masks (auction_over grid)) world
-  secrets-here = has-secrets first words.bidders words.masks lines s.here s.enough.masks
-
-  pub secrets-there : HasSecrets (2 * grid.prices) (most_masks (auction_over grid)) world'
-  secrets-there =
-      has-secrets second lists masks lines' s.there
-      (enough-masks me first second words.masks masks (most_masks (auction_over grid)) s.masks_mapped s.enough.masks)
+  numbers-here : HasWords (most_coefficients auction) (numbers_of words.coefficients)
+  numbers-here = numbers-enough (wants_over grid) (length bidders) words s.enough
 
   -- the server cannot tell the worlds
-  pub look-same : LookSameIn grid me world world'
-  look-same =
+  look-same : LookSameMapped (auction_batch auction) (most_rounds auction) (most_masks auction) me (losses_of first second)
+      (world_with lines words.masks) lines'
+  look-same masks masks_mapped =
       let opens = opens-alike me first second words.masks masks s.is_book s.is_book' s.agree
-      (are-masks words s.are_words) s.enough.masks s.masks_mapped in
-      let run : List ℕ → Trio (List ℕ) → List ℕ = λ values words.
-      (clear_values (auction_batch (auction_over grid)) (most_rounds (auction_over grid)) values words).opened in
+      (are-masks words s.are_words) s.enough.masks masks_mapped in
+      let run : List ℕ → Trio (List ℕ) → List ℕ = λ values words. (clear_values (auction_batch auction) (most_rounds auction)
+      values words).opened in
       record {
         shares = s.here.points me ∙ sym (inputs-same me first second words.bidders lists s.is_book' s.agree.own
             s.bidders_mapped) ∙ sym (s.there.points me);
-        words = ap (take (most_masks (auction_over grid))) (sym (own-same (losses_of first second) words.masks masks me s.masks_mapped));
+        words = ap (take (most_masks auction)) (sym (own-same (losses_of first second) words.masks masks me masks_mapped));
         opened = ap (λ v. run v words.masks) s.here.values ∙ sym opens.in_the_end ∙ sym (ap (λ v. run v masks) s.there.values);
       }
 
-  module _ (coefficients : Trio (List ℕ)) (c : GoTogetherIn grid me world world' words.coefficients coefficients)
+  module _ (masks coefficients : Trio (List ℕ)) (masks_mapped : MasksMapped me (losses_of first second) words.masks masks)
+      (c : GoTogether (auction_batch auction) (most_rounds auction) me (world_with lines words.masks) (world_with lines' masks)
+      words.coefficients coefficients)
       (are_words' : AreWords (record { masks = masks; coefficients = coefficients; bidders = lists })) where
     abbrev words' : Words
     words' = record { masks = masks; coefficients = coefficients; bidders = lists }
-
-    abbrev most : ℕ
-    most = most_rounds (auction_over grid)
 
     abbrev here : Setup
     here = setup_for first words
 
     abbrev there : Setup
     there = setup_for second words'
+
+    trades : Trades me (losses_of first second) (trade_of first) (trade_of second) words masks lists lines lines'
+    trades = record {
+      script = refl;
+      most = refl;
+      lost = losses-small first second;
+      elements = parties-elements bidders s.is_book.curves;
+      elements' = parties-elements others s.is_book'.curves;
+      count = s.enough.count ∙ sym (length-map bidders party_of);
+      count' = length-map others party_of ∙ many ∙ sym (length-map bidders party_of);
+      are_words = s.are_words;
+      lists_same = s.lists;
+      masks_mapped = masks_mapped;
+      dealers_mapped = s.bidders_mapped;
+      here = s.here.points;
+      there = s.there.points;
+    }
 
     look : LooksAlike me (rounds_for first words) here there
     look = trades-look me (losses_of first second) (trade_of first)
@@ -168,10 +149,8 @@ module _ (me : Point) (grid : Grid) (bidders others : List Bidder) (words : Word
         (trade_of second) words masks coefficients lists lines lines' trades c are_words'
 
     enough : AreEnough second words'
-    enough = mapped-enough me first second words words' s.agree s.masks_mapped c.mapped.places count s.bidders_mapped s.enough
-
-    masks-me : member masks me ≡ member words.masks me
-    masks-me = own-same (losses_of first second) words.masks masks me s.masks_mapped
+    enough = mapped-enough me first second words words' s.agree masks_mapped c.mapped.places (s.lists ∙ s.enough.count ∙ sym many)
+        s.bidders_mapped s.enough
 
     -- what the server sees
     seen-bidders : map (seen_at grid me) (farmers_of others (map (take (words_kept grid.prices)) lists))
@@ -198,11 +177,10 @@ module _ (me : Point) (grid : Grid) (bidders others : List Bidder) (words : Word
 
     seen-run : run_in (view_with second words' me) ≡ run_in (view_with first words me)
     seen-run =
-        seen-cut second words' enough (rounds_for second words') ends' me
-        ∙ ap (cut_seen grid)
+        seen-read-same (trade_of first) (trade_of second) (wants_over grid) words words' me (reads first words s.enough)
+        (reads second words' enough) look.first_ends ends'
         (seen-same me (losses_of first second) (trade_of first) (trade_of second) words masks coefficients lists
         lines lines' trades c are_words')
-        ∙ sym (seen-cut first words s.enough (rounds_for first words) look.first_ends me)
 
     looks : view_with second words' me ≡ view_with first words me
     looks = λ x. view_with_run me grid (seen-bidders x) (seen-run x)
@@ -222,7 +200,7 @@ module _ (me : Point) (grid : Grid) (bidders others : List Bidder) (words : Word
           opened = look.opened t le;
           sent = λ to r is.
               sends-same here.next here.inputs here.masks here.numbers there.inputs there.masks there.numbers me rounds
-              look.opened look.standing masks-me
+              look.opened look.standing (own-same (losses_of first second) words.masks masks me masks_mapped)
               mapped.numbers.own r (let lt = (sent_parts three-is rounds (after rounds es)
               (record { from = me; to = to; round = r }) is).1.0 in omega (arith, lt)) to;
         }
@@ -241,69 +219,34 @@ module _ (me : Point) (grid : Grid) (bidders others : List Bidder) (words : Word
           (trade_of second) words masks coefficients lists lines lines' trades c are_words';
     }
 
--- two books with equal grids
-abbrev over : Grid → List Bidder → Book
-over grid bidders = record { grid = grid; bidders = bidders }
+-- two books with equal grids, and the script of their auction
+module _ (me : Point) (first second : Book) (words : Words) (lists : List (List ℕ)) (lines lines' : List Line)
+    (s : Stands me first second words lists lines lines') (script : Auction) (is_script : script ≡ auction_over first.grid) where
+  moved : Stands me first (over first.grid second.bidders) words lists lines lines'
+  moved = subst (λ g. Stands me first (over g second.bidders) words lists lines lines') s.agree.grids s
 
--- the same of two worlds, the first with the masks of the words
-module _ (me : Point) (first second : Book) (words : Words) (lists : List (List ℕ)) (w w' : Secrets)
-    (grids : second.grid ≡ first.grid) (grid : Grid) (is_grid : grid ≡ first.grid)
-    (masks_here : w.masks ≡ words.masks) (stands : Stands me first second words w'.masks lists w.inputs w'.inputs) where
-  moved : Stands me first (over first.grid second.bidders) words w'.masks lists w.inputs w'.inputs
-  moved = subst (λ g. Stands me first (over g second.bidders) words w'.masks lists w.inputs w'.inputs) grids stands
+  pub can-map : CanMap (auction_batch script) (most_rounds script) (2 * script.prices) (most_masks script) (most_coefficients script) me
+      (losses_of first second) (world_with lines words.masks) lines' words.coefficients
+  can-map =
+      let a = auction_over first.grid in
+      let asked : CanMap (auction_batch a) (most_rounds a) (2 * a.prices) (most_masks a) (most_coefficients a) me (losses_of first second)
+      (world_with lines words.masks) lines' words.coefficients =
+      record {
+        secrets = secrets-here me first.grid first.bidders second.bidders words lists lines lines' moved;
+        long = lines-there me first.grid first.bidders second.bidders words lists lines lines' moved;
+        drawn = numbers-here me first.grid first.bidders second.bidders words lists lines lines' moved;
+        same = look-same me first.grid first.bidders second.bidders words lists lines lines' moved;
+      } in
+      rw is_script asked
 
-  is_world : record { inputs = w.inputs; masks = words.masks } ≡ w
-  is_world = λ x. record { inputs = w.inputs; masks = sym masks_here x }
-
-  pub secrets-first : HasSecrets (2 * grid.prices) (most_masks (auction_over grid)) w
-  secrets-first =
-      subst (λ g. HasSecrets (2 * g.prices) (most_masks (auction_over g)) w) (sym is_grid)
-      (subst (λ v. HasSecrets (2 * first.grid.prices) (most_masks (auction_over first.grid)) v) is_world
-      (secrets-here me first.grid first.bidders second.bidders words w'.masks lists w.inputs w'.inputs moved))
-
-  pub secrets-second : HasSecrets (2 * grid.prices) (most_masks (auction_over grid)) w'
-  secrets-second =
-      subst (λ g. HasSecrets (2 * g.prices) (most_masks (auction_over g)) w') (sym is_grid)
-      (secrets-there me first.grid first.bidders second.bidders words w'.masks lists w.inputs w'.inputs moved)
-
-  pub numbers-first : HasWords (most_coefficients (auction_over grid)) (numbers_of words.coefficients)
-  numbers-first =
-      subst (λ g. HasWords (most_coefficients (auction_over g)) (numbers_of words.coefficients)) (sym is_grid)
-      (enough-numbers first words stands.enough)
-
-  pub look-same-in : LookSameIn grid me w w'
-  look-same-in =
-      subst (λ g. LookSameIn g me w w') (sym is_grid)
-      (subst (λ v. LookSameIn first.grid me v w') is_world
-      (look-same me first.grid first.bidders second.bidders words w'.masks lists w.inputs w'.inputs moved))
-
-  pub worlds-mapped : (coefficients : Trio (List ℕ)) → GoTogetherIn grid me w w' words.coefficients coefficients →
-      AreWords (record { masks = w'.masks; coefficients = coefficients; bidders = lists }) →
-      WorldsMapped me first words second (record { masks = w'.masks; coefficients = coefficients; bidders = lists })
-  worlds-mapped coefficients c are_words' =
-      let here : GoTogetherIn first.grid me (record { inputs = w.inputs; masks = words.masks }) w' words.coefficients coefficients =
-      subst (λ v. GoTogetherIn first.grid me v w' words.coefficients coefficients) (sym is_world)
-      (subst (λ g. GoTogetherIn g me w w' words.coefficients coefficients) is_grid c) in
+  pub worlds-mapped : (masks coefficients : Trio (List ℕ)) → MasksMapped me (losses_of first second) words.masks masks →
+      GoTogether (auction_batch script) (most_rounds script) me (world_with lines words.masks) (world_with lines' masks)
+      words.coefficients coefficients →
+      AreWords (record { masks = masks; coefficients = coefficients; bidders = lists }) →
+      WorldsMapped me first words second (record { masks = masks; coefficients = coefficients; bidders = lists })
+  worlds-mapped masks coefficients turned together are_words' =
+      let c : GoTogether (auction_batch (auction_over first.grid)) (most_rounds (auction_over first.grid)) me
+      (world_with lines words.masks) (world_with lines' masks) words.coefficients coefficients = rw is_script at together in
       subst (λ g. WorldsMapped me first words (over g second.bidders)
-      (record { masks = w'.masks; coefficients = coefficients; bidders = lists })) (sym grids)
-      (all-mapped me first.grid first.bidders second.bidders words w'.masks lists w.inputs w'.inputs moved coefficients here are_words')
-
--- what the parts answer
-pub stands-of : (me : Point) (first second : Book) (words : Words) (slice lists : List (List ℕ))
-    (masks masks' : Trio (List ℕ)) (lines lines' : List Line) →
-    Agree me first second → AreEnough first words → IsBook first → IsBook second → AreWords words →
-    slice ≡ words.bidders → length lists ≡ length slice →
-    MasksMapped me (losses_of first second) words.masks masks → masks' ≡ masks → BiddersMapped me first.bidders slice second.bidders lists →
-    AreInputLines first slice lines → AreInputLines second lists lines' → Stands me first second words masks' lists lines lines'
-stands-of me first second words slice lists masks masks' lines lines' agree enough b b' w same long m copy mapped here there = record {
-  agree = agree;
-  enough = enough;
-  is_book = b;
-  is_book' = b';
-  are_words = w;
-  lists = long ∙ ap length same;
-  masks_mapped = subst (λ t. MasksMapped me (losses_of first second) words.masks t) (sym copy) m;
-  bidders_mapped = subst (λ l. BiddersMapped me first.bidders l second.bidders lists) same mapped;
-  here = subst (λ l. AreInputLines first l lines) same here;
-  there = there;
-}
+      (record { masks = masks; coefficients = coefficients; bidders = lists })) (sym s.agree.grids)
+      (all-mapped me first.grid first.bidders second.bidders words lists lines lines' moved masks coefficients turned c are_words')

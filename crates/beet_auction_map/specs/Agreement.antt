@@ -1,9 +1,9 @@
 -- Two books that one server cannot tell apart by what it knows and by what is opened.
-use Rattle.std.specs.Prelude.{◌≡◌, ℕ, List, Option, Some, map, slice_get}
+use Rattle.std.specs.Prelude.{◌≡◌, List, Option, map}
 use Rattle.beet_field.specs.declared.point.Point.{Point}
 use Rattle.beet_bids.specs.Books.{Book}
 use Rattle.beet_bids.specs.Outcomes.{outcome_of}
-use Rattle.beet_bids.specs.declared.book.Bidder.{Bidder}
+use Rattle.beet_trades.specs.Agreement.{SameKnown as SameTold}
 
 -- the marks of the bidders, one for each: the server that knows its curve, if there is one
 abbrev pub marks_of : Book → List (Option Point)
@@ -11,10 +11,7 @@ marks_of book = map (λ bidder. bidder.known) book.bidders
 
 -- the bidders known to a server have the same curves in both
 abbrev pub SameKnown : Point → Book → Book → Type 0
-SameKnown s first second =
-    (k : ℕ) (one other : Bidder) → slice_get first.bidders k ≡ Some one → slice_get second.bidders k ≡ Some other →
-    one.known ≡ Some s →
-    other.curve ≡ one.curve
+SameKnown s first second = SameTold (λ bidder. bidder.known) (λ bidder. bidder.curve) s first.bidders second.bidders
 
 -- the same grid, as many bidders with the same marks, the same curves of those known to the server, and the same
 -- outcome, which holds what the policy of the grid opens and nothing else

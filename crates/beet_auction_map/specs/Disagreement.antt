@@ -1,31 +1,19 @@
 -- Where two books do not agree for one server.
-use Rattle.std.specs.Prelude.{◌≡◌, ◌≢◌, ◌<◌, ◌+◌, ℕ, List, Some, slice_get}
+use Rattle.std.specs.Prelude.{◌≡◌, ◌≢◌, ◌+◌, ℕ, List}
 use Rattle.beet_field.specs.declared.point.Point.{Point}
 use Rattle.beet_bids.specs.Books.{Book}
 use Rattle.beet_bids.specs.Outcomes.{outcome_of}
 use Rattle.beet_bids.specs.declared.book.Bidder.{Bidder}
 use Rattle.beet_map.specs.Refused.{DifferFirst}
+use Rattle.beet_trades.specs.Agreement.{KnownDiffersAt as DiffersAt}
 use Rattle.beet_auction_map.specs.Agreement.{Agree, SameKnown, marks_of}
 use Rattle.beet_auction_map.specs.declared.agreeing.MapFault.{MapFault}
 use Rattle.beet_auction_map.specs.declared.agreeing.MapFault.TheVariants.{ShapeDiffers, OwnBidsDiffer, OutcomesDiffer}
 use Rattle.beet_auction_map.specs.declared.agreeing.MapFault.TheVariants.{OutOfMemory}
 
--- the bidders before this place that are known to the server have the same curves
-abbrev pub SameKnownBefore : Point → List Bidder → List Bidder → ℕ → Type 0
-SameKnownBefore s bidders others n =
-    (k : ℕ) (one other : Bidder) → k < n → slice_get bidders k ≡ Some one → slice_get others k ≡ Some other →
-    one.known ≡ Some s →
-    other.curve ≡ one.curve
-
 -- the bidder at this place is known to the server and has another curve in the second book, and none before it
-pub record KnownDiffersAt (s : Point) (bidders others : List Bidder) (n : ℕ) : Type 0 where
-  pub before : SameKnownBefore s bidders others n
-  pub one : Bidder
-  pub other : Bidder
-  pub is_one : slice_get bidders n ≡ Some one
-  pub is_other : slice_get others n ≡ Some other
-  pub known : one.known ≡ Some s
-  pub here : other.curve ≢ one.curve
+abbrev pub KnownDiffersAt : Point → List Bidder → List Bidder → ℕ → Type 0
+KnownDiffersAt s bidders others n = DiffersAt (λ bidder. bidder.known) (λ bidder. bidder.curve) s bidders others n
 
 -- what the refusal of two books over one grid says of them: bidders are counted from 1
 abbrev pub Refuses : Point → Book → Book → MapFault → Type 0

@@ -1,22 +1,18 @@
 -- What a server sees of the auction of a book with given words, of which as many are kept as a run reads.
-use Rattle.std.specs.Prelude.{ℕ, List, map, take}
+use Rattle.std.specs.Prelude.{ℕ, List}
 use Rattle.beet_field.specs.declared.point.Point.{Point}
 use Rattle.beet_words.specs.Bundles.{Words}
 use Rattle.beet_bids.specs.Books.{Book}
 use Rattle.beet_bids.specs.Grids.{Grid}
-use Rattle.beet_field.specs.Trio.{of_each}
-use Rattle.beet_plan.specs.Kept.{words_kept, masks_kept, coefficients_kept}
 use Rattle.beet_view.specs.BookViews.{view_for}
 use Rattle.beet_view.specs.Transcripts.{view_bytes}
 use Rattle.beet_view.specs.Views.{Viewed}
+use Rattle.beet_trades.specs.Enough.{read_words}
+use Rattle.beet_auction_map.specs.Enough.{wants_over}
 
--- the words that are read for an auction: of each list as many as are kept
+-- the words that are read for an auction
 abbrev pub cut_words : Grid → Words → Words
-cut_words grid words = record {
-  masks = of_each (take (masks_kept grid)) words.masks;
-  coefficients = of_each (take (coefficients_kept grid)) words.coefficients;
-  bidders = map (take (words_kept grid.prices)) words.bidders;
-}
+cut_words grid words = read_words (wants_over grid) words
 
 -- what a server sees of the auction of a book with these words, which may be more than are kept: `view_for` of those
 -- that are

@@ -1,17 +1,11 @@
 -- All that is said of the words of the second world.
 use Rattle.std.specs.Prelude.{◌≡◌, ℕ, List, All, length}
 use Rattle.beet_field.specs.declared.point.Point.{Point}
-use Rattle.beet_field.specs.declared.trio.Trio.{Trio}
 use Rattle.beet_words.specs.Bundles.{Words}
 use Rattle.beet_words.specs.Words.{IsWord}
 use Rattle.beet_bids.specs.Books.{Book}
-use Rattle.beet_bids.specs.Grids.{Grid}
-use Rattle.beet_plan.specs.Auction.{auction_batch, most_masks, most_rounds, auction_over}
 use Rattle.beet_delivery.specs.Events.{Triple}
 use Rattle.beet_sharing.specs.Runs.{HasRounds}
-use Rattle.beet_map_laws.specs.Pairs.{GoTogether}
-use Rattle.beet_map.specs.Refused.{LookSame}
-use Rattle.beet_map.specs.Secrets.{Secrets}
 use Rattle.beet_auction_map.specs.Agreement.{Agree}
 use Rattle.beet_auction_map.specs.Enough.{AreEnough}
 use Rattle.beet_auction_map.specs.MappedBidders.{BiddersMapped}
@@ -19,17 +13,6 @@ use Rattle.beet_auction_map.specs.MappedWords.{IsOnlyFirst, IsOnlySecond, Mapped
 use Rattle.beet_auction.specs.Setups.{setup_for, rounds_for}
 use Rattle.beet_auction_map.specs.Moments.{SameAfter}
 use Rattle.beet_auction_map.specs.ViewsWith.{view_with}
-
--- a server cannot tell two worlds of an auction by its inputs, its mask words and what is opened
-abbrev pub LookSameIn : Grid → Point → Secrets → Secrets → Type 0
-LookSameIn grid me w w' =
-    LookSame (auction_batch (auction_over grid)) (most_rounds (auction_over grid))
-    (most_masks (auction_over grid)) me w w'
-
--- coefficient words of two worlds of an auction that go with each other, and with no others
-abbrev pub GoTogetherIn : Grid → Point → Secrets → Secrets → Trio (List ℕ) → Trio (List ℕ) → Type 0
-GoTogetherIn grid me w w' words words' =
-    GoTogether (auction_batch (auction_over grid)) (most_rounds (auction_over grid)) me w w' words words'
 
 -- at every moment server s has and does the same in both worlds
 abbrev pub AlwaysSame : Point → Book → Words → Book → Words → Type 0

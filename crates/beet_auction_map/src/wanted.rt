@@ -3,7 +3,8 @@
 ghost use Rattle.std.specs.Prelude.{◌≤◌, ◌↔◌, ◌<◌, length, IsTrue};
 ghost use Rattle.beet_words.specs.declared.bundle.TheConstants.{MOST_WORDS};
 ghost use Rattle.beet_gates.specs.Scripts.{HasWords};
-ghost use Rattle.beet_auction_map.specs.Enough.{AreEnough, HasAccepted};
+ghost use Rattle.beet_trades.specs.Enough.{HasAccepted};
+ghost use Rattle.beet_auction_map.specs.Enough.{AreEnough};
 
 use beet_bids::Book;
 use beet_field::Trio;

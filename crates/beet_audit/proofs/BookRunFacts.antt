@@ -2,7 +2,7 @@
 use Rattle.std.proofs.Common.{◌≡◌, ◌<◌, ◌≤◌, ◌*◌, ◌%◌, ℕ, Bool, true, false, List, [], map, length, get_or, slice_index}
 use Rattle.std.proofs.Common.{Some, None, All, arith, refl, sym, ◌∙◌, ap, subst, length-append}
 use Rattle.std.specs.Prelude.{IfSome, if◌then◌else◌, sum_by}
-use Rattle.std.proofs.lemmas.List.{get_or-map, get_or_default, length-map, same_lists}
+use Rattle.std.proofs.lemmas.List.{get_or-map, length-map}
 use Rattle.std.proofs.lemmas.Simd.{map-map}
 use Rattle.beet_field.specs.Field.{p}
 use Rattle.beet_field.specs.Trio.{member, trio_of}
@@ -12,7 +12,7 @@ use Rattle.beet_field.specs.declared.trio.Trio.{Trio}
 use Rattle.beet_words.specs.Bundles.{Words}
 use Rattle.beet_words.specs.Words.{accepted}
 use Rattle.beet_gates.specs.Each.{each}
-use Rattle.beet_gates.proofs.EachFacts.{each-same, get_or-each, item-each, length-each, map-each}
+use Rattle.beet_gates.proofs.EachFacts.{each-same, item-each, length-each, list-each, map-each}
 use Rattle.beet_bids.specs.Books.{Book, IsBook}
 use Rattle.beet_bids.specs.Curves.{IsCurve, IsOfGrid}
 use Rattle.beet_bids.specs.Grids.{Grid}
@@ -39,11 +39,6 @@ use Rattle.beet_audit.specs.OneRuns.{Bids, KeepsBid, OneRun}
 use Rattle.beet_audit.proofs.BidFacts.{recombines}
 use Rattle.beet_audit.proofs.FinishFacts.{sum-each}
 use Rattle.beet_audit.proofs.PointFacts.{item-shares, lengths-shares, trio-same}
-
-list-each : {A : Type 0} (xs : List A) (d : A) → xs ≡ each (λ i. get_or xs i d) (length xs)
-list-each xs d =
-    same_lists xs (each (λ i. get_or xs i d) (length xs)) (sym (length-each (λ i. get_or xs i d) (length xs)))
-    (λ k e lt. get_or_default xs k e d lt ∙ sym (get_or-each (λ i. get_or xs i d) (length xs) k e lt))
 
 if-some : {A : Type 0} (P : A → Type 0) (test : Bool) (x : A) → P x → IfSome (if test then Some x else None) P
 if-some P true x h = h

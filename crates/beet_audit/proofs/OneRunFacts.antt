@@ -1,5 +1,5 @@
 -- Nothing is wrong with three views exactly where they are of one run.
-use Rattle.std.proofs.Common.{◌≡◌, ◌<◌, ◌+◌, ℕ, List, length, slice_index, None, inl, inr, sym, ◌∙◌}
+use Rattle.std.proofs.Common.{◌≡◌, ◌<◌, ◌+◌, ℕ, List, length, slice_index, Option, None, inl, inr, sym, ◌∙◌}
 use Rattle.beet_field.specs.Trio.{member}
 use Rattle.beet_field.specs.declared.point.Point.{Point}
 use Rattle.beet_field.specs.declared.trio.Trio.{Trio}
@@ -9,12 +9,16 @@ use Rattle.beet_book.specs.Totals.{points_on}
 use Rattle.beet_round.specs.Sides.{peer}
 use Rattle.beet_round.specs.declared.sides.Side.TheVariants.{Low, High}
 use Rattle.beet_sharing.specs.Runs.{Setup, message}
+use Rattle.beet_sharing.specs.Seen.{rounds_seen}
+use Rattle.beet_load.specs.Counts.{counts_of}
+use Rattle.beet_load.specs.Servers.{HasEnough}
 use Rattle.beet_view.specs.Views.{Viewed, IsView}
 use Rattle.beet_audit.specs.Audits.{Finds, HaveElements, Header, HeaderFits, IsStep, Known, Lines, Message, MessageFrom}
 use Rattle.beet_audit.specs.Audits.{Monotone, OneBidder, RoundMessages, Rounds, Tapes, curve_of, first_of, held_from}
-use Rattle.beet_audit.specs.Audits.{points_of_bidder, rounds_of, run_of, value_at}
+use Rattle.beet_audit.specs.Audits.{points_of_bidder, rounds_of, run_of, value_at, words_in}
 use Rattle.beet_audit.specs.OneRuns.{OneRun}
 use Rattle.beet_audit.specs.Verdicts.{Wants, InTurn, EachBelow, EachServer}
+use Rattle.beet_audit.specs.declared.fault.AuditFault.{AuditFault}
 use Rattle.beet_audit.specs.declared.fault.AuditFault.TheVariants.{NotALine, NotMonotone, LengthDiffers, MessageDiffers}
 use Rattle.beet_audit.specs.declared.fault.Side.{Side}
 use Rattle.beet_audit.specs.declared.fault.Side.TheVariants.{Buy, Sell}
@@ -35,25 +39,35 @@ module _ (grid : Grid) (views : Trio Viewed) where
       InTurn (MessageFrom o views t s (peer s Low)) (MessageFrom o views t s (peer s High)) None
   both-low s h t lt = each-server (λ r. InTurn (MessageFrom o views t r (peer r Low)) (MessageFrom o views t r (peer r High))) (h t lt) s
 
+  -- what is found of the tapes, and then of the rounds and of their messages
+  abbrev pub RunFinds : Option AuditFault → Type 0
+  RunFinds =
+      InTurn (EachServer (Tapes grid views)) (InTurn (EachServer (Rounds views rounds)) (EachBelow rounds (RoundMessages o views)))
+
+  -- nothing is wrong with tapes that are enough and with what the servers see of the run
+  pub right-run : ((s : Point) → HasEnough (counts_of grid) (words_in (member views s))) → ((s : Point) → (member views s).server ≡ s) →
+      ((s : Point) → (member views s).rounds ≡ rounds_seen o s rounds) → RunFinds None
+  right-run tapes servers seen = (
+    all-servers (Tapes grid views) tapes,
+    (
+      all-servers (Rounds views rounds) (λ s. rounds-many o (member views s) s (servers s) rounds (seen s)),
+      λ t lt. all-servers (λ r. InTurn (MessageFrom o views t r (peer r Low)) (MessageFrom o views t r (peer r High)))
+          (λ s. (
+            right-message (peer s Low) s t (held_from (member views s) t (peer s Low)) (message o (peer s Low) s t)
+                (seen-low o (member views s) s (servers s) rounds (seen s) t lt),
+            right-message (peer s High) s t (held_from (member views s) t (peer s High)) (message o
+                (peer s High) s t) (seen-high o (member views s) s (servers s) rounds (seen s) t lt),
+          )),
+    ),
+  )
+
   -- nothing is wrong with the views of one run
   pub right-from_one : OneRun grid views → Finds grid views None
   right-from_one h = (
     all-servers (Header grid views) (λ s. record { server = h.servers s; over = h.grids s; marks = h.marks s }),
     (
       (λ i lt. right-from_bids grid views i (h.curves i) (h.bids i lt)),
-      (
-        all-servers (Tapes grid views) h.tapes,
-        (
-          all-servers (Rounds views rounds) (λ s. rounds-many o (member views s) s (h.servers s) rounds (h.rounds s)),
-          λ t lt. all-servers (λ r. InTurn (MessageFrom o views t r (peer r Low)) (MessageFrom o views t r (peer r High)))
-              (λ s. (
-                right-message (peer s Low) s t (held_from (member views s) t (peer s Low)) (message o (peer s Low) s t)
-                    (seen-low o (member views s) s (h.servers s) rounds (h.rounds s) t lt),
-                right-message (peer s High) s t (held_from (member views s) t (peer s High)) (message o
-                    (peer s High) s t) (seen-high o (member views s) s (h.servers s) rounds (h.rounds s) t lt),
-              )),
-        ),
-      ),
+      right-run h.tapes h.servers h.rounds,
     ),
   )
 
@@ -97,19 +111,25 @@ module _ (grid : Grid) (views : Trio Viewed) where
     ]
   ]
 
+  pub tells-headers : Tells (EachServer (Header grid views))
+  tells-headers = tells-servers (Header grid views) (λ s fault h n. n.0 h)
+
+  pub tells-run : Tells RunFinds
+  tells-run fault h n = elim n [
+    | inl tape ↦ tells-servers (Tapes grid views) (λ s fault h n. n.0 h) fault h.0 tape
+    | inr rest ↦ elim rest.1 [
+      | inl count ↦ tells-servers (Rounds views rounds) (λ s fault h n. n.0 h) fault h.1.0 count
+      | inr found ↦ tells-round found.1.0 fault (h.1.1 found.1.0 found.1.1) found.1.3
+    ]
+  ]
+
   -- something is wrong only where something is not as it is wanted
   pub tells-finds : Tells (Finds grid views)
   tells-finds fault h n = elim n [
-    | inl header ↦ tells-servers (Header grid views) (λ s fault h n. n.0 h) fault h.0 header
+    | inl header ↦ tells-headers fault h.0 header
     | inr rest ↦ elim rest.1 [
       | inl bidder ↦ tells-bidder bidder.0 fault (h.1.0 bidder.0 bidder.1) bidder.3
-      | inr rest ↦ elim rest.1 [
-        | inl tape ↦ tells-servers (Tapes grid views) (λ s fault h n. n.0 h) fault h.1.1.0 tape
-        | inr rest ↦ elim rest.1 [
-          | inl count ↦ tells-servers (Rounds views rounds) (λ s fault h n. n.0 h) fault h.1.1.1.0 count
-          | inr found ↦ tells-round found.1.0 fault (h.1.1.1.1 found.1.0 found.1.1) found.1.3
-        ]
-      ]
+      | inr run ↦ tells-run fault h.1.1 run.1
     ]
   ]
 

@@ -13,10 +13,11 @@ use std::alloc::Global;
 /// The most bytes of a book file.
 pub const BOOK_LIMIT: u64 = 4_194_304;
 
-/// The largest product of bidders and prices of a book of which everything is kept.
+/// The largest product of bidders and prices of which everything is kept: of a book, of a list of envelopes, or of all
+/// lots of a session.
 pub const MOST_PRODUCT: u64 = 500_000;
 
-/// The reason against a book above that limit, at row 0.
+/// The reason against a file above that limit, at row 0.
 pub const OVER_PRODUCT: u32 = 6;
 
 impl NamedRow for Entry {

@@ -57,7 +57,7 @@ use Rattle.beet_job_rehearse.specs.Standings.{rehearsal_of}
 use Rattle.beet_job_rehearse.specs.declared.standing.Standing.TheVariants.{Ended, Waiting}
 use Rattle.beet_job_record.specs.Records.{record_errand}
 use Rattle.beet_job_witness.specs.Witness.{kept_job, list_job, witness_errand, witness_job}
-use Rattle.beet_job_envelopes.specs.Gather.{bidders_errand}
+use Rattle.beet_gathering.specs.Gather.{bidders_errand}
 use Rattle.beet_job_envelopes.specs.Open.{entries_job, open_errand, open_job}
 use Rattle.beet_job_envelopes.specs.Seal.{own_words_errand, seal_errand, seal_job}
 use Rattle.beet_job_envelopes.specs.SealedBooks.{HaveWords}
@@ -68,8 +68,10 @@ use Rattle.beet_job_worlds.specs.Differences.{difference_between}
 use Rattle.beet_job_worlds.specs.Ending.{compared_errand, unless_differing}
 use Rattle.beet_job_worlds.specs.Reading.{Both, both_errand, first_book, second_book, words_read}
 use Rattle.beet_job_worlds.proofs.DifferenceFacts.{no-difference}
-use Rattle.beet_app.specs.Jobs.{Answering, Auditing, Comparing, Job, are_names, seal_of}
+use Rattle.beet_command.specs.Words.{are_names}
+use Rattle.beet_app.specs.Jobs.{Answering, Auditing, Comparing, Job, job_of, seal_of}
 use Rattle.beet_app_laws.specs.Calls.{Call}
+use Rattle.beet_app_laws.specs.Dues.{IsDue}
 use Rattle.beet_app_laws.specs.Dues.{status_of_first}
 use Rattle.beet_completeness_laws.specs.Complete.{CanAudit, CanCompare, CanOpen, CanRehearse, CanClear, CanSeal, CanTally}
 use Rattle.beet_completeness_laws.specs.Complete.{CanRunTrial, CanWitness}
@@ -230,74 +232,71 @@ module _ (files : List File) where
 -- ---- jobs
 
 module _ (files : List File) (call : Call) where
+  -- words that pass a test name this job, which is done
+  by-test : {words : List (List ℕ)} (w : RunsWithoutFault files words call) (test : Bool) (job : Job) →
+      job_of words ≡ (if test then Some job else None) → IsDue files (Some job) Done → IsDoneOrShort call
+  by-test w test job is due =
+      done-or-short files _ call w (Some job) (is ∙ passes test (Some job) w.job (sym is ∙ w.named)) due
+
+  by-tests : {words : List (List ℕ)} (w : RunsWithoutFault files words call) (one other : Bool) (job : Job) →
+      job_of words ≡ (if one then if other then Some job else None else None) → IsDue files (Some job) Done →
+      IsDoneOrShort call
+  by-tests w one other job is due =
+      done-or-short files _ call w (Some job) (is ∙ passes-both one other (Some job) w.job (sym is ∙ w.named)) due
+
   pub tally : (auction list : List ℕ) → RunsWithoutFault files (codes "tally" ∷ auction ∷ list ∷ []) call →
       CanTally files auction list → IsDoneOrShort call
   tally auction list w can =
-      let job = Some (Answering (tally_errand auction list)) in
-      done-or-short files _ call w job (passes (are_names (auction ∷ list ∷ [])) job w.job w.named)
+      by-test w (are_names (auction ∷ list ∷ [])) (Answering (tally_errand auction list)) refl
       (tally-done files auction list can)
 
   pub clear : (auction servers list : List ℕ) →
       RunsWithoutFault files (codes "clear" ∷ auction ∷ servers ∷ list ∷ []) call →
       CanClear files (loaded_errand auction servers list) → IsDoneOrShort call
   clear auction servers list w can =
-      let job = Some (Answering (clear_errand auction servers list)) in
-      done-or-short files _ call w job
-      (passes (are_names (auction ∷ servers ∷ list ∷ [])) job w.job w.named)
+      by-test w (are_names (auction ∷ servers ∷ list ∷ [])) (Answering (clear_errand auction servers list)) refl
       (clear-done files auction servers list can)
 
   pub watch : (auction servers list : List ℕ) →
       RunsWithoutFault files (codes "watch" ∷ auction ∷ servers ∷ list ∷ []) call →
       CanClear files (loaded_errand auction servers list) → IsDoneOrShort call
   watch auction servers list w can =
-      let job = Some (Answering (watch_errand auction servers list)) in
-      done-or-short files _ call w job
-      (passes (are_names (auction ∷ servers ∷ list ∷ [])) job w.job w.named)
+      by-test w (are_names (auction ∷ servers ∷ list ∷ [])) (Answering (watch_errand auction servers list)) refl
       (watch-done files auction servers list can)
 
   pub opened : (auction servers list : List ℕ) →
       RunsWithoutFault files (codes "open" ∷ auction ∷ servers ∷ list ∷ []) call →
       CanOpen files auction servers list → IsDoneOrShort call
   opened auction servers list w can =
-      let job = Some (Answering (open_errand auction servers list)) in
-      done-or-short files _ call w job
-      (passes (are_names (auction ∷ servers ∷ list ∷ [])) job w.job w.named)
+      by-test w (are_names (auction ∷ servers ∷ list ∷ [])) (Answering (open_errand auction servers list)) refl
       (open-done files auction servers list can)
 
   pub rehearse : (auction servers list name : List ℕ) (loaded : AuctionWithBidders) (schedule : List Delivery) →
       RunsWithoutFault files (codes "rehearse" ∷ auction ∷ servers ∷ list ∷ name ∷ []) call →
       CanRehearse files auction servers list name loaded schedule → IsDoneOrShort call
   rehearse auction servers list name loaded schedule w can =
-      let job = Some (Answering (rehearse_errand auction servers list name)) in
-      done-or-short files _ call w job
-      (passes-both (are_names (auction ∷ servers ∷ name ∷ [])) (is_name_of list) job w.job w.named)
+      by-tests w (are_names (auction ∷ servers ∷ name ∷ [])) (is_name_of list) (Answering (rehearse_errand auction servers list name)) refl
       (rehearse-done files auction servers list name loaded schedule can)
 
   pub recorded : (auction servers list out : List ℕ) →
       RunsWithoutFault files (codes "record" ∷ auction ∷ servers ∷ list ∷ out ∷ []) call →
       CanClear files (limited_errand auction servers list) → IsDoneOrShort call
   recorded auction servers list out w can =
-      let job = Some (Answering (record_errand auction servers list out)) in
-      done-or-short files _ call w job
-      (passes-both (are_names (auction ∷ servers ∷ out ∷ [])) (is_name_of list) job w.job w.named)
+      by-tests w (are_names (auction ∷ servers ∷ out ∷ [])) (is_name_of list) (Answering (record_errand auction servers list out)) refl
       (record-done files auction servers list out can)
 
   pub witness : (auction servers list out : List ℕ) →
       RunsWithoutFault files (codes "witness" ∷ auction ∷ servers ∷ list ∷ out ∷ []) call →
       CanWitness files auction servers list → IsDoneOrShort call
   witness auction servers list out w can =
-      let job = Some (Answering (witness_errand auction servers list out)) in
-      done-or-short files _ call w job
-      (passes-both (are_names (auction ∷ servers ∷ out ∷ [])) (is_name_of list) job w.job w.named)
+      by-tests w (are_names (auction ∷ servers ∷ out ∷ [])) (is_name_of list) (Answering (witness_errand auction servers list out)) refl
       (witness-done files auction servers list out can)
 
   pub audit : (auction one two three : List ℕ) →
       RunsWithoutFault files (codes "audit" ∷ auction ∷ one ∷ two ∷ three ∷ []) call →
       CanAudit files auction one two three → IsDoneOrShort call
   audit auction one two three w can =
-      let job = Some (Auditing auction one two three) in
-      done-or-short files _ call w job
-      (passes-both (are_names (auction ∷ one ∷ three ∷ [])) (is_name_of two) job w.job w.named)
+      by-tests w (are_names (auction ∷ one ∷ three ∷ [])) (is_name_of two) (Auditing auction one two three) refl
       (audit-done files auction one two three can)
 
   pub seal : (auction bid source out : List ℕ) →

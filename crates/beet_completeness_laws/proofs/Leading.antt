@@ -17,6 +17,7 @@ use Rattle.beet_plan.specs.declared.Finish.TheVariants.{NoPrice, MasksSpent}
 use Rattle.beet_auction.specs.AnyPoints.{points_finish, points_place, values_on}
 use Rattle.beet_auction.specs.Endings.{book_finish}
 use Rattle.beet_errand.specs.Errands.{Answer, Errand, Step}
+use Rattle.beet_errand.specs.Tasks.{Task}
 use Rattle.beet_errand.specs.declared.answer.Status.TheVariants.{Done}
 use Rattle.beet_run.specs.Outcomes.{status_of}
 use Rattle.beet_app.specs.Jobs.{Job, job_of}
@@ -25,16 +26,18 @@ use Rattle.beet_app_laws.specs.Calls.{Call}
 use Rattle.beet_app_laws.specs.Dues.{EndsAsDue, IsDue}
 use Rattle.beet_app_laws.proofs.Led.{led}
 use Rattle.beet_completeness_laws.specs.Complete.{MasksSuffice, MasksSufficeFor}
-use Rattle.beet_completeness_laws.specs.WithoutFault.{IsDoneOrShort, RunsWithoutFault}
+use Rattle.beet_completeness_laws.specs.WithoutFault.{IsDoneOrShort, RunsTableWithoutFault, RunsWithoutFault}
 
 -- ---- runs
 
-undisturbed : (files : List File) (words : List (List ℕ)) (call : Call) → RunsWithoutFault files words call →
-    EndsAsDue Done call.status → IsDoneOrShort call
-undisturbed files words call w (inl e) = inl e
-undisturbed files words call w (inr (inl e)) = inr e
-undisturbed files words call w (inr (inr (inl e))) = absurd (w.shelf_rests (w.read e))
-undisturbed files words call w (inr (inr (inr e))) = absurd (w.desk_rests (w.write e))
+module _ {J : Type 0} {job_named : List (List ℕ) → Option J} {task_for : Option J → Task} where
+  -- a run without a fault ends with the status that is due
+  pub undisturbed : (files : List File) (words : List (List ℕ)) (call : Call) →
+      RunsTableWithoutFault job_named task_for files words call → EndsAsDue Done call.status → IsDoneOrShort call
+  undisturbed files words call w (inl e) = inl e
+  undisturbed files words call w (inr (inl e)) = inr e
+  undisturbed files words call w (inr (inr (inl e))) = absurd (w.shelf_rests (w.read e))
+  undisturbed files words call w (inr (inr (inr e))) = absurd (w.desk_rests (w.write e))
 
 -- where the files lead the job that the words name to it, it is done
 pub done-or-short : (files : List File) (words : List (List ℕ)) (call : Call) → RunsWithoutFault files words call →
@@ -42,19 +45,20 @@ pub done-or-short : (files : List File) (words : List (List ℕ)) (call : Call) 
 done-or-short files words call w job e due =
     undisturbed files words call w (led words files call Done w.from w.runs (subst (λ j. IsDue files j Done) (sym e) due))
 
--- words that name a job pass the test before it
-pub passes : (b : Bool) (job : Option Job) (at : Job) → (if b then job else None) ≡ Some at →
-    (if b then job else None) ≡ job
-passes true job at e = refl
-passes false job at e = absurd (cc e)
+module _ {J : Type 0} where
+  -- words that name a job pass the test before it
+  pub passes : (b : Bool) (job : Option J) (at : J) → (if b then job else None) ≡ Some at →
+      (if b then job else None) ≡ job
+  passes true job at e = refl
+  passes false job at e = absurd (cc e)
 
--- and two tests, one after the other
-pub passes-both : (one other : Bool) (job : Option Job) (at : Job) →
-    (if one then if other then job else None else None) ≡ Some at →
-    (if one then if other then job else None else None) ≡ job
-passes-both one other job at e =
-    let first = passes one (if other then job else None) at e in
-    first ∙ passes other job at (sym first ∙ e)
+  -- and two tests, one after the other
+  pub passes-both : (one other : Bool) (job : Option J) (at : J) →
+      (if one then if other then job else None else None) ≡ Some at →
+      (if one then if other then job else None else None) ≡ job
+  passes-both one other job at e =
+      let first = passes one (if other then job else None) at e in
+      first ∙ passes other job at (sym first ∙ e)
 
 -- ---- errands
 

@@ -24,7 +24,8 @@ use Rattle.beet_job_rehearse.specs.Rehearse.{rehearse_errand, rehearsed}
 use Rattle.beet_job_rehearse.specs.Standings.{ended_alike}
 use Rattle.beet_job_rehearse.specs.StandingTexts.{rehearsal_text}
 use Rattle.beet_job_rehearse.proofs.AllEnded.{all-ended}
-use Rattle.beet_app.specs.Jobs.{Answering, Job, are_names, job_of}
+use Rattle.beet_command.specs.Words.{are_names}
+use Rattle.beet_app.specs.Jobs.{Answering, Job, job_of}
 use Rattle.beet_errand.specs.Overs.{answer_over}
 use Rattle.beet_app_laws.specs.Calls.{Call, IsOf, Puts, RunsJob, Says}
 use Rattle.beet_app_laws.proofs.Led.{went-end}

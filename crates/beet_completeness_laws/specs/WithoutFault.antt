@@ -1,17 +1,20 @@
--- Runs of the program in which the outside answers every call.
-use Rattle.std.specs.Prelude.{◌≡◌, ◌⊎◌, ℕ, List, Some}
+-- Runs of a program in which the outside answers every call.
+use Rattle.std.specs.Prelude.{◌≡◌, ◌⊎◌, ℕ, List, Option, Some}
 use Rattle.beet_store.specs.Causes.{Rose}
 use Rattle.beet_store.specs.Files.{File}
-use Rattle.beet_app.specs.Jobs.{Job, job_of}
-use Rattle.beet_app_laws.specs.Calls.{Call, IsOf, RunsJobOf}
+use Rattle.beet_errand.specs.Tasks.{RunsTask, Task}
+use Rattle.beet_app.specs.Doing.{task_of}
+use Rattle.beet_app.specs.Jobs.{job_of}
+use Rattle.beet_app_laws.specs.Calls.{Call, IsOf}
 
--- a run on words that name a job, over a shelf whose answers are of these files, in which neither the count of faults
--- of the shelf nor that of the desk rose: what the clauses `runs`, `read` and `write` of `run` say of it
-pub record RunsWithoutFault (files : List File) (words : List (List ℕ)) (call : Call) : Type 0 where
-  pub job : Job
-  pub named : job_of words ≡ Some job
+-- a run on words that name a job of a table, for its task, over a shelf whose answers are of these files, in which
+-- neither the count of faults of the shelf nor that of the desk rose: what the clause of a run says of it
+pub record RunsTableWithoutFault {J : Type 0} (job_named : List (List ℕ) → Option J) (task_for : Option J → Task)
+    (files : List File) (words : List (List ℕ)) (call : Call) : Type 0 where
+  pub job : J
+  pub named : job_named words ≡ Some job
   pub from : IsOf files call
-  pub runs : RunsJobOf words call
+  pub runs : RunsTask (task_for (job_named words)) call.shelf call.shelf_now call.desk call.desk_now call.status
   pub shelf_faults : ℕ
   pub shelf_faults_now : ℕ
   pub read : call.status ≡ 3 → Rose shelf_faults shelf_faults_now
@@ -20,6 +23,10 @@ pub record RunsWithoutFault (files : List File) (words : List (List ℕ)) (call 
   pub desk_faults_now : ℕ
   pub write : call.status ≡ 4 → Rose desk_faults desk_faults_now
   pub desk_rests : Rose desk_faults desk_faults_now → ⊥
+
+-- so it is for the jobs of `run`
+abbrev pub RunsWithoutFault : List File → List (List ℕ) → Call → Type 0
+RunsWithoutFault files words call = RunsTableWithoutFault job_of task_of files words call
 
 -- the job is done, or memory ran out
 abbrev pub IsDoneOrShort : Call → Type 0

@@ -1,5 +1,5 @@
 -- Other words that give a server the same envelope, and words that give it one of another bid.
-use Rattle.std.proofs.Common.{◌≡◌, ◌≢◌, ◌<◌, ◌+◌, ◌*◌, ℕ, List, [], ◌∷◌, ◌++◌, length, slice_index, refl}
+use Rattle.std.proofs.Common.{◌≡◌, ◌≢◌, ◌<◌, ◌*◌, ℕ, List, [], ◌∷◌, ◌++◌, length, slice_index, refl}
 use Rattle.std.proofs.Common.{sym, ap, ◌∙◌, arith, length-append}
 use Rattle.std.proofs.lemmas.List.{ext_get_or, get_or_append_left, map-append}
 use Rattle.std.proofs.lemmas.List.Elements.{All-append, All-cons}

@@ -20,8 +20,7 @@ use Rattle.beet_auction_map.specs.MappedWords.{Mapped}
 use Rattle.beet_mapped.proofs.DealerFacts.{element-at, known-or}
 use Rattle.beet_turned.proofs.MasksBack.{all-at}
 use Rattle.beet_auction_map.proofs.BidderFacts.{curve-elements, dealer_of, farmers-dealers}
-use Rattle.beet_auction_map.proofs.Marks.{as-many}
-use Rattle.beet_auction_map.proofs.MasksBack.{get-map}
+use Rattle.beet_trades.proofs.Disagreeing.{as-many, get-map}
 use Rattle.beet_auction_map.specs.MappedBidders.{party_of}
 use Rattle.beet_mapped.specs.Dealers.{dealers_of}
 use Rattle.beet_headline.specs.Statements.{CanRun}
@@ -56,7 +55,8 @@ pub same-bids : (s : Point) (first second : Book) (words : Words) (k n : ℕ) (o
 same-bids s first second words k n one other b b' runs agree m at at' lt =
     let count = runs.enough.count in
     let here = farmer-at first.bidders words.bidders k one count at in
-    let there = farmer-at second.bidders words.bidders k other (count ∙ sym (as-many first.bidders second.bidders agree.marks)) at' in
+    let many = as-many (λ (x : Bidder). x.known) first.bidders second.bidders agree.marks in
+    let there = farmer-at second.bidders words.bidders k other (count ∙ sym many) at' in
     let f : BidderWithWords = farmer one here.0 in
     let g : BidderWithWords = farmer other there.0 in
     let same : there.0 ≡ here.0 =

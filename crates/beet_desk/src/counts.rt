@@ -8,12 +8,11 @@ ghost use Rattle.beet_desk.specs.Ends.{AreSmall, AreFirst};
 ghost use Rattle.beet_desk.specs.Counts.{Added, HasPlace, IsTally, count_of, none_yet, one_more, tally, together};
 ghost use Rattle.beet_desk.specs.Counts.{with_note};
 
+use crate::ending::Ending;
 use crate::ends::{NoteRest, NoteRx};
 use beet_field::{Point, Trio};
 use beet_station::DeskNote;
 use std::sync::Wait;
-use std::sync::atomic::{AtomicBool, Ordering};
-use std::thread;
 
 /// How many notes, and how many numbers they name.
 #[derive(Clone, Copy, PartialEq, Eq, Debug)]
@@ -77,8 +76,9 @@ fn with_note(counts: Trio<NoteCount>, note: &DeskNote) -> Trio<NoteCount>
     }
 }
 
-/// Takes notes and counts them, until the flag was raised and a later take found nothing.
-pub fn watch<R: Wait>(rt: &R, rx: NoteRx, done: &AtomicBool) -> (NoteRx, Trio<NoteCount>)
+/// Takes notes and counts them, until the servers have ended and a later take found nothing. It takes all notes that
+/// are there before it sleeps.
+pub fn watch<R: Wait>(rt: &R, rx: NoteRx, ending: &Ending) -> (NoteRx, Trio<NoteCount>)
     requires none { rx.taken ≡ [] }
     requires small { (s : Server) → AreSmall (member rx.notes s) }
     ensures queue { result.0.queue ≡ rx.queue }
@@ -89,14 +89,14 @@ pub fn watch<R: Wait>(rt: &R, rx: NoteRx, done: &AtomicBool) -> (NoteRx, Trio<No
     let mut receiver = rx;
     let mut counts = no_notes();
     for _ in rt.forever() {
-        let over = done.load(Ordering::SeqCst);
+        let over = ending.is_told();
         match receiver.take(rt) {
             Some(note) => counts = with_note(counts, &note),
             None => {
                 if over {
                     return (receiver, counts);
                 }
-                thread::yield_now();
+                ending.sleep(rt);
             }
         }
     }

@@ -169,13 +169,13 @@ fn note_on(server: Point, round: u32, opened: &[Fe]) -> DeskNote
     requires { length opened.now ≤ MOST_NUMBERS }
     ensures { result ≡ a_note server round opened.now }
 {
-    let mut numbers = ArrayVec::new();
-    match numbers.try_extend_from_slice(opened) {
-        Ok(()) => DeskNote {
-            server,
-            round,
-            numbers,
-        },
+    let mut note = DeskNote {
+        server,
+        round,
+        numbers: ArrayVec::new(),
+    };
+    match note.numbers.try_extend_from_slice(opened) {
+        Ok(()) => note,
         Err(_) => unreachable!(),
     }
 }

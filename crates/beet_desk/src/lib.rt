@@ -2,6 +2,7 @@
 #![tactic(auto)]
 
 mod counts;
+mod ending;
 mod ends;
 mod making;
 mod running;

@@ -11,6 +11,7 @@ ghost use Rattle.beet_desk.specs.Counts.{IsTally, count_in};
 ghost use Rattle.beet_desk.specs.Ends.{AreSmall, AreFirst, IsWholeOf};
 
 use crate::counts::{NoteCount, count_rest, watch};
+use crate::ending::Ending;
 use crate::ends::{NoteRx, NoteTx};
 use crate::making::note_queue;
 use beet_field::{Point, Trio};
@@ -18,11 +19,10 @@ use beet_gates::Script;
 use beet_link::FreeGate;
 use beet_server::ServerCore;
 use beet_station::stations;
-use beet_threads::{Serving, Telling, apart, in_threads, rooms, runs, servings};
+use beet_threads::{Telling, apart, in_threads, rooms, runs, servings};
 use beet_world::lockstep;
 use std::alloc::{AllocError, Global};
 use std::sync::Wait;
-use std::sync::atomic::{AtomicBool, Ordering};
 use std::thread;
 use std::thread::Threads;
 use std::time::Clock;
@@ -65,32 +65,6 @@ fn unwatched<S: Script>(fresh: Trio<ServerCore<S>>) -> Watched<S>
 /// the three as they began.
 type Told<S> = Result<Trio<Telling<S, NoteTx>>, Trio<ServerCore<S>>>;
 
-/// Runs three servers in threads, and raises the flag once they have ended.
-fn run_and_tell<S: Script + Send, R: Threads + Wait + Clock + Sync>(
-    rt: &R,
-    servings: Trio<Serving<S, NoteTx>>,
-    done: &AtomicBool,
-) -> Told<S>
-where
-    S::Place: Send,
-    ensures one { IfOk result (λ ends.
-        IsEnded S.batch_of S.inputs_of S.rounds_of
-        servings.one.run.value servings.one.me ends.one.0 × IsWholeOf servings.one.sink ends.one.1) }
-    ensures two { IfOk result (λ ends.
-        IsEnded S.batch_of S.inputs_of S.rounds_of
-        servings.two.run.value servings.two.me ends.two.0 × IsWholeOf servings.two.sink ends.two.1) }
-    ensures three { IfOk result (λ ends.
-        IsEnded S.batch_of S.inputs_of S.rounds_of
-        servings.three.run.value servings.three.me ends.three.0 × IsWholeOf servings.three.sink ends.three.1) }
-    ensures stayed { IfErr result (λ cores. (cores.one ≡ member servings.one.run.value servings.one.me)
-        × (cores.two ≡ member servings.two.run.value servings.two.me)
-        × (cores.three ≡ member servings.three.run.value servings.three.me)) }
-{
-    let ended = in_threads(rt, &FreeGate, servings);
-    done.store(true, Ordering::SeqCst);
-    ended
-}
-
 /// Runs three fresh servers to the end, each in a thread of its own, and counts in a fourth what they tell of their
 /// rounds. If a link finds no memory or a worker cannot be started, no server has begun, and all three run in lockstep
 /// instead. The only error is want of memory for the queue of notes. It may wait.
@@ -123,8 +97,8 @@ where
     };
     let stations = stations(cores, links);
     let servings = servings(stations, mails, senders, runs);
-    let done = AtomicBool::new(false);
-    let done = &done;
+    let ending = Ending::new();
+    let ending = &ending;
     let ((receiver, counts), ended) = thread::join(
         rt,
         move || -> (NoteRx, Trio<NoteCount>)
@@ -133,7 +107,7 @@ where
             ensures { (result.0.queue ≡ receiver.queue) × (result.0.notes ≡ receiver.notes)
                 × AreFirst result.0.notes result.0.taken
                 × IsTally result.0.taken result.1 }
-        { watch(rt, receiver, done) },
+        { watch(rt, receiver, ending) },
         move || -> Told<S>
             ensures one { IfOk result (λ ends.
                 IsEnded S.batch_of S.inputs_of S.rounds_of
@@ -147,7 +121,11 @@ where
             ensures stayed { IfErr result (λ cores. (cores.one ≡ member servings.one.run.value servings.one.me)
                 × (cores.two ≡ member servings.two.run.value servings.two.me)
                 × (cores.three ≡ member servings.three.run.value servings.three.me)) }
-        { run_and_tell(rt, servings, done) },
+        {
+            let ended = in_threads(rt, &FreeGate, servings);
+            ending.tell();
+            ended
+        },
     );
     let ends = match ended {
         Ok(ends) => ends,

@@ -4,5 +4,3 @@
 
 #[cfg(test)]
 mod notes;
-#[cfg(test)]
-mod wide;

@@ -2,10 +2,10 @@
 
 ghost use Rattle.std.specs.Prelude.{◌≡◌};
 
-use crate::wide::{Wide, are_values, three_of_wide};
 use beet_desk::{DeskNote, NoteRest, NoteRx, NoteTx, note_queue};
-use beet_field::{Fe, Point, Trio};
+use beet_field::{Fe, MOST_NUMBERS, Point, Trio};
 use beet_link::FreeGate;
+use beet_samples::{Sample, three_of_inputs};
 use beet_server::ServerCore;
 use beet_station::{Sink, stations};
 use beet_threads::{Serving, Telling, apart, in_threads, rooms, runs, servings};
@@ -82,8 +82,8 @@ fn held_servings(
     rt: &impl Abort,
     alloc: Global,
     taken: &Taken,
-) -> (Trio<Serving<Wide, Held>>, NoteRx) {
-    let cores = three_of_wide(rt, alloc);
+) -> (Trio<Serving<Sample, Held>>, NoteRx) {
+    let cores = three_of_inputs(alloc).expect(rt, "three servers");
     let runs = runs(&cores);
     let (senders, receiver) = note_queue(alloc, &cores).expect(rt, "memory");
     let (links, mails) = rooms(alloc, &cores).expect(rt, "memory");
@@ -97,6 +97,14 @@ fn held_servings(
         servings(stations(cores, links), mails, sinks, runs),
         receiver,
     )
+}
+
+/// Whether these are the values of the lines (3, 5), (4, 5) and so on.
+fn are_values(numbers: &[Fe]) -> bool {
+    numbers
+        .iter()
+        .map(|number| number.value())
+        .eq((0..MOST_NUMBERS as u64).map(|k| 3 + k))
 }
 
 /// Whether the note is that of the round, with all numbers.
@@ -130,12 +138,12 @@ fn take_all<R: Wait>(rt: &R, rx: NoteRx, taken: &Trio<AtomicU64>, done: &AtomicB
 }
 
 /// What comes of the three servers: each with its end, or all as they began.
-type Ended<K> = Result<Trio<Telling<Wide, K>>, Trio<ServerCore<Wide>>>;
+type Ended<K> = Result<Trio<Telling<Sample, K>>, Trio<ServerCore<Sample>>>;
 
 /// Runs the servers in threads, and raises the flag once they have ended.
 fn run_held<R: Threads + Wait + Clock + Sync>(
     rt: &R,
-    servings: Trio<Serving<Wide, Held>>,
+    servings: Trio<Serving<Sample, Held>>,
     done: &AtomicBool,
 ) -> Ended<Held> {
     let ended = in_threads(rt, &FreeGate, servings);
@@ -144,7 +152,7 @@ fn run_held<R: Threads + Wait + Clock + Sync>(
 }
 
 /// Expects that the server has told its note, and that it was taken before the turns were spent.
-fn expect_in_time(rt: &impl Abort, end: &Telling<Wide, Held>) {
+fn expect_in_time(rt: &impl Abort, end: &Telling<Sample, Held>) {
     assert!(rt; end.0.ended());
     assert_eq!(rt; end.1.told, 1);
     assert_eq!(rt; end.1.late, 0);
@@ -181,7 +189,7 @@ fn after_one(
     rt: &(impl Abort + Threads + Wait + Clock + Sync),
     alloc: Global,
 ) -> (NoteRest, Point) {
-    let cores = three_of_wide(rt, alloc);
+    let cores = three_of_inputs(alloc).expect(rt, "three servers");
     let runs = runs(&cores);
     let (senders, receiver) = note_queue(alloc, &cores).expect(rt, "memory");
     let (links, mails) = rooms(alloc, &cores).expect(rt, "memory");

@@ -1,26 +1,23 @@
 -- The words of two worlds of an auction that go with each other.
-use Rattle.std.proofs.Common.{◌≡◌, ◌*◌, ℕ, List, map, length, slice_index, sym, refl, ap, subst, ◌∙◌}
-use Rattle.std.specs.Prelude.{All}
+use Rattle.std.proofs.Common.{◌≡◌, ◌*◌, ℕ, List, map, length, sym, refl, ap, subst, ◌∙◌}
 use Rattle.std.proofs.lemmas.List.{length-map}
-use Rattle.std.proofs.lemmas.List.Elements.{All-from_get_or, All-map}
+use Rattle.std.proofs.lemmas.List.Elements.{All-map}
 use Rattle.std.proofs.lemmas.Simd.{map-map}
 use Rattle.beet_field.specs.declared.point.Point.{Point}
-use Rattle.beet_field.specs.declared.point.Point.TheVariants.{One, Two, Three}
 use Rattle.beet_field.specs.declared.trio.Trio.{Trio}
 use Rattle.beet_words.specs.Bundles.{AreWords, Words}
-use Rattle.beet_words.specs.Words.{IsWord}
 use Rattle.beet_bids.specs.Books.{Book}
 use Rattle.beet_bids.specs.Grids.{Grid}
+use Rattle.beet_bids.specs.declared.book.Bidder.{Bidder}
 use Rattle.beet_plan.specs.Auction.{auction_batch, auction_over, most_coefficients, most_masks, most_rounds, most_wires}
 use Rattle.beet_masking.specs.Masks.{AreMasks}
 use Rattle.beet_plan.proofs.AuctionLaw.{auction-law}
 use Rattle.beet_book.proofs.Quantities.{quantities-many}
 use Rattle.beet_view.specs.Transcripts.{view_bytes}
-use Rattle.beet_map.specs.Mapped.{AreWords as AreAllWords}
 use Rattle.beet_map.specs.Secrets.{Secrets}
 use Rattle.beet_map_laws.specs.Pairs.{AreTwoWorlds, CanDraw, GoTogether}
 use Rattle.beet_map_laws.proofs.Images.{image, source, two-back}
-use Rattle.beet_auction_map.specs.Enough.{AreEnough}
+use Rattle.beet_auction_map.specs.Enough.{AreEnough, wants_over}
 use Rattle.beet_mapped.specs.Dealers.{Party}
 use Rattle.beet_mapped.proofs.WorldFacts.{all-words, are-masks}
 use Rattle.beet_auction_map.specs.MappedBidders.{BiddersMapped, party_of}
@@ -30,15 +27,16 @@ use Rattle.beet_auction_map.specs.Losses.{losses_of}
 use Rattle.beet_auction_map.specs.MappedWords.{Mapped}
 use Rattle.beet_auction_map.specs.Worlds.{WorldsMapped}
 use Rattle.beet_auction_map.proofs.BidderFacts.{bidders-back}
-use Rattle.beet_auction_map.proofs.Drawn.{all-drawn}
-use Rattle.beet_auction_map.proofs.Marks.{as-many}
 use Rattle.beet_auction_map.proofs.EnoughFacts.{mapped-enough}
 use Rattle.beet_auction_map.proofs.MasksBack.{agree-back, books-back}
 use Rattle.beet_turned.proofs.Small.{mapped-masks}
-use Rattle.beet_auction_map.proofs.WorldFacts.{Stands, enough-numbers, look-same-in, secrets-first, secrets-second, worlds-mapped}
+use Rattle.beet_auction_map.proofs.WorldFacts.{Stands, can-map, worlds-mapped}
 use Rattle.beet_headline.specs.Statements.{AreOnePair, AreTwoBooks, CanRun}
 use Rattle.beet_trades.proofs.AllWords.{all-are}
 use Rattle.beet_trades.proofs.DealersThere.{MovedDealers, dealers-there}
+use Rattle.beet_trades.proofs.Disagreeing.{as-many}
+use Rattle.beet_trades.proofs.Drawn.{all-drawn, numbers-enough}
+use Rattle.beet_trades.proofs.EnoughFacts.{masks-enough}
 use Rattle.beet_headline.proofs.Inputs.{lines-there, lines_of, values-small}
 use Rattle.beet_headline.proofs.Lengths.{as-long}
 
@@ -65,7 +63,7 @@ module _ (s : Point) (first second : Book) (two : AreTwoBooks s first second) (w
       runs.are_words.bidders (all-drawn (2 * prices) words.bidders runs.enough.bidders)
 
   many : length lists.lists ≡ length second.bidders
-  many = lists.count ∙ runs.enough.count ∙ sym (as-many first.bidders second.bidders two.agree.marks)
+  many = lists.count ∙ runs.enough.count ∙ sym (as-many (λ (b : Bidder). b.known) first.bidders second.bidders two.agree.marks)
 
   abbrev here : Secrets
   here = record { inputs = lines_of first words.bidders; masks = words.masks }
@@ -76,7 +74,7 @@ module _ (s : Point) (first second : Book) (two : AreTwoBooks s first second) (w
   are-masks-there : AreMasks masks.0
   are-masks-there = mapped-masks (losses_of first second) s words.masks masks.0 (are-masks words runs.are_words) masks.1
 
-  stands : Stands s first second words masks.0 lists.lists here.inputs there.inputs
+  stands : Stands s first second words lists.lists here.inputs there.inputs
   stands = record {
     agree = two.agree;
     enough = runs.enough;
@@ -84,7 +82,6 @@ module _ (s : Point) (first second : Book) (two : AreTwoBooks s first second) (w
     is_book' = two.second_book;
     are_words = runs.are_words;
     lists = lists.count;
-    masks_mapped = masks.1;
     bidders_mapped = lists.mapped;
     here = lines-there first words.bidders two.first_book runs.enough.count;
     there = lines-there second lists.lists two.second_book many;
@@ -92,16 +89,25 @@ module _ (s : Point) (first second : Book) (two : AreTwoBooks s first second) (w
 
   worlds : AreTwoWorlds (auction_batch (auction_over first.grid)) (most_rounds (auction_over first.grid)) (2 * prices)
       (most_masks (auction_over first.grid)) s here there
-  worlds = record {
-    first = secrets-first s first second words lists.lists here there two.agree.grids first.grid refl refl stands;
-    second = secrets-second s first second words lists.lists here there two.agree.grids first.grid refl refl stands;
-    elements = values-small first words.bidders here.inputs two.first_book stands.here;
-    elements' = values-small second lists.lists there.inputs two.second_book stands.there;
-    same = look-same-in s first second words lists.lists here there two.agree.grids first.grid refl refl stands;
-  }
+  worlds =
+      let asked = can-map s first second words lists.lists here.inputs there.inputs stands (auction_over first.grid) refl in
+      record {
+        first = asked.secrets;
+        second = record {
+          inputs = asked.long;
+          masks = masks-enough s (losses_of first second) words.masks masks.0 (most_masks (auction_over first.grid)) masks.1
+              runs.enough.masks;
+        };
+        elements = values-small first words.bidders here.inputs two.first_book stands.here;
+        elements' = values-small second lists.lists there.inputs two.second_book stands.there;
+        same = asked.same masks.0 masks.1;
+      }
 
 can-draw : (book : Book) (words : Words) → CanRun book words → CanDraw (most_coefficients (auction_over book.grid)) words.coefficients
-can-draw book words runs = record { are_words = all-words words runs.are_words; numbers = enough-numbers book words runs.enough }
+can-draw book words runs = record {
+  are_words = all-words words runs.are_words;
+  numbers = numbers-enough (wants_over book.grid) (length book.bidders) words runs.enough;
+}
 
 one-pair : (s : Point) (first : Book) (words : Words) (second : Book) (words' : Words) → AreTwoBooks s first second → CanRun first words →
     AreWords words' → WorldsMapped s first words second words' → AreOnePair s first words second words'
@@ -134,9 +140,8 @@ second-there s first second words two runs =
     (are-masks-there s first second two words runs) found.1.are_words bidders'.are_words in (
       words',
       one-pair s first words second words' two runs are'
-          (worlds-mapped s first second words bidders'.lists w w' two.agree.grids first.grid refl refl
-          (stands s first second two words runs) found.0
-          found.2 are'),
+          (worlds-mapped s first second words bidders'.lists w.inputs w'.inputs (stands s first second two words runs) a refl masks'.0
+          found.0 masks'.1 found.2 are'),
     )
 
 -- all words that are mapped are these
@@ -189,7 +194,10 @@ module _ (s : Point) (first second : Book) (two : AreTwoBooks s first second) (w
       bidders-back s second.bidders first.bidders words'.bidders bidders'.lists two.second_book.curves
       two.first_book.curves runs.are_words.bidders bidders'.mapped
 
-  stands-back : Stands s first second words words'.masks words'.bidders w.inputs w'.inputs
+  turned-back : MasksMapped s (losses_of first second) masks'.0 words'.masks
+  turned-back = books-back s second first back.agree words'.masks masks'.0 (are-masks words' runs.are_words) masks'.1
+
+  stands-back : Stands s first second words words'.bidders w.inputs w'.inputs
   stands-back = record {
     agree = two.agree;
     enough = enough;
@@ -197,7 +205,6 @@ module _ (s : Point) (first second : Book) (two : AreTwoBooks s first second) (w
     is_book' = two.second_book;
     are_words = are;
     lists = sym bidders'.count;
-    masks_mapped = books-back s second first back.agree words'.masks masks'.0 (are-masks words' runs.are_words) masks'.1;
     bidders_mapped = bidders-mapped;
     here = (stands s second first back words' runs).there;
     there = (stands s second first back words' runs).here;
@@ -207,7 +214,6 @@ module _ (s : Point) (first second : Book) (two : AreTwoBooks s first second) (w
   first-there = (
     words,
     one-pair s first words second words' two (record { are_words = are; enough = enough }) runs.are_words
-        (worlds-mapped s first second words words'.bidders w w' two.agree.grids second.grid two.agree.grids refl
-        stands-back words'.coefficients
-        drawn.2 runs.are_words),
+        (worlds-mapped s first second words words'.bidders w.inputs w'.inputs stands-back (auction_over second.grid)
+        (λ i. auction_over (two.agree.grids i)) words'.masks words'.coefficients turned-back drawn.2 runs.are_words),
   )

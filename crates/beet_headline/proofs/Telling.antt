@@ -39,7 +39,10 @@ use Rattle.beet_view.specs.BookViews.{seen_at}
 use Rattle.beet_view.specs.declared.view.Seen.{Seen}
 use Rattle.beet_map.proofs.Alike.{Alike}
 use Rattle.beet_auction_map.specs.ViewsWith.{cut_words, view_with}
-use Rattle.beet_auction_map.proofs.CutRuns.{rounds-cut, run-cut}
+use Rattle.beet_auction_map.specs.Enough.{wants_over}
+use Rattle.beet_auction_map.specs.MappedWords.{trade_of}
+use Rattle.beet_auction_map.proofs.CutRuns.{reads}
+use Rattle.beet_trades.proofs.ReadRuns.{rounds-read, run-read}
 use Rattle.beet_headline.specs.Statements.{CanRun}
 use Rattle.beet_headline.proofs.Standings.{ends, same-finish}
 
@@ -179,10 +182,13 @@ module _ (s : Point) (grid : Grid) (bidders others : List Bidder) (words words' 
   r' = book_rounds second words'.masks
 
   counted : rounds_among o (most_rounds (auction_over grid)) ≡ r
-  counted = rounds-cut first words runs.enough r (ends first words b runs).has_rounds
+  counted =
+      rounds-read (trade_of first) (wants_over first.grid) words (reads first words runs.enough) r (ends first words b runs).has_rounds
 
   counted' : rounds_among o' (most_rounds (auction_over grid)) ≡ r'
-  counted' = rounds-cut second words' runs'.enough r' (ends second words' b' runs').has_rounds
+  counted' =
+      rounds-read (trade_of second) (wants_over second.grid) words' (reads second words' runs'.enough) r'
+      (ends second words' b' runs').has_rounds
 
   seen : rounds_seen o' s r' ≡ rounds_seen o s r
   seen = (λ x. rounds_seen o' s (sym counted' x)) ∙ (λ x. (view x).rounds) ∙ (λ x. rounds_seen o s (counted x))
@@ -214,8 +220,9 @@ module _ (s : Point) (grid : Grid) (bidders others : List Bidder) (words words' 
       let one = ends first words b runs in
       let other = ends second words' b' runs' in
       let named : List ℕ → Option Finish = plan_finish (auction_plan (auction_over grid)) in
-      let cut = run-cut first words runs.enough r one.has_rounds r (omega arith) in
-      let cut' = run-cut second words' runs'.enough r' other.has_rounds r' (omega arith) in
+      let cut = run-read (trade_of first) (wants_over first.grid) words (reads first words runs.enough) r one.has_rounds r (omega arith) in
+      let cut' = run-read (trade_of second) (wants_over second.grid) words' (reads second words' runs'.enough) r' other.has_rounds r'
+      (omega arith) in
       same-finish (book_finish second words'.masks) (book_finish first words.masks)
       (sym other.finish_named ∙ (λ x. named (sym cut' x).opened) ∙ (λ x. named (shared_at o' (as-many x)).opened) ∙ ap named at-end
       ∙ (λ x. named (cut x).opened) ∙ one.finish_named)

@@ -15,9 +15,9 @@ use Rattle.beet_book.specs.Farmers.{BidderWithWords, farmers_of, point_for}
 use Rattle.beet_turned.proofs.MasksBack.{all-at}
 use Rattle.beet_view.specs.BookViews.{seen_at}
 use Rattle.beet_view.specs.declared.view.Seen.{Seen}
-use Rattle.beet_auction_map.specs.Enough.{HasAccepted}
+use Rattle.beet_trades.specs.Enough.{HasAccepted}
+use Rattle.beet_trades.proofs.Disagreeing.{get-map}
 use Rattle.beet_auction_map.proofs.CutRuns.{cut, farmers-cut, point-cut}
-use Rattle.beet_auction_map.proofs.MasksBack.{get-map}
 use Rattle.beet_headline.specs.Statements.{CanRun, IsSeen}
 use Rattle.beet_headline.proofs.Sealed.{difference, quantity-element}
 

@@ -8,7 +8,7 @@ use Rattle.beet_words.specs.Words.{IsWord, accepted}
 use Rattle.beet_bids.specs.Books.{Book}
 use Rattle.beet_plan.specs.Auction.{auction_over, most_coefficients, most_masks}
 use Rattle.beet_masking.specs.declared.TheConstants.{SPARE_WORDS}
-use Rattle.beet_auction_map.specs.Enough.{HasAccepted}
+use Rattle.beet_trades.specs.Enough.{HasAccepted}
 use Rattle.beet_headline.specs.Statements.{CanRun}
 
 -- so many words of 0

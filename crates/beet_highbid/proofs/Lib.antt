@@ -1,2 +1,4 @@
 pub mod SeenBids
 pub mod Pairs
+pub mod SaleRows
+mod SaleMaps

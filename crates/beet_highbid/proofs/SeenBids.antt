@@ -1,6 +1,6 @@
 -- A server sees the same bids in both sales.
-use Rattle.std.proofs.Common.{◌≡◌, ◌≤◌, suc, inl, inr, Bool, true, false, List, [], ◌∷◌, map, take, length, slice_get, Option, Some, None}
-use Rattle.std.proofs.Common.{ℕ, refl, sym, ap, ◌∙◌, arith, true≢false}
+use Rattle.std.proofs.Common.{◌≡◌, suc, inl, inr, true, List, [], ◌∷◌, map, take, slice_get, Some}
+use Rattle.std.proofs.Common.{ℕ, refl, sym, ap, ◌∙◌, arith}
 use Rattle.std.specs.Prelude.{All}
 use Rattle.std.proofs.lemmas.Bool.{cases_Bool}
 use Rattle.std.proofs.lemmas.List.Elements.{All-cons, All-head, All-tail}
@@ -9,8 +9,8 @@ use Rattle.beet_gates.specs.declared.Gates.{Gates}
 use Rattle.beet_shamir.specs.Line.{point_of}
 use Rattle.beet_words.specs.Bundles.{Words}
 use Rattle.beet_delivery.specs.Events.{same}
-use Rattle.beet_delivery.proofs.ThreeServers.{same_is}
 use Rattle.beet_view.specs.BookViews.{names}
+use Rattle.beet_view.proofs.Marks.{names-is}
 use Rattle.beet_mapped.specs.Dealers.{Party, Dealer, DealerMapped, DealersMapped, dealers_of}
 use Rattle.beet_mapped.proofs.DealerFacts.{first-mapped, point-same, rest-mapped}
 use Rattle.beet_trades.specs.Enough.{HasAccepted, words_read}
@@ -21,11 +21,7 @@ use Rattle.beet_sale_map.specs.Enough.{AreEnough}
 use Rattle.beet_sale_map.specs.MappedSales.{SalesMapped}
 use Rattle.beet_sale_map.specs.Worlds.{bid_in, party_of, point_in}
 use Rattle.beet_sale_map.proofs.SaleWorlds.{OneQuantity, one-quantity, own-known}
-use Rattle.beet_highbid.specs.SaleViews.{SaleView, bids_seen, kept_if, seen_bid, view_of_sale}
-
-names-is : (known : Option Point) (s : Point) → names known s ≡ true → known ≡ Some s
-names-is None s e = absurd (true≢false (sym e))
-names-is (Some at) s e = ap Some (same_is at s e)
+use Rattle.beet_highbid.specs.SaleViews.{bids_seen, kept_if, seen_bid, view_of_sale}
 
 -- a dealer with the words that are read
 abbrev cut : Dealer → Dealer

@@ -1,7 +1,8 @@
 //! The words of the second sale.
 
 ghost use Rattle.std.specs.Prelude.{◌≡◌, IfErr, IfOk};
-ghost use Rattle.beet_sale_map.specs.Bids.{Agree, AreSaleBids};
+ghost use Rattle.beet_sale_file.specs.Sales.{bids_of};
+ghost use Rattle.beet_sale_map.specs.Bids.{Agree};
 ghost use Rattle.beet_sale_map.specs.Disagreement.{RefusesMap};
 ghost use Rattle.beet_sale_map.specs.Enough.{AreEnough};
 ghost use Rattle.beet_sale_map.specs.MappedSales.{Ends};
@@ -9,8 +10,8 @@ ghost use Rattle.beet_sale_map.specs.Worlds.{IsOnlyFirst, IsOnlySecond, Mapped};
 ghost use Rattle.beet_highbid.specs.SaleViews.{sale_transcript, view_of_sale};
 
 use beet_field::Point;
-use beet_gates::Gates;
-use beet_sale_map::{SaleBid, SaleFault, map_sale};
+use beet_sale_file::Sale;
+use beet_sale_map::{SaleFault, map_sale};
 use beet_words::Words;
 use std::alloc::Global;
 
@@ -24,26 +25,28 @@ use std::alloc::Global;
 pub fn sale_map(
     alloc: Global,
     me: Point,
-    gates: Gates,
-    first: &[SaleBid],
-    second: &[SaleBid],
+    first: &Sale,
+    second: &Sale,
     words: &Words,
 ) -> Result<Words, SaleFault>
-    requires first { AreSaleBids first.now }
-    requires second { AreSaleBids second.now }
-    requires enough { AreEnough first.now words.now }
-    ensures agreed { IfOk result (λ _. Agree me first.now second.now) }
-    ensures refused { IfErr result (RefusesMap me first.now second.now) }
-    ensures mapped { IfOk result (Mapped me gates first.now words.now second.now) }
-    ensures enough { IfOk result (AreEnough second.now) }
-    ensures ends { IfOk result (λ mapped. Ends gates first.now words.now × Ends gates second.now mapped) }
-    ensures looks { IfOk result (λ mapped.
-        view_of_sale gates second.now mapped me ≡ view_of_sale gates first.now words.now me) }
-    ensures bytes { IfOk result (λ mapped.
-        sale_transcript gates second.now mapped me ≡ sale_transcript gates first.now words.now me) }
-    ensures only { IfOk result (IsOnlySecond me gates first.now words.now second.now) }
-    ensures back { IfOk result (IsOnlyFirst me gates first.now words.now second.now) }
+    requires gates { second.now.gates ≡ first.now.gates }
+    requires enough { AreEnough (bids_of first.now.rows) words.now }
+    ensures agreed { IfOk result (λ _. Agree me (bids_of first.now.rows) (bids_of second.now.rows)) }
+    ensures refused { IfErr result (RefusesMap me (bids_of first.now.rows) (bids_of second.now.rows)) }
+    ensures mapped { IfOk result
+        (Mapped me first.now.gates (bids_of first.now.rows) words.now (bids_of second.now.rows)) }
+    ensures enough { IfOk result (AreEnough (bids_of second.now.rows)) }
+    ensures ends { IfOk result (λ mapped. Ends first.now.gates (bids_of first.now.rows) words.now
+        × Ends second.now.gates (bids_of second.now.rows) mapped) }
+    ensures looks { IfOk result (λ mapped. view_of_sale second.now.gates (bids_of second.now.rows) mapped me
+        ≡ view_of_sale first.now.gates (bids_of first.now.rows) words.now me) }
+    ensures bytes { IfOk result (λ mapped. sale_transcript second.now.gates (bids_of second.now.rows) mapped me
+        ≡ sale_transcript first.now.gates (bids_of first.now.rows) words.now me) }
+    ensures only { IfOk result
+        (IsOnlySecond me first.now.gates (bids_of first.now.rows) words.now (bids_of second.now.rows)) }
+    ensures back { IfOk result
+        (IsOnlyFirst me first.now.gates (bids_of first.now.rows) words.now (bids_of second.now.rows)) }
 {
-    let mapped = map_sale(alloc, me, gates, first, second, words)?;
+    let mapped = map_sale(alloc, me, first.gates(), first.bids(), second.bids(), words)?;
     Ok(mapped)
 }

@@ -30,7 +30,7 @@ use Rattle.beet_load.specs.Servers.{ServerWords, masks_of}
 use Rattle.beet_run.specs.Outcomes.{outcome_answer}
 use Rattle.beet_auction.specs.AnyPoints.{points_finish, points_rounds}
 use Rattle.beet_book.specs.PointSums.{sum_at, inputs_at}
-use Rattle.beet_job_envelopes.specs.Open.{opened_answer}
+use Rattle.beet_gathering.specs.Opened.{opened_answer}
 use Rattle.beet_job_envelopes.specs.SealedBooks.{HaveWords, sealed_points}
 use Rattle.beet_farmer.specs.declared.envelope.TheConstants.{ENVELOPE_LIMIT}
 

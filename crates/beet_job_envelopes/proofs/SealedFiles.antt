@@ -19,7 +19,7 @@ use Rattle.beet_errand.specs.Errands.{Errand, reads}
 use Rattle.beet_errand.specs.Overs.{ReadsTo, answer_over}
 use Rattle.beet_load.specs.Counts.{words_wanted}
 use Rattle.beet_load.proofs.Farming.{lt_false}
-use Rattle.beet_job_envelopes.specs.Gather.{envelopes_errand, bidders_errand}
+use Rattle.beet_gathering.specs.Gather.{envelopes_errand, bidders_errand}
 use Rattle.beet_job_envelopes.specs.SealedBooks.{HaveWords, HoldsSealed, HoldEachSealed, sealed_bytes, sealed_points}
 use Rattle.beet_farmer.proofs.SealedAgain.{sealed-again}
 use Rattle.beet_job_envelopes.proofs.SealedBooks.{sealed-size}

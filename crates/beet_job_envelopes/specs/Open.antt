@@ -1,31 +1,19 @@
 -- The job `open`: the outcome of the bids in envelopes, and the rounds in which three servers find it.
 use Rattle.std.specs.Prelude.{ℕ, List, [], None}
-use Rattle.beet_field.specs.declared.trio.Trio.{Trio}
 use Rattle.beet_bids.specs.Grids.{Grid}
 use Rattle.beet_bids.specs.AuctionFiles.{auction_of}
 use Rattle.beet_book.specs.ServerFiles.{servers_of}
 use Rattle.beet_book.specs.declared.sources.Servers.{Servers}
 use Rattle.beet_farmer.specs.Lists.{list_of}
 use Rattle.beet_farmer.specs.declared.list_file.ListEntry.{ListEntry}
-use Rattle.beet_plan.specs.Auction.{auction_over}
 use Rattle.beet_errand.specs.Errands.{Answer, Errand, Ends, Step, ◌>>=◌, gives, reads}
 use Rattle.beet_load.specs.Wanted.{wanted_of}
-use Rattle.beet_load.specs.Servers.{ServerWords, all_words_errand, masks_of}
-use Rattle.beet_run.specs.Outcomes.{outcome_answer}
-use Rattle.beet_auction.specs.AnyPoints.{points_finish, points_rounds}
-use Rattle.beet_job_envelopes.specs.Gather.{bidders_errand}
-use Rattle.beet_book.specs.PointSums.{inputs_at}
+use Rattle.beet_load.specs.Servers.{all_words_errand}
+use Rattle.beet_gathering.specs.Gather.{bidders_errand}
+use Rattle.beet_gathering.specs.Opened.{opened_answer}
 use Rattle.beet_bids.specs.declared.auction_file.TheConstants.{AUCTION_LIMIT}
 use Rattle.beet_book.specs.declared.server_file.TheConstants.{SERVERS_LIMIT}
 use Rattle.beet_farmer.specs.declared.list_file.TheConstants.{LIST_LIMIT}
-
--- the answer for the points of the bidders, which need not lie on lines
-abbrev pub opened_answer : Grid → Trio ServerWords → List (Trio (List ℕ)) → Answer
-opened_answer grid servers bidders =
-    let auction = auction_over grid in
-    let inputs = inputs_at grid.prices bidders in
-    let masks = masks_of servers in
-    outcome_answer grid (points_finish auction inputs masks) (points_rounds auction inputs masks)
 
 -- the bids in the envelopes of these entries are opened: the words of the servers come first, and a bundle may have any
 -- number of bidders

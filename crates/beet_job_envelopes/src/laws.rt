@@ -18,9 +18,9 @@ ghost use Rattle.beet_book.specs.Farmers.{BidderWithWords, book_inputs, book_wit
 ghost use Rattle.beet_load.specs.Counts.{words_wanted};
 ghost use Rattle.beet_load.specs.Servers.{ServerWords, masks_of};
 ghost use Rattle.beet_run.specs.Outcomes.{outcome_answer};
-ghost use Rattle.beet_job_envelopes.specs.Gather.{bidders_errand};
+ghost use Rattle.beet_gathering.specs.Gather.{bidders_errand};
 ghost use Rattle.beet_book.specs.PointSums.{inputs_at};
-ghost use Rattle.beet_job_envelopes.specs.Open.{opened_answer};
+ghost use Rattle.beet_gathering.specs.Opened.{opened_answer};
 ghost use Rattle.beet_farmer.specs.Sealing.{sealed_envelope};
 ghost use Rattle.beet_job_envelopes.specs.SealedBooks.{HaveWords, HoldEachSealed, sealed_points};
 ghost use Rattle.beet_farmer.specs.declared.envelope.TheConstants.{ENVELOPE_LIMIT};

@@ -2,14 +2,12 @@
 //! envelopes of all bidders.
 #![tactic(auto)]
 
-mod gathering;
 mod laws;
 mod opening;
 mod sealing;
 mod source_word;
 
-pub use gathering::{Gathers, gather_bidders};
 pub use laws::sealed_books_open_their_outcome;
-pub use opening::{OpenFiles, open_envelopes, read_entries};
+pub use opening::{OpenFiles, open_envelopes};
 pub use sealing::{SealFiles, seal_bid};
 pub use source_word::{SourceWord, read_source_word};

@@ -1,19 +1,18 @@
 //! The job `open`.
 
-ghost use Rattle.std.specs.Prelude.{◌≤◌, IfOk, length};
+ghost use Rattle.std.specs.Prelude.{IfOk};
 ghost use Rattle.beet_farmer.specs.Lists.{list_of};
 ghost use Rattle.beet_errand.specs.Errands.{reads};
 ghost use Rattle.beet_errand.specs.Fetches.{IsDone, Reads};
 ghost use Rattle.beet_job_envelopes.specs.Open.{entries_job, open_job};
 ghost use Rattle.beet_farmer.specs.declared.list_file.TheConstants.{LIST_LIMIT};
-ghost use Rattle.beet_words.specs.declared.bundle.TheConstants.{MOST_BIDDERS};
 
-use crate::gathering::gather_bidders;
 use beet_auction_run::run_auction;
 use beet_bids::Grid;
 use beet_book::{Servers, Totals};
-use beet_errand::{Reply, Stop, fetch_file, judge};
-use beet_farmer::{LIST_LIMIT, ListEntry, read_list};
+use beet_errand::{Reply, Stop};
+use beet_farmer::ListEntry;
+use beet_gathering::{gather_bidders, read_entries};
 use beet_link::Gate;
 use beet_load::{AllWords, auction_wants, read_grid, read_sources, read_words};
 use beet_run::outcome_reply;
@@ -22,20 +21,6 @@ use std::alloc::Global;
 use std::sync::Wait;
 use std::thread::Threads;
 use std::time::Clock;
-
-/// The bidders of a list file.
-pub fn read_entries<S: Shelf>(
-    alloc: Global,
-    shelf: &mut S,
-    name: &str,
-) -> Result<Vec<ListEntry>, Stop>
-    ensures few { IfOk result (λ entries. length entries.items ≤ MOST_BIDDERS) }
-    ensures reads { Reads (λ entries. entries.items) (S.seen shelf.old) (S.seen shelf.new)
-        (reads name.now LIST_LIMIT list_of) result }
-{
-    let bytes = fetch_file(alloc, shelf, name, LIST_LIMIT)?;
-    judge(alloc, name, read_list(alloc, bytes.as_slice()))
-}
 
 /// The outcome of the bids in the envelopes of these entries, and the rounds in which three servers find it.
 fn open_entries<S: Shelf, R: Threads + Wait + Clock + Sync, G: Gate>(

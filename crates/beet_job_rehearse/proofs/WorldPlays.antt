@@ -16,16 +16,10 @@ use Rattle.beet_sharing.specs.Runs.{rounds_among}
 use Rattle.beet_world.specs.Marks.{unmarked}
 use Rattle.beet_world.specs.Worlds.{World, delivered_in, rounds_in}
 use Rattle.beet_world.proofs.MarkFacts.{set-unmarked}
-use Rattle.beet_job_rehearse.specs.Rehearsing.{Rehearses}
+use Rattle.beet_job_rehearse.specs.Rehearsing.{Rehearses, Tells}
 use Rattle.beet_job_rehearse.specs.Standings.{standing_of}
 use Rattle.beet_job_rehearse.specs.declared.standing.Standing.{Standing}
 use Rattle.beet_field.specs.declared.point.Point.{Point}
-
--- how a server in a `World` stands is told, once it is known how its run ends
-abbrev pub Tells : World Auction → Point → Standing → Type 0
-Tells w s standing = (rounds : ℕ) (finish : Finish) →
-    AuctionEnds w.start.one.script (auction_in w) rounds finish →
-    standing ≡ standing_of finish rounds (delivered_in w) s
 
 module _ (grid : Grid) (inputs : Trio (List ℕ)) (words : Trio ServerWords) (cores : Trio (Core Auction))
     (s : Starts grid inputs words cores)
@@ -65,10 +59,10 @@ module _ (grid : Grid) (inputs : Trio (List ℕ)) (words : Trio ServerWords) (co
     abbrev Stands : Point → Standing → Type 0
     Stands at standing = standing ≡ standing_of finish rounds (after rounds events) at
 
-    stands : (at : Point) (standing : Standing) → Tells new at standing → Stands at standing
+    pub stands : (at : Point) (standing : Standing) → Tells new at standing → Stands at standing
     stands at standing t = t rounds finish ends-so ∙ ap (λ x. standing_of finish rounds x at) delivered-is
 
-    counts : (n : ℕ) → n ≡ undelivered (rounds_in auction_batch inputs_of most_rounds new) (delivered_in new) →
+    pub counts : (n : ℕ) → n ≡ undelivered (rounds_in auction_batch inputs_of most_rounds new) (delivered_in new) →
         n ≡ undelivered rounds (after rounds events)
     counts n is = is ∙ ap (λ r. undelivered r (delivered_in new)) rounds-new ∙ ap (undelivered rounds) delivered-is
 

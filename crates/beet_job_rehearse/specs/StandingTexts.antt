@@ -3,6 +3,7 @@ use Rattle.std.specs.Prelude.{ℕ, List, ◌++◌, codes, decimal}
 use Rattle.beet_field.specs.Point.{number_of}
 use Rattle.beet_field.specs.declared.point.Point.{Point}
 use Rattle.beet_field.specs.declared.point.Point.TheVariants.{One, Two, Three}
+use Rattle.beet_field.specs.declared.trio.Trio.{Trio}
 use Rattle.beet_bids.specs.Grids.{Grid}
 use Rattle.beet_errand.specs.Texts.{line_of}
 use Rattle.beet_run.specs.OutcomeTexts.{finish_text}
@@ -20,9 +21,15 @@ abbrev pub server_text : Grid → Point → Standing → List ℕ
 server_text grid s standing =
     line_of (codes "server " ++ decimal (number_of s) ++ codes " " ++ standing_text grid standing)
 
+-- a line for each server
+abbrev pub servers_text : Grid → Trio Standing → List ℕ
+servers_text grid servers =
+    server_text grid One servers.one ++ server_text grid Two servers.two ++ server_text grid Three servers.three
+
+-- the line for so many messages that are not delivered
+abbrev pub undelivered_line : ℕ → List ℕ
+undelivered_line undelivered = line_of (codes "undelivered " ++ decimal undelivered)
+
 -- a line for each server, and one for the messages that are not delivered
 abbrev pub rehearsal_text : Grid → Rehearsal → List ℕ
-rehearsal_text grid rehearsal =
-    server_text grid One rehearsal.servers.one ++ server_text grid Two rehearsal.servers.two
-    ++ server_text grid Three rehearsal.servers.three
-    ++ line_of (codes "undelivered " ++ decimal rehearsal.undelivered)
+rehearsal_text grid rehearsal = servers_text grid rehearsal.servers ++ undelivered_line rehearsal.undelivered

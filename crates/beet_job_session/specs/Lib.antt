@@ -1,3 +1,1 @@
-pub mod Lots
 pub mod Sessions
-pub mod Telling

@@ -1,7 +1,6 @@
 //! The job `session`: the auctions of several lots among the same three servers, one after another.
 #![tactic(auto)]
 
-mod reading;
 mod running;
 mod telling;
 

@@ -1,16 +1,19 @@
 //! The job `session`.
 
-ghost use Rattle.std.specs.Prelude.{◌≤◌, [], IfOk, length};
-ghost use Rattle.beet_errand.specs.Fetches.{IsDone, Reads};
+ghost use Rattle.std.specs.Prelude.{◌≤◌, IfOk, length, map};
+ghost use Rattle.beet_errand.specs.Fetches.{IsDone, Reads, ReadsFor};
 ghost use Rattle.beet_lots.specs.declared.lots.TheConstants.{MOST_LOTS};
-ghost use Rattle.beet_job_session.specs.Sessions.{session_job, told_errand};
+ghost use Rattle.beet_lot_load.specs.Lots.{lots_errand};
+ghost use Rattle.beet_lot_load.specs.Telling.{TellsLots};
+ghost use Rattle.beet_run.specs.Outcomes.{cleared};
+ghost use Rattle.beet_job_session.specs.Sessions.{session_job};
 
-use crate::reading::{read_lots, read_seeds};
-use crate::telling::{LotsTold, tell_lot};
+use crate::telling::tell_lot;
 use beet_book::Servers;
-use beet_errand::{Reply, Status, Stop};
+use beet_errand::{Reply, Stop};
 use beet_forms::beside;
 use beet_lot_files::LotRow;
+use beet_lot_load::{LotsTold, read_lots, read_seeds};
 use beet_store::Shelf;
 use std::alloc::Global;
 
@@ -20,25 +23,16 @@ fn tell_lots<S: Shelf>(
     shelf: &mut S,
     sources: &Servers,
     rows: &[LotRow],
-) -> Result<Reply, Stop>
+) -> Result<LotsTold, Stop>
     requires { length rows.now ≤ MOST_LOTS }
-    ensures done { IfOk result (λ reply. IsDone reply.status) }
-    ensures reads { Reads (λ reply. reply) (S.seen shelf.old) (S.seen shelf.new)
-        (told_errand sources.now rows.now) result }
+    ensures { ReadsFor (λ told lots. TellsLots rows.now (map cleared lots) told) (S.seen shelf.old)
+        (S.seen shelf.new) (lots_errand sources.now rows.now) result }
 {
-    let mut told = LotsTold {
-        text: Vec::new(alloc),
-        spent: false,
-    };
+    let mut told = LotsTold::new(alloc);
     for (i, row) in rows.iter().enumerate() {
         tell_lot(alloc, shelf, sources, i as u32, row, &mut told)?;
     }
-    let status = if told.spent {
-        Status::MasksSpent
-    } else {
-        Status::Done
-    };
-    Ok(Reply::of_text(alloc, status, told.text))
+    Ok(told)
 }
 
 /// The names of the files of the job.
@@ -64,5 +58,5 @@ pub fn session<S: Shelf>(
     let told = tell_lots(alloc, shelf, &sources, lots.rows());
     drop(sources);
     drop(lots);
-    told
+    Ok(told?.into_reply(alloc))
 }

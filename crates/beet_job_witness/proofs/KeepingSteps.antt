@@ -11,7 +11,7 @@ use Rattle.beet_book.specs.Dealing.{HasLengths}
 use Rattle.beet_book.specs.Totals.{Totals, added, none_of}
 use Rattle.beet_view.specs.declared.view.Seen.{Seen}
 use Rattle.beet_transcripts.specs.RunsOn.{seen_sealed}
-use Rattle.beet_job_envelopes.proofs.GatherSteps.{added-more, added-none}
+use Rattle.beet_gathering.proofs.GatherSteps.{added-more, added-none}
 use Rattle.beet_job_witness.specs.Witness.{KeepsPoints}
 
 abbrev no_seen : Trio (List Seen)

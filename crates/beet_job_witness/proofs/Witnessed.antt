@@ -20,17 +20,17 @@ use Rattle.beet_view.specs.Transcripts.{view_bytes}
 use Rattle.beet_view.specs.Views.{IsSeenAt}
 use Rattle.beet_view.specs.declared.view.Seen.{Seen}
 use Rattle.beet_transcripts.specs.RunsOn.{CanShow, answer_on, file_on, seen_sealed, view_of_points, view_on}
-use Rattle.beet_job_envelopes.proofs.OpenSteps.{points-end, sums-first}
-use Rattle.beet_job_envelopes.specs.Open.{opened_answer}
+use Rattle.beet_gathering.proofs.PointRuns.{points-end, sums-first}
+use Rattle.beet_gathering.specs.Opened.{opened_answer}
 use Rattle.beet_job_witness.specs.Witness.{KeepsPoints, witnessed_answer, witnessed_file}
 use Rattle.beet_words.specs.declared.bundle.TheConstants.{MOST_BIDDERS}
 
-length-at : (points : Trio (List ℕ)) (n : ℕ) (s : Point) → HasLengths points n → length (member points s) ≡ n
+pub length-at : (points : Trio (List ℕ)) (n : ℕ) (s : Point) → HasLengths points n → length (member points s) ≡ n
 length-at points n One h = h.one
 length-at points n Two h = h.two
 length-at points n Three h = h.three
 
-sealed-seen : (grid : Grid) (s : Point) (points : Trio (List ℕ)) → HasLengths points (2 * grid.prices) →
+pub sealed-seen : (grid : Grid) (s : Point) (points : Trio (List ℕ)) → HasLengths points (2 * grid.prices) →
     IsSeenAt s grid (seen_sealed s points)
 sealed-seen grid s points h = record { points = length-at points (2 * grid.prices) s h; own = λ e. cc e }
 

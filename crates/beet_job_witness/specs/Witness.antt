@@ -21,8 +21,8 @@ use Rattle.beet_load.specs.Wanted.{wanted_of}
 use Rattle.beet_view.specs.Transcripts.{view_bytes}
 use Rattle.beet_view.specs.declared.view.Seen.{Seen}
 use Rattle.beet_transcripts.specs.RunsOn.{seen_sealed, view_of_points}
-use Rattle.beet_job_envelopes.specs.Gather.{bidders_errand}
-use Rattle.beet_job_envelopes.specs.Open.{opened_answer}
+use Rattle.beet_gathering.specs.Gather.{bidders_errand}
+use Rattle.beet_gathering.specs.Opened.{opened_answer}
 use Rattle.beet_bids.specs.declared.auction_file.TheConstants.{AUCTION_LIMIT}
 use Rattle.beet_book.specs.declared.server_file.TheConstants.{SERVERS_LIMIT}
 use Rattle.beet_farmer.specs.declared.list_file.TheConstants.{LIST_LIMIT}

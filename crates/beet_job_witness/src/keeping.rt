@@ -2,7 +2,7 @@
 
 use beet_bids::Grid;
 use beet_book::{Dealt, Totals};
-use beet_job_envelopes::Gathers;
+use beet_gathering::Gathers;
 use beet_transcripts::SeenByAll;
 use std::alloc::{AllocError, Global};
 

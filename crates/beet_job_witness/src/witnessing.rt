@@ -11,7 +11,7 @@ use beet_bids::Grid;
 use beet_book::Servers;
 use beet_errand::{Reply, Stop};
 use beet_farmer::ListEntry;
-use beet_job_envelopes::{gather_bidders, read_entries};
+use beet_gathering::{gather_bidders, read_entries};
 use beet_link::Gate;
 use beet_load::{AllWords, auction_wants, check_product, read_grid, read_sources, read_words};
 use beet_store::Shelf;
@@ -21,22 +21,29 @@ use std::sync::Wait;
 use std::thread::Threads;
 use std::time::Clock;
 
+/// The auction, its servers, and how the names of the files that are put begin.
+#[derive(Clone, Copy)]
+struct Setting<'a> {
+    grid: &'a Grid,
+    sources: &'a Servers,
+    out: &'a str,
+}
+
 /// The reply for the bids in the envelopes of these entries.
 fn witness_entries<S: Shelf, R: Threads + Wait + Clock + Sync, G: Gate>(
     rt: &R,
     alloc: Global,
     shelf: &mut S,
-    grid: &Grid,
-    sources: &Servers,
+    setting: &Setting<'_>,
     entries: &[ListEntry],
-    out: &str,
     gate: &G,
 ) -> Result<Reply, Stop>
     requires { length entries.now ≤ MOST_BIDDERS }
     ensures done { IfOk result (λ reply. IsDone reply.status) }
     ensures reads { Reads (λ reply. reply) (S.seen shelf.old) (S.seen shelf.new)
-        (kept_job out.now grid.now sources.now entries.now) result }
+        (kept_job setting.now.out.now setting.now.grid.now setting.now.sources.now entries.now) result }
 {
+    let Setting { grid, sources, out } = *setting;
     let words = read_words(alloc, shelf, &auction_wants(None, grid), sources, None)?;
     let kept = match gather_bidders::<S, KeptBidders>(alloc, shelf, grid, entries) {
         Ok(kept) => kept,
@@ -59,28 +66,17 @@ fn witness_list<S: Shelf, R: Threads + Wait + Clock + Sync, G: Gate>(
     rt: &R,
     alloc: Global,
     shelf: &mut S,
-    grid: &Grid,
-    sources: &Servers,
+    setting: &Setting<'_>,
     list: &str,
-    out: &str,
     gate: &G,
 ) -> Result<Reply, Stop>
     ensures done { IfOk result (λ reply. IsDone reply.status) }
     ensures reads { Reads (λ reply. reply) (S.seen shelf.old) (S.seen shelf.new)
-        (list_job out.now grid.now sources.now list.now) result }
+        (list_job setting.now.out.now setting.now.grid.now setting.now.sources.now list.now) result }
 {
     let entries = read_entries(alloc, shelf, list)?;
-    check_product(alloc, 0, list, grid, entries.len())?;
-    let witnessed = witness_entries(
-        rt,
-        alloc,
-        shelf,
-        grid,
-        sources,
-        entries.as_slice(),
-        out,
-        gate,
-    );
+    check_product(alloc, 0, list, setting.grid, entries.len())?;
+    let witnessed = witness_entries(rt, alloc, shelf, setting, entries.as_slice(), gate);
     // One call lets them go: else the proof of this way out goes through each of their parts.
     drop(entries);
     witnessed
@@ -111,9 +107,12 @@ pub fn witness<S: Shelf, R: Threads + Wait + Clock + Sync, G: Gate>(
 {
     let grid = read_grid(alloc, shelf, files.auction)?;
     let sources = read_sources(alloc, shelf, files.servers)?;
-    let witnessed = witness_list(
-        rt, alloc, shelf, &grid, &sources, files.list, files.out, gate,
-    );
+    let setting = Setting {
+        grid: &grid,
+        sources: &sources,
+        out: files.out,
+    };
+    let witnessed = witness_list(rt, alloc, shelf, &setting, files.list, gate);
     drop(sources);
     witnessed
 }

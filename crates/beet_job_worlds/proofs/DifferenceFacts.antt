@@ -16,6 +16,7 @@ use Rattle.beet_bids.proofs.GridFacts.{find-range_none, find-range_some}
 use Rattle.beet_delivery.specs.Events.{same}
 use Rattle.beet_delivery.proofs.ThreeServers.{same_is, same_self}
 use Rattle.beet_view.specs.BookViews.{names}
+use Rattle.beet_view.proofs.Marks.{names-is, names-own}
 use Rattle.beet_map.specs.Refused.{DifferFirst}
 use Rattle.beet_auction_map.specs.Agreement.{Agree, SameKnown, marks_of}
 use Rattle.beet_auction_map.specs.Disagreement.{KnownDiffersAt, Refuses}
@@ -112,13 +113,6 @@ curve-is one other e =
     let buy = (bytes_decides one.buy other.buy).0 b.0 in
     let sell = (bytes_decides one.sell other.sell).0 b.1 in
     sym (λ i. record { buy = buy i; sell = sell i })
-
-names-is : (known : Option Point) (s : Point) → names known s ≡ true → known ≡ Some s
-names-is None s e = absurd (true≢false (sym e))
-names-is (Some t) s e = ap Some (same_is t s e)
-
-names-own : (known : Option Point) (s : Point) → known ≡ Some s → names known s ≡ true
-names-own known s e = ap (λ k. names k s) e ∙ same_self s
 
 own-alike : (s : Point) (one other : Option Bidder) →
     ((x y : Bidder) → one ≡ Some x → other ≡ Some y → x.known ≡ Some s → y.curve ≡ x.curve) → other_own s one other ≡ false

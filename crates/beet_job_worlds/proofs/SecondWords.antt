@@ -16,7 +16,8 @@ use Rattle.beet_bids.specs.declared.book.Bidder.{Bidder}
 use Rattle.beet_plan.specs.Kept.{coefficients_kept, words_kept}
 use Rattle.beet_load.specs.Counts.{coefficients_wanted, counts_of, masks_wanted, words_wanted}
 use Rattle.beet_load.specs.Wholes.{CanDeal, CanStart}
-use Rattle.beet_auction_map.specs.Enough.{AreEnough, HasAccepted}
+use Rattle.beet_trades.specs.Enough.{HasAccepted}
+use Rattle.beet_auction_map.specs.Enough.{AreEnough}
 use Rattle.beet_auction_map.specs.MappedBidders.{BiddersMapped, party_of}
 use Rattle.beet_auction_map.specs.MappedWords.{Mapped}
 use Rattle.beet_auction_map.specs.ViewsWith.{cut_words, transcript_with}

@@ -1,10 +1,12 @@
-//! The jobs of the program over real files: each line of the file `lines` is one command, and what it says and its
-//! status are printed below it. A line `same ONE OTHER` compares two files, and its status is 0 where they hold the
-//! same bytes. A line `size FILE` says how many bytes a file holds. A line `splice FILE AT COUNT DIGITS OUT` puts a
-//! file in which so many bytes from a place on give way to those of hexadecimal digits, or to none where these are `-`.
+//! The jobs of the programs over real files: each line of the file `lines` is one command, and what it says and its
+//! status are printed below it. A line `session SESSION SERVERS` is one of the program of sessions. A line
+//! `same ONE OTHER` compares two files, and its status is 0 where they hold the same bytes. A line `size FILE` says how
+//! many bytes a file holds. A line `splice FILE AT COUNT DIGITS OUT` puts a file in which so many bytes from a place on
+//! give way to those of hexadecimal digits, or to none where these are `-`.
 #![tactic(auto)]
 
 use beet_link::FreeGate;
+use beet_session_app::run_session;
 use beet_store::{Desk, HostDesk, HostShelf, Shelf};
 use std::alloc::{AllocError, Global};
 use std::process::ExitCode;
@@ -127,6 +129,7 @@ fn run_words<S: Shelf, K: Desk, R: Threads + Wait + Clock + Sync>(
             };
             splice(alloc, shelf, desk, &words)
         }
+        [command, ..] if command.as_str() == "session" => { run_session(alloc, words, shelf, desk) }
         _ => beet_app::run(rt, alloc, words, shelf, desk, &FreeGate),
     }
 }

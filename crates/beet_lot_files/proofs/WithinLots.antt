@@ -1,18 +1,17 @@
 -- The deliveries of a schedule are of the lots that there are.
-use Rattle.std.proofs.Common.{◌≡◌, ◌<◌, ◌≤◌, ◌-◌, ◌==◌, ◌&&◌, ℕ, Bool, true, false, nat_lt, if◌then◌else◌, List, [], ◌∷◌, length}
+use Rattle.std.proofs.Common.{◌≡◌, ◌<◌, ◌≤◌, ◌-◌, ◌==◌, ℕ, Bool, true, false, if◌then◌else◌, List, [], ◌∷◌}
 use Rattle.std.proofs.Common.{filter_map, All, Option, Some, None, Result, Ok, Err, IfOk, Vec, Global, drop, refl, arith, subst}
-use Rattle.std.specs.Prelude.{codes, not, slice_index}
-use Rattle.std.specs.Char.{is_ascii_digit}
-use Rattle.std.specs.List.{cons_option, list_all}
+use Rattle.std.specs.Prelude.{codes}
+use Rattle.std.specs.List.{cons_option}
 use Rattle.std.proofs.lemmas.Grind.{common_steps}
 use Rattle.std.proofs.lemmas.List.Elements.{All-cons, All-nil}
 use Rattle.beet_forms.specs.declared.decimals.NumberFault.{NumberFault}
-use Rattle.beet_forms.specs.declared.decimals.NumberFault.TheVariants.{Empty, NotDigit, LeadingZero, TooLarge}
 use Rattle.beet_forms.specs.declared.faults.ReadFault.{ReadFault}
 use Rattle.beet_forms.specs.declared.row.Row.{Row}
 use Rattle.beet_forms.specs.Faults.{Answers, Fault, Reading, at_row, first_row_fault, reading_of}
-use Rattle.beet_forms.specs.Numbers.{decimal_value, number_of}
+use Rattle.beet_forms.specs.Numbers.{number_of}
 use Rattle.beet_forms.specs.Rows.{begins_with, four_of, rows_of}
+use Rattle.beet_forms.proofs.RoundTrip.{number-within}
 use Rattle.beet_world.specs.Schedules.{delivery_named, reason_against, schedule_in}
 use Rattle.beet_world.specs.declared.schedule.Delivery.{Delivery}
 use Rattle.beet_world.specs.declared.schedule.TheConstants.{BAD_DELIVERY}
@@ -20,34 +19,12 @@ use Rattle.beet_lots.specs.LotRows.{in_lot, lot_delivery_in, lot_delivery_of_fie
 use Rattle.beet_lots.specs.declared.lots.LotDelivery.{LotDelivery}
 use Rattle.beet_lot_files.specs.LotSchedules.{lot_schedule_of}
 
-not-above : (max n : ℕ) → nat_lt max n ≡ false → n ≤ max
-not-above max n h = grind (arith, common_steps)
-
 not-zero : (n : ℕ) → (n == 0) ≡ false → 1 ≤ n
 not-zero n h = grind (arith, common_steps)
 
--- a number that is read is no larger than the largest
-within-max : (ds : List ℕ) (max n : ℕ) → number_of ds max ≡ Ok n → n ≤ max
-within-max ds max n e =
-    cases (length ds == 0) (list_all is_ascii_digit ds) (nat_lt 1 (length ds) && (slice_index ds 0 == 48))
-    (nat_lt max (decimal_value ds)) refl e where
-      Number : Type 0
-      Number = Result ℕ NumberFault
-
-      cases : (none digits zeros large : Bool) → nat_lt max (decimal_value ds) ≡ large →
-          if◌then◌else◌ {A = Number} none (Err Empty) (if◌then◌else◌ {A = Number} (not digits) (Err NotDigit)
-          (if◌then◌else◌ {A = Number} zeros (Err LeadingZero) (if◌then◌else◌ {A = Number} large (Err TooLarge) (Ok (decimal_value ds)))))
-          ≡ Ok n → n ≤ max
-      cases true digits zeros large is f = cc f
-      cases false false zeros large is f = cc f
-      cases false true true large is f = cc f
-      cases false true false true is f = cc f
-      cases false true false false is f =
-          let same : decimal_value ds ≡ n = cc f in subst (λ m. m ≤ max) same (not-above max (decimal_value ds) is)
-
 -- a lot that is named is one of those
 named-within : (lots : ℕ) (field : List ℕ) (lot : ℕ) → lot_named lots field ≡ Some lot → lot < lots
-named-within lots field lot e = cases (number_of field lots) (within-max field lots) e where
+named-within lots field lot e = cases (number_of field lots) (number-within field lots) e where
   minus : (number : ℕ) → number ≤ lots → (zero : Bool) → (number == 0) ≡ zero →
       if◌then◌else◌ {A = Option ℕ} zero None (Some (number - 1)) ≡ Some lot → lot < lots
   minus number le true is f = cc f

@@ -18,13 +18,18 @@ use Rattle.beet_gates.specs.declared.Batch.{Batch}
 use Rattle.beet_gates.proofs.EachFacts.{each-same}
 use Rattle.beet_gates.specs.Draws.{draws_in, pair_at}
 use Rattle.beet_sharing.proofs.LinesLaw.{at-one}
+use Rattle.beet_sharing.proofs.Lined.{member-trio}
 use Rattle.beet_sharing.specs.Lines.{OnLines, IsAtOne, slopes_at}
 use Rattle.beet_sharing.specs.Runs.{Setup, Shared, act_among, coming, gained, hidden_at, message, number_drawn}
 use Rattle.beet_sharing.specs.Runs.{product_at, secret_hidden, sent_for, shared_at, standing_at, with_batch_lets}
 use Rattle.beet_map.specs.Secrets.{Secrets, begin_in, shares_of, slopes_of, values_of}
 use Rattle.beet_map.specs.Mapped.{GateMapped, moved_of, number_at, secret_at}
 use Rattle.beet_map.proofs.Moves.{moved_same, reshared_point, same_or, secret_small, slope_same}
-use Rattle.beet_map.specs.Premise.{MayMap, clear_of, standing_of}
+use Rattle.beet_map.specs.Premise.{MayMap, clear_of}
+
+-- the values in the batch that comes, once its lets are there
+abbrev pub standing_of : (ℕ → List ℕ → Batch) → Secrets → ℕ → Values
+standing_of next w t = let v = clear_of next w t in record v { wires = with_lets v.wires (next t v.opened).lets.items }
 
 -- what server `me` sees of two runs
 pub record Alike (me : Point) (r r' : Shared) : Type 0 where
@@ -37,11 +42,6 @@ pub member_each : (f : List ℕ → List ℕ) (t : Trio (List ℕ)) (i : Point) 
 member_each f t One = refl
 member_each f t Two = refl
 member_each f t Three = refl
-
-pub member_trio : (f : Point → List ℕ) (i : Point) → member (trio_of f) i ≡ f i
-member_trio f One = refl
-member_trio f Two = refl
-member_trio f Three = refl
 
 pub alike_lets : (me : Point) (b : Batch) (r r' : Shared) → Alike me r r' → Alike me (with_batch_lets b r) (with_batch_lets b r')
 alike_lets me b r r' g = record {
@@ -71,8 +71,8 @@ module _ (me : Point) (o o' : Setup) (s s' : Shared) (alike : Alike me s s') whe
     opened = opened;
     drawn = ap (λ n. n + draws_in a) alike.drawn;
     dealt = ap (λ n. n + deals_in a) alike.dealt;
-    mine = member_trio (λ i. member s'.wires i ++ gained o' s' a i) me ∙ (λ i. alike.mine i ++ same i)
-        ∙ sym (member_trio (λ i. member s.wires i ++ gained o s a i) me);
+    mine = member-trio (λ i. member s'.wires i ++ gained o' s' a i) me ∙ (λ i. alike.mine i ++ same i)
+        ∙ sym (member-trio (λ i. member s.wires i ++ gained o s a i) me);
   }
 
   -- the same point at `me` of each line with a secret as its value and a number drawn as its slope
@@ -112,7 +112,7 @@ lines_before : (o : Setup) (s : Shared) (shown values slopes : List ℕ) →
     OnLines values slopes (trio_of (λ i. member s.wires i ++ [])) → OnLines values slopes s.wires
 lines_before o s shown values slopes g =
     let is : (i : Point) → member (trio_of (λ i. member s.wires i ++ [])) i ≡ member s.wires i =
-    λ i. member_trio (λ i. member s.wires i ++ []) i ∙ append-nil (member s.wires i) in
+    λ i. member-trio (λ i. member s.wires i ++ []) i ∙ append-nil (member s.wires i) in
     record {
       paired = g.paired;
       lengths = λ i. ap length (sym (is i)) ∙ g.lengths i;
@@ -255,7 +255,7 @@ module _ (next : ℕ → List ℕ → Batch) (me : Point) (w w' : Secrets) (numb
     opened = refl;
     drawn = refl;
     dealt = refl;
-    mine = member_trio (shares_of w'.inputs) me ∙ may.inputs ∙ sym (member_trio (shares_of w.inputs) me);
+    mine = member-trio (shares_of w'.inputs) me ∙ may.inputs ∙ sym (member-trio (shares_of w.inputs) me);
   }
   alike_at (suc t) le = alike_after t (alike_at t (omega arith)) (omega arith)
 

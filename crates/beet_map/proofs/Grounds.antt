@@ -23,7 +23,7 @@ use Rattle.beet_sharing.proofs.Walk.{Walks, deals-fit, draws-fit, walks}
 use Rattle.beet_map.specs.Secrets.{Secrets, begin_in, shares_of, slopes_of, values_of}
 use Rattle.beet_map.specs.Premise.{HasRoom, clear_of}
 use Rattle.beet_map.specs.Refused.{HasSecrets, LookSame, opened_in}
-use Rattle.beet_map.proofs.Alike.{member_trio}
+use Rattle.beet_sharing.proofs.Lined.{member-trio}
 use Rattle.beet_map.proofs.Whole.{AreAlike}
 
 point_at : (lines : List Line) (i : Point) (k : ℕ) →
@@ -41,8 +41,8 @@ pub on_lines : (lines : List Line) → ((k : ℕ) → IsElement (slice_index (va
     OnLines (values_of lines) (slopes_of lines) (trio_of (shares_of lines))
 on_lines lines few = record {
   paired = length-map lines (λ (l : Line). l.slope) ∙ sym (length-map lines (λ (l : Line). l.value));
-  lengths = λ i. ap length (member_trio (shares_of lines) i) ∙ length_shares lines i ∙ sym (length-map lines (λ (l : Line). l.value));
-  points = λ i k. ap (λ l. slice_index l k) (member_trio (shares_of lines) i) ∙ point_at lines i k;
+  lengths = λ i. ap length (member-trio (shares_of lines) i) ∙ length_shares lines i ∙ sym (length-map lines (λ (l : Line). l.value));
+  points = λ i k. ap (λ l. slice_index l k) (member-trio (shares_of lines) i) ∙ point_at lines i k;
   elements = few;
 }
 
@@ -104,7 +104,7 @@ module _ (next : ℕ → List ℕ → Batch) (most inputs masks wires coefficien
           let runs : HasRounds (begin_in next w numbers) rounds =
           (same-rounds (begin_in next w numbers) (values_of w.inputs) (slopes_of w.inputs) lines rounds).1 ends in
           walks (begin_in next w numbers) (bounds_of wires masks coefficients) most inputs law
-          (λ i. ap length (member_trio (shares_of w.inputs) i) ∙ length_shares w.inputs i ∙ has.inputs) t
+          (λ i. ap length (member-trio (shares_of w.inputs) i) ∙ length_shares w.inputs i ∙ has.inputs) t
           (λ k lt. runs.goes k (omega arith))
 
     no_numbers : Trio (List ℕ)

@@ -15,8 +15,8 @@ use Rattle.beet_sharing.specs.Runs.{Setup, coming, shared_at, standing_at}
 use Rattle.beet_map.specs.Secrets.{Secrets, begin_in}
 use Rattle.beet_map.specs.Mapped.{GateMapped, moved_of, number_at, secret_at}
 use Rattle.beet_map.proofs.Moves.{moved_back, secret_small}
-use Rattle.beet_map.specs.Premise.{MayMap, clear_of, standing_of}
-use Rattle.beet_map.proofs.Alike.{alike_at, same_batch}
+use Rattle.beet_map.specs.Premise.{MayMap, clear_of}
+use Rattle.beet_map.proofs.Alike.{alike_at, same_batch, standing_of}
 use Rattle.beet_map.proofs.Unique.{only_one}
 
 level_act : (deals deals' : ℕ → List ℕ) (a : Act) (v v' : Values) → v'.dealt ≡ v.dealt →

@@ -4,7 +4,7 @@ use Rattle.beet_field.specs.Trio.{member, trio_of}
 use Rattle.beet_field.specs.declared.point.Point.{Point}
 use Rattle.beet_field.specs.declared.trio.Trio.{Trio}
 use Rattle.beet_words.specs.Words.{accepted, ones_in}
-use Rattle.beet_gates.specs.Clear.{Values, clear_at, with_lets}
+use Rattle.beet_gates.specs.Clear.{Values, clear_at}
 use Rattle.beet_gates.specs.Deals.{deals_of}
 use Rattle.beet_gates.specs.Scripts.{deals_in}
 use Rattle.beet_gates.specs.declared.Batch.{Batch}
@@ -16,10 +16,6 @@ use Rattle.beet_map.specs.Secrets.{Secrets, shares_of, slopes_of, values_of}
 -- the run on the values of a world
 abbrev pub clear_of : (ℕ → List ℕ → Batch) → Secrets → ℕ → Values
 clear_of next w t = clear_at next (deals_of w.masks) (values_of w.inputs) t
-
--- the values in the batch that comes, once its lets are there
-abbrev pub standing_of : (ℕ → List ℕ → Batch) → Secrets → ℕ → Values
-standing_of next w t = let v = clear_of next w t in record v { wires = with_lets v.wires (next t v.opened).lets.items }
 
 -- it speaks of runs on plain values alone, so that it holds before any number is drawn
 pub record MayMap (next : ℕ → List ℕ → Batch) (me : Point) (rounds : ℕ) (w w' : Secrets) : Type 0 where

@@ -1,10 +1,10 @@
 -- Over files each step goes on with a value, or ends whatever would come next.
-use Rattle.std.proofs.Common.{◌≡◌, ◌⊎◌, ◌++◌, ◌<◌, ◌≤◌, inl, inr, ℕ, List, [], ◌∷◌, Bool, true, false, Option, Some, None}
+use Rattle.std.proofs.Common.{◌≡◌, ◌⊎◌, ◌++◌, inl, inr, ℕ, List, [], ◌∷◌, Bool, true, false, Option, Some, None}
 use Rattle.std.proofs.Common.{Ok, Err, length, nat_lt, if◌then◌else◌, refl, sym, ap, ◌∙◌, subst, arith}
 use Rattle.std.proofs.lemmas.Bool.{ltb-false}
 use Rattle.beet_store.specs.Files.{Bytes, File, Told, bytes_of, fetch_of, with_fetches}
 use Rattle.beet_forms.specs.Faults.{Reading}
-use Rattle.beet_errand.specs.Errands.{Answer, Errand, Ends, Step, ◌>>=◌, answers, bad_file, gives, judged, reads, refuses}
+use Rattle.beet_errand.specs.Errands.{Answer, Errand, Step, ◌>>=◌, answers, bad_file, gives, judged, reads, refuses}
 use Rattle.beet_errand.specs.Errands.{text_answer, too_long, unread}
 use Rattle.beet_errand.specs.Fetches.{IsRead}
 use Rattle.beet_errand.specs.Overs.{ReadsTo, answer_over, answer_with}

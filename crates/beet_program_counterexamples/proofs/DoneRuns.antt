@@ -1,5 +1,5 @@
 -- What is right for a command has a run in which it is done.
-use Rattle.std.proofs.Common.{◌≡◌, ◌≢◌, ◌<◌, inl, inr, ℕ, List, [], ◌∷◌, Bool, true, false, Option, Some, None, Ok, if◌then◌else◌}
+use Rattle.std.proofs.Common.{◌≡◌, ◌≢◌, ◌<◌, inl, ℕ, List, [], ◌∷◌, Option, Some, None, Ok}
 use Rattle.std.proofs.Common.{refl, sym, ap, subst, ◌∙◌, arith}
 use Rattle.std.specs.Prelude.{codes, option_map}
 use Rattle.beet_field.specs.Point.{server_of}
@@ -13,11 +13,11 @@ use Rattle.beet_bids.specs.Books.{Book}
 use Rattle.beet_book.specs.declared.entries.BidderSource.{BidderSource}
 use Rattle.beet_world.specs.declared.schedule.Delivery.{Delivery}
 use Rattle.beet_view.specs.BookViews.{transcript_for}
-use Rattle.beet_headline.specs.Statements.{AreOnePair, AreTwoBooks}
+use Rattle.beet_headline.specs.Statements.{AreTwoBooks}
 use Rattle.beet_headline.proofs.Pairing.{second-there}
 use Rattle.beet_errand.specs.Errands.{Answer, Errand, Ends, Step, answers}
 use Rattle.beet_errand.specs.Fetches.{IsRead}
-use Rattle.beet_errand.specs.Overs.{ReadsTo, answer_over}
+use Rattle.beet_errand.specs.Overs.{answer_over}
 use Rattle.beet_errand.specs.Records.{calls_of}
 use Rattle.beet_errand.specs.Runs.{Runs}
 use Rattle.beet_errand.specs.Statuses.{code_of}
@@ -34,16 +34,16 @@ use Rattle.beet_job_record.specs.Records.{record_errand}
 use Rattle.beet_job_envelopes.specs.Open.{open_errand}
 use Rattle.beet_job_envelopes.specs.Seal.{seal_errand}
 use Rattle.beet_job_trial.specs.Trial.{trial_errand}
-use Rattle.beet_job_audit.specs.Ending.{ShowsAudit, TellsFinding, run_answer}
+use Rattle.beet_job_audit.specs.Ending.{TellsFinding, run_answer}
 use Rattle.beet_job_audit.specs.Reading.{read_errand}
 use Rattle.beet_job_audit.specs.declared.reading.ReadViews.{ReadViews}
 use Rattle.beet_job_worlds.specs.Answering.{ShowsTheSame, agreed_answer}
-use Rattle.beet_job_worlds.specs.Ending.{ShowsWorlds}
 use Rattle.beet_job_worlds.specs.Reading.{Both, both_errand, first_book, second_book, words_read}
 use Rattle.beet_job_worlds.proofs.SecondWords.{can-run, same-transcripts}
-use Rattle.beet_app.specs.Jobs.{Answering, Auditing, Comparing, Job, are_names, job_of, seal_of}
-use Rattle.beet_app_laws.specs.Calls.{Call, IsOf, RunsJob, RunsJobOf}
-use Rattle.beet_app_laws.proofs.Led.{from-told}
+use Rattle.beet_command.specs.Words.{are_names}
+use Rattle.beet_app.specs.Jobs.{Answering, Auditing, Comparing, Job, job_of, seal_of}
+use Rattle.beet_app_laws.specs.Calls.{Call, IsOf, RunsJob}
+use Rattle.beet_app_laws.proofs.Led.{from-told, past, past-both}
 use Rattle.beet_app_laws.proofs.Telling.{one-value, told-both, told-views}
 use Rattle.beet_program_laws.proofs.Jobs.{runs-in}
 use Rattle.beet_program_laws.proofs.Read.{can-run-cut}
@@ -57,18 +57,6 @@ use Rattle.beet_program_counterexamples.specs.HasRun.{HasRun}
 use Rattle.beet_program_counterexamples.proofs.Deciding.{passes-to}
 use Rattle.beet_program_counterexamples.proofs.Loading.{both-decides, read-decides}
 use Rattle.beet_program_counterexamples.proofs.RunsOver.{desk_of, given-all, led-over, run-over, shelf_of}
-
--- words that name a job pass the test before it
-pub past : (b : Bool) (job : Option Job) → (if b then job else None) ≢ None → (if b then job else None) ≡ job
-past true job not = refl
-past false job not = absurd (not refl)
-
--- and two tests, one after the other
-past-both : (b c : Bool) (job : Option Job) → (if b then if c then job else None else None) ≢ None →
-    (if b then if c then job else None else None) ≡ job
-past-both true true job not = refl
-past-both true false job not = absurd (not refl)
-past-both false c job not = absurd (not refl)
 
 no-rise : Rose 0 0 → ⊥
 no-rise rose =

@@ -18,7 +18,8 @@ use Rattle.beet_errand.proofs.Steps.{went_none}
 use Rattle.beet_job_tally.specs.Tally.{tally_errand, tally_job}
 use Rattle.beet_job_worlds.specs.Ending.{compared_errand}
 use Rattle.beet_job_audit.specs.Reading.{read_errand}
-use Rattle.beet_app.specs.Jobs.{Answering, Auditing, Comparing, Job, are_names, job_of}
+use Rattle.beet_command.specs.Words.{are_names}
+use Rattle.beet_app.specs.Jobs.{Answering, Auditing, Comparing, Job, job_of}
 use Rattle.beet_app_laws.specs.Calls.{RunsJob, RunsJobOf}
 use Rattle.beet_app_laws.specs.Dues.{EndsAsDue, IsDue}
 use Rattle.beet_program_counterexamples.specs.Needed.{longer_call, short_call, tally_words, untold_call}

@@ -1,5 +1,5 @@
 -- A record tells the exit status.
-use Rattle.std.proofs.Common.{◌≡◌, ◌++◌, inl, inr, ℕ, List, [], ◌∷◌, Option, Some, None, refl, sym, ap, subst, ◌∙◌, arith}
+use Rattle.std.proofs.Common.{◌≡◌, inl, inr, ℕ, List, [], ◌∷◌, Option, Some, None, refl, sym, ap, subst, ◌∙◌, arith}
 use Rattle.std.proofs.Common.{length}
 use Rattle.std.specs.Prelude.{MatchOption}
 use Rattle.std.proofs.lemmas.List.{append_cancel_left}
@@ -13,7 +13,6 @@ use Rattle.beet_errand.specs.declared.answer.Refusal.TheVariants.{Usage}
 use Rattle.beet_errand.specs.declared.answer.Status.TheVariants.{Done}
 use Rattle.beet_audit.specs.OneRuns.{OneRun}
 use Rattle.beet_audit.specs.declared.fault.AuditFault.{AuditFault}
-use Rattle.beet_auction_map.specs.declared.agreeing.MapFault.{MapFault}
 use Rattle.beet_job_audit.specs.Ending.{TellsFinding, audit_answer}
 use Rattle.beet_job_audit.specs.Reading.{read_errand}
 use Rattle.beet_job_audit.specs.declared.reading.ReadViews.{ReadViews}
@@ -25,7 +24,8 @@ use Rattle.beet_job_worlds.proofs.DifferenceFacts.{no-difference}
 use Rattle.beet_app.specs.Jobs.{Job, Answering, Comparing, Auditing}
 use Rattle.beet_app_laws.specs.Calls.{Call}
 use Rattle.beet_app_laws.specs.Dues.{status_of_first}
-use Rattle.beet_app_laws.specs.Recorded.{LeadsJob, LeadsToShow, LeadsToStop, RecordsBy, RecordsJob}
+use Rattle.beet_app_laws.specs.Recorded.{LeadsJob, LeadsToShow, RecordsJob}
+use Rattle.beet_app_laws.proofs.Led.{passed}
 use Rattle.beet_app_laws.proofs.Telling.{AreAlike, IsTold, told-both, told-views}
 
 -- the same fetches lead an errand to one rest
@@ -72,12 +72,6 @@ module _ {A : Type 0} (step : Step A) (fetches : List Fetch) where
       let same : 0 ≡ 1 = ap (λ (a : Answer). length a.text)
       (to-same v answer [] l m ∙ sym (to-same v answer (0 ∷ []) l m)) in
       absurd (omega (arith, same))
-
--- books without a difference go on together
-passed : (difference : Option MapFault) (next : Errand) (P : Errand → Type 0) → difference ≡ None →
-    P (unless_differing difference next) → P next
-passed None next P e h = h
-passed (Some fault) next P e h = absurd cc
 
 audit-status : (read : ReadViews) (one other : Option AuditFault) →
     MatchOption one (OneRun read.grid read.views) (λ fault. OneRun read.grid read.views → ⊥) →

@@ -1,10 +1,10 @@
 -- Fetches that are answered from files, and a run that makes them.
-use Rattle.std.proofs.Common.{◌≡◌, ◌⊎◌, ◌++◌, inl, inr, ℕ, List, [], ◌∷◌, Bool, true, false, Option, Some, None, Ok}
-use Rattle.std.proofs.Common.{length, nat_lt, if◌then◌else◌, refl, sym, ap, append_assoc}
+use Rattle.std.proofs.Common.{◌≡◌, ◌++◌, inl, ℕ, List, [], ◌∷◌, Bool, true, false, Option, Some, None, Ok}
+use Rattle.std.proofs.Common.{length, nat_lt, if◌then◌else◌, refl, sym, append_assoc}
 use Rattle.std.proofs.lemmas.Bool.{ltb-false, ltb-true}
-use Rattle.beet_store.specs.Files.{Bytes, Fetch, FetchAnswer, File, Longer, Nothing, Told, bytes_of, fetch_of}
+use Rattle.beet_store.specs.Files.{Bytes, Fetch, File, Longer, Nothing, Told, bytes_of, fetch_of}
 use Rattle.beet_store.specs.Desks.{DeskCall, DeskTold, Put}
-use Rattle.beet_errand.specs.Errands.{Answer, Errand, Ends, Wants, after_answer, bad_file, too_long, unread}
+use Rattle.beet_errand.specs.Errands.{Answer, Errand, Ends, Wants, bad_file, too_long}
 use Rattle.beet_errand.specs.Fetches.{AreAnswered, Leads}
 use Rattle.beet_errand.specs.Overs.{answer_over, answer_with}
 use Rattle.beet_errand.specs.Records.{calls_of}

@@ -5,10 +5,11 @@ use Rattle.beet_field.specs.declared.point.Point.{Point}
 use Rattle.beet_field.specs.declared.point.Point.TheVariants.{One, Two, Three}
 use Rattle.beet_field.specs.declared.trio.Trio.{Trio}
 use Rattle.beet_field.specs.Point.{number_of}
-use Rattle.beet_field.specs.Trio.{member, trio_of}
+use Rattle.beet_field.specs.Trio.{trio_of}
 use Rattle.beet_store.specs.Files.{File}
 use Rattle.beet_words.specs.Bundles.{Words}
 use Rattle.beet_words.specs.Fields.{number_bytes}
+use Rattle.beet_sharing.proofs.Lined.{member-trio}
 use Rattle.beet_view.specs.Transcripts.{counted_bytes, grid_bytes, magic, run_bytes, seen_bytes, tells_policy}
 use Rattle.beet_view.specs.Views.{Viewed, run_in}
 use Rattle.beet_auction_map.specs.ViewsWith.{transcript_with, view_with}
@@ -73,11 +74,6 @@ module _ (out : List ℕ) (call : Call) where
 
 -- ---- exchanged transcripts
 
-member-of : (f : Point → List ℕ) (s : Point) → member (trio_of f) s ≡ f s
-member-of f One = refl
-member-of f Two = refl
-member-of f Three = refl
-
 -- the number of its server, behind the front of a transcript
 last-byte : (s : Point) (rest : List ℕ) → get_or (number_bytes (number_of s) ++ rest) 7 0 ≡ number_of s
 last-byte One rest = refl
@@ -120,7 +116,7 @@ puts-own : (files : List File) (auction servers list out : List ℕ) (call : Cal
     PutsFor s (transcript_with r.book r.words s) out call
 puts-own files auction servers list out call r s = record {
   transcripts = trio_of (transcript_with r.book r.words);
-  own = member-of (transcript_with r.book r.words) s;
+  own = member-trio (transcript_with r.book r.words) s;
   text = r.text;
   gives = r.gives;
 }

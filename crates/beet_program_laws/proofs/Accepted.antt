@@ -1,6 +1,6 @@
 -- An audit accepts what a recorded run has put.
-use Rattle.std.proofs.Common.{◌≡◌, ◌≢◌, ◌⊎◌, inl, inr, ◌≤◌, ◌+◌, ◌*◌, ◌++◌, ℕ, List, [], ◌∷◌, length, get_or, not, Bool}
-use Rattle.std.proofs.Common.{true, false, Option, Some, None, Ok, decimal, if◌then◌else◌, refl, sym, ap, subst, ◌∙◌}
+use Rattle.std.proofs.Common.{◌≡◌, ◌≢◌, ◌⊎◌, inl, inr, ◌≤◌, ◌+◌, ◌*◌, ◌++◌, ℕ, List, [], ◌∷◌, length, get_or, not}
+use Rattle.std.proofs.Common.{Option, Some, None, Ok, decimal, if◌then◌else◌, refl, sym, ap, subst, ◌∙◌}
 use Rattle.std.proofs.Common.{arith}
 use Rattle.std.specs.Prelude.{MatchOption, codes}
 use Rattle.std.proofs.lemmas.Fmt.{decimal_digit}
@@ -42,13 +42,14 @@ use Rattle.beet_audit.proofs.BookRunFacts.{one-run, same-book}
 use Rattle.beet_job_audit.specs.Ending.{ShowsAudit, audit_answer, run_answer}
 use Rattle.beet_job_audit.specs.Reading.{read_errand}
 use Rattle.beet_job_audit.specs.declared.reading.ReadViews.{ReadViews}
-use Rattle.beet_app.specs.Jobs.{Job, Answering, Auditing, are_names}
+use Rattle.beet_command.specs.Words.{are_names}
+use Rattle.beet_app.specs.Jobs.{Job, Answering, Auditing}
 use Rattle.beet_app.proofs.Showing.{Hold, three_stand}
 use Rattle.beet_errand.specs.Overs.{ReadsTo}
 use Rattle.beet_errand.proofs.Putting.{leaves_all}
 use Rattle.beet_app_laws.specs.Dues.{EndsAsDue, IsDue, IsDueOfAudit, IsDueOfViews}
 use Rattle.beet_app_laws.specs.Held.{IsHeld}
-use Rattle.beet_app_laws.proofs.Led.{led, read-to}
+use Rattle.beet_app_laws.proofs.Led.{led, past-both, read-to}
 use Rattle.beet_app_laws.proofs.Reading.{reads-to}
 use Rattle.beet_app_laws.proofs.Telling.{one-value, told-views}
 use Rattle.beet_app_laws.specs.Calls.{Call, IsOf, RunsJob, RunsJobOf, Says}
@@ -212,13 +213,6 @@ module _ (files : List File) (call : Call) (from : IsOf files call) (name one tw
       shows.shown.found shows.shown.one_run
       (subst (λ (x : Answer). WentOut x call) shows.shown.is put)) r
 
--- words that name a job, which pass two tests, name this one
-is-job : (b c : Bool) (job : Option Job) → (if b then if c then job else None else None) ≢ None →
-    (if b then if c then job else None else None) ≡ job
-is-job true true job not = refl
-is-job true false job not = absurd (not refl)
-is-job false c job not = absurd (not refl)
-
 -- a status that is due is that of the run
 like : (ended : Status) (status end : ℕ) → code_of ended ≡ status → EndsAsDue ended end →
     (end ≡ status) ⊎ (end ≡ 1) ⊎ (end ≡ 3) ⊎ (end ≡ 4)
@@ -249,7 +243,7 @@ module _ (files : List File) (call : Call) (from : IsOf files call) (w : IsDoneC
         accepted = λ held audit name one two three r not from' ran.
             (let reads = put-reads files auction out loaded f.holds held name one two three r in
             let job =
-            is-job (are_names (name ∷ one ∷ three ∷ [])) (is_name_of two) (Some (Auditing name one two three)) not in
+            past-both (are_names (name ∷ one ∷ three ∷ [])) (is_name_of two) (Some (Auditing name one two three)) not in
             let due = subst (λ (j : Option Job). IsDue held j (run_answer read).status) (sym job)
             (is-due held audit from' name one two three read reads one_run) in
             record {

@@ -31,7 +31,7 @@ use Rattle.beet_auction.specs.Setups.{auction_setup, setup_for}
 use Rattle.beet_view.specs.Transcripts.{form_in, from_to, grid_at, most_bidders, round_at, seen_at, server_at, view_in}
 use Rattle.beet_view.specs.Views.{Viewed}
 use Rattle.beet_view.specs.declared.reading.TheConstants.{MOST_ROUNDS}
-use Rattle.beet_auction_map.specs.Enough.{HasAccepted}
+use Rattle.beet_trades.specs.Enough.{HasAccepted}
 use Rattle.beet_headline.specs.Statements.{CanRun}
 use Rattle.beet_errand.specs.Errands.{Answer, Errand, answers, reads, refuses}
 use Rattle.beet_errand.specs.Fetches.{IsDone}
@@ -51,7 +51,8 @@ use Rattle.beet_audit.proofs.PointFacts.{item-shares, lengths-shares}
 use Rattle.beet_job_audit.specs.Ending.{ShowsAudit, audit_answer, run_answer}
 use Rattle.beet_job_audit.specs.Reading.{read_errand}
 use Rattle.beet_job_audit.specs.declared.reading.ReadViews.{ReadViews}
-use Rattle.beet_app.specs.Jobs.{Auditing, are_names}
+use Rattle.beet_command.specs.Words.{are_names}
+use Rattle.beet_app.specs.Jobs.{Auditing}
 use Rattle.beet_errand.specs.Overs.{ReadsTo, answer_over}
 use Rattle.beet_app_laws.proofs.Led.{read-to}
 use Rattle.beet_app_laws.proofs.Telling.{one-value, told-views}

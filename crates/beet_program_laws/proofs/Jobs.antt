@@ -56,13 +56,15 @@ use Rattle.beet_job_rehearse.specs.Rehearse.{rehearse_errand, rehearse_job, rehe
 use Rattle.beet_job_rehearse.specs.Standings.{rehearsal_of, standing_of}
 use Rattle.beet_job_rehearse.specs.declared.standing.Standing.TheVariants.{Waiting, Ended}
 use Rattle.beet_job_record.specs.Records.{record_errand, recorded_answer}
-use Rattle.beet_job_envelopes.specs.Gather.{bidders_errand, envelopes_errand}
-use Rattle.beet_job_envelopes.specs.Open.{entries_job, open_errand, open_job, opened_answer}
+use Rattle.beet_gathering.specs.Gather.{bidders_errand, envelopes_errand}
+use Rattle.beet_job_envelopes.specs.Open.{entries_job, open_errand, open_job}
+use Rattle.beet_gathering.specs.Opened.{opened_answer}
 use Rattle.beet_job_envelopes.specs.SealedBooks.{HaveWords, HoldEachSealed, sealed_points}
 use Rattle.beet_job_envelopes.proofs.SealedBooks.{outcome-sealed}
 use Rattle.beet_job_envelopes.proofs.SealedFiles.{sealed-files}
 use Rattle.beet_job_worlds.proofs.SecondWords.{words-uncut}
-use Rattle.beet_app.specs.Jobs.{Answering, are_names}
+use Rattle.beet_command.specs.Words.{are_names}
+use Rattle.beet_app.specs.Jobs.{Answering}
 use Rattle.beet_errand.specs.Overs.{ReadsTo}
 use Rattle.beet_app_laws.proofs.Telling.{one-value, told-each, told-list, told-trio}
 use Rattle.beet_app_laws.specs.Calls.{Call, IsOf, Puts, RunsJobOf}

@@ -40,7 +40,7 @@ use Rattle.beet_book.specs.declared.sources.ServerSource.{ServerSource}
 use Rattle.beet_book.specs.declared.sources.ServerSource.TheVariants.{Seed as ServerSeed, Tapes}
 use Rattle.beet_book.specs.declared.sources.Servers.{Servers}
 use Rattle.beet_book.specs.declared.sources.Servers.TheVariants.{Three, Bundle}
-use Rattle.beet_auction_map.specs.Enough.{HasAccepted}
+use Rattle.beet_trades.specs.Enough.{HasAccepted}
 use Rattle.beet_headline.specs.Statements.{CanRun}
 use Rattle.beet_errand.specs.Errands.{Step, gives, reads}
 use Rattle.beet_errand.specs.declared.answer.Refusal.TheVariants.{BadFile, TooFewWords}

@@ -28,7 +28,8 @@ use Rattle.beet_load.specs.Farmers.{words_errand}
 use Rattle.beet_load.specs.WordTexts.{too_few_text}
 use Rattle.beet_job_envelopes.specs.Seal.{own_words_errand, seal_errand, seal_job, sealed_answer}
 use Rattle.beet_job_envelopes.specs.SourceWords.{source_word}
-use Rattle.beet_app.specs.Jobs.{Answering, are_names, seal_of}
+use Rattle.beet_command.specs.Words.{are_names}
+use Rattle.beet_app.specs.Jobs.{Answering, seal_of}
 use Rattle.beet_app_laws.specs.Calls.{Call, IsOf, RunsJob, RunsJobOf}
 use Rattle.beet_app_laws.specs.Readings.{Read}
 use Rattle.beet_program_laws.specs.Commands.{Seals}

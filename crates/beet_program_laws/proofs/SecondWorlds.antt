@@ -28,7 +28,8 @@ use Rattle.beet_job_worlds.specs.Answering.{ShowsTheSame, worlds_text}
 use Rattle.beet_job_worlds.specs.Ending.{ShowsWorlds, compared_errand}
 use Rattle.beet_job_worlds.specs.Reading.{Both, both_errand, first_book, second_book, words_read}
 use Rattle.beet_job_worlds.proofs.SecondWords.{bundle-fits, can-run, words-uncut}
-use Rattle.beet_app.specs.Jobs.{Answering, Comparing, are_names}
+use Rattle.beet_command.specs.Words.{are_names}
+use Rattle.beet_app.specs.Jobs.{Answering, Comparing}
 use Rattle.beet_app_laws.proofs.Led.{read-to}
 use Rattle.beet_app_laws.proofs.Telling.{one-value, told-both}
 use Rattle.beet_app_laws.specs.Calls.{Call, IsOf, Puts, RunsJob, RunsJobOf}

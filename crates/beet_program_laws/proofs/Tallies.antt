@@ -16,7 +16,8 @@ use Rattle.beet_errand.specs.declared.answer.Refusal.TheVariants.{BadFile}
 use Rattle.beet_load.specs.Farmers.{farmers_errand}
 use Rattle.beet_load.specs.Wanted.{wanted_of}
 use Rattle.beet_job_tally.specs.Tally.{not_one_price, tallied, tally_errand, tally_job}
-use Rattle.beet_app.specs.Jobs.{Answering, are_names}
+use Rattle.beet_command.specs.Words.{are_names}
+use Rattle.beet_app.specs.Jobs.{Answering}
 use Rattle.beet_app_laws.specs.Calls.{Call, IsOf, RunsJobOf}
 use Rattle.beet_app_laws.specs.Readings.{TallyRead}
 use Rattle.beet_program_laws.specs.Commands.{Tallies}

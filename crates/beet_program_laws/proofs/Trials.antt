@@ -1,17 +1,16 @@
 -- What the job `trial` has tried and said.
-use Rattle.std.proofs.Common.{◌≡◌, ◌≤◌, ◌==◌, ◌&&◌, ◌+◌, ℕ, List, [], ◌∷◌, length, get_or, nat_lt, not, slice_index}
+use Rattle.std.proofs.Common.{◌≡◌, ◌≤◌, ◌+◌, ℕ, List, [], ◌∷◌, length, get_or, nat_lt}
 use Rattle.std.proofs.Common.{Bool, true, false, Option, Some, None, Result, Ok, Err, if◌then◌else◌, refl, ap, subst}
 use Rattle.std.proofs.Common.{arith}
 use Rattle.std.specs.Prelude.{All, codes, option_and_then, option_map}
-use Rattle.std.specs.Char.{is_ascii_digit}
-use Rattle.std.specs.List.{list_all, range_with_len}
+use Rattle.std.specs.List.{range_with_len}
 use Rattle.std.proofs.lemmas.Bool.{ltb-false}
 use Rattle.std.proofs.lemmas.List.Elements.{All-cons, All-map, All-nil}
 use Rattle.std.proofs.lemmas.List.FromFn.{length-map-range_with_len}
 use Rattle.beet_store.specs.Files.{File}
-use Rattle.beet_forms.specs.Numbers.{decimal_value, number_of}
+use Rattle.beet_forms.specs.Numbers.{number_of}
 use Rattle.beet_forms.specs.declared.decimals.NumberFault.{NumberFault}
-use Rattle.beet_forms.specs.declared.decimals.NumberFault.TheVariants.{Empty, NotDigit, LeadingZero, TooLarge}
+use Rattle.beet_forms.proofs.RoundTrip.{number-within}
 use Rattle.beet_words.specs.Seeds.{seed_word}
 use Rattle.beet_words.specs.Words.{IsWord, accepted}
 use Rattle.beet_words.specs.declared.bundle.TheConstants.{MOST_BIDDERS}
@@ -46,19 +45,6 @@ use Rattle.beet_program_laws.proofs.Steps.{Yields, gives-yield, passes-yield}
 
 -- ---- the sizes
 
-number-most : (ds : List ℕ) (most n : ℕ) → number_of ds most ≡ Ok n → n ≤ most
-number-most ds most n e = go (length ds == 0) (not (list_all is_ascii_digit ds))
-    (nat_lt 1 (length ds) && (slice_index ds 0 == 48)) (nat_lt most (decimal_value ds)) refl e where
-      go : (a b c d : Bool) → nat_lt most (decimal_value ds) ≡ d →
-          (if a then Err Empty else if b then Err NotDigit else if c then Err LeadingZero else if d then Err TooLarge
-          else Ok (decimal_value ds)) ≡ Ok n → n ≤ most
-      go true b c d is e = absurd cc
-      go false true c d is e = absurd cc
-      go false false true d is e = absurd cc
-      go false false false true is e = absurd cc
-      go false false false false is e = let same : decimal_value ds ≡ n = cc in
-          omega (arith, same, ltb-false most (decimal_value ds) is)
-
 not-low : (b : Bool) (m n : ℕ) → (if b then None else Some m) ≡ Some n → m ≡ n
 not-low true m n e = absurd cc
 not-low false m n e = cc
@@ -68,7 +54,7 @@ from-low-is low (Ok m) n e = ap Ok (not-low (nat_lt m low) m n e)
 from-low-is low (Err fault) n e = absurd cc
 
 within-most : (low high : ℕ) (word : List ℕ) (n : ℕ) → number_within low high word ≡ Some n → n ≤ high
-within-most low high word n e = number-most word high n (from-low-is low (number_of word high) n e)
+within-most low high word n e = number-within word high n (from-low-is low (number_of word high) n e)
 
 both-are : (count places : Option ℕ) (sizes : ℕ × ℕ) →
     option_and_then (λ c. option_map (λ p. (c, p)) places) count ≡ Some sizes →

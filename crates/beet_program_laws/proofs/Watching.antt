@@ -1,5 +1,5 @@
 -- What `watch` has read and said.
-use Rattle.std.proofs.Common.{◌≡◌, ◌*◌, ◌++◌, ℕ, List, [], ◌∷◌, Some, ap, length, refl, subst, sym, ◌∙◌}
+use Rattle.std.proofs.Common.{◌≡◌, ◌++◌, ℕ, List, [], ◌∷◌, Some, ap, length, subst, sym, ◌∙◌}
 use Rattle.std.specs.Prelude.{codes}
 use Rattle.beet_field.specs.declared.point.Point.TheVariants.{One, Two, Three}
 use Rattle.beet_store.specs.Files.{File}
@@ -24,10 +24,10 @@ use Rattle.beet_desk.specs.declared.counts.NoteCount.{NoteCount}
 use Rattle.beet_errand.specs.Overs.{ReadsTo}
 use Rattle.beet_errand.specs.Statuses.{IsDoneCode}
 use Rattle.beet_load.specs.Loading.{AuctionWithBidders, loaded_errand}
-use Rattle.beet_load.specs.Servers.{masks_of}
 use Rattle.beet_run.specs.Outcomes.{cleared}
 use Rattle.beet_job_watch.specs.Watch.{book_count, book_opened, count_text, watch_errand, watched}
-use Rattle.beet_app.specs.Jobs.{Answering, are_names}
+use Rattle.beet_command.specs.Words.{are_names}
+use Rattle.beet_app.specs.Jobs.{Answering}
 use Rattle.beet_app_laws.specs.Calls.{Call, IsOf, RunsJobOf, Says}
 use Rattle.beet_program_laws.specs.Commands.{Watches}
 use Rattle.beet_program_laws.specs.Outcomes.{ServersOpen}

@@ -1,5 +1,5 @@
 -- What `witness` has read, put and said.
-use Rattle.std.proofs.Common.{◌≡◌, ◌∷◌, ◌+◌, ◌*◌, ℕ, List, [], Some, None, length, map, nat_lt, if◌then◌else◌}
+use Rattle.std.proofs.Common.{◌≡◌, ◌∷◌, ◌+◌, ◌*◌, ℕ, List, [], Some, None, length, nat_lt, if◌then◌else◌}
 use Rattle.std.proofs.Common.{ap, refl, subst, ◌∙◌}
 use Rattle.std.specs.Prelude.{codes}
 use Rattle.beet_field.specs.declared.trio.Trio.{Trio}
@@ -21,11 +21,11 @@ use Rattle.beet_load.specs.Limits.{over_product}
 use Rattle.beet_load.specs.Servers.{all_words_errand}
 use Rattle.beet_load.specs.Wanted.{wanted_of}
 use Rattle.beet_transcripts.specs.RunsOn.{view_of_points}
-use Rattle.beet_job_envelopes.specs.Gather.{bidders_errand}
-use Rattle.beet_job_envelopes.specs.SealedBooks.{sealed_points}
+use Rattle.beet_gathering.specs.Gather.{bidders_errand}
 use Rattle.beet_job_witness.specs.Witness.{kept_job, list_job, witness_errand, witness_job, witnessed_answer}
 use Rattle.beet_witness_laws.proofs.SealedViews.{view-sealed}
-use Rattle.beet_app.specs.Jobs.{Answering, are_names}
+use Rattle.beet_command.specs.Words.{are_names}
+use Rattle.beet_app.specs.Jobs.{Answering}
 use Rattle.beet_app_laws.specs.Calls.{Call, IsOf, RunsJobOf}
 use Rattle.beet_app_laws.specs.Readings.{OpenRead}
 use Rattle.beet_program_laws.specs.Commands.{WitnessesEnvelopes}

@@ -1,19 +1,16 @@
 -- The bids of a sale file are within their limit.
-use Rattle.std.proofs.Common.{◌≡◌, ◌≤◌, ℕ, Bool, true, false, ◌&&◌, ◌==◌, not, if◌then◌else◌, nat_lt, length, List, [], ◌∷◌}
+use Rattle.std.proofs.Common.{◌≡◌, ℕ, List, [], ◌∷◌}
 use Rattle.std.proofs.Common.{All, Option, Some, None, Result, Ok, Err, refl, ap, subst}
-use Rattle.std.specs.Prelude.{slice_index}
-use Rattle.std.specs.Char.{is_ascii_digit}
-use Rattle.std.specs.List.{cons_option, filter_map, list_all}
+use Rattle.std.specs.List.{cons_option, filter_map}
 use Rattle.std.specs.Result.{result_ok}
-use Rattle.std.proofs.lemmas.Bool.{ltb-false}
 use Rattle.std.proofs.lemmas.List.Elements.{All-nil, All-cons}
 use Rattle.beet_field.specs.declared.point.Point.{Point}
 use Rattle.beet_forms.specs.declared.decimals.NumberFault.{NumberFault}
-use Rattle.beet_forms.specs.declared.decimals.NumberFault.TheVariants.{Empty, NotDigit, LeadingZero, TooLarge}
 use Rattle.beet_forms.specs.declared.row.Row.{Row}
 use Rattle.beet_forms.specs.Faults.{Fault, reading_of}
-use Rattle.beet_forms.specs.Numbers.{decimal_value, number_of}
+use Rattle.beet_forms.specs.Numbers.{number_of}
 use Rattle.beet_forms.specs.Rows.{five_of}
+use Rattle.beet_forms.proofs.RoundTrip.{number-within}
 use Rattle.beet_book.specs.declared.entries.BidderSource.{BidderSource}
 use Rattle.beet_book.specs.Entries.{known_of, name_of, source_of}
 use Rattle.beet_book.specs.NamedRows.{named_rows}
@@ -21,23 +18,6 @@ use Rattle.beet_sale_plan.specs.Outcome.{IsBid}
 use Rattle.beet_sale_plan.specs.declared.TheConstants.{LARGEST_BID}
 use Rattle.beet_sale_file.specs.declared.rows.SaleRow.{SaleRow}
 use Rattle.beet_sale_file.specs.SaleRows.{bid_in, row_in, row_of, row_of_fields}
-
--- a number that is read is at most the maximum
-within : (ds : List ℕ) (max n : ℕ) → number_of ds max ≡ Ok n → n ≤ max
-within ds max n e =
-    by (length ds == 0) (list_all is_ascii_digit ds) (nat_lt 1 (length ds) && (slice_index ds 0 == 48))
-    (nat_lt max (decimal_value ds)) refl e where
-      by : (a b c d : Bool) → nat_lt max (decimal_value ds) ≡ d →
-          (if a then Err Empty else if not b then Err NotDigit else if c then Err LeadingZero else if d then
-          Err TooLarge else Ok (decimal_value ds)) ≡ Ok n →
-          n ≤ max
-      by true b c d large e = cc e
-      by false false c d large e = cc e
-      by false true true d large e = cc e
-      by false true false true large e = cc e
-      by false true false false large e =
-          let value : decimal_value ds ≡ n = cc e in
-          subst (λ (m : ℕ). m ≤ max) value (ltb-false max (decimal_value ds) large)
 
 -- the bid of a bidder is the one among its parts
 bid-there : (name : Option (List ℕ)) (known : Option (Option Point)) (bid : Option ℕ) (source : Option BidderSource)
@@ -52,7 +32,7 @@ bid-there (Some name) (Some known) (Some bid) (Some source) row e =
 
 bid-read : (text : List ℕ) (r : Result ℕ NumberFault) (bid : ℕ) → number_of text LARGEST_BID ≡ r → result_ok r ≡ Some bid → IsBid bid
 bid-read text (Ok n) bid is e =
-    let same : n ≡ bid = cc e in subst IsBid same (within text LARGEST_BID n is)
+    let same : n ≡ bid = cc e in subst IsBid same (number-within text LARGEST_BID n is)
 bid-read text (Err fault) bid is e = cc e
 
 fields-within : (fields : Option (List ℕ × List ℕ × List ℕ × List ℕ × List ℕ)) (row : SaleRow) →

@@ -23,6 +23,7 @@ use Rattle.beet_mapped.proofs.WorldFacts.{all-words, are-masks}
 use Rattle.beet_trades.proofs.AllWords.{all-are}
 use Rattle.beet_trades.proofs.DealersThere.{MovedDealers, dealers-there}
 use Rattle.beet_trades.specs.Enough.{HasEnough}
+use Rattle.beet_trades.specs.Servers.{world_with}
 use Rattle.beet_trades.proofs.Disagreeing.{as-many, mark-at}
 use Rattle.beet_trades.proofs.Drawn.{all-drawn}
 use Rattle.beet_trades.proofs.EnoughFacts.{masks-enough, parts-enough}
@@ -36,7 +37,7 @@ use Rattle.beet_sale_map.specs.Bids.{Agree, AreSaleBids, bids_of, sale_over}
 use Rattle.beet_sale_map.specs.Enough.{AreEnough, wants_of}
 use Rattle.beet_sale_map.specs.Losses.{lost}
 use Rattle.beet_sale_map.specs.InputLines.{lines_of}
-use Rattle.beet_sale_map.specs.MappedSales.{SalesMapped, holdings_of}
+use Rattle.beet_sale_map.specs.MappedSales.{SalesMapped}
 use Rattle.beet_sale_map.specs.Worlds.{losses_between, party_of}
 use Rattle.beet_sale_map.proofs.SaleWorlds.{bid-values, elements-of, lines-there, look-same, losses-small, numbers-here}
 use Rattle.beet_sale_map.proofs.SaleWorlds.{sales-mapped, secrets-here}
@@ -70,10 +71,10 @@ module _ (me : Point) (gates : Gates) (first second : List SaleBid) (words : Wor
       are_words.bidders (all-drawn 1 words.bidders enough.bidders)
 
   abbrev here : Secrets
-  here = holdings_of first words
+  here = world_with (lines_of first words.bidders) words.masks
 
   abbrev there : Secrets
-  there = record { inputs = lines_of second lists.lists; masks = masks.0 }
+  there = world_with (lines_of second lists.lists) masks.0
 
   many : length lists.lists ≡ length second
   many = lists.count ∙ enough.count ∙ sym (as-many (λ (b : SaleBid). b.known) first second agree.shape)
@@ -167,7 +168,7 @@ module _ (me : Point) (gates : Gates) (first second : List SaleBid) (words' : Wo
   w = there me gates second first words' are' are agree' are_words' enough'
 
   abbrev w' : Secrets
-  w' = holdings_of second words'
+  w' = world_with (lines_of second words'.bidders) words'.masks
 
   drawn : (c : Trio (List ℕ)) × CanDraw (most_coefficients bids') c × GoTogether (sale_batch bids') (most_rounds bids') me w w' c
       words'.coefficients
@@ -193,8 +194,9 @@ module _ (me : Point) (gates : Gates) (first second : List SaleBid) (words' : Wo
 
   back-enough : AreEnough first back-words
   back-enough =
-      subst (λ n. HasEnough (wants_of n) back-words) many'
-      (parts-enough me (losses_between second first) (map party_of second) (map party_of first) words' back-words (wants_of (length second))
+      subst (λ n. HasEnough (wants_of n) n back-words) many'
+      (parts-enough me (losses_between second first) (map party_of second) (map party_of first) words' back-words
+      (wants_of (length second)) (length second)
       back-masks.1 (λ j. sym (drawn.2.mapped.places j)) back-lists.count back-lists.mapped
       (length-map second party_of) (length-map first party_of ∙ sym many') enough')
 

@@ -29,6 +29,7 @@ use Rattle.beet_mapped.proofs.DealerFacts.{AreElements, point-same, first-mapped
 use Rattle.beet_mapped.proofs.WorldFacts.{AreInputLines, Stands, are-masks, back, look, only, rounds-same, seen_in, seen-same}
 use Rattle.beet_mapped.proofs.WorldFacts.{trades-mapped}
 use Rattle.beet_trades.specs.Enough.{HasAccepted, HasEnough, read_words, words_read}
+use Rattle.beet_trades.specs.Servers.{world_with}
 use Rattle.beet_trades.proofs.Disagreeing.{as-many}
 use Rattle.beet_trades.proofs.Drawn.{accepted-read, numbers-enough}
 use Rattle.beet_trades.proofs.EnoughFacts.{mapped-enough}
@@ -177,6 +178,7 @@ reads gates bids words are enough =
     record {
       wires = most_wires sale;
       count = length bids;
+      parties = length bids;
       law = subst (λ n. LawFrom (sale_batch sale)
           (bounds_of (most_wires sale) (most_masks_of n) (most_coefficients_of n)) (most_rounds sale) (start_of n) []) count
           (sale-law sale);
@@ -198,7 +200,7 @@ module _ (me : Point) (gates : Gates) (first second : List SaleBid) (words : Wor
   sale = sale_over gates first
 
   abbrev here : Secrets
-  here = record { inputs = lines_of first words.bidders; masks = words.masks }
+  here = world_with (lines_of first words.bidders) words.masks
 
   abbrev lost_all : List ℕ
   lost_all = losses_between first second
@@ -229,12 +231,12 @@ module _ (me : Point) (gates : Gates) (first second : List SaleBid) (words : Wor
 
   pub numbers-here : HasWords (most_coefficients sale) (numbers_of words.coefficients)
   numbers-here =
-      let n = numbers-enough (wants_of (length first)) words enough in
+      let n = numbers-enough (wants_of (length first)) (length first) words enough in
       (omega (arith, count, n.0), omega (arith, count, n.1), omega (arith, count, n.2))
 
   -- the server cannot tell the worlds, which is what the map of coefficient words asks for
   pub look-same : (masks : Trio (List ℕ)) → MasksMapped me lost_all words.masks masks →
-      LookSame (sale_batch sale) (most_rounds sale) (most_masks sale) me here (record { inputs = lines_of second lists; masks = masks })
+      LookSame (sale_batch sale) (most_rounds sale) (most_masks sale) me here (world_with (lines_of second lists) masks)
   look-same masks masks_mapped =
       let bids = bids_of first in
       let bids' = bids_of second in
@@ -258,7 +260,7 @@ module _ (me : Point) (gates : Gates) (first second : List SaleBid) (words : Wor
       }
 
   module _ (masks coefficients : Trio (List ℕ)) (masks_mapped : MasksMapped me lost_all words.masks masks)
-      (c : GoTogether (sale_batch sale) (most_rounds sale) me here (record { inputs = lines_of second lists; masks = masks })
+      (c : GoTogether (sale_batch sale) (most_rounds sale) me here (world_with (lines_of second lists) masks)
       words.coefficients coefficients)
       (are_words' : AreWords (record { masks = masks; coefficients = coefficients; bidders = lists })) where
     abbrev words' : Words
@@ -293,9 +295,9 @@ module _ (me : Point) (gates : Gates) (first second : List SaleBid) (words : Wor
 
     enough' : AreEnough second words'
     enough' =
-        subst (λ n. HasEnough (wants_of n) words') (sym many)
-        (mapped-enough me lost_all (trade_of gates first) (trade_of gates second) words words' (wants_of (length first)) mapped
-        (length-map first party_of) (length-map second party_of ∙ many) enough)
+        subst (λ n. HasEnough (wants_of n) n words') (sym many)
+        (mapped-enough me lost_all (trade_of gates first) (trade_of gates second) words words' (wants_of (length first))
+        (length first) mapped (length-map first party_of) (length-map second party_of ∙ many) enough)
 
     ends' : Ends gates second words'
     ends' =

@@ -11,11 +11,10 @@ wants_of bidders = record {
   masks = most_masks_of bidders;
   coefficients = most_coefficients_of bidders;
   quantities = 1;
-  parties = bidders;
 }
 
 abbrev pub AreEnough : List SaleBid → Words → Type 0
-AreEnough bids words = HasEnough (wants_of (length bids)) words
+AreEnough bids words = HasEnough (wants_of (length bids)) (length bids) words
 
 -- the words that are read for a sale
 abbrev pub cut_words : List SaleBid → Words → Words

@@ -7,11 +7,9 @@ use Rattle.beet_words.specs.Bundles.{Words}
 use Rattle.beet_words.specs.Words.{IsWord}
 use Rattle.beet_sharing.specs.Runs.{HasRounds}
 use Rattle.beet_sharing.specs.Seen.{SeenRun, run_seen}
-use Rattle.beet_map.specs.Secrets.{Secrets}
 use Rattle.beet_mapped.specs.Trades.{Trade, rounds_in, setup_in}
 use Rattle.beet_sale_file.specs.declared.rows.SaleBid.{SaleBid}
 use Rattle.beet_sale_map.specs.Bids.{Agree, AreSaleBids}
-use Rattle.beet_sale_map.specs.InputLines.{lines_of}
 use Rattle.beet_sale_map.specs.Enough.{AreEnough, cut_words}
 use Rattle.beet_sale_map.specs.Worlds.{BiddersMapped, IsOnlyFirst, IsOnlySecond, Mapped, trade_of}
 
@@ -26,10 +24,6 @@ run_seen_in trade words s =
 
 abbrev pub run_seen_of : Gates → List SaleBid → Words → Point → SeenRun
 run_seen_of gates bids words s = run_seen_in (trade_of gates bids) (cut_words bids words) s
-
--- what the servers hold in a sale before they draw numbers: the lines of the bids, and mask words
-abbrev pub holdings_of : List SaleBid → Words → Secrets
-holdings_of bids words = record { inputs = lines_of bids words.bidders; masks = words.masks }
 
 -- words that are enough for the first of two sales that agree for server s, and words of the second sale's bidders that
 -- are mapped from those of the first; all words are below 2^61

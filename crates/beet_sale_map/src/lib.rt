@@ -11,5 +11,6 @@ mod results;
 pub use agreeing::{SaleFault, agreement};
 pub use beet_sale_file::SaleBid;
 pub use bidders::{input_lines, map_bidders};
+pub use bids::row_at;
 pub use mapping::map_sale;
 pub use results::{SaleResult, result_of};

@@ -12,6 +12,7 @@ use Rattle.beet_masking.specs.Accepting.{until_accepted}
 use Rattle.beet_masking.specs.Blocks.{Blocks, blocks_of, after_mask}
 use Rattle.beet_masking.proofs.BlockLaws.{are-blocks}
 use Rattle.beet_masking.proofs.Standing.{until-open}
+use Rattle.beet_walk.proofs.PlanParts.{past-one, ended-batch, read-batch}
 use Rattle.beet_sale_plan.specs.Selections.{lets_before, with_last, result_wire}
 use Rattle.beet_sale_plan.specs.Sale.{best_lets, best_wire, sale_from, rest_let, sum_let}
 use Rattle.beet_sale_plan.specs.declared.SaleEnd.{SaleEnd}
@@ -105,13 +106,27 @@ module _ (gates : Gates) (from mask c step : ℕ) (b : Batch) (is : b ≡ batch_
       omega (arith, many, a.few)
 
 -- the masked differences
-pub masked-first : (w : Walk) →
+masked-first : (w : Walk) →
     (let g = blocks_of w.gates in
     let free = after_mask g w.first in
     plan_batch (stage_plan FirstMasked w) 0 []
     ≡ lets_before (best_lets w.best) (g.masked (free + length (best_lets w.best)) w.first (best_wire w.best free) w.bid))
 unfolding plan_batch
 masked-first w = refl
+
+-- the first, once its lets are put before the difference of two wires
+pub first-made : (w : Walk) (free from left : ℕ) (b : Batch) (lets : List Linear) → free ≡ after_mask (blocks_of w.gates) w.first →
+    from ≡ free + length (best_lets w.best) → left ≡ best_wire w.best free →
+    b ≡ (blocks_of w.gates).masked from w.first left w.bid → best_lets w.best ≡ lets →
+    lets_before lets b ≡ plan_batch (stage_plan FirstMasked w) 0 []
+first-made w free from left b lets at starts best is made =
+    let g = blocks_of w.gates in
+    let start = starts ∙ ap (λ n. n + length (best_lets w.best)) at in
+    let wire = best ∙ ap (best_wire w.best) at in
+    ap (lets_before lets) (is ∙ (λ i. g.masked (start i) w.first (wire i) w.bid))
+    ∙ ap (λ (l : List Linear). lets_before l (g.masked (after_mask g w.first + length (best_lets w.best)) w.first
+    (best_wire w.best (after_mask g w.first)) w.bid)) (sym made)
+    ∙ sym (masked-first w)
 
 pub masked-second : (w : Walk) →
     (let g = blocks_of w.gates in
@@ -169,10 +184,6 @@ module _ (w : Walk) (step : ℕ) where
   pub batch-second : plan_batch (stage_plan Second w) step [] ≡ batch_at ((blocks_of w.gates).mask w.first) step
   batch-second = until-batch (blocks_of w.gates) w.spare w.first _
 
-pub past-one : (b : Batch) (step : ℕ) → (step ≡ 0 → ⊥) → batch_at (b ∷ []) step ≡ end_batch
-past-one b zero h = absurd (h refl)
-past-one b (suc step) h = refl
-
 pub batch-masked-first : (w : Walk) (step : ℕ) → (step ≡ 0 → ⊥) → plan_batch (stage_plan FirstMasked w) step [] ≡ end_batch
 unfolding plan_batch
 batch-masked-first w step h = past-one _ step h
@@ -182,21 +193,21 @@ unfolding plan_batch
 batch-masked-second w step h = past-one _ step h
 
 pub batch-price : (w : Walk) (winner step : ℕ) → plan_batch (stage_plan (Price winner) w) step [] ≡ end_batch
-unfolding plan_batch
-batch-price w winner zero = refl
-batch-price w winner (suc step) = refl
+batch-price w winner step = read-batch 1 _ step
 
 pub batch-sold : (w : Walk) (winner price step : ℕ) → plan_batch (stage_plan (Sold winner price) w) step [] ≡ end_batch
-unfolding plan_batch
-batch-sold w winner price step = refl
+batch-sold w winner price step = ended-batch _ step
 
 pub batch-spent : (w : Walk) (step : ℕ) → plan_batch (stage_plan Spent w) step [] ≡ end_batch
-unfolding plan_batch
-batch-spent w step = refl
+batch-spent w step = ended-batch _ step
 
-pub at-stage : (w : Walk) (s : Stage) → w.stage ≡ s → (step : ℕ) →
-    plan_batch (stage_plan w.stage w) step [] ≡ plan_batch (stage_plan s w) step []
-at-stage w s e step = ap (λ (t : Stage). plan_batch (stage_plan t w) step []) e
+-- what stands for the plan of a stage
+module _ (w : Walk) (s : Stage) (e : w.stage ≡ s) (step : ℕ) where
+  pub of-stage : {b c : Batch} → b ≡ c → plan_batch (stage_plan s w) step [] ≡ c → b ≡ plan_batch (stage_plan w.stage w) step []
+  of-stage is stage = is ∙ sym (ap (λ (t : Stage). plan_batch (stage_plan t w) step []) e ∙ stage)
+
+  pub first-of : {b : Batch} → step ≡ 0 → b ≡ plan_batch (stage_plan s w) 0 [] → b ≡ plan_batch (stage_plan w.stage w) step []
+  first-of first is = of-stage is (ap (λ n. plan_batch (stage_plan s w) n []) first)
 
 pub rest-at : (w : Walk) (t : Tail) → w.tail ≡ Some t → tail_batches w.tail w ≡ tail_batches (Some t) w
 rest-at w t e = ap (λ (o : Option Tail). tail_batches o w) e

@@ -4,11 +4,15 @@ use Rattle.std.proofs.Common.{sym, ◌∙◌, arith, true, false}
 use Rattle.std.specs.Prelude.{IfSome, Bool, if◌then◌else◌}
 use Rattle.std.proofs.lemmas.List.Elements.{All-get_or}
 use Rattle.beet_gates.specs.Batches.{end_batch}
+use Rattle.beet_gates.specs.Ends.{TellsEnd}
+use Rattle.beet_gates.specs.Scripts.{bounds_of, start_of}
+use Rattle.beet_gates.proofs.Ended.{plan-tells}
 use Rattle.beet_gates.specs.Plans.{Plan, Ended, Block, Quiet, Last, plan_finish}
 use Rattle.beet_masking.specs.Blocks.{blocks_of}
 use Rattle.beet_masking.specs.Masks.{is_spent, mask_at}
 use Rattle.beet_sale_plan.specs.Outcome.{IsBid}
-use Rattle.beet_sale_plan.specs.Sale.{Sale, bidders_of, comparisons, sale_plan, sold}
+use Rattle.beet_sale_plan.specs.Sale.{Sale, bidders_of, comparisons, sale_plan, sale_batch, sold}
+use Rattle.beet_sale_plan.specs.Sale.{most_rounds, most_masks, most_coefficients, most_wires}
 use Rattle.beet_sale_plan.specs.SaleRuns.{AreOpened, SaleEnds}
 use Rattle.beet_sale_plan.specs.declared.SaleEnd.{SaleEnd}
 use Rattle.beet_sale_plan.specs.declared.SaleEnd.TheVariants.{MasksSpent, Sold as SoldEnd}
@@ -17,7 +21,7 @@ use Rattle.beet_sale_plan.specs.Kept.{kept_of}
 use Rattle.beet_sale_plan.proofs.Quietly.{quietly-finish}
 use Rattle.beet_sale_plan.proofs.SaleFacts.{kept-few}
 use Rattle.beet_sale_plan.proofs.SaleRun.{sale-run}
-use Rattle.beet_sale_plan.proofs.SaleStands.{sale-none, until-none}
+use Rattle.beet_sale_plan.proofs.SaleStands.{follows-itself, plan-stands, sale-none, until-none}
 use Rattle.beet_sale_script.specs.Walk.{IsSmallEnd, IsSmallStage, plan_at, stage_plan, tail_batches}
 use Rattle.beet_sale_script.specs.declared.walk.Stage.{Stage}
 use Rattle.beet_sale_script.specs.declared.walk.Stage.TheVariants.{First, FirstMasked, Second, SecondMasked, Price, Sold, Spent}
@@ -96,3 +100,8 @@ opened-small s opened few a =
     by-finish (plan_finish (sale_plan s) opened) f
     (λ g e. sym ends ∙ finish-stays (sale_plan s) opened a.later g e)
     (small-finish spent k.who k.next (omega (arith, whose, few)))
+
+-- the finish is there exactly at the end
+pub sale-tells : (s : Sale) (opened : List ℕ) → TellsEnd (sale_batch s) opened (plan_finish (sale_plan s) opened)
+sale-tells s = plan-tells (sale_batch s) (sale_plan s) (bounds_of (most_wires s) (most_masks s) (most_coefficients s))
+    (most_rounds s) (start_of (bidders_of s)) (plan-stands s) (follows-itself s)

@@ -1,4 +1,3 @@
 pub mod Leads
 pub mod Batches
 pub mod Finishes
-pub mod NextFacts

@@ -7,4 +7,4 @@ mod tests;
 mod walk;
 
 pub use beet_sale_plan::SaleEnd;
-pub use script::{SalePlace, SaleScript};
+pub use script::SaleScript;

@@ -17,6 +17,7 @@ use beet_sale_plan::{
     BIDDER_WIRES, FEWEST_SALE_BIDDERS, MOST_SALE_BIDDERS, SELECTION_WIRES, SaleEnd,
     most_coefficients, most_masks,
 };
+use beet_walk::{Place, PlanWalk};
 use std::marker::Model;
 
 /// The script of a sealed sale with this kind of gates. Input k is the bid of bidder k + 1.
@@ -38,16 +39,6 @@ impl Model for SaleScript {
     ghost invariant = { λ a. IsSaleSize (a.further + 1) };
 
     ghost inverse = { λ v. record { further = v.further; gates = v.gates } };
-}
-
-/// How far a run has come in the script.
-#[derive(Clone, Copy)]
-pub struct SalePlace {
-    walk: Walk,
-    /// How many batches come before the block of the walk.
-    before: u32,
-    /// How many opened numbers led there.
-    read: usize,
 }
 
 impl SaleScript {
@@ -105,11 +96,7 @@ impl SaleScript {
         ensures value { result ≡ plan_finish (sale_plan self.now) opened.now }
         ensures ended { TellsEnd (sale_batch self.now) opened.now result }
     {
-        let mut walk = self.start();
-        for number in opened {
-            walk = walk.after(*number);
-        }
-        walk.finish()
+        self.start().after_all(opened).finish()
     }
 }
 
@@ -117,9 +104,10 @@ impl Script for SaleScript {
     ghost use Rattle.beet_sale_plan.specs.Sale.{bidders_of, sale_batch, most_rounds, most_masks, most_coefficients};
     ghost use Rattle.beet_sale_plan.specs.Sale.{most_wires};
     ghost use Rattle.beet_sale_plan.proofs.SaleStands.{sale-law};
-    ghost use Rattle.beet_sale_script.specs.Places.{IsAt, goes-on};
+    ghost use Rattle.beet_walk.specs.Places.{IsAt};
+    ghost use Rattle.beet_walk.proofs.PlaceFacts.{goes-on};
 
-    type Place = SalePlace;
+    type Place = Place<Walk>;
 
     ghost inputs_of = { bidders_of };
 
@@ -133,9 +121,9 @@ impl Script for SaleScript {
 
     ghost batch_of = { sale_batch };
 
-    ghost is_at = { IsAt };
+    ghost is_at = { λ s. IsAt Fits plan_at (sale_plan s) };
 
-    ghost goes_on = { goes-on };
+    ghost goes_on = { λ s. goes-on Fits plan_at (sale_plan s) };
 
     ghost lawful = { sale-law };
 
@@ -161,32 +149,14 @@ impl Script for SaleScript {
     }
 
     fn next(&self, done: u32, opened: &[Fe]) -> Batch {
-        let mut place = self.begin();
-        let mut batch = Batch::end();
-        self.refill(done, opened, &mut place, &mut batch);
-        batch
+        self.start().batch(done, opened)
     }
 
-    fn begin(&self) -> SalePlace {
-        SalePlace {
-            walk: self.start(),
-            before: 0,
-            read: 0,
-        }
+    fn begin(&self) -> Place<Walk> {
+        Place::begin(self.start())
     }
 
-    fn refill(&self, done: u32, opened: &[Fe], place: &mut SalePlace, batch: &mut Batch) {
-        while place.read < opened.len() {
-            let length = place.walk.length();
-            let step = done - place.before;
-            if step < length {
-                place.walk.refill(step, batch);
-                return;
-            }
-            place.before += length;
-            place.walk = place.walk.after(opened[place.read]);
-            place.read += 1;
-        }
-        place.walk.refill(done - place.before, batch);
+    fn refill(&self, done: u32, opened: &[Fe], place: &mut Place<Walk>, batch: &mut Batch) {
+        place.refill(done, opened, batch);
     }
 }

@@ -3,7 +3,6 @@
 ghost use Rattle.std.specs.Prelude.{◌≡◌, ◌≤◌, ◌<◌, ◌+◌, ◌-◌, ◌^◌, ◌==◌, [], ◌∷◌, length, if◌then◌else◌, None, Some};
 ghost use Rattle.beet_field.specs.Field.{p};
 ghost use Rattle.beet_gates.specs.Batches.{reveal_batch};
-ghost use Rattle.beet_gates.specs.declared.Act.TheVariants.{Reveal};
 ghost use Rattle.beet_gates.specs.Linears.{three_terms};
 ghost use Rattle.beet_gates.specs.Plans.{plan_length, plan_after, plan_batch, plan_finish, batch_at};
 ghost use Rattle.beet_masking.specs.Blocks.{blocks_of};
@@ -13,13 +12,13 @@ ghost use Rattle.beet_sale_plan.specs.declared.TheConstants.{MOST_SALE_BIDDERS};
 ghost use Rattle.beet_sale_script.specs.Walk.{plan_at, stage_plan, tail_batches, tail_end, busy, selections_left, Fits};
 ghost use Rattle.beet_sale_script.specs.Walk.{after_product, IsSmallStage};
 
-use arrayvec::ArrayVec;
 use beet_compare::{CompareWires, compare_rounds, compare_wires, refill_compare};
 use beet_field::{Fe, MINUS_ONE};
-use beet_gates::{Act, Batch, Gates, Linear};
+use beet_gates::{Batch, Gates, Linear};
 use beet_mask::{mask_rounds, mask_wires, refill_mask};
 use beet_masking::MASK_WORDS;
 use beet_sale_plan::{SaleEnd, put_before, set_products};
+use beet_walk::{PlanWalk, both_opened};
 
 /// What comes next.
 #[derive(Clone, Copy)]
@@ -71,16 +70,6 @@ pub struct Walk {
     pub who: Linear,
     /// The let of the second greatest bid so far.
     pub next: Linear,
-}
-
-/// The act that opens two wires.
-fn both_opened(first: u32, second: u32) -> Act
-    ensures { result ≡ Reveal (record { items = first ∷ second ∷ [] }) }
-{
-    let mut shown = ArrayVec::new();
-    shown.push(first);
-    shown.push(second);
-    Act::Reveal(shown)
 }
 
 /// A let of three wires, each after its factor.
@@ -193,13 +182,6 @@ impl Walk {
             Stage::Sold(_, _) => 0,
             Stage::Spent => 0,
         }
-    }
-
-    /// How many batches come before the next number.
-    pub fn length(&self) -> u32
-        ensures { result ≡ plan_length (plan_at self.now) }
-    {
-        self.tail_length() + self.stage_length()
     }
 
     /// Makes a batch that of the rest of a first selection at this step.
@@ -382,22 +364,6 @@ impl Walk {
         }
     }
 
-    /// Makes a batch that of the next block at this step.
-    pub fn refill(&self, step: u32, batch: &mut Batch)
-        requires { Fits self.now }
-        ensures { batch.new ≡ plan_batch (plan_at self.now) step [] }
-    {
-        let before = self.tail_length();
-        if step >= before {
-            self.refill_stage(step - before, batch);
-            return;
-        }
-        match &self.tail {
-            None => unreachable!(),
-            Some(tail) => self.refill_rest(tail, step, batch),
-        }
-    }
-
     /// The place after the product of a mask's bits, where the masked difference comes next if the mask is accepted.
     fn after_product(self, product: Fe, masked: Stage) -> Walk
         requires fits { Fits self }
@@ -463,12 +429,50 @@ impl Walk {
         }
     }
 
-    /// The place after the number that comes next.
-    pub fn after(self, number: Fe) -> Walk
-        requires { Fits self }
-        ensures fits { Fits result }
-        ensures plan { plan_at result ≡ plan_after (plan_at self) number }
+    /// How the script has ended here, or none if a block comes next.
+    pub fn finish(&self) -> Option<SaleEnd>
+        requires { IsSmallStage self.now.stage }
+        ensures { result ≡ plan_finish (plan_at self.now) [] }
     {
+        match &self.stage {
+            Stage::First => None,
+            Stage::FirstMasked => None,
+            Stage::Second => None,
+            Stage::SecondMasked => None,
+            Stage::Price(_) => None,
+            Stage::Sold(winner, price) => Some(SaleEnd::Sold {
+                winner: winner.value() as u32,
+                price: price.value(),
+            }),
+            Stage::Spent => Some(SaleEnd::MasksSpent),
+        }
+    }
+}
+
+impl PlanWalk for Walk {
+    type Finish = SaleEnd;
+
+    ghost plan_of = { plan_at };
+
+    ghost fits = { Fits };
+
+    fn length(&self) -> u32 {
+        self.tail_length() + self.stage_length()
+    }
+
+    fn refill(&self, step: u32, batch: &mut Batch) {
+        let before = self.tail_length();
+        if step >= before {
+            self.refill_stage(step - before, batch);
+            return;
+        }
+        match &self.tail {
+            None => unreachable!(),
+            Some(tail) => self.refill_rest(tail, step, batch),
+        }
+    }
+
+    fn after(self, number: Fe) -> Walk {
         match &self.stage {
             Stage::First => {
                 if self.left > 0 {
@@ -491,25 +495,6 @@ impl Walk {
             },
             Stage::Sold(_, _) => Walk { tail: None, ..self },
             Stage::Spent => Walk { tail: None, ..self },
-        }
-    }
-
-    /// How the script has ended here, or none if a block comes next.
-    pub fn finish(&self) -> Option<SaleEnd>
-        requires { IsSmallStage self.now.stage }
-        ensures { result ≡ plan_finish (plan_at self.now) [] }
-    {
-        match &self.stage {
-            Stage::First => None,
-            Stage::FirstMasked => None,
-            Stage::Second => None,
-            Stage::SecondMasked => None,
-            Stage::Price(_) => None,
-            Stage::Sold(winner, price) => Some(SaleEnd::Sold {
-                winner: winner.value() as u32,
-                price: price.value(),
-            }),
-            Stage::Spent => Some(SaleEnd::MasksSpent),
         }
     }
 }

@@ -1,6 +1,7 @@
 use crate::samples::{are, lists};
 use beet_field::Fe;
-use beet_gates::{ClearRun, Product, clear_run};
+use beet_gates::{ClearRun, clear_run};
+use beet_samples::Sample;
 use std::alloc::Global;
 use std::process::Abort;
 
@@ -8,7 +9,7 @@ use std::process::Abort;
 fn three_by_four(rt: &impl Abort, alloc: Global) -> ClearRun {
     let masks = lists(rt, alloc, [&[], &[], &[]]);
     let factors = [Fe::reduce(3), Fe::reduce(4)];
-    clear_run(alloc, &Product, &factors, &masks).expect(rt, "memory")
+    clear_run(alloc, &Sample::Product, &factors, &masks).expect(rt, "memory")
 }
 
 /// Compares the wires, the opened number and the rounds of the run.

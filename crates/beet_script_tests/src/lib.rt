@@ -5,8 +5,6 @@
 #[cfg(test)]
 mod auction;
 #[cfg(test)]
-mod bits;
-#[cfg(test)]
 mod gates;
 #[cfg(test)]
 mod lots;

@@ -2,21 +2,21 @@
 
 use crate::product::three_and_four;
 use beet_field::{Fe, Point};
-use beet_gates::Product;
 use beet_lots::LotWorld;
 use beet_round::Verdict;
+use beet_samples::Sample;
 use beet_world::Event;
 use std::alloc::Global;
 use std::process::Abort;
 
 /// The two lots, in which nothing is delivered.
-fn two_lots(rt: &impl Abort, alloc: Global) -> LotWorld<Product> {
+fn two_lots(rt: &impl Abort, alloc: Global) -> LotWorld<Sample> {
     let lots = vec![in alloc; three_and_four(rt, alloc), three_and_four(rt, alloc)];
     LotWorld::of(alloc, lots.expect(rt, "memory")).expect(rt, "memory")
 }
 
 /// Whether a server of a lot has passed so many rounds and, where these are all, opened 12.
-fn stands(rt: &impl Abort, world: &LotWorld<Product>, lot: u32, at: Point, rounds: u32) -> bool {
+fn stands(rt: &impl Abort, world: &LotWorld<Sample>, lot: u32, at: Point, rounds: u32) -> bool {
     assert!(rt; lot < world.lots());
     let core = world.core(lot, at);
     let opened = core.opened() == [Fe::reduce(12)].as_slice();
@@ -24,7 +24,7 @@ fn stands(rt: &impl Abort, world: &LotWorld<Product>, lot: u32, at: Point, round
 }
 
 /// Compares how many rounds the servers of a lot have passed.
-fn expect_rounds(rt: &impl Abort, world: &LotWorld<Product>, lot: u32, rounds: u32) {
+fn expect_rounds(rt: &impl Abort, world: &LotWorld<Sample>, lot: u32, rounds: u32) {
     assert!(rt; stands(rt, world, lot, Point::One, rounds));
     assert!(rt; stands(rt, world, lot, Point::Two, rounds));
     assert!(rt; stands(rt, world, lot, Point::Three, rounds));
@@ -36,7 +36,7 @@ type Told = (Point, Point, Event);
 /// Delivers messages of a round of a lot, and compares what becomes of each.
 fn expect_told(
     rt: &impl Abort,
-    world: &mut LotWorld<Product>,
+    world: &mut LotWorld<Sample>,
     lot: u32,
     round: u32,
     messages: &[Told],
@@ -69,7 +69,7 @@ const AGAIN: [Told; 1] = [(Point::One, Point::Two, Event::Delivered(Verdict::Rep
 const NOT_SENT: [Told; 1] = [(Point::One, Point::Two, Event::NotSent)];
 
 /// Compares how many rounds the servers of both lots have passed, and how many messages are undelivered.
-fn expect_both(rt: &impl Abort, world: &LotWorld<Product>, rounds: (u32, u32), undelivered: u32) {
+fn expect_both(rt: &impl Abort, world: &LotWorld<Sample>, rounds: (u32, u32), undelivered: u32) {
     assert!(rt; world.lots() == 2);
     expect_rounds(rt, world, 0, rounds.0);
     expect_rounds(rt, world, 1, rounds.1);

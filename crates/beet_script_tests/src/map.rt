@@ -3,11 +3,11 @@ ghost use Rattle.beet_gates.specs.Scripts.{HasWords};
 ghost use Rattle.beet_sharing.specs.Runs.{numbers_of};
 ghost use Rattle.beet_map.specs.Refused.{HasSecrets};
 
-use crate::bits::SecondBits;
 use crate::samples::{ONES, lists};
 use beet_field::{Fe, Point, Trio};
-use beet_gates::{Product, Script};
+use beet_gates::Script;
 use beet_map::{GateFault, Secrets, gate_map};
+use beet_samples::Sample;
 use beet_shamir::Line;
 use beet_words::{WordList, count_accepted};
 use std::alloc::Global;
@@ -82,7 +82,7 @@ fn product_map(
     let here = world(rt, alloc, (3, 5), (4, 2));
     let there = world(rt, alloc, first, second);
     let words = lists(rt, alloc, [&[1], &[2], &[4]]);
-    let mapped = map(rt, alloc, &Product, &here, &there, &words);
+    let mapped = map(rt, alloc, &Sample::Product, &here, &there, &words);
     drop((here, there, words));
     mapped
 }
@@ -181,7 +181,7 @@ fn deal_map(
     let here = dealers(rt, alloc, 1, 2, 3);
     let there = dealers(rt, alloc, one, two, 3);
     let words = ones_and_fives(rt, alloc);
-    let mapped = map(rt, alloc, &SecondBits, &here, &there, &words);
+    let mapped = map(rt, alloc, &Sample::SecondBits, &here, &there, &words);
     drop((here, there, words));
     mapped
 }

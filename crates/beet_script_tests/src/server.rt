@@ -1,10 +1,10 @@
-use crate::bits::SecondBits;
 use crate::product::{product, three_and_four};
 use crate::samples::{NO_WORD, ONES, tape};
 use arrayvec::ArrayVec;
 use beet_field::{Fe, Point, Trio};
-use beet_gates::{Product, Script};
+use beet_gates::Script;
 use beet_round::{RoundMessage, Verdict};
+use beet_samples::Sample;
 use beet_server::{ServerCore, StartFault};
 use beet_words::{FeList, Tape};
 use std::alloc::Global;
@@ -17,15 +17,15 @@ fn second_bits(
     me: Point,
     word: u64,
     count: u32,
-) -> Result<ServerCore<SecondBits>, StartFault> {
+) -> Result<ServerCore<Sample>, StartFault> {
     let masks = tape(rt, alloc, word);
     let coefficients = Tape::of_seed(alloc, &[7; 32], me.number(), count).expect(rt, "memory");
     let inputs = FeList::of(Vec::new(alloc));
-    ServerCore::start(alloc, me, SecondBits, inputs, masks, coefficients)
+    ServerCore::start(alloc, me, Sample::SecondBits, inputs, masks, coefficients)
 }
 
 /// Three such servers, which deal 2, 1 and 6.
-fn two_one_six(rt: &impl Abort, alloc: Global) -> Trio<ServerCore<SecondBits>> {
+fn two_one_six(rt: &impl Abort, alloc: Global) -> Trio<ServerCore<Sample>> {
     Trio {
         one: second_bits(rt, alloc, Point::One, 2, 70).expect(rt, "server 1"),
         two: second_bits(rt, alloc, Point::Two, 1, 70).expect(rt, "server 2"),
@@ -86,7 +86,7 @@ pub fn pass_round<S: Script>(rt: &impl Abort, cores: &mut Trio<ServerCore<S>>) {
 }
 
 /// Whether the server has received these numbers in the round from its lower and its higher peer.
-fn has_received(core: &ServerCore<Product>, round: u32, (low, high): (u128, u128)) -> bool {
+fn has_received(core: &ServerCore<Sample>, round: u32, (low, high): (u128, u128)) -> bool {
     let [lower, higher] = core.me().others();
     core.received(round, lower) == Some([Fe::reduce(low)].as_slice())
         && core.received(round, higher) == Some([Fe::reduce(high)].as_slice())
@@ -94,7 +94,7 @@ fn has_received(core: &ServerCore<Product>, round: u32, (low, high): (u128, u128
 
 /// Whether the servers have received these numbers in the round.
 fn have_received(
-    cores: &Trio<ServerCore<Product>>,
+    cores: &Trio<ServerCore<Sample>>,
     round: u32,
     [one, two, three]: [(u128, u128); 3],
 ) -> bool {
@@ -111,7 +111,7 @@ fn have_opened<S: Script>(cores: &Trio<ServerCore<S>>, numbers: &[Fe]) -> bool {
 }
 
 /// The run of the product, of which each message is known.
-fn expect_product(rt: &impl Abort, cores: &mut Trio<ServerCore<Product>>) {
+fn expect_product(rt: &impl Abort, cores: &mut Trio<ServerCore<Sample>>) {
     assert!(rt; !cores.one.sent());
     assert!(rt; cores.one.received(0, Point::Two).is_none());
     pass_round(rt, cores);
@@ -125,7 +125,7 @@ fn expect_product(rt: &impl Abort, cores: &mut Trio<ServerCore<Product>>) {
 /// Passes the first round at servers 1 and 2. The messages to server 3 are the answer.
 fn pass_without_three(
     rt: &impl Abort,
-    cores: &mut Trio<ServerCore<Product>>,
+    cores: &mut Trio<ServerCore<Sample>>,
 ) -> (RoundMessage, RoundMessage) {
     let (one_two, one_three) = send(rt, &mut cores.one);
     let (two_one, two_three) = send(rt, &mut cores.two);
@@ -138,19 +138,19 @@ fn pass_without_three(
 }
 
 /// Gives a server the message, after its own are handed out.
-fn expect_taken(rt: &impl Abort, core: &mut ServerCore<Product>, m: RoundMessage) {
+fn expect_taken(rt: &impl Abort, core: &mut ServerCore<Sample>, m: RoundMessage) {
     give(core, m).expect(rt, "its own messages are handed out");
 }
 
 /// Gives server 3 what another server sends to it now.
-fn give_three(rt: &impl Abort, from: &mut ServerCore<Product>, three: &mut ServerCore<Product>) {
+fn give_three(rt: &impl Abort, from: &mut ServerCore<Sample>, three: &mut ServerCore<Sample>) {
     let (_, early) = send(rt, from);
     expect_taken(rt, three, early);
 }
 
 /// Server 3 gets both messages of the second round before the last of the first, and passes the second round as it
 /// hands out its own messages. The answer is how many rounds it has passed before and after.
-fn pass_early(rt: &impl Abort, cores: &mut Trio<ServerCore<Product>>) -> (u32, u32) {
+fn pass_early(rt: &impl Abort, cores: &mut Trio<ServerCore<Sample>>) -> (u32, u32) {
     let (one_three, two_three) = pass_without_three(rt, cores);
     give_three(rt, &mut cores.one, &mut cores.three);
     give_three(rt, &mut cores.two, &mut cores.three);
@@ -162,7 +162,7 @@ fn pass_early(rt: &impl Abort, cores: &mut Trio<ServerCore<Product>>) -> (u32, u
 }
 
 /// The run of the product where messages to server 3 are early.
-fn expect_early(rt: &impl Abort, cores: &mut Trio<ServerCore<Product>>) {
+fn expect_early(rt: &impl Abort, cores: &mut Trio<ServerCore<Sample>>) {
     assert!(rt; pass_early(rt, cores) == (1, 2));
     assert!(rt; cores.three.ended());
     assert!(rt; cores.three.opened() == [Fe::reduce(12)].as_slice());
@@ -181,7 +181,7 @@ const LATE: [Late; 4] = [
 
 /// What the server says of a message of no number.
 fn give_empty(
-    core: &mut ServerCore<Product>,
+    core: &mut ServerCore<Sample>,
     from: Point,
     to: Point,
     round: u32,
@@ -196,14 +196,14 @@ fn give_empty(
 }
 
 /// Gives the server the message of each case.
-fn expect_verdicts(rt: &impl Abort, core: &mut ServerCore<Product>, cases: &[Late]) {
+fn expect_verdicts(rt: &impl Abort, core: &mut ServerCore<Sample>, cases: &[Late]) {
     for (from, to, round, verdict) in cases {
         assert!(rt; give_empty(core, *from, *to, *round) == Some(*verdict));
     }
 }
 
 /// The run of the product, and messages after it.
-fn expect_late(rt: &impl Abort, cores: &mut Trio<ServerCore<Product>>) {
+fn expect_late(rt: &impl Abort, cores: &mut Trio<ServerCore<Sample>>) {
     pass_round(rt, cores);
     pass_round(rt, cores);
     expect_verdicts(rt, &mut cores.one, &LATE);
@@ -218,7 +218,7 @@ enum Course {
 }
 
 /// Does it with servers at their beginning.
-fn follow(rt: &impl Abort, cores: &mut Trio<ServerCore<Product>>, course: Course) {
+fn follow(rt: &impl Abort, cores: &mut Trio<ServerCore<Sample>>, course: Course) {
     match course {
         Course::InOrder => expect_product(rt, cores),
         Course::Early => expect_early(rt, cores),
@@ -249,7 +249,7 @@ fn an_ended_server_changes_nothing(rt: HostRuntime) {
 }
 
 /// The run in which the words 2, 1 and 6 are dealt.
-fn expect_bits(rt: &impl Abort, cores: &mut Trio<ServerCore<SecondBits>>) {
+fn expect_bits(rt: &impl Abort, cores: &mut Trio<ServerCore<Sample>>) {
     pass_round(rt, cores);
     assert!(rt; cores.one.masks().masks_left() == 0);
     assert!(rt; cores.one.coefficients().accepted_left() == 9);

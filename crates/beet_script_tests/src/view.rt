@@ -1,7 +1,8 @@
 use crate::product::three_and_four;
 use beet_bids::{Grid, Policy};
 use beet_field::Point;
-use beet_gates::{Gates, Product};
+use beet_gates::Gates;
+use beet_samples::Sample;
 use beet_server::ServerCore;
 use beet_view::{View, view_of};
 use beet_world::lockstep;
@@ -9,7 +10,7 @@ use std::alloc::Global;
 use std::process::Abort;
 
 /// The view of a server that has ended, without bidders.
-fn view_without_bidders(rt: &impl Abort, alloc: Global, core: &ServerCore<Product>) -> View {
+fn view_without_bidders(rt: &impl Abort, alloc: Global, core: &ServerCore<Sample>) -> View {
     assert!(rt; core.ended());
     let grid = Grid::new(100, 5, 2, Gates::Tree).expect(rt, "a grid");
     let grid = grid.with_policy(Policy::Full);

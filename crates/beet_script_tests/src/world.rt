@@ -1,7 +1,7 @@
 use crate::product::three_and_four;
 use beet_field::{Fe, Point, Trio};
-use beet_gates::Product;
 use beet_round::Verdict;
+use beet_samples::Sample;
 use beet_server::ServerCore;
 use beet_world::{Event, World, lockstep, read_schedule};
 use std::alloc::Global;
@@ -96,23 +96,23 @@ const HOLDING: &[u8] = b"beet-schedule,1
 2,1,0\n3,1,0\n3,2,0\n1,3,0\n2,3,0\n3,1,1\n3,2,1\n1,3,1\n";
 
 /// A `World` of the servers of 3 and 4.
-fn world(rt: &impl Abort, alloc: Global) -> World<Product> {
+fn world(rt: &impl Abort, alloc: Global) -> World<Sample> {
     World::of(alloc, three_and_four(rt, alloc)).expect(rt, "memory")
 }
 
 /// Whether the server has ended after two rounds, with 12 opened.
-fn has_twelve(core: &ServerCore<Product>) -> bool {
+fn has_twelve(core: &ServerCore<Sample>) -> bool {
     core.ended() && core.round() == 2 && core.opened() == [Fe::reduce(12)].as_slice()
 }
 
 /// Compares how a server stands.
-fn expect_core(rt: &impl Abort, core: &ServerCore<Product>, rounds: u32, ended: bool) {
+fn expect_core(rt: &impl Abort, core: &ServerCore<Sample>, rounds: u32, ended: bool) {
     assert!(rt; core.round() == rounds);
     assert!(rt; has_twelve(core) == ended);
 }
 
 /// Compares how a `World` stands.
-fn expect_stand(rt: &impl Abort, world: &World<Product>, stand: Stand) {
+fn expect_stand(rt: &impl Abort, world: &World<Sample>, stand: Stand) {
     let [one, two, three] = stand.rounds;
     let [one_ended, two_ended, three_ended] = stand.ended;
     expect_core(rt, world.core(Point::One), one, one_ended);
@@ -125,7 +125,7 @@ fn expect_stand(rt: &impl Abort, world: &World<Product>, stand: Stand) {
 fn expect_played(
     rt: &impl Abort,
     alloc: Global,
-    world: &mut World<Product>,
+    world: &mut World<Sample>,
     text: &[u8],
     stand: Stand,
 ) {
@@ -142,7 +142,7 @@ type Played = (&'static [u8], Stand);
 fn expect_all_played(
     rt: &impl Abort,
     alloc: Global,
-    world: &mut World<Product>,
+    world: &mut World<Sample>,
     schedules: &[Played],
 ) {
     for (text, stand) in schedules {
@@ -154,7 +154,7 @@ fn expect_all_played(
 type Told = (Point, Point, u32, Event, Stand);
 
 /// Delivers messages one by one, and compares what becomes of each and how the `World` then stands.
-fn expect_events(rt: &impl Abort, world: &mut World<Product>, events: &[Told]) {
+fn expect_events(rt: &impl Abort, world: &mut World<Sample>, events: &[Told]) {
     for (from, to, round, event, stand) in events {
         assert!(rt; world.event(*from, *to, *round) == *event);
         expect_stand(rt, world, *stand);
@@ -171,14 +171,14 @@ fn expect_course(rt: &impl Abort, alloc: Global, events: &[Told], schedules: &[P
 }
 
 /// Three servers that have run in lockstep, of whom the first had not ended before.
-fn in_lockstep(rt: &impl Abort, alloc: Global) -> Trio<ServerCore<Product>> {
+fn in_lockstep(rt: &impl Abort, alloc: Global) -> Trio<ServerCore<Sample>> {
     let cores = three_and_four(rt, alloc);
     expect_core(rt, &cores.one, 0, false);
     lockstep(cores)
 }
 
 /// Compares how they stand.
-fn expect_twelve(rt: &impl Abort, cores: &Trio<ServerCore<Product>>) {
+fn expect_twelve(rt: &impl Abort, cores: &Trio<ServerCore<Sample>>) {
     assert!(rt; has_twelve(&cores.one));
     assert!(rt; has_twelve(&cores.two));
     assert!(rt; has_twelve(&cores.three));

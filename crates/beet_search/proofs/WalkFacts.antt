@@ -1,5 +1,5 @@
 -- The plan that is left at a place of the script.
-use Rattle.std.proofs.Common.{◌≡◌, ◌≢◌, ◌↔◌, ℕ, zero, suc, ◌+◌, ◌-◌, ◌/◌, ◌<◌, ◌≤◌, ◌⊎◌, inl, inr, Bool, true, false}
+use Rattle.std.proofs.Common.{◌≡◌, ◌≢◌, ◌↔◌, ℕ, suc, ◌+◌, ◌-◌, ◌*◌, ◌/◌, ◌<◌, ◌≤◌, ◌⊎◌, inl, inr, Bool, true, false}
 use Rattle.std.proofs.Common.{List, [], ◌∷◌, Option, Some, None, refl, ap, sym, ◌∙◌, arith, eq-eqb, ne_eqb}
 use Rattle.std.specs.Prelude.{nat_lt, IsTrue, unwrap_or}
 use Rattle.std.proofs.lemmas.Bool.{cases_lt, iff_false}
@@ -7,12 +7,18 @@ use Rattle.std.proofs.lemmas.Bool.Decides.{nat_tests}
 use Rattle.beet_gates.specs.declared.Batch.{Batch}
 use Rattle.beet_gates.specs.Batches.{reveal_batch, end_batch}
 use Rattle.beet_gates.specs.Plans.{Plan, Ended, Block, Last, plan_batch, plan_length, plan_after, plan_finish, batch_at}
+use Rattle.beet_gates.specs.Ends.{TellsEnd}
+use Rattle.beet_gates.specs.Scripts.{bounds_of, start_of}
 use Rattle.beet_gates.proofs.EachFacts.{get-past}
+use Rattle.beet_gates.proofs.Ended.{plan-tells}
+use Rattle.beet_walk.proofs.PlanParts.{past-one, block-batch, last-batch, ended-batch, read-batch, block-finish, last-finish, ended-finish}
 use Rattle.beet_masking.specs.Blocks.{Blocks, blocks_of, after_mask}
 use Rattle.beet_masking.proofs.BlockLaws.{are-blocks}
 use Rattle.beet_bids.specs.declared.outcomes.Policy.{Policy}
 use Rattle.beet_bids.specs.Outcomes.{shown_by}
 use Rattle.beet_plan.specs.Auction.{search_plan, end_plan, opening_plan, price_with, with_mask}
+use Rattle.beet_plan.specs.Auction.{Auction, auction_plan, auction_batch, most_rounds, most_masks, most_coefficients, most_wires}
+use Rattle.beet_plan.proofs.AuctionLaw.{auction-stands, follows-itself}
 use Rattle.beet_plan.specs.declared.Finish.{Finish}
 use Rattle.beet_plan.specs.declared.Finish.TheVariants.{NoPrice, MasksSpent}
 use Rattle.beet_search.specs.Walk.{plan_at, stage_plan}
@@ -54,23 +60,6 @@ module _ (g : Blocks) (policy : Policy) (prices n lo hi spare first : ℕ) where
   again-plan hn h product one some = rw (eq-eqb product 1 one, ne_eqb spare 0 some)
       (open-plan g policy prices n lo hi (spare - 1) (after_mask g first) hn h)
 
-pub block-batch : {F : Type 0} (bs : List Batch) (next : ℕ → Plan F) (step : ℕ) → plan_batch (Block bs next) step [] ≡ batch_at bs step
-unfolding plan_batch
-block-batch bs next step = refl
-
-pub last-batch : {F : Type 0} (b : Batch) (n : ℕ) (named : List ℕ → F) (step : ℕ) →
-    plan_batch (Last b n named) step [] ≡ batch_at (b ∷ []) step
-unfolding plan_batch
-last-batch b n named step = refl
-
-pub ended-batch : {F : Type 0} (f : F) (step : ℕ) → plan_batch (Ended f) step [] ≡ end_batch
-unfolding plan_batch
-ended-batch f step = refl
-
-pub batch-past : (b : Batch) (step : ℕ) → (step ≡ 0 → ⊥) → batch_at (b ∷ []) step ≡ end_batch
-batch-past b zero h = absurd (h refl)
-batch-past b (suc step) h = refl
-
 module _ (policy : Policy) (prices place : ℕ) where
   -- the end of the search at no place of the grid, and at one of which this is shown
   pub end-past : prices ≤ place → end_plan policy prices place ≡ Ended NoPrice
@@ -90,7 +79,7 @@ module _ (policy : Policy) (prices place : ℕ) where
   ] where
     by_wires : (wires : List ℕ) → plan_batch (opening_plan wires (price_with place)) step [] ≡ end_batch
     by_wires [] = ended-batch (price_with place []) step
-    by_wires (w ∷ ws) = last-batch _ _ _ step ∙ batch-past (reveal_batch [] (w ∷ ws)) step (λ e. omega (arith, e))
+    by_wires (w ∷ ws) = last-batch _ _ _ step ∙ past-one (reveal_batch [] (w ∷ ws)) step (λ e. omega (arith, e))
 
 pub open-from : (b : Bool) (n lo hi : ℕ) → (IsTrue b ↔ ((0 < n) × (lo < hi))) → b ≡ true → (0 < n) × (lo < hi)
 open-from b n lo hi e h = e.0 h
@@ -151,10 +140,7 @@ module _ (w : Walk) where
   batch-ended f e step = ap (λ (p : Plan Finish). plan_batch p step []) (stage-is (StageEnded f) e) ∙ ended-batch f step
 
   pub batch-supply : (volume : ℕ) → w.stage ≡ Supply volume → (step : ℕ) → plan_batch (plan_at w) step [] ≡ end_batch
-  batch-supply volume e step = ap (λ (p : Plan Finish). plan_batch p step []) (supply-at volume e) ∙ last-batch _ _ _ step ∙ past step where
-    past : (k : ℕ) → batch_at (end_batch ∷ []) k ≡ end_batch
-    past zero = refl
-    past (suc k) = refl
+  batch-supply volume e step = ap (λ (p : Plan Finish). plan_batch p step []) (supply-at volume e) ∙ read-batch 1 _ step
 
   -- a batch past the end of a short block
   pub past-borrow : (c : ℕ) → w.stage ≡ Borrow c → (step : ℕ) → (blocks_of w.gates).compare_rounds ≤ step + 1 →
@@ -169,18 +155,6 @@ module _ (w : Walk) where
       plan_after (plan_at w) x ≡ after_product (blocks_of w.gates) MasksSpent w.spare w.first (with_mask
       (blocks_of w.gates) w.prices (search_plan (blocks_of w.gates) w.policy w.prices (w.left - 1)) w.lo w.hi) x
   after-open e b says t x = ap (λ (p : Plan Finish). plan_after p x) (open-at e b says t)
-
-pub block-finish : {F : Type 0} (bs : List Batch) (next : ℕ → Plan F) → plan_finish (Block bs next) [] ≡ None
-unfolding plan_finish
-block-finish bs next = refl
-
-pub last-finish : {F : Type 0} (b : Batch) (n : ℕ) (named : List ℕ → F) → plan_finish (Last b (suc n) named) [] ≡ None
-unfolding plan_finish
-last-finish b n named = refl
-
-pub ended-finish : {F : Type 0} (f : F) → plan_finish (Ended f) [] ≡ Some f
-unfolding plan_finish
-ended-finish f = refl
 
 module _ (w : Walk) where
   pub finish-open : w.stage ≡ Search → (b : Bool) → (IsTrue b ↔ ((0 < w.left) × (w.lo < w.hi))) → b ≡ true →
@@ -198,3 +172,8 @@ module _ (w : Walk) where
 
   pub finish-ended : (f : Finish) → w.stage ≡ StageEnded f → plan_finish (plan_at w) [] ≡ Some f
   finish-ended f e = ap (λ (p : Plan Finish). plan_finish p []) (stage-is w (StageEnded f) e) ∙ ended-finish f
+
+-- the finish is there exactly at the end
+pub auction-tells : (a : Auction) (opened : List ℕ) → TellsEnd (auction_batch a) opened (plan_finish (auction_plan a) opened)
+auction-tells a = plan-tells (auction_batch a) (auction_plan a) (bounds_of (most_wires a) (most_masks a) (most_coefficients a))
+    (most_rounds a) (start_of (2 * a.prices)) (auction-stands a) (follows-itself a)

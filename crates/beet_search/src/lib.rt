@@ -8,4 +8,4 @@ mod walk;
 
 pub use beet_plan::Finish;
 pub use laws::{auction_law, book_law, five_law};
-pub use script::{AuctionScript, ScriptPlace};
+pub use script::AuctionScript;

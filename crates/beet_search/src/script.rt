@@ -13,6 +13,7 @@ use beet_gates::{Batch, Gates, Script};
 use beet_mask::{mask_rounds, mask_wires};
 use beet_masking::{MASK_WORDS, SPARE_MASKS};
 use beet_plan::{Finish, most_coefficients, most_masks};
+use beet_walk::{Place, PlanWalk};
 use std::marker::Model;
 
 /// The script of an auction with so many prices, this kind of gates, and what it opens beside the price. With P prices,
@@ -34,16 +35,6 @@ impl Model for AuctionScript {
     ghost invariant = { λ a. IsGridSize a.prices };
 
     ghost inverse = { λ v. record { prices = v.prices; gates = v.gates; policy = v.policy } };
-}
-
-/// How far a run has come in the script.
-#[derive(Clone, Copy)]
-pub struct ScriptPlace {
-    walk: Walk,
-    /// How many batches come before the block of the walk.
-    before: u32,
-    /// How many opened numbers led there.
-    read: usize,
 }
 
 impl AuctionScript {
@@ -108,11 +99,7 @@ impl AuctionScript {
         ensures value { result ≡ plan_finish (auction_plan self.now) opened.now }
         ensures ended { TellsEnd (auction_batch self.now) opened.now result }
     {
-        let mut walk = self.start();
-        for number in opened {
-            walk = walk.after(*number);
-        }
-        walk.finish()
+        self.start().after_all(opened).finish()
     }
 }
 
@@ -120,9 +107,10 @@ impl Script for AuctionScript {
     ghost use Rattle.std.specs.Prelude.{◌*◌};
     ghost use Rattle.beet_plan.specs.Auction.{auction_batch, most_rounds, most_masks, most_coefficients, most_wires};
     ghost use Rattle.beet_plan.proofs.AuctionLaw.{auction-law};
-    ghost use Rattle.beet_search.specs.Places.{IsAt, goes-on};
+    ghost use Rattle.beet_walk.specs.Places.{IsAt};
+    ghost use Rattle.beet_walk.proofs.PlaceFacts.{goes-on};
 
-    type Place = ScriptPlace;
+    type Place = Place<Walk>;
 
     ghost inputs_of = { λ s. 2 * s.prices };
 
@@ -136,9 +124,9 @@ impl Script for AuctionScript {
 
     ghost batch_of = { auction_batch };
 
-    ghost is_at = { IsAt };
+    ghost is_at = { λ a. IsAt Fits plan_at (auction_plan a) };
 
-    ghost goes_on = { goes-on };
+    ghost goes_on = { λ a. goes-on Fits plan_at (auction_plan a) };
 
     ghost lawful = { auction-law };
 
@@ -166,32 +154,14 @@ impl Script for AuctionScript {
     }
 
     fn next(&self, done: u32, opened: &[Fe]) -> Batch {
-        let mut place = self.begin();
-        let mut batch = Batch::end();
-        self.refill(done, opened, &mut place, &mut batch);
-        batch
+        self.start().batch(done, opened)
     }
 
-    fn begin(&self) -> ScriptPlace {
-        ScriptPlace {
-            walk: self.start(),
-            before: 0,
-            read: 0,
-        }
+    fn begin(&self) -> Place<Walk> {
+        Place::begin(self.start())
     }
 
-    fn refill(&self, done: u32, opened: &[Fe], place: &mut ScriptPlace, batch: &mut Batch) {
-        while place.read < opened.len() {
-            let length = place.walk.length();
-            let step = done - place.before;
-            if step < length {
-                place.walk.refill(step, batch);
-                return;
-            }
-            place.before += length;
-            place.walk = place.walk.after(opened[place.read]);
-            place.read += 1;
-        }
-        place.walk.refill(done - place.before, batch);
+    fn refill(&self, done: u32, opened: &[Fe], place: &mut Place<Walk>, batch: &mut Batch) {
+        place.refill(done, opened, batch);
     }
 }

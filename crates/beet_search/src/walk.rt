@@ -1,24 +1,23 @@
 //! A place in the auction's script.
 
-ghost use Rattle.std.specs.Prelude.{◌≡◌, ◌↔◌, ◌<◌, ◌≤◌, ◌+◌, ◌-◌, ◌*◌, ◌/◌, ◌^◌, IsTrue, MatchOption, [], ◌∷◌};
+ghost use Rattle.std.specs.Prelude.{◌≡◌, ◌↔◌, ◌<◌, ◌≤◌, ◌+◌, ◌-◌, ◌*◌, ◌/◌, ◌^◌, IsTrue, MatchOption, []};
 ghost use Rattle.beet_gates.specs.Plans.{plan_length, plan_after, plan_batch, plan_finish, batch_at};
 ghost use Rattle.beet_plan.specs.Auction.{search_plan, end_plan, after_answer, with_mask};
 ghost use Rattle.beet_plan.specs.declared.Finish.TheVariants.{MasksSpent};
-ghost use Rattle.beet_gates.specs.declared.Act.TheVariants.{Reveal};
 ghost use Rattle.beet_masking.specs.Accepting.{after_product};
 ghost use Rattle.beet_masking.specs.Blocks.{blocks_of};
 ghost use Rattle.beet_mask.specs.Mask.{mask_wires_of};
 ghost use Rattle.beet_compare.specs.Compare.{compare_batches};
 ghost use Rattle.beet_search.specs.Walk.{plan_at, busy, widest, Fits};
 
-use arrayvec::ArrayVec;
 use beet_bids::Policy;
 use beet_compare::{CompareWires, compare_rounds, compare_wires, refill_compare};
 use beet_field::Fe;
-use beet_gates::{Act, Batch, Gates};
+use beet_gates::{Batch, Gates};
 use beet_mask::{mask_rounds, mask_wires, refill_mask};
 use beet_masking::MASK_WORDS;
 use beet_plan::Finish;
+use beet_walk::{PlanWalk, both_opened};
 
 /// What comes next.
 #[derive(Clone, Copy)]
@@ -50,16 +49,6 @@ pub struct Walk {
     pub left: u32,
     /// How many masks may still be rejected.
     pub spare: u32,
-}
-
-/// The act that opens two wires.
-fn both_opened(first: u32, second: u32) -> Act
-    ensures { result ≡ Reveal (record { items = first ∷ second ∷ [] }) }
-{
-    let mut shown = ArrayVec::new();
-    shown.push(first);
-    shown.push(second);
-    Act::Reveal(shown)
 }
 
 impl Walk {
@@ -153,25 +142,6 @@ impl Walk {
         }
     }
 
-    /// How many batches the next block has.
-    pub fn length(&self) -> u32
-        requires { Fits self.now }
-        ensures { result ≡ plan_length (plan_at self.now) }
-    {
-        match self.stage {
-            Stage::Search => {
-                if self.is_open() {
-                    mask_rounds(self.gates, MASK_WORDS)
-                } else {
-                    self.end_length()
-                }
-            }
-            Stage::Masked | Stage::Supply(_) => 1,
-            Stage::Borrow(_) => compare_rounds(self.gates) - 1,
-            Stage::Ended(_) => 0,
-        }
-    }
-
     /// Makes a batch that of the comparison at the middle place at this step, with the mask that is in use.
     fn refill_comparison(&self, step: u32, c: Fe, batch: &mut Batch)
         requires fits { Fits self.now }
@@ -190,37 +160,6 @@ impl Walk {
             demand,
         };
         refill_compare(self.gates, step, wires, c, batch);
-    }
-
-    /// Makes a batch that of the next block at this step.
-    pub fn refill(&self, step: u32, batch: &mut Batch)
-        requires { Fits self.now }
-        ensures { batch.new ≡ plan_batch (plan_at self.now) step [] }
-    {
-        match self.stage {
-            Stage::Search => {
-                if self.is_open() {
-                    refill_mask(self.gates, MASK_WORDS, step, self.first, batch);
-                } else {
-                    self.refill_end(step, batch);
-                }
-            }
-            Stage::Masked => {
-                if step == 0 {
-                    self.refill_comparison(0, Fe::reduce(0), batch);
-                } else {
-                    batch.set_end();
-                }
-            }
-            Stage::Borrow(c) => {
-                if step < compare_rounds(self.gates) - 1 {
-                    self.refill_comparison(step + 1, c, batch);
-                } else {
-                    batch.set_end();
-                }
-            }
-            Stage::Supply(_) | Stage::Ended(_) => batch.set_end(),
-        }
     }
 
     /// The place after the product of a mask.
@@ -268,12 +207,74 @@ impl Walk {
         walk
     }
 
-    /// The place after the number that the next block opens.
-    pub fn after(self, number: Fe) -> Walk
-        requires { Fits self }
-        ensures fits { Fits result }
-        ensures plan { plan_at result ≡ plan_after (plan_at self) number }
+    /// How the script has ended here, or none where a block comes next.
+    pub fn finish(&self) -> Option<Finish>
+        ensures { result ≡ plan_finish (plan_at self.now) [] }
     {
+        match self.stage {
+            Stage::Search => {
+                if self.is_open() {
+                    None
+                } else {
+                    self.finish_end()
+                }
+            }
+            Stage::Masked | Stage::Borrow(_) | Stage::Supply(_) => None,
+            Stage::Ended(finish) => Some(finish),
+        }
+    }
+}
+
+impl PlanWalk for Walk {
+    type Finish = Finish;
+
+    ghost plan_of = { plan_at };
+
+    ghost fits = { Fits };
+
+    fn length(&self) -> u32 {
+        match self.stage {
+            Stage::Search => {
+                if self.is_open() {
+                    mask_rounds(self.gates, MASK_WORDS)
+                } else {
+                    self.end_length()
+                }
+            }
+            Stage::Masked | Stage::Supply(_) => 1,
+            Stage::Borrow(_) => compare_rounds(self.gates) - 1,
+            Stage::Ended(_) => 0,
+        }
+    }
+
+    fn refill(&self, step: u32, batch: &mut Batch) {
+        match self.stage {
+            Stage::Search => {
+                if self.is_open() {
+                    refill_mask(self.gates, MASK_WORDS, step, self.first, batch);
+                } else {
+                    self.refill_end(step, batch);
+                }
+            }
+            Stage::Masked => {
+                if step == 0 {
+                    self.refill_comparison(0, Fe::reduce(0), batch);
+                } else {
+                    batch.set_end();
+                }
+            }
+            Stage::Borrow(c) => {
+                if step < compare_rounds(self.gates) - 1 {
+                    self.refill_comparison(step + 1, c, batch);
+                } else {
+                    batch.set_end();
+                }
+            }
+            Stage::Supply(_) | Stage::Ended(_) => batch.set_end(),
+        }
+    }
+
+    fn after(self, number: Fe) -> Walk {
         match &self.stage {
             Stage::Search => {
                 if self.is_open() {
@@ -295,23 +296,6 @@ impl Walk {
                 ..self
             },
             Stage::Ended(_) => self,
-        }
-    }
-
-    /// How the script has ended here, or none where a block comes next.
-    pub fn finish(&self) -> Option<Finish>
-        ensures { result ≡ plan_finish (plan_at self.now) [] }
-    {
-        match self.stage {
-            Stage::Search => {
-                if self.is_open() {
-                    None
-                } else {
-                    self.finish_end()
-                }
-            }
-            Stage::Masked | Stage::Borrow(_) | Stage::Supply(_) => None,
-            Stage::Ended(finish) => Some(finish),
         }
     }
 }

@@ -27,9 +27,9 @@ drawn-of wanted words h =
 pub all-drawn : (wanted : ℕ) (lists : List (List ℕ)) → All (HasAccepted wanted) lists → All (λ list. wanted ≤ length (accepted list)) lists
 all-drawn wanted lists all k d lt = drawn-of wanted _ (all k d lt)
 
-pub numbers-enough : (wants : Wants) (words : Words) → HasEnough wants words →
+pub numbers-enough : (wants : Wants) (many : ℕ) (words : Words) → HasEnough wants many words →
     HasWords wants.coefficients (numbers_of words.coefficients)
-numbers-enough wants words e = (
+numbers-enough wants many words e = (
   drawn-of wants.coefficients words.coefficients.one e.one,
   drawn-of wants.coefficients words.coefficients.two e.two,
   drawn-of wants.coefficients words.coefficients.three e.three,
@@ -49,9 +49,9 @@ masks-read m t One n lt = get_or-take m t.one n 0 lt
 masks-read m t Two n lt = get_or-take m t.two n 0 lt
 masks-read m t Three n lt = get_or-take m t.three n 0 lt
 
-pub numbers-read : (wants : Wants) (words : Words) → HasEnough wants words → (j : Point) (n : ℕ) → n < wants.coefficients →
+pub numbers-read : (wants : Wants) (many : ℕ) (words : Words) → HasEnough wants many words → (j : Point) (n : ℕ) → n < wants.coefficients →
     slice_index (member (numbers_of (of_each (take (words_read wants.coefficients)) words.coefficients)) j) n
     ≡ slice_index (member (numbers_of words.coefficients) j) n
-numbers-read wants words e One n lt = accepted-read wants.coefficients words.coefficients.one e.one n lt
-numbers-read wants words e Two n lt = accepted-read wants.coefficients words.coefficients.two e.two n lt
-numbers-read wants words e Three n lt = accepted-read wants.coefficients words.coefficients.three e.three n lt
+numbers-read wants many words e One n lt = accepted-read wants.coefficients words.coefficients.one e.one n lt
+numbers-read wants many words e Two n lt = accepted-read wants.coefficients words.coefficients.two e.two n lt
+numbers-read wants many words e Three n lt = accepted-read wants.coefficients words.coefficients.three e.three n lt

@@ -45,13 +45,13 @@ masks-enough s losses masks masks' n m h =
     (omega (arith, one, h.0), omega (arith, two, h.1), omega (arith, three, h.2))
 
 -- of the words of the servers and of those who deal
-pub parts-enough : (s : Point) (losses : List ℕ) (parties others : List Party) (words words' : Words) (wants : Wants) →
+pub parts-enough : (s : Point) (losses : List ℕ) (parties others : List Party) (words words' : Words) (wants : Wants) (many : ℕ) →
     MasksMapped s losses words.masks words'.masks →
     ((j : Point) → ones_in (member words'.coefficients j) ≡ ones_in (member words.coefficients j)) →
     length words'.bidders ≡ length words.bidders → DealersMapped s (dealers_of parties words.bidders) (dealers_of others words'.bidders) →
-    length parties ≡ wants.parties → length others ≡ wants.parties → HasEnough wants words → HasEnough wants words'
-parts-enough s losses parties others words words' wants masks places lists dealers many many' e =
-    let count : length words'.bidders ≡ wants.parties = lists ∙ e.count in
+    length parties ≡ many → length others ≡ many → HasEnough wants many words → HasEnough wants many words'
+parts-enough s losses parties others words words' wants many masks places lists dealers here there e =
+    let count : length words'.bidders ≡ many = lists ∙ e.count in
     record {
       masks = masks-enough s losses words.masks words'.masks wants.masks masks e.masks;
       one = has-accepted-same wants.coefficients words.coefficients.one words'.coefficients.one (places One) e.one;
@@ -59,12 +59,12 @@ parts-enough s losses parties others words words' wants masks places lists deale
       three = has-accepted-same wants.coefficients words.coefficients.three words'.coefficients.three (places Three) e.three;
       count = count;
       bidders = lists-enough wants.quantities words.bidders words'.bidders
-          (lists-alike s parties others words.bidders words'.bidders (e.count ∙ sym many) (count ∙ sym many') dealers)
+          (lists-alike s parties others words.bidders words'.bidders (e.count ∙ sym here) (count ∙ sym there) dealers)
           e.bidders;
     }
 
-pub mapped-enough : (s : Point) (losses : List ℕ) (first second : Trade) (words words' : Words) (wants : Wants) →
-    TradesMapped s losses first words second words' → length first.parties ≡ wants.parties → length second.parties ≡ wants.parties →
-    HasEnough wants words → HasEnough wants words'
-mapped-enough s losses first second words words' wants m =
-    parts-enough s losses first.parties second.parties words words' wants m.masks m.places m.lists m.dealers
+pub mapped-enough : (s : Point) (losses : List ℕ) (first second : Trade) (words words' : Words) (wants : Wants) (many : ℕ) →
+    TradesMapped s losses first words second words' → length first.parties ≡ many → length second.parties ≡ many →
+    HasEnough wants many words → HasEnough wants many words'
+mapped-enough s losses first second words words' wants many m =
+    parts-enough s losses first.parties second.parties words words' wants many m.masks m.places m.lists m.dealers

@@ -30,10 +30,11 @@ seen_read wants run = record {
 pub record Reads (trade : Trade) (wants : Wants) (words : Words) : Type 0 where
   pub wires : ℕ
   pub count : ℕ
+  pub parties : ℕ
   pub law : LawFrom trade.next (bounds_of wires wants.masks wants.coefficients) trade.most (start_of count) []
   pub long : (i : Point) → length (member (trade.inputs words.bidders) i) ≡ count
   pub same : trade.inputs (read_words wants words).bidders ≡ trade.inputs words.bidders
-  pub enough : HasEnough wants words
+  pub enough : HasEnough wants parties words
 
 module _ (trade : Trade) (wants : Wants) (words : Words) (r : Reads trade wants words) where
   abbrev whole : Setup
@@ -68,7 +69,7 @@ module _ (trade : Trade) (wants : Wants) (words : Words) (r : Reads trade wants 
         let dealt = deals-fit whole bounds trade.most t w in
         record {
           word = λ j some. masks-read wants.masks words.masks j (shared_at whole t).dealt (omega (arith, dealt, some));
-          number = λ j k below. numbers-read wants words r.enough j ((shared_at whole t).drawn + k) (omega (arith, drawn, below));
+          number = λ j k below. numbers-read wants r.parties words r.enough j ((shared_at whole t).drawn + k) (omega (arith, drawn, below));
         }
 
     pub rounds-read : rounds_in trade (read_words wants words) ≡ rounds

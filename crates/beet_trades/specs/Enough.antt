@@ -10,20 +10,20 @@ use Rattle.beet_masking.specs.declared.TheConstants.{SPARE_WORDS}
 abbrev pub HasAccepted : ℕ → List ℕ → Type 0
 HasAccepted wanted words = wanted ≤ length (accepted (take (wanted + SPARE_WORDS) words))
 
--- what is wanted: mask words and numbers of each server, and numbers of each of so many who deal
+-- what is wanted: mask words and numbers of each server, and numbers of each who deals
 pub record Wants : Type 0 where
   pub masks : ℕ
   pub coefficients : ℕ
   pub quantities : ℕ
-  pub parties : ℕ
 
--- a list for each who deals, with a word for each quantity, and the mask words and coefficient words of each server
-pub record HasEnough (wants : Wants) (words : Words) : Type 0 where
+-- a list for each of so many who deal, with a word for each quantity, and the mask words and coefficient words of each
+-- server
+pub record HasEnough (wants : Wants) (parties : ℕ) (words : Words) : Type 0 where
   pub masks : HasWords wants.masks words.masks
   pub one : HasAccepted wants.coefficients words.coefficients.one
   pub two : HasAccepted wants.coefficients words.coefficients.two
   pub three : HasAccepted wants.coefficients words.coefficients.three
-  pub count : length words.bidders ≡ wants.parties
+  pub count : length words.bidders ≡ parties
   pub bidders : All (HasAccepted wants.quantities) words.bidders
 
 -- how many words are read where so many numbers are wanted, of which a few may be passed over

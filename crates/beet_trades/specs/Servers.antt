@@ -1,11 +1,13 @@
 -- The words of the servers in two worlds of a script, where the compared numbers lose some amount.
-use Rattle.std.specs.Prelude.{ℕ, List, All}
+use Rattle.std.specs.Prelude.{◌≡◌, ℕ, List, All, length}
 use Rattle.beet_field.specs.declared.point.Point.{Point}
 use Rattle.beet_field.specs.declared.trio.Trio.{Trio}
 use Rattle.beet_shamir.specs.declared.Line.{Line}
 use Rattle.beet_words.specs.Words.{IsWord}
+use Rattle.beet_gates.specs.Scripts.{HasWords}
 use Rattle.beet_gates.specs.declared.Batch.{Batch}
-use Rattle.beet_map.specs.Refused.{LookSame}
+use Rattle.beet_sharing.specs.Runs.{numbers_of}
+use Rattle.beet_map.specs.Refused.{HasSecrets, LookSame}
 use Rattle.beet_map.specs.Secrets.{Secrets}
 use Rattle.beet_map_laws.specs.Pairs.{GoTogether}
 use Rattle.beet_turned.specs.MappedMasks.{MasksMapped}
@@ -23,6 +25,15 @@ abbrev pub LookSameMapped : (ℕ → List ℕ → Batch) → ℕ → ℕ → Poi
 LookSameMapped next most deals me losses here lines =
     (masks : Trio (List ℕ)) → MasksMapped me losses here.masks masks →
     LookSame next most deals me here (world_with lines masks)
+
+-- the words of the servers can be mapped to those of a second world, whose inputs are on these lines: there are as many
+-- inputs, mask words and numbers as a script asks for, and server me cannot tell the worlds
+pub record CanMap (next : ℕ → List ℕ → Batch) (most inputs deals numbers : ℕ) (me : Point) (losses : List ℕ)
+    (here : Secrets) (lines : List Line) (words : Trio (List ℕ)) : Type 0 where
+  pub secrets : HasSecrets inputs deals here
+  pub long : length lines ≡ inputs
+  pub drawn : HasWords numbers (numbers_of words)
+  pub same : LookSameMapped next most deals me losses here lines
 
 -- the mask words and coefficient words of the second world, whose inputs are on these lines: they are mapped in the one
 -- way there is, and are words

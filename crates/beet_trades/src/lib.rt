@@ -3,4 +3,4 @@
 
 mod servers;
 
-pub use servers::{copy_of, look_at, map_servers};
+pub use servers::{all_words, look_at, map_servers};

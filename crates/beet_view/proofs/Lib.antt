@@ -1,3 +1,4 @@
+pub mod Marks
 pub mod QuantityTurns
 pub mod ReadFacts
 pub mod RunFacts

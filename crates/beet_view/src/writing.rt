@@ -31,7 +31,7 @@ fn push_numbers(file: &mut Vec<u8>, numbers: &[u64]) -> Result<(), AllocError>
 }
 
 /// The mark that names a server, or 0 for none.
-fn mark_of(known: Option<Point>) -> u64
+pub fn mark_of(known: Option<Point>) -> u64
     ensures { result ≡ mark_of known }
 {
     match known {
@@ -41,7 +41,7 @@ fn mark_of(known: Option<Point>) -> u64
 }
 
 /// The number of a kind of gates.
-fn number_of_gates(gates: Gates) -> u64
+pub fn number_of_gates(gates: Gates) -> u64
     ensures { result ≡ number_of_gates gates }
 {
     match gates {

@@ -1,3 +1,5 @@
 pub mod PointRuns
 pub mod SealedViews
 pub mod SameTexts
+pub mod FittingPoints
+pub mod PointAudits

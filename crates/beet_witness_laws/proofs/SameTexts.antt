@@ -18,8 +18,8 @@ use Rattle.beet_transcripts.specs.RunsOn.{view_of_points}
 use Rattle.beet_audit.specs.Audits.{curve_of, points_of_bidder, recombined_book}
 use Rattle.beet_audit.proofs.BidFacts.{OnOwnLines, is-line, on-own-line, recombines}
 use Rattle.beet_audit.proofs.FinishFacts.{ends-recombined}
-use Rattle.beet_job_envelopes.specs.Open.{opened_answer}
-use Rattle.beet_job_envelopes.proofs.OpenSteps.{points-end}
+use Rattle.beet_gathering.specs.Opened.{opened_answer}
+use Rattle.beet_gathering.proofs.PointRuns.{points-end}
 use Rattle.beet_witness_laws.specs.SealedCurves.{AreInEnvelopes, BidCurves, no_points}
 use Rattle.beet_witness_laws.proofs.PointRuns.{count, points-of, same-points}
 use Rattle.beet_words.specs.declared.bundle.TheConstants.{MOST_BIDDERS}

@@ -1,1 +1,2 @@
 pub mod SealedCurves
+pub mod PointAudits

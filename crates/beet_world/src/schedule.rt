@@ -147,7 +147,8 @@ pub fn read_schedule_rows<D: ScheduleRow>(
     bytes: &[u8],
 ) -> Result<Vec<D>, ReadFault>
     requires { length bytes.now ≤ LONGEST_FILE }
-    ensures { Answers (λ deliveries. deliveries.items) (schedule_in (D.row_in lots) kind.now (rows_of bytes.now)) result }
+    ensures { Answers (λ deliveries. deliveries.items)
+        (schedule_in (D.row_in lots) kind.now (rows_of bytes.now)) result }
 {
     let mut rows = RowReader::new(alloc, bytes);
     let mut row = Row::new(alloc);

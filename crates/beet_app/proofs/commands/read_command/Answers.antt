@@ -1,7 +1,9 @@
 use Rattle.std.proofs.Common.{◌≡◌, [], ◌∷◌, arith, option_map, rules, sym}
 use Rattle.std.specs.Prelude.{string_bytes}
+use Rattle.beet_command.proofs.Standing.{by_words}
 use Rattle.beet_app.specs.Commands.{job_for}
-use Rattle.beet_app.proofs.Words.{by_words, too_few, six_words, too_many}
+use Rattle.beet_app.specs.Jobs.{job_of}
+use Rattle.beet_app.proofs.Words.{too_few, six_words, too_many}
 use Rattle.beet_app.proofs.commands.read_command.Goals.{in_default-via-then-words-lt3}
 use Rattle.beet_app.proofs.commands.read_command.Goals.{
   in_default-via-else-words-lt3+else-words-lt4+else-words-lt5+else-words-lt6+then-words-lt7,
@@ -22,14 +24,14 @@ returns-in_default-clause-job c = elim c.in_default.branch [
 
 pub returns-in-len3-clause-job : goal.returns-in-len3-clause-job
 returns-in-len3-clause-job c =
-    by_words string_bytes (λ job. option_map job_for c.with_two.result ≡ job) c.args.words.now
+    by_words job_of string_bytes (λ job. option_map job_for c.with_two.result ≡ job) c.args.words.now
     (c.name-item.result ∷ c.a-item.result ∷ c.b-item.result ∷ [])
     (omega (arith, c.in-len3.len_at_least, c.in-len3.len_below)) (c.name-item.is, (c.a-item.is, (c.b-item.is, tt)))
     (rw (c.as_str.ensures.value, c.as_str-in-len3.ensures.value, c.as_str-in-len3-2.ensures.value) at c.with_two.ensures.job)
 
 pub returns-in-len4-clause-job : goal.returns-in-len4-clause-job
 returns-in-len4-clause-job c =
-    by_words string_bytes (λ job. option_map job_for c.with_three.result ≡ job) c.args.words.now
+    by_words job_of string_bytes (λ job. option_map job_for c.with_three.result ≡ job) c.args.words.now
     (c.name-item-then-words-lt5.result ∷ c.a-item-then-words-lt5.result ∷ c.b-item-then-words-lt5.result ∷ c.c-item.result ∷ [])
     (omega (arith, c.in-len4.len_at_least, c.in-len4.len_below))
     (c.name-item-then-words-lt5.is, (c.a-item-then-words-lt5.is, (c.b-item-then-words-lt5.is, (c.c-item.is, tt))))
@@ -42,7 +44,7 @@ returns-in-len4-clause-job c =
 
 pub returns-in-len5-clause-job : goal.returns-in-len5-clause-job
 returns-in-len5-clause-job c =
-    by_words string_bytes (λ job. option_map job_for c.with_four.result ≡ job) c.args.words.now
+    by_words job_of string_bytes (λ job. option_map job_for c.with_four.result ≡ job) c.args.words.now
     (c.name-item-then-words-lt6.result ∷ c.a-item-then-words-lt6.result ∷ c.b-item-then-words-lt6.result
     ∷ c.c-item-then-words-lt6.result ∷ c.d-item.result ∷ [])
     (omega (arith, c.in-len5.len_at_least, c.in-len5.len_below)) (
@@ -59,7 +61,7 @@ returns-in-len5-clause-job c =
 
 pub returns-in-len7-clause-job : goal.returns-in-len7-clause-job
 returns-in-len7-clause-job c =
-    by_words string_bytes (λ job. option_map job_for c.with_six.result ≡ job) c.args.words.now
+    by_words job_of string_bytes (λ job. option_map job_for c.with_six.result ≡ job) c.args.words.now
     (c.name-item-then-words-lt8.result ∷ c.a-item-then-words-lt8.result ∷ c.b-item-then-words-lt8.result
     ∷ c.c-item-then-words-lt8.result ∷ c.d-item-then-words-lt8.result ∷ c.e-item.result ∷ c.f-item.result ∷ [])
     (omega (arith, c.in-len7.len_at_least, c.in-len7.len_below)) (

@@ -1,6 +1,6 @@
 use Rattle.std.proofs.Common.{map}
 use Rattle.beet_bids.specs.declared.book.Bidder.{Bidder}
-use Rattle.beet_auction_map.proofs.Disagreeing.{SameBefore}
+use Rattle.beet_trades.proofs.Disagreeing.{SameBefore}
 use Rattle.beet_auction_map.proofs.agreeing.other_mark.Given as goal
 
 abbrev pub invariant-loop-i : goal.invariant-loop-i

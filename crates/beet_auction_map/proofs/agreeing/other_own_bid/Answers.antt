@@ -1,6 +1,7 @@
 use Rattle.std.proofs.Common.{length, refl, arith}
 use Rattle.std.proofs.lemmas.Option.{slice_get_read}
-use Rattle.beet_auction_map.proofs.Disagreeing.{known-all, known-more}
+use Rattle.beet_bids.specs.declared.book.Bidder.{Bidder}
+use Rattle.beet_trades.proofs.Disagreeing.{known-all, known-more}
 use Rattle.beet_auction_map.proofs.Marks.{as-many-in, curve-at}
 use Rattle.beet_auction_map.proofs.agreeing.other_own_bid.Goals as goal
 
@@ -53,7 +54,8 @@ loop-i-preserved c =
     c.bidders-others.ensures.value c.requires.marks in
     let lt = c.loop-i-test.true in
     record {
-      same = known-more bidders others c.args.me c.loop-i.i c.index-bidders-i.result c.index-others-i.result
+      same = known-more (λ (b : Bidder). b.known) (λ (b : Bidder). b.curve) bidders others c.args.me c.loop-i.i
+          c.index-bidders-i.result c.index-others-i.result
           (slice_get_read bidders (length bidders) c.loop-i.i c.index-bidders-i.result refl lt c.index-bidders-i.is)
           (slice_get_read others (length others) c.loop-i.i c.index-others-i.result refl (omega (arith, many, lt)) c.index-others-i.is)
           (c.is_changed.ensures.kept c.if-is_changed.false) c.loop-i.invariant.same;
@@ -61,6 +63,6 @@ loop-i-preserved c =
 
 pub returns-clause-place : goal.returns-clause-place
 returns-clause-place c =
-    let all = known-all c.bidders-bidders.result.now c.bidders-others.result.now c.args.me c.loop-i.i
-    c.loop-i-test.false c.loop-i.invariant.same in
+    let all = known-all (λ (b : Bidder). b.known) (λ (b : Bidder). b.curve) c.bidders-bidders.result.now
+    c.bidders-others.result.now c.args.me c.loop-i.i c.loop-i-test.false c.loop-i.invariant.same in
     rw (← c.bidders-bidders.ensures.value, ← c.bidders-others.ensures.value) all

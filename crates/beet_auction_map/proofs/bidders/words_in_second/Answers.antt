@@ -1,4 +1,4 @@
-use Rattle.std.proofs.Common.{◌≡◌, length, sym, ap, subst, ◌∙◌, arith, IfOk}
+use Rattle.std.proofs.Common.{length, sym, ap, subst, ◌∙◌, arith, IfOk}
 use Rattle.beet_book.specs.Dealing.{quantities}
 use Rattle.beet_book.proofs.Quantities.{quantities-many}
 use Rattle.beet_mapped.specs.Dealers.{DealerMapped}

@@ -6,8 +6,8 @@ use Rattle.beet_words.specs.Bundles.{Words}
 use Rattle.beet_words.specs.Words.{accepted}
 use Rattle.beet_bids.specs.Books.{Book}
 use Rattle.beet_plan.specs.Auction.{most_coefficients, auction_over}
+use Rattle.beet_trades.proofs.Drawn.{all-drawn, drawn-of}
 use Rattle.beet_auction_map.specs.Enough.{AreEnough}
-use Rattle.beet_auction_map.proofs.Drawn.{all-drawn, drawn-of}
 use Rattle.beet_auction_map.proofs.laws.enough_words_can_be_drawn.Goals as goal
 
 of-server : (book : Book) (words : Words) (j : Point) → AreEnough book words →

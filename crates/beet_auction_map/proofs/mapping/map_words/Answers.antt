@@ -1,9 +1,10 @@
 use Rattle.std.proofs.Common.{◌≡◌, ◌≤◌, ◌*◌, length, sym, ap, subst, ◌∙◌}
 use Rattle.std.specs.Prelude.{All}
 use Rattle.beet_words.specs.Words.{IsWord, accepted}
+use Rattle.beet_trades.proofs.AllWords.{words-hold}
+use Rattle.beet_trades.proofs.Drawn.{all-drawn}
 use Rattle.beet_auction_map.specs.MappedBidders.{BiddersMapped}
 use Rattle.beet_auction_map.specs.Worlds.{WorldsMapped}
-use Rattle.beet_auction_map.proofs.Drawn.{all-drawn}
 use Rattle.beet_auction_map.proofs.mapping.map_words.Goals as goal
 
 pub map_bidders-requires-clause-enough : goal.map_bidders-requires-clause-enough
@@ -13,8 +14,8 @@ map_bidders-requires-clause-enough c =
     subst (λ l. All (λ list. wanted ≤ length (accepted list)) l) (sym same)
     (all-drawn wanted c.args.words.now.bidders c.requires.enough.bidders)
 
-pub map_for_servers-requires : goal.map_for_servers-requires
-map_for_servers-requires c =
+pub map_for_servers-servers-requires : goal.map_for_servers-servers-requires
+map_for_servers-servers-requires c =
     let first = c.args.first.now in
     let same : c.as_slice.result.now ≡ c.args.words.now.bidders = c.as_slice.ensures.value ∙ (λ i. (c.words.view_is i).bidders) in
     let moved = c.as_slice-2.ensures.value in
@@ -31,6 +32,6 @@ map_for_servers-requires c =
 
 pub returns : goal.returns
 returns c =
-    subst (λ lists. WorldsMapped c.args.me c.args.first.now c.args.words.now c.args.second.now
-    (record { masks = c.in_ok-masks.masks; coefficients = c.in_ok-masks.coefficients; bidders = lists }))
-    c.as_slice-2.ensures.value c.in_ok-masks.ensures
+    words-hold (WorldsMapped c.args.me c.args.first.now c.args.words.now c.args.second.now) c.map_for_servers-servers.result
+    c.as_slice-2.result.now c.in_ok-bidders.bidders.items c.all_words.result c.as_slice-2.ensures.value c.all_words.ensures
+    c.map_for_servers-servers.ensures

@@ -6,29 +6,41 @@ use Rattle.beet_server.proofs.Rounds.{by_point}
 use Rattle.beet_desk.specs.Ends.{AreOf, Sender}
 use Rattle.beet_desk.proofs.RunFacts.{in-ok, starts-told}
 use Rattle.beet_desk_tests.proofs.Taken.{taken-queue}
-use Rattle.beet_desk_tests.specs.contracts.wide.WideScript.TheImpl.{ghosts}
+use Rattle.beet_samples.specs.contracts.SampleScript.TheImpl.{ghosts}
 use Rattle.beet_desk_tests.proofs.notes.after_one.Goals as goal
+
+pub servings-servings-requires-clause-one : goal.servings-servings-requires-clause-one
+servings-servings-requires-clause-one g c = rw c.runs-runs.ensures.one c.stations.ensures.tied.one
+
+pub servings-servings-requires-clause-two : goal.servings-servings-requires-clause-two
+servings-servings-requires-clause-two g c = rw c.runs-runs.ensures.two c.stations.ensures.tied.two
+
+pub servings-servings-requires-clause-three : goal.servings-servings-requires-clause-three
+servings-servings-requires-clause-three g c = rw c.runs-runs.ensures.three c.stations.ensures.tied.three
 
 pub servings-servings-requires-clause-one_told : goal.servings-servings-requires-clause-one_told
 servings-servings-requires-clause-one_told g c =
     let made = in-ok _ c.expect-senders.result _ c.expect-senders.ensures c.note_queue.ensures.senders in
-    starts-told ghosts.batch_of ghosts.inputs_of ghosts.rounds_of c.three_of_wide-cores.result _ c.expect-senders.result.0.one One
+    starts-told ghosts.batch_of ghosts.inputs_of ghosts.rounds_of c.expect-cores.result _ c.expect-senders.result.0.one One
     c.runs-runs.result.one.value c.stations.result.one.core (made One) c.runs-runs.ensures.one
-    (ap (λ k. k.round) (c.stations.ensures.cores.0 ∙ c.three_of_wide-cores.ensures.one.1))
+    (ap (λ k. k.round) (c.stations.ensures.cores.0
+    ∙ (in-ok _ c.expect-cores.result _ c.expect-cores.ensures c.three_of_inputs.ensures.fresh).one.1))
 
 pub servings-servings-requires-clause-two_told : goal.servings-servings-requires-clause-two_told
 servings-servings-requires-clause-two_told g c =
     let made = in-ok _ c.expect-senders.result _ c.expect-senders.ensures c.note_queue.ensures.senders in
-    starts-told ghosts.batch_of ghosts.inputs_of ghosts.rounds_of c.three_of_wide-cores.result _ c.expect-senders.result.0.two Two
+    starts-told ghosts.batch_of ghosts.inputs_of ghosts.rounds_of c.expect-cores.result _ c.expect-senders.result.0.two Two
     c.runs-runs.result.two.value c.stations.result.two.core (made Two) c.runs-runs.ensures.two
-    (ap (λ k. k.round) (c.stations.ensures.cores.1 ∙ c.three_of_wide-cores.ensures.two.1))
+    (ap (λ k. k.round) (c.stations.ensures.cores.1
+    ∙ (in-ok _ c.expect-cores.result _ c.expect-cores.ensures c.three_of_inputs.ensures.fresh).two.1))
 
 pub servings-servings-requires-clause-three_told : goal.servings-servings-requires-clause-three_told
 servings-servings-requires-clause-three_told g c =
     let made = in-ok _ c.expect-senders.result _ c.expect-senders.ensures c.note_queue.ensures.senders in
-    starts-told ghosts.batch_of ghosts.inputs_of ghosts.rounds_of c.three_of_wide-cores.result _ c.expect-senders.result.0.three Three
+    starts-told ghosts.batch_of ghosts.inputs_of ghosts.rounds_of c.expect-cores.result _ c.expect-senders.result.0.three Three
     c.runs-runs.result.three.value c.stations.result.three.core (made Three) c.runs-runs.ensures.three
-    (ap (λ k. k.round) (c.stations.ensures.cores.2 ∙ c.three_of_wide-cores.ensures.three.1))
+    (ap (λ k. k.round) (c.stations.ensures.cores.2
+    ∙ (in-ok _ c.expect-cores.result _ c.expect-cores.ensures c.three_of_inputs.ensures.fresh).three.1))
 
 pub close-requires : goal.close-requires
 close-requires g c =

@@ -2,7 +2,7 @@ use Rattle.std.proofs.Common.{ap}
 use Rattle.beet_load.specs.Servers.{AllWords}
 use Rattle.beet_errand.proofs.Frame.{bind, bound, exits, given, no_memory, stopped}
 use Rattle.beet_job_envelopes.specs.Open.{entries_job}
-use Rattle.beet_job_envelopes.proofs.OpenSteps.{many, answer-opened}
+use Rattle.beet_gathering.proofs.PointRuns.{many, answer-opened}
 use Rattle.beet_job_envelopes.proofs.opening.open_entries.Goals as goal
 use Rattle.beet_run.proofs.StatusFacts.{status-done}
 

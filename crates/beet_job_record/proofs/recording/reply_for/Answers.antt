@@ -1,5 +1,4 @@
 use Rattle.std.proofs.Common.{refl, ◌∙◌}
-use Rattle.std.proofs.lemmas.Result.{err_from_is_err_and}
 use Rattle.beet_transcripts.proofs.BookRuns.{can-show, ends-book, inputs-enough, tapes-enough, view-for}
 use Rattle.beet_job_record.proofs.Recorded.{answer-book}
 use Rattle.beet_job_record.proofs.recording.reply_for.Goals as goal

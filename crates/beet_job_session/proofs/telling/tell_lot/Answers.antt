@@ -1,6 +1,8 @@
+use Rattle.std.proofs.Common.{◌++◌, ◌||◌, ◌∙◌, ap}
+use Rattle.beet_errand.specs.Errands.{Answer}
 use Rattle.beet_errand.proofs.Frame.{exits, forgotten}
 use Rattle.beet_run.proofs.BookRuns.{kept-many}
-use Rattle.beet_job_session.proofs.LotSteps.{told-lot}
+use Rattle.beet_lot_load.specs.Telling.{is_spent, name_line}
 use Rattle.beet_job_session.proofs.telling.tell_lot.Goals as goal
 
 pub run_lot-requires : goal.run_lot-requires
@@ -16,11 +18,18 @@ returns-in_err-added g c = exits c.from_residual-in_err-added.ensures.1 (forgott
 pub returns : goal.returns
 returns g c =
     let r = c.in_ok-loaded.ensures in
-    let is = c.in_ok-reply.ensures.tells r.gives.0 r.gives.1 in record {
+    let is = c.in_ok-reply.ensures.tells r.gives.0 r.gives.1 in
+    let before = c.args.told.now in
+    let row = c.args.row.now in
+    record {
       gives = (
         r.gives.0,
-        told-lot c.args.row.now c.args.told.now c.add-added.new.self r.gives.0 c.in_ok-reply.reply c.as_str.result.now c.as_str.ensures is
-            c.in_ok-added.ensures.text c.in_ok-added.ensures.spent,
+        record {
+          text = c.in_ok-added.ensures.text
+              ∙ ap (λ n. before.text.items ++ name_line n ++ c.in_ok-reply.reply.text) c.as_str.ensures
+              ∙ ap (λ (a : Answer). before.text.items ++ name_line row.name ++ a.text) is;
+          spent = c.in_ok-added.ensures.spent ∙ ap (λ (a : Answer). before.spent || is_spent a.status) is;
+        },
         r.gives.2,
       );
       cause = r.cause;

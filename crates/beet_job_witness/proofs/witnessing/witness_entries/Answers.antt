@@ -5,7 +5,7 @@ use Rattle.beet_run.specs.Runs.{HaveRunToEnd}
 use Rattle.beet_errand.specs.Errands.{Answer}
 use Rattle.beet_errand.proofs.Frame.{bind, bound, exits, given, no_memory, stopped}
 use Rattle.beet_run.proofs.StatusFacts.{status-done}
-use Rattle.beet_job_envelopes.proofs.OpenSteps.{many}
+use Rattle.beet_gathering.proofs.PointRuns.{many}
 use Rattle.beet_job_witness.specs.Witness.{kept_job}
 use Rattle.beet_job_witness.proofs.Witnessed.{answer-witnessed, can-show, ends-kept}
 use Rattle.beet_job_witness.proofs.witnessing.witness_entries.Goals as goal
@@ -23,13 +23,13 @@ returns-in-Err-clause-reads g c = bind (rw c.auction_wants.ensures at c.in_ok-wo
 pub run_servers-requires-clause-inputs : goal.run_servers-requires-clause-inputs
 run_servers-requires-clause-inputs g c = λ lifetimes outlive.
     let kept = c.in-Ok.ensures.gives.1.taken in
-    many c.args.grid.now c.in-Ok.kept.totals c.in-Ok.ensures.gives.0 c.inputs.result kept.sums c.inputs.ensures.points
+    many c.args.setting.now.grid.now c.in-Ok.kept.totals c.in-Ok.ensures.gives.0 c.inputs.result kept.sums c.inputs.ensures.points
 
 pub reply_of_run-requires-clause-shown : goal.reply_of_run-requires-clause-shown
 reply_of_run-requires-clause-shown g c = λ lifetimes outlive.
     let gathered = c.in-Ok.ensures.gives.1 in
     let few : length c.in-Ok.ensures.gives.0 ≤ MOST_BIDDERS = omega (arith, gathered.count, c.requires) in
-    can-show c.args.grid.now c.in-Ok.kept.totals c.in-Ok.kept.seen c.in-Ok.ensures.gives.0 gathered.taken few
+    can-show c.args.setting.now.grid.now c.in-Ok.kept.totals c.in-Ok.kept.seen c.in-Ok.ensures.gives.0 gathered.taken few
 
 pub reply_of_run-requires-clause-run : goal.reply_of_run-requires-clause-run
 reply_of_run-requires-clause-run g c = λ lifetimes outlive. (_, _, c.in_ok-cores.ensures.ended)
@@ -50,17 +50,17 @@ pub returns-clause-reads : goal.returns-clause-reads
 unfolding kept_job
 returns-clause-reads g c =
     let words = c.in_ok-words.words.servers in
-    let ran : HaveRunToEnd c.args.grid.now c.inputs.result words c.in_ok-cores.cores =
-    subst (λ (x : Trio ServerWords). HaveRunToEnd c.args.grid.now c.inputs.result x c.in_ok-cores.cores)
+    let ran : HaveRunToEnd c.args.setting.now.grid.now c.inputs.result words c.in_ok-cores.cores =
+    subst (λ (x : Trio ServerWords). HaveRunToEnd c.args.setting.now.grid.now c.inputs.result x c.in_ok-cores.cores)
     (ap (λ (x : AllWords). x.servers) c.words.view_is) c.in_ok-cores.ensures.ended in
     bind (rw c.auction_wants.ensures at c.in_ok-words.ensures.reads) (bound c.in-Ok.ensures (λ bidders gathered. given
     (sym (c.in_ok-reply_of_run.ensures _ words _ _ (record {
       ran = ran;
-      ends = ends-kept c.args.grid.now c.in-Ok.kept.totals c.in-Ok.kept.seen bidders gathered.taken c.inputs.result
+      ends = ends-kept c.args.setting.now.grid.now c.in-Ok.kept.totals c.in-Ok.kept.seen bidders gathered.taken c.inputs.result
           c.inputs.ensures.points words ran.starts.are_masks;
     })
-    ∙ answer-witnessed c.args.grid.now c.in-Ok.kept.totals c.in-Ok.kept.seen bidders gathered.taken c.inputs.result
-    c.inputs.ensures.points words c.args.out.now))))
+    ∙ answer-witnessed c.args.setting.now.grid.now c.in-Ok.kept.totals c.in-Ok.kept.seen bidders gathered.taken c.inputs.result
+    c.inputs.ensures.points words c.args.setting.now.out.now))))
 
 pub returns-clause-done : goal.returns-clause-done
 returns-clause-done g c =
@@ -68,7 +68,7 @@ returns-clause-done g c =
     let kept = c.in-Ok.ensures.gives.1.taken in
     let made = c.in_ok-reply_of_run.ensures _ _ _ _ (record {
       ran = ran;
-      ends = ends-kept c.args.grid.now c.in-Ok.kept.totals c.in-Ok.kept.seen c.in-Ok.ensures.gives.0 kept c.inputs.result
+      ends = ends-kept c.args.setting.now.grid.now c.in-Ok.kept.totals c.in-Ok.kept.seen c.in-Ok.ensures.gives.0 kept c.inputs.result
           c.inputs.ensures.points _ ran.starts.are_masks;
     }) in
     rw (ap (λ (answer : Answer). answer.status) made) (status-done _)

@@ -1,6 +1,7 @@
 use Rattle.std.proofs.Common.{◌≡◌, ◌≤◌, length, sym, ap, subst, ◌∙◌}
 use Rattle.std.specs.Prelude.{All}
 use Rattle.beet_words.specs.Words.{IsWord, accepted}
+use Rattle.beet_trades.proofs.AllWords.{words-hold}
 use Rattle.beet_trades.proofs.Drawn.{all-drawn}
 use Rattle.beet_sale_map.specs.MappedSales.{SalesMapped}
 use Rattle.beet_sale_map.specs.Worlds.{BiddersMapped}
@@ -11,8 +12,8 @@ map_bidders-requires-clause-enough c =
     let same : c.as_slice.result.now ≡ c.args.words.now.bidders = c.as_slice.ensures.value ∙ (λ i. (c.words.view_is i).bidders) in
     subst (λ l. All (λ list. 1 ≤ length (accepted list)) l) (sym same) (all-drawn 1 c.args.words.now.bidders c.requires.enough.bidders)
 
-pub map_for_servers-requires : goal.map_for_servers-requires
-map_for_servers-requires c =
+pub map_for_servers-servers-requires : goal.map_for_servers-servers-requires
+map_for_servers-servers-requires c =
     let first = c.args.first.now in
     let same : c.as_slice.result.now ≡ c.args.words.now.bidders = c.as_slice.ensures.value ∙ (λ i. (c.words.view_is i).bidders) in
     let moved = c.as_slice-2.ensures.value in
@@ -31,6 +32,6 @@ map_for_servers-requires c =
 
 pub returns : goal.returns
 returns c =
-    subst (λ lists. SalesMapped c.args.me c.args.gates c.args.first.now c.args.words.now c.args.second.now
-    (record { masks = c.in_ok-masks.masks; coefficients = c.in_ok-masks.coefficients; bidders = lists }))
-    c.as_slice-2.ensures.value c.in_ok-masks.ensures
+    words-hold (SalesMapped c.args.me c.args.gates c.args.first.now c.args.words.now c.args.second.now) c.map_for_servers-servers.result
+    c.as_slice-2.result.now c.in_ok-bidders.bidders.items c.all_words.result c.as_slice-2.ensures.value c.all_words.ensures
+    c.map_for_servers-servers.ensures

@@ -63,28 +63,18 @@ pub invariant_of-result : goal.invariant_of-result
 invariant_of-result c =
     let bytes = c.args.bytes.now in
     let grid = c.in_ok-grid.grid in
-    let bidders = bidders_at-are bytes c.in_ok-server.server grid c.in_ok-grid.at (
-      c.in_ok-bidders.bidders.items,
-      c.in_ok-bidders.at,
-    ) (c.in_ok-grid.ensures.limits).prices_some c.in_ok-bidders.ensures.bidders in
-    let rounds = rounds_at-are bytes c.in_ok-coefficients.at
-    (c.in_ok-rounds.rounds.items, c.in_ok-rounds.at) c.in_ok-rounds.ensures.rounds in
+    let bidders = bidders_at-are bytes _ grid _ _ (c.in_ok-grid.ensures.limits).prices_some c.in_ok-bidders.ensures.bidders in
+    let rounds = rounds_at-are bytes _ _ c.in_ok-rounds.ensures.rounds in
     record { few = bidders.few; seen = λ k d h. (bidders.each k d h).at_server; rounds = omega (arith, rounds.few) }
 
 pub returns-clause-fits : goal.returns-clause-fits
 returns-clause-fits c =
     let bytes = c.args.bytes.now in
     let grid = c.in_ok-grid.grid in
-    let bidders = bidders_at-are bytes c.in_ok-server.server grid c.in_ok-grid.at (
-      c.in_ok-bidders.bidders.items,
-      c.in_ok-bidders.at,
-    ) (c.in_ok-grid.ensures.limits).prices_some c.in_ok-bidders.ensures.bidders in
-    let rounds = rounds_at-are bytes c.in_ok-coefficients.at
-    (c.in_ok-rounds.rounds.items, c.in_ok-rounds.at) c.in_ok-rounds.ensures.rounds in
-    let masks = words_at-few bytes c.masks_kept.result c.in_ok-bidders.at
-    (c.in_ok-masks.masks, c.in_ok-masks.at) c.in_ok-masks.ensures.list in
-    let coefficients = words_at-few bytes c.coefficients_kept.result c.in_ok-masks.at
-    (c.in_ok-coefficients.coefficients, c.in_ok-coefficients.at) c.in_ok-coefficients.ensures.list in
+    let bidders = bidders_at-are bytes _ grid _ _ (c.in_ok-grid.ensures.limits).prices_some c.in_ok-bidders.ensures.bidders in
+    let rounds = rounds_at-are bytes _ _ c.in_ok-rounds.ensures.rounds in
+    let masks = words_at-few bytes _ _ _ c.in_ok-masks.ensures.list in
+    let coefficients = words_at-few bytes _ _ _ c.in_ok-coefficients.ensures.list in
     let view : Viewed = record {
       server = c.in_ok-server.server;
       grid = grid;

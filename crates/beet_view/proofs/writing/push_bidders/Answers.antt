@@ -14,11 +14,8 @@ loop-seen-preserved c = record {
 }
 
 pub returns-clause-numbers : goal.returns-clause-numbers
-returns-clause-numbers c =
-    subst (λ bidders. All HasNumbers bidders)
-    (take_all c.loop-seen.seen-index c.args.bidders.now c.loop-seen-test.false) c.loop-seen.invariant.numbers
+returns-clause-numbers c = subst (All HasNumbers) (take_all _ _ c.loop-seen-test.false) c.loop-seen.invariant.numbers
 
 pub returns-clause-bytes : goal.returns-clause-bytes
 returns-clause-bytes c =
-    c.loop-seen.invariant.file ∙ ap (λ items. c.args.file.now.items ++ flat_map seen_bytes items)
-    (take_all c.loop-seen.seen-index c.args.bidders.now c.loop-seen-test.false)
+    c.loop-seen.invariant.file ∙ ap (λ items. c.args.file.now.items ++ flat_map seen_bytes items) (take_all _ _ c.loop-seen-test.false)

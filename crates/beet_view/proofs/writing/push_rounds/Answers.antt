@@ -14,11 +14,8 @@ loop-round-preserved c = record {
 }
 
 pub returns-clause-numbers : goal.returns-clause-numbers
-returns-clause-numbers c =
-    subst (λ rounds. All HasElements rounds)
-    (take_all c.loop-round.round-index c.args.rounds.now c.loop-round-test.false) c.loop-round.invariant.numbers
+returns-clause-numbers c = subst (All HasElements) (take_all _ _ c.loop-round-test.false) c.loop-round.invariant.numbers
 
 pub returns-clause-bytes : goal.returns-clause-bytes
 returns-clause-bytes c =
-    c.loop-round.invariant.file ∙ ap (λ items. c.args.file.now.items ++ flat_map round_bytes items)
-    (take_all c.loop-round.round-index c.args.rounds.now c.loop-round-test.false)
+    c.loop-round.invariant.file ∙ ap (λ items. c.args.file.now.items ++ flat_map round_bytes items) (take_all _ _ c.loop-round-test.false)

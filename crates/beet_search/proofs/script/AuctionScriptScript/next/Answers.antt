@@ -1,5 +1,8 @@
-use Rattle.beet_search.proofs.NextFacts.{serves}
+use Rattle.std.proofs.Common.{ap, ◌∙◌}
+use Rattle.beet_gates.specs.Plans.{Plan, plan_batch}
+use Rattle.beet_plan.specs.declared.Finish.{Finish}
 use Rattle.beet_search.proofs.script.AuctionScriptScript.next.Goals as goal
 
-pub refill-requires : goal.refill-requires
-refill-requires c = serves c.args.self.now c.args.done c.args.opened.now c.begin-place.result c.begin-place.ensures
+pub returns : goal.returns
+returns c =
+    c.batch.ensures ∙ ap (λ (p : Plan Finish). plan_batch p c.args.done c.args.opened.now) c.start.ensures.plan

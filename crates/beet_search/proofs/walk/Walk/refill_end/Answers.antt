@@ -1,5 +1,6 @@
 use Rattle.std.proofs.Common.{sym, ◌∙◌, ◌≡◌, rules, arith}
 use Rattle.beet_bids.specs.declared.outcomes.Policy.TheVariants.{Price as PriceAlone, Volume, Full}
+use Rattle.beet_walk.proofs.PlanParts as parts
 use Rattle.beet_search.proofs.WalkFacts as facts
 use Rattle.beet_search.proofs.walk.Walk.refill_end.Goals as goal
 
@@ -11,18 +12,18 @@ pub returns-in-Some-Volume : goal.returns-in-Some-Volume
 returns-in-Some-Volume c =
     let h = c.in-Some-Volume.ensures in
     let first : c.args.step ≡ 0 = omega arith in
-    rw (facts.end-shows _ _ _ Volume (sym c.in-Some-Volume.field-0-is ∙ h.1) h.0, facts.last-batch _ _ _ c.args.step, first) (search rules)
+    rw (facts.end-shows _ _ _ Volume (sym c.in-Some-Volume.field-0-is ∙ h.1) h.0, parts.last-batch _ _ _ c.args.step, first) (search rules)
 
 pub returns-in-Some-Full : goal.returns-in-Some-Full
 returns-in-Some-Full c =
     let h = c.in-Some-Full.ensures in
     let first : c.args.step ≡ 0 = omega arith in
-    rw (facts.end-shows _ _ _ Full (sym c.in-Some-Full.field-0-is ∙ h.1) h.0, facts.last-batch _ _ _ c.args.step, first) (search rules)
+    rw (facts.end-shows _ _ _ Full (sym c.in-Some-Full.field-0-is ∙ h.1) h.0, parts.last-batch _ _ _ c.args.step, first) (search rules)
 
 pub returns-in-None : goal.returns-in-None
-returns-in-None c = rw (facts.end-past _ _ _ c.in-None.ensures, facts.ended-batch _ c.args.step) (search rules)
+returns-in-None c = rw (facts.end-past _ _ _ c.in-None.ensures, parts.ended-batch _ c.args.step) (search rules)
 
 pub returns-in-Some-Price : goal.returns-in-Some-Price
 returns-in-Some-Price c =
     let h = c.in-Some-Price.ensures in
-    rw (facts.end-shows _ _ _ PriceAlone (sym c.in-Some-Price.field-0-is ∙ h.1) h.0, facts.ended-batch _ c.args.step) (search rules)
+    rw (facts.end-shows _ _ _ PriceAlone (sym c.in-Some-Price.field-0-is ∙ h.1) h.0, parts.ended-batch _ c.args.step) (search rules)

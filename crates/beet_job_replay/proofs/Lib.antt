@@ -1,0 +1,3 @@
+mod LotsBegun
+mod LotPlays
+mod Replays

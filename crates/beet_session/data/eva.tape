@@ -1,0 +1,2 @@
+1ffffffffffffffe
+0000000000000000

@@ -1,0 +1,21 @@
+-- The table of commands: a row for each, with its words and the job that they name.
+use Rattle.std.specs.Prelude.{ℕ, List, [], ◌∷◌, Option, Some, None, ◌&&◌, if◌then◌else◌, codes}
+use Rattle.beet_command.specs.Words.{are_names, is_word}
+use Rattle.beet_errand.specs.Errands.{Errand}
+use Rattle.beet_job_session.specs.Sessions.{session_errand}
+
+-- a job: it has an errand, which ends with its answer
+pub data Job : Type 0 where
+  Answering : Errand → Job
+
+-- the job of a command with two files
+abbrev pub job_of_two : List ℕ → List ℕ → List ℕ → Option Job
+job_of_two command session servers =
+    if is_word command (codes "session") && are_names (session ∷ servers ∷ [])
+    then Some (Answering (session_errand session servers))
+    else None
+
+-- the job that the words name: a command, and exactly its words
+abbrev pub job_of : List (List ℕ) → Option Job
+job_of (command ∷ a ∷ b ∷ []) = job_of_two command a b
+job_of words = None

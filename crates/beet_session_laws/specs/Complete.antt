@@ -1,0 +1,34 @@
+-- What is right for a job of the program of sessions over these files.
+use Rattle.std.specs.Prelude.{ℕ, List, All}
+use Rattle.beet_store.specs.Files.{File}
+use Rattle.beet_book.specs.Farmers.{book_with}
+use Rattle.beet_book.specs.declared.server_file.TheConstants.{SERVERS_LIMIT}
+use Rattle.beet_errand.specs.Errands.{reads}
+use Rattle.beet_load.specs.Loading.{AuctionWithBidders}
+use Rattle.beet_load.specs.Servers.{masks_of}
+use Rattle.beet_lot_files.specs.SeedFiles.{seed_servers_of}
+use Rattle.beet_lot_files.specs.SessionFiles.{session_of}
+use Rattle.beet_lot_files.specs.declared.session_file.TheConstants.{SESSION_LIMIT}
+use Rattle.beet_lot_load.specs.Lots.{lots_errand}
+use Rattle.beet_session_app.specs.Doing.{task_of}
+use Rattle.beet_session_app.specs.Jobs.{job_of}
+use Rattle.beet_app_laws.specs.Calls.{Call}
+use Rattle.beet_app_laws.specs.Readings.{Read}
+use Rattle.beet_completeness_laws.specs.Complete.{MasksSufficeFor}
+use Rattle.beet_completeness_laws.specs.WithoutFault.{RunsTableWithoutFault}
+
+-- a run of the program of sessions in which the outside answers every call
+abbrev pub RunsSessionWithoutFault : List File → List (List ℕ) → Call → Type 0
+RunsSessionWithoutFault files words call = RunsTableWithoutFault job_of task_of files words call
+
+-- the masks suffice for the auction of a lot
+abbrev pub MasksSufficeIn : AuctionWithBidders → Type 0
+MasksSufficeIn lot = MasksSufficeFor (book_with lot.grid lot.farmers) (masks_of lot.servers)
+
+-- `session`: the lots, the seeds of the servers, and of each lot its auction, its words and its bidders are read, and
+-- the masks suffice in each
+pub record CanRunSession (files : List File) (session servers : List ℕ) : Type 0 where
+  pub rows : Read files (reads session SESSION_LIMIT session_of)
+  pub sources : Read files (reads servers SERVERS_LIMIT seed_servers_of)
+  pub lots : Read files (lots_errand sources.value rows.value)
+  pub masks : All MasksSufficeIn lots.value
