@@ -10,16 +10,25 @@ use std::sync::Wait;
 use std::thread::Threads;
 use std::time::Clock;
 
-/// A book whose bidders have tapes, a schedule of no message, and the tape of a bid that is sealed.
-const FILES: [(&str, &str); 6] = [
+/// A book and two sales whose bidders have tapes, two schedules of no message, and the tape of a bid that is sealed.
+const FILES: [(&str, &str); 9] = [
     (
         "tapes.book",
         "beet-book,1\ndan,0,dan.bid,tape,two\neva,0,eva.bid,tape,pair\n",
     ),
     ("eva.bid", "beet-bid,1\n100,0,40\n"),
+    (
+        "c.sal",
+        "beet-sale,1\ngates,chain\nann,0,700,tape,two\nben,0,900,tape,pair\n",
+    ),
+    (
+        "d.sal",
+        "beet-sale,1\ngates,chain\nann,0,700,tape,two\nben,0,950,tape,pair\n",
+    ),
     ("two", "0000000000000001\n0000000000000002\n"),
     ("pair", "0000000000000003\n0000000000000004\n"),
     ("none.sch", "beet-schedule,1\n"),
+    ("none.lots", "beet-lot-schedule,1\n"),
     (
         "eight",
         "0000000000000001\n0000000000000002\n0000000000000003\n0000000000000004\n0000000000000005\n0000000000000006\n\
@@ -39,12 +48,18 @@ const BOTH_WORLDS: [Put; 3] = [
     ("w.words", 62_224),
 ];
 
+const BOTH_SALES: [Put; 3] = [
+    ("w.first", 26_424),
+    ("w.second", 26_424),
+    ("w.words", 37_264),
+];
+
 const ENVELOPES: [Put; 3] = [("e.1", 104), ("e.2", 104), ("e.3", 104)];
 
 const SEEN: [Put; 3] = [("w.1", 34_800), ("w.2", 34_800), ("w.3", 34_800)];
 
-/// What is said of a tally, of a watched auction, of a schedule of no message, of two worlds, of a sealed bid and of
-/// two lots.
+/// What is said of a tally, of a watched auction, of a schedule of no message, of two worlds, of a sealed bid, of two
+/// lots that are run or replayed, of a sale, and of two sales.
 const SUMS: &str = "supply 80\ndemand 35\n";
 
 const COUNTS: &str = "price 110\nvolume 35\nrounds 255\nserver 1 notes 255 opened 7\n\
@@ -60,6 +75,14 @@ const SEALED: &str = "sealed 4\n";
 const LOTS: &str =
     "lot north\nprice 110\nvolume 35\nrounds 255\nlot south\nprice 100\nvolume 35\nrounds 128\n";
 
+const SOLD: &str = "winner ben\nprice 700\nrounds 255\n";
+
+const SOLD_ALIKE: &str = "winner ben\nprice 700\nrounds 255\ntranscripts equal\n";
+
+const REPLAYED: &str =
+    "lot north\nserver 1 round 0 waiting\nserver 2 round 0 waiting\nserver 3 round 0 waiting\n\
+    lot south\nserver 1 round 0 waiting\nserver 2 round 0 waiting\nserver 3 round 0 waiting\nundelivered 12\n";
+
 /// A file that is put, and its length.
 type Put = (&'static str, usize);
 
@@ -72,7 +95,7 @@ type Job = (
 );
 
 /// A case of each job.
-const JOBS: [Job; 12] = [
+const JOBS: [Job; 15] = [
     (
         "tally g1.auc tapes.book",
         &["g1.auc", "tapes.book", "dan.bid", "two", "eva.bid", "pair"],
@@ -159,6 +182,36 @@ const JOBS: [Job; 12] = [
         ],
         &[],
         LOTS,
+    ),
+    (
+        "sale c.sal s.srv",
+        &["c.sal", "s.srv", "two", "pair"],
+        &[],
+        SOLD,
+    ),
+    (
+        "pair c.sal d.sal s.srv 2 w",
+        &["c.sal", "s.srv", "two", "pair", "d.sal"],
+        &BOTH_SALES,
+        SOLD_ALIKE,
+    ),
+    (
+        "replay day.ses s.srv none.lots",
+        &[
+            "day.ses",
+            "s.srv",
+            "g.auc",
+            "b.book",
+            "anna.bid",
+            "bo.bid",
+            "carl.bid",
+            "g1.auc",
+            "b1.book",
+            "dan.bid",
+            "none.lots",
+        ],
+        &[],
+        REPLAYED,
     ),
 ];
 

@@ -1,6 +1,8 @@
-//! A session file that is cut at each place.
+//! A session file and a schedule for its lots that are cut at each place, and lots of which one is spent.
 
-use crate::tests::expect_job;
+use crate::tests::{desk_of, expect_job, expect_said};
+use beet_errand::{Reply, Status, give_answer};
+use beet_lot_load::LotsTold;
 use std::alloc::Global;
 use std::process::Abort;
 use std::str;
@@ -14,9 +16,9 @@ const SESSION: &str = "beet-session,1\nnorth,g1.auc,b1.book\n";
 /// What is said of the lot.
 const NORTH: &str = "lot north\nprice 100\nvolume 35\nrounds 128\n";
 
-/// The bytes of the session from one place to another.
-fn part(rt: &impl Abort, from: usize, to: usize) -> &'static str {
-    let bytes = SESSION.as_bytes().get(from..to).expect(rt, "a part");
+/// The bytes of a text from one place to another.
+fn part(rt: &impl Abort, whole: &'static str, from: usize, to: usize) -> &'static str {
+    let bytes = whole.as_bytes().get(from..to).expect(rt, "a part");
     str::from_utf8(bytes).expect(rt, "text")
 }
 
@@ -28,7 +30,7 @@ fn expect_front(
     status: u8,
     text: &str,
 ) {
-    let made = part(rt, 0, length);
+    let made = part(rt, SESSION, 0, length);
     expect_job(rt, alloc, "session made s.srv", made, 0, status, text);
 }
 
@@ -42,7 +44,7 @@ fn expect_fronts(rt: &(impl Abort + Threads + Wait + Clock + Sync), alloc: Globa
         expect_front(rt, alloc, length, 5, "bad file: made row 2 reason 2\n");
     }
     for length in 29..35 {
-        let name = part(rt, 28, length);
+        let name = part(rt, SESSION, 28, length);
         let text = format!(in alloc; "read fault: {name}\n").expect(rt, "memory");
         expect_front(rt, alloc, length, 3, text.as_str());
     }
@@ -54,4 +56,89 @@ fn expect_fronts(rt: &(impl Abort + Threads + Wait + Clock + Sync), alloc: Globa
 #[test]
 fn sessions_are_cut(rt: HostRuntime) {
     expect_fronts(&rt, rt.alloc());
+}
+
+/// A schedule of two messages of the second lot, which let server 2 pass round 0.
+const SCHEDULE: &str = "beet-lot-schedule,1\n2,1,2,0\n2,3,2,0\n";
+
+/// What is said of the first lot, of which nothing is delivered.
+const FIRST_WAITS: &str =
+    "lot north\nserver 1 round 0 waiting\nserver 2 round 0 waiting\nserver 3 round 0 waiting\n";
+
+/// Plays the first so many bytes of the schedule, and compares the status and the text.
+fn expect_refused(
+    rt: &(impl Abort + Threads + Wait + Clock + Sync),
+    alloc: Global,
+    length: usize,
+    text: &str,
+) {
+    let made = part(rt, SCHEDULE, 0, length);
+    expect_job(rt, alloc, "replay day.ses s.srv made", made, 0, 5, text);
+}
+
+/// Plays the first so many bytes of the schedule, and compares the round of server 2 in the second lot and how many
+/// messages are undelivered.
+fn expect_played(
+    rt: &(impl Abort + Threads + Wait + Clock + Sync),
+    alloc: Global,
+    length: usize,
+    (round, undelivered): (u32, u32),
+) {
+    let made = part(rt, SCHEDULE, 0, length);
+    let first = FIRST_WAITS;
+    let text = format!(in alloc;
+        "{first}lot south\nserver 1 round 0 waiting\nserver 2 round {round} waiting\n\
+        server 3 round 0 waiting\nundelivered {undelivered}\n"
+    )
+    .expect(rt, "memory");
+    let line = "replay day.ses s.srv made";
+    expect_job(rt, alloc, line, made, 0, 0, text.as_str());
+}
+
+/// The header is cut before its 19th byte, and then each row before its last.
+#[test]
+fn schedules_of_lots_are_cut(rt: HostRuntime) {
+    for length in 0..19 {
+        expect_refused(&rt, rt.alloc(), length, "bad file: made row 1 reason 1\n");
+    }
+    for length in 19..21 {
+        expect_played(&rt, rt.alloc(), length, (0, 12));
+    }
+    for length in 21..27 {
+        expect_refused(&rt, rt.alloc(), length, "bad file: made row 2 reason 1\n");
+    }
+    for length in 27..29 {
+        expect_played(&rt, rt.alloc(), length, (0, 11));
+    }
+    for length in 29..35 {
+        expect_refused(&rt, rt.alloc(), length, "bad file: made row 3 reason 1\n");
+    }
+    for length in 35..37 {
+        expect_played(&rt, rt.alloc(), length, (1, 12));
+    }
+}
+
+/// A reply for a lot alone.
+fn reply_of(rt: &impl Abort, alloc: Global, status: Status) -> Reply {
+    let text = Vec::from_slice(alloc, b"end\n").expect(rt, "memory");
+    Reply::of_text(alloc, status, text)
+}
+
+/// Three lots are told, and the second is spent: the status is 6.
+#[test]
+fn a_spent_lot_is_told(rt: HostRuntime) {
+    let alloc = rt.alloc();
+    let mut told = LotsTold::new(alloc);
+    for (name, status) in [
+        ("one", Status::Done),
+        ("two", Status::MasksSpent),
+        ("three", Status::Done),
+    ] {
+        let reply = reply_of(&rt, alloc, status);
+        told.add(alloc, name, &reply).expect(&rt, "memory");
+    }
+    let mut desk = desk_of(&rt, alloc, 0);
+    let end = give_answer(alloc, &mut desk, Ok(told.into_reply(alloc)));
+    assert!(&rt; end.code() == 6);
+    expect_said(&rt, &desk, "lot one\nend\nlot two\nend\nlot three\nend\n");
 }

@@ -1,6 +1,7 @@
 use beet_app::run;
 use beet_errand::{NewFile, Reply, Status, give_answer};
 use beet_link::{FreeGate, Gate};
+use beet_sale_app::run_sale;
 use beet_session_app::run_session;
 use beet_store::{Held, MemoryDesk, MemoryShelf};
 use std::alloc::Global;
@@ -130,8 +131,11 @@ pub(crate) fn run_over<G: Gate>(
     let words = words_of(rt, alloc, line);
     let mut shelf = MemoryShelf::new(files, only(rt, alloc, fetch));
     match words.as_slice() {
-        [command, ..] if command.as_str() == "session" => {
+        [command, ..] if command.as_str() == "session" || command.as_str() == "replay" => {
             run_session(alloc, &words, &mut shelf, desk)
+        }
+        [command, ..] if command.as_str() == "sale" || command.as_str() == "pair" => {
+            run_sale(alloc, &words, &mut shelf, desk)
         }
         _ => run(rt, alloc, &words, &mut shelf, desk, gate),
     }
@@ -190,13 +194,15 @@ fn expect_too_long(
     expect_job(rt, alloc, line, made.as_str(), 0, 5, text);
 }
 
-/// A book, a session and a schedule that are a byte too long.
+/// A book, a session, a sale and two schedules that are a byte too long.
 #[test]
 fn files_are_too_long(rt: HostRuntime) {
     expect_too_long(&rt, rt.alloc(), "clear g.auc s.srv made", 4_194_305);
     expect_too_long(&rt, rt.alloc(), "session made s.srv", 65_537);
+    expect_too_long(&rt, rt.alloc(), "sale made s.srv", 65_537);
     let rehearse = "rehearse g.auc s.srv b.book made";
     expect_too_long(&rt, rt.alloc(), rehearse, 16_777_217);
+    expect_too_long(&rt, rt.alloc(), "replay day.ses s.srv made", 16_777_217);
 }
 
 /// A tape whose masks are all rejected.

@@ -13,6 +13,7 @@ use Rattle.beet_forms.specs.Names.{is_name_of}
 use Rattle.beet_words.specs.Words.{accepted}
 use Rattle.beet_bids.specs.AuctionFiles.{auction_of}
 use Rattle.beet_bids.specs.BidFiles.{bid_of}
+use Rattle.beet_bids.specs.Books.{Book}
 use Rattle.beet_bids.specs.Grids.{Grid}
 use Rattle.beet_bids.specs.Outcomes.{outcome_of}
 use Rattle.beet_bids.specs.declared.auction_file.TheConstants.{AUCTION_LIMIT}
@@ -32,7 +33,7 @@ use Rattle.beet_farmer.specs.declared.list_file.TheConstants.{LIST_LIMIT}
 use Rattle.beet_plan.specs.Auction.{auction_over}
 use Rattle.beet_plan.specs.Runs.{finish_of}
 use Rattle.beet_delivery.specs.Events.{Delivered, after, passed}
-use Rattle.beet_auction.specs.Endings.{book_rounds}
+use Rattle.beet_auction.specs.Endings.{book_finish, book_rounds}
 use Rattle.beet_world.specs.Schedules.{schedule_of}
 use Rattle.beet_world.specs.Worlds.{named_in}
 use Rattle.beet_world.specs.declared.schedule.Delivery.{Delivery}
@@ -74,7 +75,7 @@ use Rattle.beet_app_laws.specs.Calls.{Call}
 use Rattle.beet_app_laws.specs.Dues.{IsDue}
 use Rattle.beet_app_laws.specs.Dues.{status_of_first}
 use Rattle.beet_completeness_laws.specs.Complete.{CanAudit, CanCompare, CanOpen, CanRehearse, CanClear, CanSeal, CanTally}
-use Rattle.beet_completeness_laws.specs.Complete.{CanRunTrial, CanWitness}
+use Rattle.beet_completeness_laws.specs.Complete.{CanRunTrial, CanWitness, MasksSufficeFor}
 use Rattle.beet_completeness_laws.specs.WithoutFault.{IsDoneOrShort, RunsWithoutFault}
 use Rattle.beet_completeness_laws.proofs.Audits.{audit-done}
 use Rattle.beet_completeness_laws.proofs.Leading.{IsDoneOver, book-done, book-ends, done-or-short, passes, passes-both}
@@ -99,7 +100,7 @@ module _ (files : List File) where
       then-done files (loaded_errand auction servers list) can.loaded _ can.loaded_read
       (book-done (book_with can.loaded.grid can.loaded.farmers) (masks_of can.loaded.servers) can.masks)
 
-  watch-done : (auction servers list : List ℕ) → CanClear files (loaded_errand auction servers list) →
+  pub watch-done : (auction servers list : List ℕ) → CanClear files (loaded_errand auction servers list) →
       IsDoneOver files (watch_errand auction servers list)
   watch-done auction servers list can =
       then-done files (loaded_errand auction servers list) can.loaded _ can.loaded_read
@@ -140,7 +141,7 @@ module _ (files : List File) where
   within-passes list grid count next few = ap (λ (b : Bool). if b then bad_file list over_product else next)
       (le-ltb MOST_PRODUCT (0 + count * grid.prices) (omega (arith, few)))
 
-  witness-done : (auction servers list out : List ℕ) → CanWitness files auction servers list →
+  pub witness-done : (auction servers list out : List ℕ) → CanWitness files auction servers list →
       IsDoneOver files (witness_errand auction servers list out)
   unfolding witness_job list_job kept_job
   witness-done auction servers list out can =
@@ -174,18 +175,23 @@ module _ (files : List File) where
       let three = not-spent o (passed rounds x Three == rounds) (passed rounds x Three) in
       λ i. if sym one i || sym two i || sym three i then Spent else Done
 
+  -- of a book whose masks suffice no server has met the third rejected mask, whatever was delivered
+  pub rehearsal-done : (book : Book) (masks : Trio (List ℕ)) → MasksSufficeFor book masks → (x : Delivered) →
+      Done ≡ rehearsal_status (rehearsal_of (book_finish book masks) (book_rounds book masks) x)
+  rehearsal-done book masks h x =
+      let rounds = book_rounds book masks in
+      stands-done (outcome_of book) rounds x
+      ∙ ap (λ finish. rehearsal_status (rehearsal_of finish rounds x)) (sym (book-ends book masks h))
+
   pub rehearse-done : (auction servers list name : List ℕ) (loaded : AuctionWithBidders) (schedule : List Delivery) →
       CanRehearse files auction servers list name loaded schedule →
       IsDoneOver files (rehearse_errand auction servers list name)
   rehearse-done auction servers list name loaded schedule can =
       let book = book_with loaded.grid loaded.farmers in
       let masks = masks_of loaded.servers in
-      let rounds = book_rounds book masks in
-      let delivered = after rounds (named_in schedule) in
       then-done files (loaded_errand auction servers list) loaded _ can.loaded_read (
       then-done files (reads name SCHEDULE_LIMIT schedule_of) schedule _ can.schedule_read
-      (stands-done (outcome_of book) rounds delivered
-      ∙ ap (λ finish. rehearsal_status (rehearsal_of finish rounds delivered)) (sym (book-ends book masks can.masks))))
+      (rehearsal-done book masks can.masks (after (book_rounds book masks) (named_in schedule))))
 
   -- ---- a trial
 

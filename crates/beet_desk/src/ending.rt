@@ -5,8 +5,8 @@ use std::sync::atomic::{AtomicBool, Ordering};
 use std::thread::Parker;
 use std::time::Duration;
 
-/// The longest that the desk sleeps while the servers run, in microseconds. Servers that run meanwhile have the queue
-/// for themselves for about that long, and push no more notes than some hundreds.
+/// The longest that the desk sleeps while the servers run, in microseconds. They have the queue for themselves
+/// meanwhile.
 const LONGEST_SLEEP: u64 = 200;
 
 /// Whether the servers have ended. The desk sleeps on it if it has found no note.

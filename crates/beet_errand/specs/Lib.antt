@@ -6,3 +6,4 @@ pub mod Overs
 pub mod Runs
 pub mod Tasks
 pub mod Records
+pub mod Worlds

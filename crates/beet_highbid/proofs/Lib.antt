@@ -1,4 +1,5 @@
 pub mod SeenBids
 pub mod Pairs
 pub mod SaleRows
+pub mod CutWords
 mod SaleMaps

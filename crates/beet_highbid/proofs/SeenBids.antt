@@ -13,7 +13,8 @@ use Rattle.beet_view.specs.BookViews.{names}
 use Rattle.beet_view.proofs.Marks.{names-is}
 use Rattle.beet_mapped.specs.Dealers.{Party, Dealer, DealerMapped, DealersMapped, dealers_of}
 use Rattle.beet_mapped.proofs.DealerFacts.{first-mapped, point-same, rest-mapped}
-use Rattle.beet_trades.specs.Enough.{HasAccepted, words_read}
+use Rattle.beet_trades.specs.Enough.{HasAccepted}
+use Rattle.beet_masking.specs.Masks.{with_spare}
 use Rattle.beet_trades.proofs.Drawn.{accepted-read}
 use Rattle.beet_sale_file.specs.declared.rows.SaleBid.{SaleBid}
 use Rattle.beet_sale_map.specs.Bids.{Agree, AreSaleBids}
@@ -25,13 +26,13 @@ use Rattle.beet_highbid.specs.SaleViews.{bids_seen, kept_if, seen_bid, view_of_s
 
 -- a dealer with the words that are read
 abbrev cut : Dealer → Dealer
-cut d = record { party = d.party; words = take (words_read 1) d.words }
+cut d = record { party = d.party; words = take (with_spare 1) d.words }
 
 dealers-cut : (parties : List Party) (words : List (List ℕ)) →
-    dealers_of parties (map (take (words_read 1)) words) ≡ map cut (dealers_of parties words)
+    dealers_of parties (map (take (with_spare 1)) words) ≡ map cut (dealers_of parties words)
 dealers-cut [] words = refl
 dealers-cut (b ∷ bs) [] = refl
-dealers-cut (b ∷ bs) (w ∷ ws) = ap (λ l. record { party = b; words = take (words_read 1) w } ∷ l) (dealers-cut bs ws)
+dealers-cut (b ∷ bs) (w ∷ ws) = ap (λ l. record { party = b; words = take (with_spare 1) w } ∷ l) (dealers-cut bs ws)
 
 -- what is true of each list is true of the words of each that deals
 abbrev can_deal : Dealer → Type 0
@@ -54,17 +55,17 @@ module _ (s : Point) where
   seen-same one other q q' h h' own m =
       let point : point_in (cut other) s ≡ point_in (cut one) s =
       point-cut other s h' ∙ point-same s one other q'.1 own m 0 (omega (arith, q.0)) ∙ sym (point-cut one s h) in
-      let secret : kept_if (names other.party.known s) (bid_in other) (take (words_read 1) other.words)
-      ≡ kept_if (names one.party.known s) (bid_in one) (take (words_read 1) one.words) =
+      let secret : kept_if (names other.party.known s) (bid_in other) (take (with_spare 1) other.words)
+      ≡ kept_if (names one.party.known s) (bid_in one) (take (with_spare 1) one.words) =
       elim (cases_Bool (names one.party.known s)) [
         | inl t ↦
             let known = names-is one.party.known s t in
             λ x. kept_if (names (m.known x) s)
             (bid_in (record { party = record { known = one.party.known; quantities = own known x }; words = [] }))
-            (take (words_read 1) (m.own known x))
+            (take (with_spare 1) (m.own known x))
         | inr f ↦
-            (λ x. kept_if ((ap (λ k. names k s) m.known ∙ f) x) (bid_in other) (take (words_read 1) other.words))
-            ∙ sym (λ x. kept_if (f x) (bid_in one) (take (words_read 1) one.words))
+            (λ x. kept_if ((ap (λ k. names k s) m.known ∙ f) x) (bid_in other) (take (with_spare 1) other.words))
+            ∙ sym (λ x. kept_if (f x) (bid_in one) (take (with_spare 1) one.words))
       ] in
       λ x. record { known = m.known x; point = point x; own = secret x }
 

@@ -12,8 +12,8 @@ ghost use Rattle.beet_highbid.specs.SalePairs.{AreOneSalePair, AreTwoSales, CanS
 /// For two sales that agree for a server, which is to say that they have as many bidders with the same marks, the same
 /// bids of the server's own, and the same winner and price, all words with which the first can be run go with exactly
 /// one choice of words of the second, and all words of the second go with exactly one choice of the first. Whatever the
-/// words, the server's transcripts are the same bytes in both. So a server that does not know the winner cannot tell
-/// which bid has won.
+/// words, the server's transcripts are the same bytes in both. So a server that does not know the winner's bid cannot
+/// tell it from any other bid that gives the same winner and price.
 pub fn sales_that_sell_alike_look_the_same()
     ensures second { (s : Point) (gates : Gates) (first second : List SaleBid) (words : Words) →
         AreTwoSales s first second → CanSell first words →

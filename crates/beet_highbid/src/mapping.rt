@@ -4,7 +4,7 @@ ghost use Rattle.std.specs.Prelude.{◌≡◌, IfErr, IfOk};
 ghost use Rattle.beet_sale_file.specs.Sales.{bids_of};
 ghost use Rattle.beet_sale_map.specs.Bids.{Agree};
 ghost use Rattle.beet_sale_map.specs.Disagreement.{RefusesMap};
-ghost use Rattle.beet_sale_map.specs.Enough.{AreEnough};
+ghost use Rattle.beet_sale_map.specs.Enough.{AreEnough, cut_words};
 ghost use Rattle.beet_sale_map.specs.MappedSales.{Ends};
 ghost use Rattle.beet_sale_map.specs.Worlds.{IsOnlyFirst, IsOnlySecond, Mapped};
 ghost use Rattle.beet_highbid.specs.SaleViews.{sale_transcript, view_of_sale};
@@ -46,6 +46,8 @@ pub fn sale_map(
         (IsOnlySecond me first.now.gates (bids_of first.now.rows) words.now (bids_of second.now.rows)) }
     ensures back { IfOk result
         (IsOnlyFirst me first.now.gates (bids_of first.now.rows) words.now (bids_of second.now.rows)) }
+    ensures cut { cut_words (bids_of first.now.rows) words.now ≡ words.now
+        → IfOk result (λ mapped. cut_words (bids_of second.now.rows) mapped ≡ mapped) }
 {
     let mapped = map_sale(alloc, me, first.gates(), first.bids(), second.bids(), words)?;
     Ok(mapped)

@@ -1,6 +1,6 @@
 -- The answer for two books.
-use Rattle.std.proofs.Common.{◌≡◌, ℕ, List, [], ◌∷◌, ◌++◌, Result, Ok, Err, IfOk, IfErr, refl}
-use Rattle.std.specs.Prelude.{IsSomeAnd, codes}
+use Rattle.std.proofs.Common.{◌≡◌, ℕ, List, Result, Ok, Err, IfOk, IfErr, refl}
+use Rattle.std.specs.Prelude.{IsSomeAnd}
 use Rattle.beet_field.specs.declared.point.Point.{Point}
 use Rattle.beet_words.specs.Bundles.{Words, bundle_bytes}
 use Rattle.beet_bids.specs.Books.{Book}
@@ -8,9 +8,8 @@ use Rattle.beet_bids.specs.Grids.{Grid}
 use Rattle.beet_plan.specs.declared.Finish.{Finish}
 use Rattle.beet_auction.specs.Endings.{book_finish, book_rounds}
 use Rattle.beet_store.specs.Files.{File}
-use Rattle.beet_run.specs.Outcomes.{status_of}
-use Rattle.beet_run.specs.OutcomeTexts.{outcome_text}
-use Rattle.beet_errand.specs.Texts.{line_of}
+use Rattle.beet_run.specs.Outcomes.{outcome_answer}
+use Rattle.beet_errand.specs.Worlds.{files_of_worlds, telling_equal}
 use Rattle.beet_errand.specs.Errands.{Answer}
 use Rattle.beet_errand.specs.Fetches.{IsDone}
 use Rattle.beet_errand.specs.declared.answer.Stop.{Stop}
@@ -60,12 +59,8 @@ pub replies-agreed : (out : List ℕ) (first : Book) (words mapped : Words) (see
     (grid : Grid) (files : List File) (reply : Answer) →
     grid ≡ first.grid → finish ≡ book_finish first words.masks → rounds ≡ book_rounds first words.masks →
     one ≡ seen → two ≡ seen → bytes ≡ bundle_bytes mapped →
-    files ≡ (out ++ codes ".first", one) ∷ (out ++ codes ".second", two) ∷ (out ++ codes ".words", bytes) ∷ [] →
-    reply ≡ record {
-      status = status_of finish;
-      files = files;
-      text = outcome_text grid finish rounds ++ line_of (codes "transcripts equal");
-    } →
+    files ≡ files_of_worlds out one two bytes →
+    reply ≡ telling_equal (outcome_answer grid finish rounds) files →
     reply ≡ agreed_answer out first words seen mapped
 replies-agreed out first words mapped seen one two bytes finish rounds grid files reply g f r a b w fs is =
     rw (is, fs, g, f, r, a, b, w) refl

@@ -1,6 +1,6 @@
 -- What the job `worlds` answers for two books that agree: what one server sees in both worlds, and the words of the
 -- second.
-use Rattle.std.specs.Prelude.{◌≡◌, ℕ, List, [], ◌∷◌, ◌++◌, codes}
+use Rattle.std.specs.Prelude.{◌≡◌, ℕ, List, ◌++◌}
 use Rattle.beet_field.specs.declared.point.Point.{Point}
 use Rattle.beet_words.specs.Bundles.{Words, bundle_bytes}
 use Rattle.beet_bids.specs.Books.{Book}
@@ -9,7 +9,7 @@ use Rattle.beet_view.specs.BookViews.{transcript_for}
 use Rattle.beet_auction_map.specs.Agreement.{Agree}
 use Rattle.beet_auction_map.specs.MappedWords.{IsOnlyFirst, IsOnlySecond, Mapped}
 use Rattle.beet_errand.specs.Errands.{Answer}
-use Rattle.beet_errand.specs.Texts.{line_of}
+use Rattle.beet_errand.specs.Worlds.{equal_text, files_of_worlds}
 use Rattle.beet_run.specs.Outcomes.{status_of}
 use Rattle.beet_run.specs.OutcomeTexts.{outcome_text}
 
@@ -17,17 +17,13 @@ use Rattle.beet_run.specs.OutcomeTexts.{outcome_text}
 abbrev pub worlds_text : Book → Words → List ℕ
 worlds_text first words =
     outcome_text first.grid (book_finish first words.masks) (book_rounds first words.masks)
-    ++ line_of (codes "transcripts equal")
+    ++ equal_text
 
 -- the answer that puts what the server has seen twice, once for each world, and then the words of the second
 abbrev pub agreed_answer : List ℕ → Book → Words → List ℕ → Words → Answer
 agreed_answer out first words seen second_words = record {
   status = status_of (book_finish first words.masks);
-  files =
-      (out ++ codes ".first", seen)
-      ∷ (out ++ codes ".second", seen)
-      ∷ (out ++ codes ".words", bundle_bytes second_words)
-      ∷ [];
+  files = files_of_worlds out seen seen (bundle_bytes second_words);
   text = worlds_text first words;
 }
 

@@ -1,11 +1,10 @@
 //! The answer for two books.
 
-ghost use Rattle.std.specs.Prelude.{◌≡◌, ◌++◌, ◌∷◌, [], IfErr, IfOk, codes, string_bytes};
+ghost use Rattle.std.specs.Prelude.{◌≡◌, IfErr, IfOk};
 ghost use Rattle.beet_words.specs.Bundles.{FitsBundle};
-ghost use Rattle.beet_errand.specs.Texts.{line_of};
+ghost use Rattle.beet_errand.specs.Worlds.{telling_equal};
 ghost use Rattle.beet_load.specs.Wholes.{CanStart};
-ghost use Rattle.beet_run.specs.Outcomes.{status_of};
-ghost use Rattle.beet_run.specs.OutcomeTexts.{outcome_text};
+ghost use Rattle.beet_run.specs.Outcomes.{outcome_answer};
 ghost use Rattle.beet_job_worlds.specs.Answering.{agreed_answer};
 ghost use Rattle.beet_view.specs.BookViews.{transcript_for};
 ghost use Rattle.beet_job_worlds.specs.Ending.{AnswersBooks};
@@ -13,8 +12,8 @@ ghost use Rattle.beet_job_worlds.specs.Ending.{AnswersBooks};
 use crate::refusing::refusal;
 use beet_auction_map::world_map;
 use beet_bids::{Book, Grid};
-use beet_errand::{NewFile, Reply, Stop};
-use beet_field::{Point, Trio};
+use beet_errand::{NewFile, Reply, Stop, worlds_files};
+use beet_field::Point;
 use beet_load::Whole;
 use beet_plan::Finish;
 use beet_run::outcome_reply;
@@ -24,34 +23,6 @@ use std::alloc::{AllocError, Global};
 use std::marker::Sync;
 use std::thread::Threads;
 
-/// A file whose name is the stem with an ending.
-fn file_of(alloc: Global, stem: &str, ending: &str, bytes: Vec<u8>) -> Result<NewFile, AllocError>
-    ensures { IfOk result (λ file. file ≡ (stem.now ++ ending.now, bytes.items)) }
-{
-    let name = format!(in alloc; "{stem}{ending}")?;
-    Ok(NewFile { name, bytes })
-}
-
-/// The files of both transcripts and of the words, in the order in which they are put.
-fn files_of(
-    alloc: Global,
-    out: &str,
-    first: Vec<u8>,
-    second: Vec<u8>,
-    words: Vec<u8>,
-) -> Result<Vec<NewFile>, AllocError>
-    ensures { IfOk result (λ files. files.items ≡ (out.now ++ codes ".first", first.items)
-        ∷ (out.now ++ codes ".second", second.items) ∷ (out.now ++ codes ".words", words.items) ∷ []) }
-{
-    let files = Trio {
-        one: file_of(alloc, out, ".first", first),
-        two: file_of(alloc, out, ".second", second),
-        three: file_of(alloc, out, ".words", words),
-    };
-    let Trio { one, two, three } = files.transpose()?;
-    Ok(vec![in alloc; one, two, three]?)
-}
-
 /// The reply that tells how the first run ended, and that the transcripts are equal, and puts these files.
 fn equal_reply(
     alloc: Global,
@@ -60,16 +31,10 @@ fn equal_reply(
     rounds: u32,
     files: Vec<NewFile>,
 ) -> Result<Reply, AllocError>
-    ensures { IfOk result (λ reply. reply ≡ record {
-      status = status_of finish;
-      files = files.items;
-      text = outcome_text grid.now finish rounds ++ line_of (codes "transcripts equal");
-    }) }
+    ensures { IfOk result (λ reply. reply ≡ telling_equal (outcome_answer grid.now finish rounds) files.items) }
 {
-    let mut reply = outcome_reply(alloc, grid, finish, rounds)?;
-    reply.text.extend_from_slice(b"transcripts equal\n")?;
-    reply.files = files;
-    Ok(reply)
+    let reply = outcome_reply(alloc, grid, finish, rounds)?;
+    reply.telling_equal(files)
 }
 
 /// Runs both worlds of books that agree, and answers with both transcripts and the words of the second.
@@ -97,7 +62,7 @@ fn agreed_reply<R: Threads + Sync>(
         rounds,
         transcript,
     } = first_run;
-    let files = files_of(alloc, out, transcript, second_run.transcript, words)?;
+    let files = worlds_files(alloc, out, transcript, second_run.transcript, words)?;
     Ok(equal_reply(alloc, whole.book.grid(), finish, rounds, files)?)
 }
 

@@ -22,6 +22,8 @@ ghost use Rattle.beet_bids.specs.declared.lines.TheConstants.{QUANTITY_TOO_LARGE
 ghost use Rattle.beet_mask.specs.Mask.{mask_rounds_of, mask_wires_of};
 ghost use Rattle.beet_compare.specs.Compare.{compare_rounds_of, compare_wires_of};
 ghost use Rattle.beet_masking.specs.declared.TheConstants.{MASK_COEFFICIENTS, SPARE_MASKS, SPARE_WORDS};
+ghost use Rattle.beet_sale_plan.specs.declared.TheConstants.{BIDDER_COEFFICIENTS, BIDDER_MASKS, BIDDER_WIRES};
+ghost use Rattle.beet_sale_plan.specs.declared.TheConstants.{SELECTION_WIRES};
 ghost use Rattle.beet_book.specs.declared.book_file.TheConstants.{BOOK_LIMIT, MOST_PRODUCT, OVER_PRODUCT};
 ghost use Rattle.beet_book.specs.declared.entries.TheConstants.{BAD_SOURCE};
 ghost use Rattle.beet_book.specs.declared.named_file.TheConstants.{ONE_TOO_MANY, SAME_NAME, TOO_MANY};
@@ -34,6 +36,9 @@ ghost use Rattle.beet_view.specs.declared.reading.TheConstants.{MOST_ROUNDS};
 ghost use Rattle.beet_farmer.specs.declared.envelope.TheConstants.{AFTER_POINTS, BAD_POINT, ENVELOPE_LIMIT};
 ghost use Rattle.beet_farmer.specs.declared.envelope.TheConstants.{TRUNCATED_ENVELOPE, WRONG_GRID, WRONG_SERVER};
 ghost use Rattle.beet_farmer.specs.declared.list_file.TheConstants.{LIST_LIMIT};
+ghost use Rattle.beet_lots.specs.declared.lots.TheConstants.{MOST_LOTS};
+ghost use Rattle.beet_lot_files.specs.declared.seed_file.TheConstants.{NOT_SEED};
+ghost use Rattle.beet_lot_files.specs.declared.session_file.TheConstants.{ONE_LOT_TOO_MANY, SESSION_LIMIT};
 ghost use Rattle.beet_errand.specs.declared.fetching.TheConstants.{TOO_LONG};
 ghost use Rattle.beet_job_trial.specs.declared.rules.TheConstants.{BASE, FIRST_SEED, TICK};
 
@@ -46,6 +51,7 @@ pub fn files_have_these_limits()
     ensures bid { BID_LIMIT ≡ 1048576 }
     ensures tape { TAPE_LIMIT ≡ 1048576 }
     ensures schedule { SCHEDULE_LIMIT ≡ 16777216 }
+    ensures session { SESSION_LIMIT ≡ 65536 }
     ensures envelope { ENVELOPE_LIMIT ≡ 131072 }
     ensures longest { LONGEST_FILE ≡ 67108864 }
 {}
@@ -75,6 +81,12 @@ pub fn runs_have_these_limits()
     ensures rounds { MOST_ROUNDS ≡ 4096 }
 {}
 
+/// The limits of sessions.
+pub fn sessions_have_these_limits()
+    ensures lots { MOST_LOTS ≡ 16 }
+    ensures one_lot_too_many { ONE_LOT_TOO_MANY ≡ 18 }
+{}
+
 /// The rule of a trial.
 pub fn trials_have_these_numbers()
     ensures base { BASE ≡ 1000 }
@@ -99,6 +111,15 @@ pub fn blocks_have_these_sizes()
     ensures coefficients { MASK_COEFFICIENTS ≡ 512 }
 {}
 
+/// The bounds of the script of a sale: of each server, for each bidder, mask words and numbers; and wires, for each
+/// bidder, and for each mask with the comparison under it.
+pub fn sales_have_these_bounds()
+    ensures masks { BIDDER_MASKS ≡ 2 }
+    ensures coefficients { BIDDER_COEFFICIENTS ≡ 768 }
+    ensures wires { BIDDER_WIRES ≡ 17 }
+    ensures selection { SELECTION_WIRES ≡ 900 }
+{}
+
 /// The reasons of text files.
 pub fn text_reasons_have_these_numbers()
     ensures too_long { TOO_LONG ≡ 20 }
@@ -112,6 +133,7 @@ pub fn text_reasons_have_these_numbers()
     ensures same_name { SAME_NAME ≡ 4 }
     ensures too_many { TOO_MANY ≡ 5 }
     ensures over_product { OVER_PRODUCT ≡ 6 }
+    ensures not_seed { NOT_SEED ≡ 7 }
     ensures off_grid { OFF_GRID ≡ 3 }
     ensures not_ascending { NOT_ASCENDING ≡ 4 }
     ensures buy_rises { BUY_RISES ≡ 5 }

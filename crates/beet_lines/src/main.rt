@@ -1,11 +1,13 @@
 //! The jobs of the programs over real files: each line of the file `lines` is one command, and what it says and its
-//! status are printed below it. A line `session SESSION SERVERS` is one of the program of sessions. A line
-//! `same ONE OTHER` compares two files, and its status is 0 where they hold the same bytes. A line `size FILE` says how
-//! many bytes a file holds. A line `splice FILE AT COUNT DIGITS OUT` puts a file in which so many bytes from a place on
-//! give way to those of hexadecimal digits, or to none where these are `-`.
+//! status are printed below it. Lines `session ..` and `replay ..` are of the program of sessions, and lines `sale ..`
+//! and `pair ..` are of the program of sales. A line `same ONE OTHER` compares two files, and its status is 0 if they
+//! hold the same bytes. A line `size FILE` says how many bytes a file holds. A line `splice FILE AT COUNT DIGITS OUT`
+//! puts a file in which so many bytes from a place on give way to those of hexadecimal digits, or to none if these are
+//! `-`.
 #![tactic(auto)]
 
 use beet_link::FreeGate;
+use beet_sale_app::run_sale;
 use beet_session_app::run_session;
 use beet_store::{Desk, HostDesk, HostShelf, Shelf};
 use std::alloc::{AllocError, Global};
@@ -129,7 +131,12 @@ fn run_words<S: Shelf, K: Desk, R: Threads + Wait + Clock + Sync>(
             };
             splice(alloc, shelf, desk, &words)
         }
-        [command, ..] if command.as_str() == "session" => { run_session(alloc, words, shelf, desk) }
+        [command, ..] if command.as_str() == "session" || command.as_str() == "replay" => {
+            run_session(alloc, words, shelf, desk)
+        }
+        [command, ..] if command.as_str() == "sale" || command.as_str() == "pair" => {
+            run_sale(alloc, words, shelf, desk)
+        }
         _ => beet_app::run(rt, alloc, words, shelf, desk, &FreeGate),
     }
 }

@@ -4,7 +4,8 @@ use Rattle.std.proofs.lemmas.List.FromFn.{length-map-range_with_len}
 use Rattle.beet_words.specs.Bundles.{Words}
 use Rattle.beet_words.specs.Seeds.{seed_word, seed_words}
 use Rattle.beet_words.specs.Tapes.{Tape}
-use Rattle.beet_load.specs.Counts.{Counts, with_spare}
+use Rattle.beet_load.specs.Counts.{Counts}
+use Rattle.beet_masking.specs.Masks.{with_spare}
 use Rattle.beet_load.specs.Servers.{ServerWords, AreCut, IsCut, cut_server, cut_servers, seeded}
 use Rattle.beet_load.specs.Lots.{first_stream}
 use Rattle.beet_load.specs.declared.wanted.Wanted.{Wanted}

@@ -1,18 +1,13 @@
 -- How many words are wanted.
-use Rattle.std.specs.Prelude.{ℕ, ◌+◌, ◌*◌}
+use Rattle.std.specs.Prelude.{ℕ, ◌*◌}
 use Rattle.beet_bids.specs.Grids.{Grid}
 use Rattle.beet_plan.specs.Auction.{auction_over, most_coefficients, most_masks}
-use Rattle.beet_masking.specs.declared.TheConstants.{SPARE_WORDS}
 
 -- of each server mask words, and words that are numbers; of each bidder words that are numbers
 pub record Counts : Type 0 where
   pub masks : ℕ
   pub coefficients : ℕ
   pub words : ℕ
-
--- where words may be passed over, a few more are kept than are wanted
-abbrev pub with_spare : ℕ → ℕ
-with_spare wanted = wanted + SPARE_WORDS
 
 -- a server deals as many masks as the auction over the grid may ask for
 abbrev pub masks_wanted : Grid → ℕ

@@ -13,7 +13,8 @@ use Rattle.beet_book.specs.declared.sources.ServerSource.TheVariants.{Seed, Tape
 use Rattle.beet_book.specs.declared.sources.Servers.{Servers}
 use Rattle.beet_book.specs.declared.sources.Servers.TheVariants.{Three, Bundle}
 use Rattle.beet_errand.specs.Errands.{Errand, Step, ◌>>=◌, ◌>>◌, gives, reads, refuses}
-use Rattle.beet_load.specs.Counts.{Counts, with_spare}
+use Rattle.beet_load.specs.Counts.{Counts}
+use Rattle.beet_masking.specs.Masks.{with_spare}
 use Rattle.beet_load.specs.Lots.{first_stream}
 use Rattle.beet_load.specs.WordTexts.{server_short_text}
 use Rattle.beet_load.specs.declared.wanted.Wanted.{Wanted}

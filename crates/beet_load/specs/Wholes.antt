@@ -12,7 +12,8 @@ use Rattle.beet_book.specs.BookFiles.{book_of}
 use Rattle.beet_book.specs.declared.entries.Entry.{Entry}
 use Rattle.beet_book.specs.Farmers.{BidderWithWords}
 use Rattle.beet_errand.specs.Errands.{Step, ◌>>=◌, ◌>>◌, gives, reads}
-use Rattle.beet_load.specs.Counts.{Counts, counts_of, with_spare}
+use Rattle.beet_load.specs.Counts.{Counts, counts_of}
+use Rattle.beet_masking.specs.Masks.{with_spare}
 use Rattle.beet_load.specs.Limits.{within_product}
 use Rattle.beet_load.specs.Loading.{AuctionWithBidders, rest_errand}
 use Rattle.beet_load.specs.Servers.{ServerWords, HaveEnough, AreCut, masks_of, coefficients_of}

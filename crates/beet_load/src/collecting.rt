@@ -16,8 +16,8 @@ use beet_store::Shelf;
 use beet_words::WordList;
 use std::alloc::Global;
 
-/// The list at a place, where lists are given.
-pub(crate) fn list_of<'a>(lists: Option<&'a [WordList]>, i: usize) -> Option<&'a WordList>
+/// The list at a place, if lists are given.
+pub fn list_of<'a>(lists: Option<&'a [WordList]>, i: usize) -> Option<&'a WordList>
     ensures { option_map (λ words. words.now) result ≡ list_at (option_map (λ all. all.now) lists.entry) i }
 {
     match lists {

@@ -9,7 +9,7 @@ ghost use Rattle.beet_bids.specs.Curves.{IsOfGrid, IsCurve, Curve};
 ghost use Rattle.beet_bids.specs.BidFiles.{bid_of};
 ghost use Rattle.beet_load.specs.WordTexts.{too_few_text};
 ghost use Rattle.beet_errand.specs.Errands.{reads};
-ghost use Rattle.beet_load.specs.Counts.{with_spare};
+ghost use Rattle.beet_masking.specs.Masks.{with_spare};
 ghost use Rattle.beet_load.specs.Farmers.{words_errand, bidder_errand, farmer_errand, enough_words};
 ghost use Rattle.beet_load.specs.FarmerViews.{farmer_of};
 ghost use Rattle.beet_errand.specs.Fetches.{Reads, Refuses, Tests};

@@ -17,15 +17,15 @@ mod whole;
 mod whole_loading;
 
 pub use books::{read_entries, read_grid};
-pub use collecting::add_farmers;
+pub use collecting::{add_farmers, list_of};
 pub use curves::load_curves;
 pub use farmers::{BidderWithTape, check_words, front, read_bidder, read_curve, read_tape_file};
 pub use limits::check_product;
-pub use loading::{Loaded, load, load_rest};
+pub use loading::{Loaded, lists_in, load, load_rest};
 pub use servers::{
     AllWords, ServerWords, check_three, cut_three, read_server, read_sources, read_words,
     seed_words,
 };
 pub use wanted::{Counts, Wanted, auction_counts, auction_wants};
 pub use whole::Whole;
-pub use whole_loading::{load_whole, load_whole_rest};
+pub use whole_loading::{load_whole, load_whole_rest, words_with};

@@ -39,8 +39,8 @@ impl Model for Loaded {
     ghost invariant = { λ a. HaveEnough (counts_of a.grid) a.servers };
 }
 
-/// The lists of the bidders, where a bundle has them.
-pub(crate) fn lists_in(words: &AllWords) -> Option<&[WordList]>
+/// The lists of the bidders, if a bundle has them.
+pub fn lists_in(words: &AllWords) -> Option<&[WordList]>
     ensures { option_map (λ all. all.now) result ≡ words.now.bidders }
 {
     match &words.bidders {

@@ -1,7 +1,8 @@
 //! What is wanted of the words that a job reads.
 
 ghost use Rattle.std.specs.Prelude.{◌≡◌, ◌≤◌};
-ghost use Rattle.beet_load.specs.Counts.{counts_of, with_spare};
+ghost use Rattle.beet_load.specs.Counts.{counts_of};
+ghost use Rattle.beet_masking.specs.Masks.{with_spare};
 ghost use Rattle.beet_load.specs.Wanted.{wanted_of};
 ghost use Rattle.beet_words.specs.declared.bundle.TheConstants.{MOST_WORDS};
 

@@ -45,8 +45,8 @@ fn unzip<A, B>(pairs: Trio<(A, B)>) -> (Trio<A>, Trio<B>)
     (firsts, seconds)
 }
 
-/// The words of the servers and of the bidders.
-fn words_with(servers: Trio<ServerWords>, bidders: Vec<WordList>) -> Words
+/// The words of the servers and of the bidders, in lists.
+pub fn words_with(servers: Trio<ServerWords>, bidders: Vec<WordList>) -> Words
     ensures { result ≡ all_words servers bidders.items }
 {
     let (masks, coefficients) = unzip(servers.map(|_, words| words.into_lists()));

@@ -6,7 +6,7 @@ use Rattle.beet_field.specs.Field.{p}
 use Rattle.beet_field.specs.declared.trio.Trio.{Trio}
 use Rattle.beet_words.specs.Words.{IsWord}
 use Rattle.beet_mask.specs.Mask.{bits_of, mask_of, xor_of}
-use Rattle.beet_masking.specs.declared.TheConstants.{SPARE_MASKS}
+use Rattle.beet_masking.specs.declared.TheConstants.{SPARE_MASKS, SPARE_WORDS}
 
 -- each server's mask words are words
 pub record AreMasks (words : Trio (List ℕ)) : Type 0 where
@@ -55,3 +55,7 @@ dealt_for masks (suc k) = slice_index (accepted_among masks (suc k + SPARE_MASKS
 -- how many masks a run with so many comparisons may want
 abbrev pub masks_for : ℕ → ℕ
 masks_for comparisons = comparisons + SPARE_MASKS
+
+-- how many words are read if so many numbers are wanted, of which a few may be passed over
+abbrev pub with_spare : ℕ → ℕ
+with_spare wanted = wanted + SPARE_WORDS

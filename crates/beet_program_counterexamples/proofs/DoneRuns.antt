@@ -30,7 +30,9 @@ use Rattle.beet_audit.proofs.OneRunFacts.{right-from_one}
 use Rattle.beet_job_tally.specs.Tally.{tally_errand}
 use Rattle.beet_job_clear.specs.Clear.{clear_errand}
 use Rattle.beet_job_rehearse.specs.Rehearse.{rehearse_errand}
+use Rattle.beet_job_watch.specs.Watch.{watch_errand}
 use Rattle.beet_job_record.specs.Records.{record_errand}
+use Rattle.beet_job_witness.specs.Witness.{witness_errand}
 use Rattle.beet_job_envelopes.specs.Open.{open_errand}
 use Rattle.beet_job_envelopes.specs.Seal.{seal_errand}
 use Rattle.beet_job_trial.specs.Trial.{trial_errand}
@@ -45,13 +47,14 @@ use Rattle.beet_app.specs.Jobs.{Answering, Auditing, Comparing, Job, job_of, sea
 use Rattle.beet_app_laws.specs.Calls.{Call, IsOf, RunsJob}
 use Rattle.beet_app_laws.proofs.Led.{from-told, past, past-both}
 use Rattle.beet_app_laws.proofs.Telling.{one-value, told-both, told-views}
+use Rattle.beet_program_laws.specs.Accepted.{witness_words}
 use Rattle.beet_program_laws.proofs.Jobs.{runs-in}
 use Rattle.beet_program_laws.proofs.Read.{can-run-cut}
 use Rattle.beet_program_laws.proofs.Worlds.{is-both}
 use Rattle.beet_completeness_laws.specs.Complete.{CanAudit, CanClear, CanCompare, CanOpen, CanRehearse, CanRunTrial}
-use Rattle.beet_completeness_laws.specs.Complete.{CanSeal, CanTally}
+use Rattle.beet_completeness_laws.specs.Complete.{CanSeal, CanTally, CanWitness}
 use Rattle.beet_completeness_laws.proofs.Jobs.{clear-done, open-done, record-done, rehearse-done, seal-done, tally-done}
-use Rattle.beet_completeness_laws.proofs.Jobs.{trial-done}
+use Rattle.beet_completeness_laws.proofs.Jobs.{trial-done, watch-done, witness-done}
 use Rattle.beet_completeness_laws.proofs.Leading.{IsDoneOver, book-done}
 use Rattle.beet_program_counterexamples.specs.HasRun.{HasRun}
 use Rattle.beet_program_counterexamples.proofs.Deciding.{passes-to}
@@ -149,6 +152,15 @@ module _ (files : List File) where
       (past (are_names (auction ∷ servers ∷ list ∷ [])) (Some (Answering errand)) not)
       (clear-done files auction servers list can)
 
+  pub watch : (auction servers list : List ℕ) → job_of (codes "watch" ∷ auction ∷ servers ∷ list ∷ []) ≢ None →
+      CanClear files (loaded_errand auction servers list) →
+      HasRun files (codes "watch" ∷ auction ∷ servers ∷ list ∷ [])
+  watch auction servers list not can =
+      let errand = watch_errand auction servers list in
+      errand-run files (codes "watch" ∷ auction ∷ servers ∷ list ∷ []) errand
+      (past (are_names (auction ∷ servers ∷ list ∷ [])) (Some (Answering errand)) not)
+      (watch-done files auction servers list can)
+
   pub opened : (auction servers list : List ℕ) → job_of (codes "open" ∷ auction ∷ servers ∷ list ∷ []) ≢ None →
       CanOpen files auction servers list → HasRun files (codes "open" ∷ auction ∷ servers ∷ list ∷ [])
   opened auction servers list not can =
@@ -176,6 +188,14 @@ module _ (files : List File) where
       errand-run files (codes "record" ∷ auction ∷ servers ∷ list ∷ out ∷ []) errand
       (past-both (are_names (auction ∷ servers ∷ out ∷ [])) (is_name_of list) (Some (Answering errand)) not)
       (record-done files auction servers list out can)
+
+  pub witness : (auction servers list out : List ℕ) → job_of (witness_words auction servers list out) ≢ None →
+      CanWitness files auction servers list → HasRun files (witness_words auction servers list out)
+  witness auction servers list out not can =
+      let errand = witness_errand auction servers list out in
+      errand-run files (witness_words auction servers list out) errand
+      (past-both (are_names (auction ∷ servers ∷ out ∷ [])) (is_name_of list) (Some (Answering errand)) not)
+      (witness-done files auction servers list out can)
 
   pub seal : (auction bid source out : List ℕ) →
       job_of (codes "seal" ∷ auction ∷ bid ∷ source ∷ out ∷ []) ≢ None → CanSeal files auction bid source →

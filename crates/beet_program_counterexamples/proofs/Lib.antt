@@ -5,3 +5,4 @@ pub mod DoneRuns
 pub mod Needed
 pub mod TellingApart
 pub mod OneStatus
+pub mod TwoSealings

@@ -31,7 +31,7 @@ use Rattle.beet_book.specs.declared.sources.Servers.TheVariants.{Three, Bundle}
 use Rattle.beet_view.specs.Transcripts.{view_in}
 use Rattle.beet_errand.specs.Errands.{Step, ◌>>◌, gives, reads}
 use Rattle.beet_errand.specs.declared.answer.Refusal.TheVariants.{BadFile, TooFewWords}
-use Rattle.beet_load.specs.Counts.{with_spare}
+use Rattle.beet_masking.specs.Masks.{with_spare}
 use Rattle.beet_load.specs.Farmers.{bidder_errand, enough_words, farmer_errand, farmers_errand, list_at, words_errand}
 use Rattle.beet_load.specs.Limits.{over_product, within_product}
 use Rattle.beet_load.specs.Servers.{ServerWords, all_words_errand, counted, cut_servers, enough_held, enough_of}

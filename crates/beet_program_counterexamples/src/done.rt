@@ -6,10 +6,10 @@ ghost use Rattle.beet_world.specs.declared.schedule.Delivery.{Delivery};
 ghost use Rattle.beet_load.specs.Loading.{AuctionWithBidders, loaded_errand};
 ghost use Rattle.beet_load.specs.Wholes.{limited_errand};
 ghost use Rattle.beet_app.specs.Jobs.{job_of};
-ghost use Rattle.beet_program_laws.specs.Accepted.{audit_words};
+ghost use Rattle.beet_program_laws.specs.Accepted.{audit_words, witness_words};
 ghost use Rattle.beet_program_laws.specs.Again.{record_words};
 ghost use Rattle.beet_completeness_laws.specs.Complete.{CanAudit, CanClear, CanCompare, CanOpen, CanRehearse};
-ghost use Rattle.beet_completeness_laws.specs.Complete.{CanRunTrial, CanSeal, CanTally};
+ghost use Rattle.beet_completeness_laws.specs.Complete.{CanRunTrial, CanSeal, CanTally, CanWitness};
 ghost use Rattle.beet_program_counterexamples.specs.HasRun.{HasRun};
 
 /// The laws of completeness and of commands are not empty: what is right for a command has a run that ends with status
@@ -22,6 +22,10 @@ pub fn what_is_right_has_a_run()
         job_of (codes "clear" ∷ auction ∷ servers ∷ book ∷ []) ≢ None →
         CanClear files (loaded_errand auction servers book) →
         HasRun files (codes "clear" ∷ auction ∷ servers ∷ book ∷ []) }
+    ensures watch { (files : List File) (auction servers book : List ℕ) →
+        job_of (codes "watch" ∷ auction ∷ servers ∷ book ∷ []) ≢ None →
+        CanClear files (loaded_errand auction servers book) →
+        HasRun files (codes "watch" ∷ auction ∷ servers ∷ book ∷ []) }
     ensures rehearse { (files : List File) (auction servers book name : List ℕ) (loaded : AuctionWithBidders)
         (schedule : List Delivery) → job_of (codes "rehearse" ∷ auction ∷ servers ∷ book ∷ name ∷ []) ≢ None →
         CanRehearse files auction servers book name loaded schedule →
@@ -35,6 +39,9 @@ pub fn what_is_right_has_a_run()
     ensures opened { (files : List File) (auction servers list : List ℕ) →
         job_of (codes "open" ∷ auction ∷ servers ∷ list ∷ []) ≢ None →
         CanOpen files auction servers list → HasRun files (codes "open" ∷ auction ∷ servers ∷ list ∷ []) }
+    ensures witness { (files : List File) (auction servers list out : List ℕ) →
+        job_of (witness_words auction servers list out) ≢ None →
+        CanWitness files auction servers list → HasRun files (witness_words auction servers list out) }
     ensures trial { (files : List File) (first second : List ℕ) →
         CanRunTrial first second → HasRun files (codes "trial" ∷ first ∷ second ∷ []) }
     ensures worlds { (files : List File) (auction servers book1 book2 server out : List ℕ) →

@@ -78,6 +78,35 @@ files-apart out s other ne e =
     append_cancel_left (out ++ codes ".") (decimal (number_at_point s)) (decimal (number_at_point other)) e in
     ne (omega (arith, number-digit s, number-digit other, ap (λ (ds : List ℕ). get_or ds 0 0) same))
 
+-- ---- what an auditor holds
+
+-- the file of the auction is held as it was
+pub still-held : (files held : List File) (auction name : List ℕ) (grid : Grid) →
+    IsHeld files auction AUCTION_LIMIT auction_of grid → bytes_of held name ≡ bytes_of files auction →
+    IsHeld held name AUCTION_LIMIT auction_of grid
+still-held files held auction name grid h e =
+    record { bytes = h.bytes; held = e ∙ h.held; short = h.short; is = h.is }
+
+-- an auction and three transcripts that are held are read as their views
+pub held-reads : (held : List File) (name one two three : List ℕ) (grid : Grid) (view : Point → Viewed) →
+    IsHeld held name AUCTION_LIMIT auction_of grid → IsHeld held one LONGEST_FILE view_in (view One) →
+    IsHeld held two LONGEST_FILE view_in (view Two) → IsHeld held three LONGEST_FILE view_in (view Three) →
+    ReadsTo held (read_errand name one two three) (record { grid = grid; views = trio_of view })
+unfolding read_errand
+held-reads held name one two three grid view auction h1 h2 h3 next =
+    let all : Grid → Viewed → Viewed → Viewed → Errand = λ grid first second third. next
+    (record { grid = grid; views = record { one = first; two = second; three = third } }) in
+    reads-to held name AUCTION_LIMIT auction_of grid auction
+    (λ grid. reads one LONGEST_FILE view_in (λ first. reads two LONGEST_FILE view_in
+    (λ second. reads three LONGEST_FILE view_in (λ third. all grid first second third))))
+    ∙ reads-to held one LONGEST_FILE view_in (view One) h1
+    (λ first. reads two LONGEST_FILE view_in
+    (λ second. reads three LONGEST_FILE view_in (λ third. all grid first second third)))
+    ∙ reads-to held two LONGEST_FILE view_in (view Two) h2
+    (λ second. reads three LONGEST_FILE view_in (λ third. all grid (view One) second third))
+    ∙ reads-to held three LONGEST_FILE view_in (view Three) h3
+    (λ third. all grid (view One) (view Two) third)
+
 -- ---- what was put is read as the views of one run
 
 module _ (files : List File) (auction out : List ℕ) (loaded : AuctionWithBidders) (h : IsLimited files auction loaded) where
@@ -146,25 +175,15 @@ module _ (files : List File) (auction out : List ℕ) (loaded : AuctionWithBidde
   put-reads : (held : List File) (name one two three : List ℕ) →
       HoldsRun files held auction seen name one two three →
       ReadsTo held (read_errand name one two three) views
-  unfolding read_errand
-  put-reads held name one two three r next =
-      let all : Grid → Viewed → Viewed → Viewed → Errand = λ grid first second third. next
-      (record { grid = grid; views = record { one = first; two = second; three = third } }) in
-      reads-to held name AUCTION_LIMIT auction_of loaded.grid
-      (record { bytes = h.grid.bytes; held = r.auction_file ∙ h.grid.held; short = h.grid.short; is = h.grid.is })
-      (λ grid. reads one LONGEST_FILE view_in (λ first. reads two LONGEST_FILE view_in
-      (λ second. reads three LONGEST_FILE view_in (λ third. all grid first second third))))
-      ∙ reads-to held one LONGEST_FILE view_in (view One) (transcript-held held one One r.first)
-      (λ first. reads two LONGEST_FILE view_in
-      (λ second. reads three LONGEST_FILE view_in (λ third. all loaded.grid first second third)))
-      ∙ reads-to held two LONGEST_FILE view_in (view Two) (transcript-held held two Two r.second)
-      (λ second. reads three LONGEST_FILE view_in (λ third. all loaded.grid (view One) second third))
-      ∙ reads-to held three LONGEST_FILE view_in (view Three) (transcript-held held three Three r.third)
-      (λ third. all loaded.grid (view One) (view Two) third)
+  put-reads held name one two three r =
+      held-reads held name one two three loaded.grid view
+      (still-held files held auction name loaded.grid h.grid r.auction_file)
+      (transcript-held held one One r.first) (transcript-held held two Two r.second)
+      (transcript-held held three Three r.third)
 
 -- ---- what stands at a desk that tells its files
 
-stands-at : (out : List ℕ) (three : Trio (List ℕ)) (text : List ℕ) (desk desk_now : DeskTold) →
+pub stands-at : (out : List ℕ) (three : Trio (List ℕ)) (text : List ℕ) (desk desk_now : DeskTold) →
     GivesAll desk desk_now (three_files out three) text (Ok tt) → (before after : Given) →
     desk.given ≡ Some before → desk_now.given ≡ Some after → Stand out three text before after
 stands-at out three text desk desk_now calls before after was is =
@@ -240,7 +259,7 @@ module _ (files : List File) (call : Call) (from : IsOf files call) (w : IsDoneC
         text = (recorded_answer out loaded).text;
         gives = f.out.calls;
         stand = stands-at out three (recorded_answer out loaded).text call.desk call.desk_now f.out.calls;
-        accepted = λ held audit name one two three r not from' ran.
+        audited = λ held audit name one two three r not from' ran.
             (let reads = put-reads files auction out loaded f.holds held name one two three r in
             let job =
             past-both (are_names (name ∷ one ∷ three ∷ [])) (is_name_of two) (Some (Auditing name one two three)) not in

@@ -1,5 +1,5 @@
 -- How a run over told files ends with status 0 or 6: with the answer of its job, which went out whole.
-use Rattle.std.proofs.Common.{◌≡◌, ◌⊎◌, inl, inr, ℕ, List, [], Bool, true, false, Option, None, Ok, Err}
+use Rattle.std.proofs.Common.{◌≡◌, ◌≢◌, ◌⊎◌, inl, inr, ℕ, List, [], Bool, true, false, Option, None, Ok, Err}
 use Rattle.std.proofs.Common.{if◌then◌else◌, refl, sym, subst, ◌∙◌, arith}
 use Rattle.beet_store.specs.Files.{File}
 use Rattle.beet_store.specs.Desks.{Done}
@@ -18,7 +18,7 @@ use Rattle.beet_errand.specs.Errands.{Answer, Errand, Ends, Step, Wants, refuses
 use Rattle.beet_errand.specs.Fetches.{IsDone, Went}
 use Rattle.beet_errand.specs.Statuses.{IsDoneCode, code_of}
 use Rattle.beet_errand.specs.Runs.{EndsBy, GivesAll, Runs, status_after}
-use Rattle.beet_errand.specs.Tasks.{RunsTask, Shows, ToShow}
+use Rattle.beet_errand.specs.Tasks.{NoTask, RunsTask, Shows, Task, ToShow}
 use Rattle.beet_errand.specs.Texts.{usage_text}
 use Rattle.beet_errand.specs.declared.answer.OwnRefusal.{OwnRefusal}
 use Rattle.beet_errand.specs.declared.answer.Refusal.TheVariants.{Usage, ReadFault, Own}
@@ -27,6 +27,7 @@ use Rattle.beet_errand.proofs.Statuses.{done_end, not_done}
 use Rattle.beet_errand.proofs.Steps.{at_end}
 use Rattle.beet_run.specs.OutcomeTexts.{outcome_text}
 use Rattle.beet_run.specs.Outcomes.{status_of}
+use Rattle.beet_app.specs.Doing.{task_of}
 use Rattle.beet_app.specs.Jobs.{Job}
 use Rattle.beet_errand.specs.Overs.{ReadsTo, answer_over}
 use Rattle.beet_app_laws.proofs.Led.{went-end}
@@ -42,19 +43,33 @@ not-four : (status : ℕ) → IsDoneCode status → status ≡ 4 → ⊥
 not-four status (inl e) f = omega (arith, e, f)
 not-four status (inr e) f = omega (arith, e, f)
 
--- an answer that is done went out whole, with this status
+-- an answer went out whole, with this status
+pub record WentWhole (answer : Answer) (call : Call) : Type 0 where
+  pub code : call.status ≡ code_of answer.status
+  pub calls : Puts call answer.files answer.text
+
+-- and it is one that is done
 pub record WentOut (answer : Answer) (call : Call) : Type 0 where
   pub done : IsDone answer.status
   pub code : call.status ≡ code_of answer.status
   pub calls : Puts call answer.files answer.text
 
+went-whole : (answer : Answer) (call : Call) (d : Done) → call.status ≢ 1 → call.status ≢ 4 →
+    call.status ≡ code_of (status_after answer.status d) →
+    GivesAll call.desk call.desk_now answer.files answer.text d → WentWhole answer call
+went-whole answer call (Ok tt) spent failed e calls = record { code = e; calls = calls }
+went-whole answer call (Err Failed) spent failed e calls = absurd (failed e)
+went-whole answer call (Err NoMemoryToPut) spent failed e calls = absurd (spent e)
+
+done-out : (answer : Answer) (call : Call) → IsDoneCode call.status → WentWhole answer call → WentOut answer call
+done-out answer call w whole =
+    record { done = done_end answer.status (subst IsDoneCode whole.code w); code = whole.code; calls = whole.calls }
+
 went-out : (answer : Answer) (call : Call) (d : Done) → IsDoneCode call.status →
     call.status ≡ code_of (status_after answer.status d) →
     GivesAll call.desk call.desk_now answer.files answer.text d → WentOut answer call
-went-out answer call (Ok tt) w e calls =
-    record { done = done_end answer.status (subst IsDoneCode e w); code = e; calls = calls }
-went-out answer call (Err Failed) w e calls = absurd (not-four call.status w e)
-went-out answer call (Err NoMemoryToPut) w e calls = absurd (not-one call.status w e)
+went-out answer call d w e calls =
+    done-out answer call w (went-whole answer call d (not-one call.status w) (not-four call.status w) e calls)
 
 -- the answer of an errand over the files went out whole
 pub record EndsWith (files : List File) (errand : Errand) (call : Call) : Type 0 where
@@ -88,10 +103,17 @@ module _ (files : List File) (call : Call) (from : IsOf files call) (w : IsDoneC
   usage-ends : EndsWith files (refuses Usage usage_text) call → ⊥
   usage-ends e = not_done Usage (subst (λ (a : Answer). IsDone a.status) (sym e.is) e.out.done)
 
-  -- words that pass a test name the job
+  -- words that pass a test name the job of a table
+  pub named-in : {J : Type 0} (task_for : Option J → Task) → task_for None ≡ NoTask → (b : Bool) (job : Option J) →
+      RunsTask (task_for (if b then job else None)) call.shelf call.shelf_now call.desk call.desk_now call.status →
+      RunsTask (task_for job) call.shelf call.shelf_now call.desk call.desk_now call.status
+  named-in task_for none true job r = r
+  named-in task_for none false job r =
+      absurd (usage-ends (run-ends (refuses Usage usage_text)
+      (subst (λ task. RunsTask task call.shelf call.shelf_now call.desk call.desk_now call.status) none r)))
+
   pub named : (b : Bool) (job : Option Job) → RunsJob (if b then job else None) call → RunsJob job call
-  named true job r = r
-  named false job r = absurd (usage-ends (run-ends (refuses Usage usage_text) r))
+  named b job r = named-in task_of refl b job r
 
   pub no-job : {A : Type 0} → RunsJob None call → A
   no-job r = absurd (usage-ends (run-ends (refuses Usage usage_text) r))
@@ -119,17 +141,22 @@ module _ (files : List File) (call : Call) (from : IsOf files call) (w : IsDoneC
       }
 
 -- a run that begins at its end
-at-rest : (answer : Answer) (call : Call) → IsDoneCode call.status →
-    EndsBy (Ends answer) call.desk call.desk_now call.status → WentOut answer call
-at-rest answer call w (inl goes) = went-out answer call goes.done w goes.code goes.calls
-at-rest answer call w (inr runs) = absurd (not-one call.status w runs.code)
+at-rest : (answer : Answer) (call : Call) → call.status ≢ 1 → call.status ≢ 4 →
+    EndsBy (Ends answer) call.desk call.desk_now call.status → WentWhole answer call
+at-rest answer call spent failed (inl goes) = went-whole answer call goes.done spent failed goes.code goes.calls
+at-rest answer call spent failed (inr runs) = absurd (spent runs.code)
+
+pub answer-whole : (answer : Answer) (call : Call) → call.status ≢ 1 → call.status ≢ 4 →
+    Runs (Ends answer) call.shelf_now call.shelf_now call.desk call.desk_now call.status → WentWhole answer call
+answer-whole answer call spent failed r =
+    at-rest answer call spent failed
+    (subst (λ (e : Errand). EndsBy e call.desk call.desk_now call.status)
+    (sym (at_end call.shelf_now call.shelf_now answer r.rest r.went)) r.ends)
 
 answer-ends : (answer : Answer) (call : Call) → IsDoneCode call.status →
     Runs (Ends answer) call.shelf_now call.shelf_now call.desk call.desk_now call.status → WentOut answer call
 answer-ends answer call w r =
-    at-rest answer call w
-    (subst (λ (e : Errand). EndsBy e call.desk call.desk_now call.status)
-    (sym (at_end call.shelf_now call.shelf_now answer r.rest r.went)) r.ends)
+    done-out answer call w (answer-whole answer call (not-one call.status w) (not-four call.status w) r)
 
 module _ (files : List File) (call : Call) (from : IsOf files call) (w : IsDoneCode call.status) where
   -- a job that shows and is done ended with an answer that shows: no errand is done that reads and goes on to a refusal

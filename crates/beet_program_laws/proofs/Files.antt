@@ -2,7 +2,7 @@
 use Rattle.std.proofs.Common.{◌≡◌, ◌≢◌, ◌<◌, ◌≤◌, ◌+◌, ◌-◌, ◌%◌, ◌^◌, ◌==◌, ℕ, Bool, true, false, List, [], ◌∷◌, length}
 use Rattle.std.proofs.Common.{map, take, drop, get_or, nat_lt, Option, Some, None, Ok, Err, IfOk, option_map, unwrap_or}
 use Rattle.std.proofs.Common.{refl, sym, ap, subst, ◌∙◌, arith, eq-eqb}
-use Rattle.std.specs.Prelude.{All, if◌then◌else◌, codes}
+use Rattle.std.specs.Prelude.{All, if◌then◌else◌, codes, Result}
 use Rattle.std.specs.List.{cons_option, filter_map, range_with_len}
 use Rattle.std.specs.Option.{option_or}
 use Rattle.std.specs.Result.{result_err, result_ok}
@@ -28,9 +28,11 @@ use Rattle.beet_bids.proofs.HeldFacts.{curve_in-is, curve_in-of_grid}
 use Rattle.beet_bids.proofs.LineFacts.{rows_accepted}
 use Rattle.beet_book.specs.BookFiles.{book_of}
 use Rattle.beet_book.specs.Entries.{entry_in}
-use Rattle.beet_book.specs.NamedRows.{first_field, has_name, named_in, named_rows, reason_against}
+use Rattle.beet_book.specs.NamedRows.{first_field, has_name, named_file, named_in, named_rows, reason_against}
 use Rattle.beet_book.specs.declared.entries.Entry.{Entry}
 use Rattle.beet_book.specs.declared.named_file.TheConstants.{ONE_TOO_MANY, TOO_MANY}
+use Rattle.beet_farmer.specs.Lists.{entry_in as list_entry_in, list_of}
+use Rattle.beet_farmer.specs.declared.list_file.ListEntry.{ListEntry}
 use Rattle.beet_view.proofs.ReadFacts.{counted_at-all, number_at-within, times-all}
 use Rattle.beet_load.proofs.Cuts.{take-few}
 
@@ -65,11 +67,11 @@ bid-is grid bytes curve e =
     subst (λ (c : Curve). IsCurve c × IsOfGrid grid c) read.1 is
 
 -- the row that is one too many is refused
-too-many : (taken : Bool) (number : ℕ) (row : Row) → number ≡ ONE_TOO_MANY →
-    result_err (named_in entry_in ONE_TOO_MANY taken number row) ≢ None
-too-many taken number row e none =
+too-many : {A : Type 0} (value_in : Row → Result A ℕ) (taken : Bool) (number : ℕ) (row : Row) → number ≡ ONE_TOO_MANY →
+    result_err (named_in value_in ONE_TOO_MANY taken number row) ≢ None
+too-many value_in taken number row e none =
     let at : (number == ONE_TOO_MANY) ≡ true = eq-eqb number ONE_TOO_MANY e in
-    let refused : result_err (named_in entry_in ONE_TOO_MANY taken number row) ≡ Some TOO_MANY = rw at refl in
+    let refused : result_err (named_in value_in ONE_TOO_MANY taken number row) ≡ Some TOO_MANY = rw at refl in
     cc
 
 few-rows : (judge : ℕ → Row → Option ℕ) (number : ℕ) (rows : List Row) → ((row : Row) → judge ONE_TOO_MANY row ≢ None) →
@@ -90,24 +92,32 @@ fewer : {A B : Type 0} (f : A → Option B) (xs : List A) → length (filter_map
 fewer f [] = omega arith
 fewer f (x ∷ xs) = omega (arith, cons-few (f x) (filter_map f xs) (length xs) (fewer f xs))
 
-book-rows-few : (rows : List Row) (entries : List Entry) → named_rows entry_in 2 ONE_TOO_MANY rows ≡ Ok entries →
-    length entries ≤ MOST_BIDDERS
-book-rows-few rows entries e =
-    let judge = reason_against entry_in 2 ONE_TOO_MANY rows in
-    let values = filter_map (λ row. result_ok (entry_in row)) rows in
-    let read = read-is (first_row_fault judge 2 rows) values entries e in
-    let few = few-rows judge 2 rows (λ row none. too-many
-    (has_name (first_field row) (take (ONE_TOO_MANY - 2) rows)) ONE_TOO_MANY row refl none) (omega arith) read.0 in
-    omega (arith, few, fewer (λ (row : Row). result_ok (entry_in row)) rows, ap (λ (l : List Entry). length l) read.1)
+-- a file of named rows has at most so many
+module _ {A : Type 0} (value_in : Row → Result A ℕ) where
+  named-rows-few : (rows : List Row) (values : List A) → named_rows value_in 2 ONE_TOO_MANY rows ≡ Ok values →
+      length values ≤ MOST_BIDDERS
+  named-rows-few rows values e =
+      let judge = reason_against value_in 2 ONE_TOO_MANY rows in
+      let all = filter_map (λ row. result_ok (value_in row)) rows in
+      let read = read-is (first_row_fault judge 2 rows) all values e in
+      let few = few-rows judge 2 rows (λ row none. too-many value_in
+      (has_name (first_field row) (take (ONE_TOO_MANY - 2) rows)) ONE_TOO_MANY row refl none) (omega arith) read.0 in
+      omega (arith, few, fewer (λ (row : Row). result_ok (value_in row)) rows, ap (λ (l : List A). length l) read.1)
 
-chosen-few : (b : Bool) (rows : List Row) (entries : List Entry) (fault : Fault) →
-    (if b then named_rows entry_in 2 ONE_TOO_MANY rows else Err fault) ≡ Ok entries → length entries ≤ MOST_BIDDERS
-chosen-few true rows entries fault e = book-rows-few rows entries e
-chosen-few false rows entries fault e = absurd cc
+  chosen-few : (b : Bool) (rows : List Row) (values : List A) (fault : Fault) →
+      (if b then named_rows value_in 2 ONE_TOO_MANY rows else Err fault) ≡ Ok values → length values ≤ MOST_BIDDERS
+  chosen-few true rows values fault e = named-rows-few rows values e
+  chosen-few false rows values fault e = absurd cc
+
+  named-few : (header : Row) (rows : List Row) (values : List A) → named_file value_in ONE_TOO_MANY header rows ≡ Ok values →
+      length values ≤ MOST_BIDDERS
+  named-few header rows values e = chosen-few (begins_with rows header) (drop 1 rows) values _ e
 
 pub book-few : (bytes : List ℕ) (entries : List Entry) → book_of bytes ≡ Ok entries → length entries ≤ MOST_BIDDERS
-book-few bytes entries e =
-    chosen-few (begins_with (rows_of bytes) (codes "beet-book" ∷ codes "1" ∷ [])) (drop 1 (rows_of bytes)) entries _ e
+book-few bytes entries e = named-few entry_in (codes "beet-book" ∷ codes "1" ∷ []) (rows_of bytes) entries e
+
+pub list-few : (bytes : List ℕ) (entries : List ListEntry) → list_of bytes ≡ Ok entries → length entries ≤ MOST_BIDDERS
+list-few bytes entries e = named-few list_entry_in (codes "beet-list" ∷ codes "1" ∷ []) (rows_of bytes) entries e
 
 pub seed-are : (seed : List ℕ) (stream n : ℕ) → All IsWord (seed_words seed stream n)
 seed-are seed stream n = All-map IsWord (seed_word seed stream) (range_with_len 0 n)
@@ -166,12 +176,12 @@ abbrev pub Reads : {A : Type 0} → Part A → (A → Type 0) → Type 0
 Reads part P = (at : ℕ) → IfOk (part at) (λ read. P read.0)
 
 -- each value that a reading has is one of which P holds
-has-each : {A : Type 0} (P : A → Type 0) (reading : Reading A) → ((a : A) → reading ≡ Ok a → P a) → IfOk reading P
+pub has-each : {A : Type 0} (P : A → Type 0) (reading : Reading A) → ((a : A) → reading ≡ Ok a → P a) → IfOk reading P
 has-each P (Ok a) h = h a refl
 has-each P (Err fault) h = tt
 
 -- so many parts
-times-are : {A : Type 0} (part : Part A) (P : A → Type 0) (n : ℕ) → Reads part P →
+pub times-are : {A : Type 0} (part : Part A) (P : A → Type 0) (n : ℕ) → Reads part P →
     Reads (times n part) (λ values. All P values × (length values ≡ n))
 times-are part P n h at =
     has-each (λ read. All P read.0 × (length read.0 ≡ n)) (times n part at) (λ read e.

@@ -1,5 +1,5 @@
 -- What each job that has an errand of its own has read, put and said.
-use Rattle.std.proofs.Common.{◌≡◌, ◌≤◌, ◌<◌, ◌==◌, ℕ, List, [], ◌∷◌, ◌++◌, length, get_or, map, Bool, true, false}
+use Rattle.std.proofs.Common.{◌≡◌, ◌≤◌, ◌<◌, ◌+◌, ◌==◌, ℕ, List, [], ◌∷◌, length, get_or, map, Bool, true, false}
 use Rattle.std.proofs.Common.{Option, Some, None, if◌then◌else◌, refl, sym, ap, subst, ◌∙◌, arith}
 use Rattle.std.specs.Prelude.{All, codes}
 use Rattle.std.proofs.lemmas.List.{get_or-map, length-map}
@@ -21,17 +21,14 @@ use Rattle.beet_bids.specs.declared.book.Bidder.{Bidder}
 use Rattle.beet_book.specs.Farmers.{BidderWithWords, book_with}
 use Rattle.beet_book.specs.ServerFiles.{servers_of}
 use Rattle.beet_book.specs.declared.server_file.TheConstants.{SERVERS_LIMIT}
-use Rattle.beet_farmer.specs.Envelopes.{envelope_of}
 use Rattle.beet_farmer.specs.Lists.{list_of}
-use Rattle.beet_farmer.specs.Sealing.{points_in}
-use Rattle.beet_farmer.specs.declared.envelope.TheConstants.{ENVELOPE_LIMIT}
 use Rattle.beet_farmer.specs.declared.list_file.ListEntry.{ListEntry}
 use Rattle.beet_farmer.specs.declared.list_file.TheConstants.{LIST_LIMIT}
 use Rattle.beet_gates.specs.Plans.{plan_finish}
 use Rattle.beet_plan.specs.Auction.{auction_over, auction_plan}
 use Rattle.beet_plan.specs.declared.Finish.{Finish}
 use Rattle.beet_sharing.specs.Runs.{shared_at}
-use Rattle.beet_delivery.specs.Events.{after, passed, undelivered}
+use Rattle.beet_delivery.specs.Events.{Triple, after, passed, undelivered}
 use Rattle.beet_server.specs.Endings.{Ends as EndsAt, Waits}
 use Rattle.beet_auction.specs.Endings.{book_finish, book_rounds}
 use Rattle.beet_auction.specs.Setups.{rounds_for, setup_for}
@@ -56,7 +53,7 @@ use Rattle.beet_job_rehearse.specs.Rehearse.{rehearse_errand, rehearse_job, rehe
 use Rattle.beet_job_rehearse.specs.Standings.{rehearsal_of, standing_of}
 use Rattle.beet_job_rehearse.specs.declared.standing.Standing.TheVariants.{Waiting, Ended}
 use Rattle.beet_job_record.specs.Records.{record_errand, recorded_answer}
-use Rattle.beet_gathering.specs.Gather.{bidders_errand, envelopes_errand}
+use Rattle.beet_gathering.specs.Gather.{bidders_errand}
 use Rattle.beet_job_envelopes.specs.Open.{entries_job, open_errand, open_job}
 use Rattle.beet_gathering.specs.Opened.{opened_answer}
 use Rattle.beet_job_envelopes.specs.SealedBooks.{HaveWords, HoldEachSealed, sealed_points}
@@ -73,11 +70,12 @@ use Rattle.beet_program_laws.specs.Commands.{Clears, OpensEnvelopes, RecordsRun,
 use Rattle.beet_load.specs.WholeViews.{loaded_with}
 use Rattle.beet_program_laws.specs.Outcomes.{IsShown, ServersOpen, TellsTheEnd, transcript_files}
 use Rattle.beet_program_laws.proofs.Ends.{WentOut, found, named, servers-open, tells}
+use Rattle.beet_program_laws.proofs.Envelopes.{AreHeld, bidders-yield}
 use Rattle.beet_program_laws.proofs.Grids.{grid-is}
 use Rattle.beet_program_laws.proofs.Read.{AreLists, CanServeAll, IsLoaded, IsRead, all-words-yield, back, can-run}
 use Rattle.beet_program_laws.proofs.Read.{can-run-cut, farmers-back, is-book, limited-yield, loaded-yield, the_book}
 use Rattle.beet_program_laws.proofs.Read.{the_words}
-use Rattle.beet_program_laws.proofs.Steps.{Yields, any-yield, gives-yield, reads-yield, then-told, then-yields}
+use Rattle.beet_program_laws.proofs.Steps.{Yields, any-yield, gives-yield, reads-yield, then-told}
 
 -- what was loaded is a book with words
 module _ (loaded : AuctionWithBidders) (h : IsLoaded loaded) where
@@ -170,7 +168,7 @@ shown-by : (b : Bool) (named : Option Finish) (finish : Finish) (t : ℕ) → na
 shown-by true named finish t e = ap EndsAt e
 shown-by false named finish t e = refl
 
-module _ (book : Book) (words : Words) (run : ServersOpen book words) (schedule : List Delivery) where
+module _ (book : Book) (words : Words) (run : ServersOpen book words) (es : List Triple) where
   abbrev rounds : ℕ
   rounds = book_rounds book words.masks
 
@@ -189,32 +187,32 @@ module _ (book : Book) (words : Words) (run : ServersOpen book words) (schedule 
   named-end : end_named own_rounds ≡ Some finish
   named-end = ap end_named counted ∙ (ends book words run.is_book run.can_run).finish_named
 
-  own-shown : (s : Point) → IsShown (standing book words (named_in schedule) s)
-      (standing_of finish own_rounds (after own_rounds (named_in schedule)) s)
+  own-shown : (s : Point) → IsShown (standing book words es s)
+      (standing_of finish own_rounds (after own_rounds es) s)
   own-shown s =
-      let t = passed own_rounds (after own_rounds (named_in schedule)) s in
+      let t = passed own_rounds (after own_rounds es) s in
       shown-by (t == own_rounds) (end_named own_rounds) finish t named-end
 
   -- what is told of a server is how it stands
-  shown-at : (s : Point) → IsShown (standing book words (named_in schedule) s)
-      (standing_of finish rounds (after rounds (named_in schedule)) s)
+  shown-at : (s : Point) → IsShown (standing book words es s)
+      (standing_of finish rounds (after rounds es) s)
   shown-at s =
-      subst (λ (r : ℕ). IsShown (standing book words (named_in schedule) s)
-      (standing_of finish r (after r (named_in schedule)) s)) counted (own-shown s)
+      subst (λ (r : ℕ). IsShown (standing book words es s)
+      (standing_of finish r (after r es) s)) counted (own-shown s)
 
-  pub shown : (s : Point) → IsShown (standing book words (named_in schedule) s)
-      (member (rehearsal_of finish rounds (after rounds (named_in schedule))).servers s)
+  pub shown : (s : Point) → IsShown (standing book words es s)
+      (member (rehearsal_of finish rounds (after rounds es)).servers s)
   shown One = shown-at One
   shown Two = shown-at Two
   shown Three = shown-at Three
 
-  pub left : undelivered rounds (after rounds (named_in schedule))
-      ≡ undelivered own_rounds (after own_rounds (named_in schedule))
-  left = ap (λ (r : ℕ). undelivered r (after r (named_in schedule))) (sym counted)
+  pub left : undelivered rounds (after rounds es)
+      ≡ undelivered own_rounds (after own_rounds es)
+  left = ap (λ (r : ℕ). undelivered r (after r es)) (sym counted)
 
-  pub none-left : undelivered rounds (after rounds (named_in schedule)) ≡ 0 →
-      AllHaveEnded book words (named_in schedule)
-  none-left none = all-ended book words run.is_book run.can_run (named_in schedule) (sym left ∙ none)
+  pub none-left : undelivered rounds (after rounds es) ≡ 0 →
+      AllHaveEnded book words es
+  none-left none = all-ended book words run.is_book run.can_run es (sym left ∙ none)
 
 module _ (files : List File) where
   -- what the files of a rehearsal are read as, and what it answers
@@ -239,27 +237,6 @@ module _ (files : List File) where
       (record { loaded = loaded; is_loaded = h; read = r1; schedule = schedule; scheduled = r2; is = refl })))
 
   -- ---- open
-
-  envelopes-yield : (grid : Grid) (names : Trio (List ℕ)) →
-      Yields files (envelopes_errand grid names) (λ points. Unit {0})
-  envelopes-yield grid names =
-      then-yields files (reads names.one ENVELOPE_LIMIT (envelope_of grid One)) _ (λ one. Unit {0}) (λ points. Unit {0})
-      (any-yield files names.one ENVELOPE_LIMIT (envelope_of grid One)) (λ one h1.
-      then-yields files (reads names.two ENVELOPE_LIMIT (envelope_of grid Two)) _ (λ two. Unit {0}) (λ points. Unit {0})
-      (any-yield files names.two ENVELOPE_LIMIT (envelope_of grid Two)) (λ two h2.
-      then-yields files (reads names.three ENVELOPE_LIMIT (envelope_of grid Three)) _ (λ three. Unit {0})
-      (λ points. Unit {0})
-      (any-yield files names.three ENVELOPE_LIMIT (envelope_of grid Three)) (λ three h3.
-      gives-yield files (λ points. Unit {0}) (points_in (record { one = one; two = two; three = three })) tt)))
-
-  pub sealed-yield : (grid : Grid) (read : List (Trio (List ℕ))) (entries : List ListEntry) →
-      Yields files (bidders_errand grid read entries) (λ bidders. Unit {0})
-  sealed-yield grid read [] = gives-yield files (λ bidders. Unit {0}) read tt
-  sealed-yield grid read (entry ∷ entries) =
-      then-yields files (envelopes_errand grid entry.envelopes)
-      (λ points. bidders_errand grid (read ++ points ∷ []) entries) (λ points. Unit {0})
-      (λ bidders. Unit {0}) (envelopes-yield grid entry.envelopes)
-      (λ points h. sealed-yield grid (read ++ points ∷ []) entries)
 
   -- files that hold what bidders sealed are read as the points that they sealed, and as no others
   pub points-sealed : (grid : Grid) (entries : List ListEntry) (bidders : List (Trio (List ℕ))) (farmers : List BidderWithWords) →
@@ -292,10 +269,10 @@ module _ (files : List File) where
       then-told files (all_words_errand (wanted_of None grid) None sources)
       (λ words. bidders_errand grid [] entries >>= λ bidders. gives (opened_answer grid words.servers bidders))
       (λ words. CanServeAll grid words.servers × AreLists words.bidders) (IsOpened auction servers list)
-      (all-words-yield files grid None sources) (λ words r4 h4.
+      (all-words-yield files None grid None sources) (λ words r4 h4.
       then-told files (bidders_errand grid [] entries) (λ bidders. gives (opened_answer grid words.servers bidders))
-      (λ bidders. Unit {0})
-      (IsOpened auction servers list) (sealed-yield grid [] entries) (λ bidders r5 h5.
+      (AreHeld grid (0 + length entries)) (IsOpened auction servers list) (bidders-yield grid files entries)
+      (λ bidders r5 h5.
       gives-yield files (IsOpened auction servers list) (opened_answer grid words.servers bidders) (record {
         read = record {
           grid = record { value = grid; is = r1 };
@@ -376,9 +353,9 @@ module _ (files : List File) (call : Call) (from : IsOf files call) (w : IsDoneC
         run = run;
         rehearsal = rehearsal_of (book_finish book words.masks) (book_rounds book words.masks)
             (after (book_rounds book words.masks) (named_in t.schedule));
-        shown = shown book words run t.schedule;
-        left = left book words run t.schedule;
-        all = none-left book words run t.schedule;
+        shown = shown book words run (named_in t.schedule);
+        left = left book words run (named_in t.schedule);
+        all = none-left book words run (named_in t.schedule);
         status_is = out.code;
         said = out.calls;
       }

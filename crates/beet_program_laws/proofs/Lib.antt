@@ -3,6 +3,7 @@ pub mod Steps
 pub mod Held
 pub mod Grids
 pub mod Read
+pub mod Envelopes
 pub mod Ends
 pub mod Jobs
 pub mod Tallies
@@ -15,3 +16,4 @@ pub mod Audits
 pub mod Accepted
 pub mod Watching
 pub mod Witnessing
+pub mod PointAudits

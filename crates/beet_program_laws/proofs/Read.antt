@@ -48,6 +48,7 @@ use Rattle.beet_load.specs.Counts.{coefficients_wanted, counts_of, masks_wanted,
 use Rattle.beet_load.specs.Wanted.{wanted_of}
 use Rattle.beet_load.specs.Farmers.{farmer_errand, farmers_errand, list_at, words_errand}
 use Rattle.beet_load.specs.Limits.{over_product}
+use Rattle.beet_load.specs.Lots.{first_stream}
 use Rattle.beet_load.specs.Loading.{AuctionWithBidders, loaded_errand, rest_errand}
 use Rattle.beet_load.specs.Servers.{AllWords, HasEnough, IsCut, ServerWords, all_words_errand, counted, cut_server}
 use Rattle.beet_load.specs.Servers.{cut_servers, enough_held, enough_of, enough_of_all, seeded, server_errand}
@@ -75,11 +76,11 @@ pub record AreKept (grid : Grid) (words : ServerWords) : Type 0 where
   pub coefficients : All IsWord words.coefficients
 
 -- those of a seed
-pub seeded-kept : (grid : Grid) (seed : List ℕ) → AreKept grid (seeded (wanted_of None grid) seed)
-seeded-kept grid seed = record {
-  cut = seeded_cut (wanted_of None grid) seed (seeded (wanted_of None grid) seed) refl;
-  masks = seed-are seed 1 (masks_wanted grid);
-  coefficients = seed-are seed 0 (coefficients_kept grid);
+pub seeded-kept : (lot : Option ℕ) (grid : Grid) (seed : List ℕ) → AreKept grid (seeded (wanted_of lot grid) seed)
+seeded-kept lot grid seed = record {
+  cut = seeded_cut (wanted_of lot grid) seed (seeded (wanted_of lot grid) seed) refl;
+  masks = seed-are seed (first_stream lot + 1) (masks_wanted grid);
+  coefficients = seed-are seed (first_stream lot) (coefficients_kept grid);
 }
 
 -- and are enough
@@ -108,7 +109,7 @@ pub record IsLimited (files : List File) (auction : List ℕ) (loaded : AuctionW
   pub product : length loaded.farmers * loaded.grid.prices ≤ MOST_PRODUCT
   pub right : IsLoaded loaded
 
-within-limit : (n m prices : ℕ) → n ≡ 0 + m → nat_lt MOST_PRODUCT (0 + m * prices) ≡ false → n * prices ≤ MOST_PRODUCT
+pub within-limit : (n m prices : ℕ) → n ≡ 0 + m → nat_lt MOST_PRODUCT (0 + m * prices) ≡ false → n * prices ≤ MOST_PRODUCT
 within-limit n m prices e f =
     let same : n ≡ m = omega (arith, e) in
     let le : 0 + m * prices ≤ MOST_PRODUCT = ltb-false MOST_PRODUCT (0 + m * prices) f in
@@ -126,7 +127,7 @@ list-has : (lists : Option (List (List ℕ))) (i : ℕ) → AreLists lists →
 list-has None i all = tt
 list-has (Some lists) i all = item-has (λ list. All IsWord list) lists i all
 
-one-more : (n read before rest : ℕ) → n ≡ read + rest → read ≡ before + 1 → n ≡ before + suc rest
+pub one-more : (n read before rest : ℕ) → n ≡ read + rest → read ≡ before + 1 → n ≡ before + suc rest
 one-more n read before rest e f = omega (arith, e, f)
 
 module _ (files : List File) where
@@ -143,9 +144,11 @@ module _ (files : List File) where
   words-yield None all (Tape name) kept = reads-yield files name TAPE_LIMIT (λ bytes. tape_of bytes kept) (AreFew kept)
       (λ bytes words e. tape-are bytes kept words e)
 
+-- the bidders and the servers of an auction alone, or of a lot
+module _ (files : List File) (lot : Option ℕ) where
   farmer-yield : (grid : Grid) (given : Option (List ℕ)) → IfSome given (λ list. All IsWord list) →
       (number : ℕ) (entry : Entry) →
-      Yields files (farmer_errand (wanted_of None grid) grid given number entry) (IsRead grid)
+      Yields files (farmer_errand (wanted_of lot grid) grid given number entry) (IsRead grid)
   farmer-yield grid given all number entry =
       then-yields files (reads entry.bid BID_LIMIT (bid_of grid)) _
       (λ curve. IsCurve curve × IsOfGrid grid curve) (IsRead grid)
@@ -153,10 +156,10 @@ module _ (files : List File) where
       (λ bytes curve e. bid-is grid bytes curve e)) (λ curve is.
       then-yields files (words_errand given entry.source (words_kept grid.prices)) _
       (AreFew (words_kept grid.prices)) (IsRead grid)
-      (words-yield given all entry.source (words_kept grid.prices)) (λ words few.
+      (words-yield files given all entry.source (words_kept grid.prices)) (λ words few.
       let farmer : BidderWithWords = record { bidder = record { known = entry.known; curve = curve }; words = words } in
       passes-yield files (nat_lt (length (accepted words)) (words_wanted grid))
-      TooFewWords (too_few_text None number (length (accepted words)) (words_wanted grid)) (gives farmer)
+      TooFewWords (too_few_text lot number (length (accepted words)) (words_wanted grid)) (gives farmer)
       (IsRead grid) (λ enough.
       gives-yield files (IsRead grid) farmer (record {
         is = record { curve = is.0; of_grid = is.1; words = record { enough = ltb-false _ _ enough; kept = few.1 } };
@@ -165,21 +168,21 @@ module _ (files : List File) where
 
   pub farmers-yield : (grid : Grid) (lists : Option (List (List ℕ))) → AreLists lists → (read : List BidderWithWords) →
       All (IsRead grid) read → (entries : List Entry) →
-      Yields files (farmers_errand (wanted_of None grid) grid lists read entries)
+      Yields files (farmers_errand (wanted_of lot grid) grid lists read entries)
       (λ farmers. All (IsRead grid) farmers × (length farmers ≡ length read + length entries))
   farmers-yield grid lists all read are [] =
       gives-yield files (λ farmers. All (IsRead grid) farmers × (length farmers ≡ length read + 0)) read
       (are, omega arith)
   farmers-yield grid lists all read are (entry ∷ entries) =
-      then-yields files (farmer_errand (wanted_of None grid) grid (list_at lists (length read)) (length read + 1) entry)
-      (λ farmer. farmers_errand (wanted_of None grid) grid lists (read ++ farmer ∷ []) entries) (IsRead grid)
+      then-yields files (farmer_errand (wanted_of lot grid) grid (list_at lists (length read)) (length read + 1) entry)
+      (λ farmer. farmers_errand (wanted_of lot grid) grid lists (read ++ farmer ∷ []) entries) (IsRead grid)
       (λ farmers. All (IsRead grid) farmers × (length farmers ≡ length read + length (entry ∷ entries)))
       (farmer-yield grid (list_at lists (length read)) (list-has lists (length read) all) (length read + 1) entry)
       (λ farmer is.
       let more =
       All-append (IsRead grid) read (farmer ∷ []) are (All-cons (IsRead grid) farmer [] is (All-nil (IsRead grid))) in
       let long : length (read ++ farmer ∷ []) ≡ length read + 1 = length-append read (farmer ∷ []) in
-      weaker-yield files (farmers_errand (wanted_of None grid) grid lists (read ++ farmer ∷ []) entries)
+      weaker-yield files (farmers_errand (wanted_of lot grid) grid lists (read ++ farmer ∷ []) entries)
       (λ farmers. All (IsRead grid) farmers × (length farmers ≡ length (read ++ farmer ∷ []) + length entries))
       (λ farmers. All (IsRead grid) farmers × (length farmers ≡ length read + length (entry ∷ entries)))
       (λ farmers h.
@@ -189,9 +192,9 @@ module _ (files : List File) where
   -- ---- servers
 
   source-yield : (grid : Grid) (source : ServerSource) →
-      Yields files (source_errand (wanted_of None grid) source) (AreKept grid)
+      Yields files (source_errand (wanted_of lot grid) source) (AreKept grid)
   source-yield grid (ServerSeed seed) =
-      gives-yield files (AreKept grid) (seeded (wanted_of None grid) seed) (seeded-kept grid seed)
+      gives-yield files (AreKept grid) (seeded (wanted_of lot grid) seed) (seeded-kept lot grid seed)
   source-yield grid (Tapes coefficients masks) =
       then-yields files (reads coefficients TAPE_LIMIT (λ bytes. tape_of bytes (coefficients_kept grid))) _
       (AreFew (coefficients_kept grid)) (AreKept grid)
@@ -206,15 +209,15 @@ module _ (files : List File) where
 
   enough-yield : {A : Type 0} (grid : Grid) (server : ℕ) (words : ServerWords) (step : Step A) (P : A → Type 0) →
       (HasEnough (counts_of grid) words → Yields files step P) → Yields {A = A} files
-      (λ next. enough_of (wanted_of None grid) server words (step next)) P
+      (λ next. enough_of (wanted_of lot grid) server words (step next)) P
   enough-yield grid server words step P y =
       passes-yield files (nat_lt (length (accepted words.coefficients)) (coefficients_wanted grid))
-      TooFewWords (server_short_text None server (codes "coefficients") (length (accepted words.coefficients))
+      TooFewWords (server_short_text lot server (codes "coefficients") (length (accepted words.coefficients))
       (coefficients_wanted grid))
-      (λ next. enough_held None server (codes "masks") (length words.masks) (masks_wanted grid) (step next)) P
+      (λ next. enough_held lot server (codes "masks") (length words.masks) (masks_wanted grid) (step next)) P
       (λ numbers.
       passes-yield files (nat_lt (length words.masks) (masks_wanted grid))
-      TooFewWords (server_short_text None server (codes "masks") (length words.masks) (masks_wanted grid))
+      TooFewWords (server_short_text lot server (codes "masks") (length words.masks) (masks_wanted grid))
       step P (λ masks.
       y (record { coefficients = ltb-false _ _ numbers; masks = ltb-false _ _ masks })))
 
@@ -222,32 +225,32 @@ module _ (files : List File) where
       (HasEnough (counts_of grid) servers.one → HasEnough (counts_of grid) servers.two →
       HasEnough (counts_of grid) servers.three →
       Yields files step P) →
-      Yields {A = A} files (λ next. enough_of_all (wanted_of None grid) servers (step next)) P
+      Yields {A = A} files (λ next. enough_of_all (wanted_of lot grid) servers (step next)) P
   servers-yield grid servers step P y =
       enough-yield grid 1 servers.one
-      (λ next. enough_of (wanted_of None grid) 2 servers.two
-      (enough_of (wanted_of None grid) 3 servers.three (step next))) P (λ one.
-      enough-yield grid 2 servers.two (λ next. enough_of (wanted_of None grid) 3 servers.three (step next)) P (λ two.
+      (λ next. enough_of (wanted_of lot grid) 2 servers.two
+      (enough_of (wanted_of lot grid) 3 servers.three (step next))) P (λ one.
+      enough-yield grid 2 servers.two (λ next. enough_of (wanted_of lot grid) 3 servers.three (step next)) P (λ two.
       enough-yield grid 3 servers.three step P (λ three. y one two three)))
 
   server-yield : (grid : Grid) (server : ℕ) (source : ServerSource) →
-      Yields files (server_errand (wanted_of None grid) server source)
+      Yields files (server_errand (wanted_of lot grid) server source)
       (CanServe grid)
   server-yield grid server source =
-      then-yields files (source_errand (wanted_of None grid) source) _ (AreKept grid) (CanServe grid)
+      then-yields files (source_errand (wanted_of lot grid) source) _ (AreKept grid) (CanServe grid)
       (source-yield grid source)
       (λ words kept.
       enough-yield grid server words (gives words) (CanServe grid)
       (λ enough. gives-yield files (CanServe grid) words (record { enough = enough; kept = kept })))
 
   three-yield : (grid : Grid) (sources : Trio ServerSource) →
-      Yields files (three_errand (wanted_of None grid) sources) (CanServeAll grid)
+      Yields files (three_errand (wanted_of lot grid) sources) (CanServeAll grid)
   three-yield grid sources =
-      then-yields files (server_errand (wanted_of None grid) 1 sources.one) _ (CanServe grid) (CanServeAll grid)
+      then-yields files (server_errand (wanted_of lot grid) 1 sources.one) _ (CanServe grid) (CanServeAll grid)
       (server-yield grid 1 sources.one) (λ one h1.
-      then-yields files (server_errand (wanted_of None grid) 2 sources.two) _ (CanServe grid) (CanServeAll grid)
+      then-yields files (server_errand (wanted_of lot grid) 2 sources.two) _ (CanServe grid) (CanServeAll grid)
       (server-yield grid 2 sources.two) (λ two h2.
-      then-yields files (server_errand (wanted_of None grid) 3 sources.three) _ (CanServe grid) (CanServeAll grid)
+      then-yields files (server_errand (wanted_of lot grid) 3 sources.three) _ (CanServe grid) (CanServeAll grid)
       (server-yield grid 3 sources.three) (λ three h3.
       gives-yield files (CanServeAll grid) (record { one = one; two = two; three = three })
       (record { one = h1; two = h2; three = h3 }))))
@@ -276,10 +279,10 @@ module _ (files : List File) where
   counted-are (Some count) bytes (Err fault) is words e = absurd cc
 
   pub all-words-yield : (grid : Grid) (count : Option ℕ) (sources : Servers) →
-      Yields files (all_words_errand (wanted_of None grid) count sources)
+      Yields files (all_words_errand (wanted_of lot grid) count sources)
       (λ words. CanServeAll grid words.servers × AreLists words.bidders)
   all-words-yield grid count (Three sources) =
-      then-yields files (three_errand (wanted_of None grid) sources)
+      then-yields files (three_errand (wanted_of lot grid) sources)
       (λ servers. gives (record { servers = servers; bidders = None }))
       (CanServeAll grid) (λ words. CanServeAll grid words.servers × AreLists words.bidders)
       (three-yield grid sources) (λ servers h.
@@ -287,7 +290,7 @@ module _ (files : List File) where
       (record { servers = servers; bidders = None }) (h, tt))
   all-words-yield grid count (Bundle name) =
       then-yields files (reads name LONGEST_FILE (λ bytes. counted count (bundle_of bytes)))
-      (λ words next. enough_of_all (wanted_of None grid) (cut_servers (counts_of grid) words) (next (record {
+      (λ words next. enough_of_all (wanted_of lot grid) (cut_servers (counts_of grid) words) (next (record {
         servers = cut_servers
             (counts_of grid) words;
         bidders = Some words.bidders;
@@ -315,25 +318,28 @@ module _ (files : List File) where
         are.bidders,
       )))
 
-  -- ---- the whole
+  -- ---- both
 
-  words-farmers-yield : (grid : Grid) (sources : Servers) (entries : List Entry) → length entries ≤ MOST_BIDDERS →
+  pub rest-yield : (grid : Grid) (sources : Servers) (entries : List Entry) → length entries ≤ MOST_BIDDERS →
       Yields {A = AuctionWithBidders} files
-      (λ next. all_words_errand (wanted_of None grid) (Some (length entries)) sources (λ words. farmers_errand
-      (wanted_of None grid) grid words.bidders [] entries (λ farmers.
+      (λ next. all_words_errand (wanted_of lot grid) (Some (length entries)) sources (λ words. farmers_errand
+      (wanted_of lot grid) grid words.bidders [] entries (λ farmers.
       next (record { grid = grid; servers = words.servers; farmers = farmers })))) IsLoaded
-  words-farmers-yield grid sources entries few =
-      then-yields files (all_words_errand (wanted_of None grid) (Some (length entries)) sources)
-      (λ words next. farmers_errand (wanted_of None grid) grid words.bidders [] entries (λ farmers. next (record
+  rest-yield grid sources entries few =
+      then-yields files (all_words_errand (wanted_of lot grid) (Some (length entries)) sources)
+      (λ words next. farmers_errand (wanted_of lot grid) grid words.bidders [] entries (λ farmers. next (record
       { grid = grid; servers = words.servers; farmers = farmers })))
       (λ words. CanServeAll grid words.servers × AreLists words.bidders) IsLoaded
       (all-words-yield grid (Some (length entries)) sources) (λ words good.
-      then-yields files (farmers_errand (wanted_of None grid) grid words.bidders [] entries)
+      then-yields files (farmers_errand (wanted_of lot grid) grid words.bidders [] entries)
       (λ farmers. gives (record { grid = grid; servers = words.servers; farmers = farmers }))
       (λ farmers. All (IsRead grid) farmers × (length farmers ≡ 0 + length entries)) IsLoaded
       (farmers-yield grid words.bidders good.1 [] (All-nil (IsRead grid)) entries) (λ farmers h.
       gives-yield files IsLoaded (record { grid = grid; servers = words.servers; farmers = farmers })
       (record { few = omega (arith, few, h.1); farmers = h.0; servers = good.0 })))
+
+module _ (files : List File) where
+  -- ---- the whole
 
   pub loaded-yield : (auction servers book : List ℕ) → Yields files (loaded_errand auction servers book) IsLoaded
   unfolding loaded_errand setting_errand rest_errand
@@ -345,7 +351,7 @@ module _ (files : List File) where
       then-yields files (reads book BOOK_LIMIT book_of) _ (λ entries. length entries ≤ MOST_BIDDERS) IsLoaded
       (reads-yield files book BOOK_LIMIT book_of (λ entries. length entries ≤ MOST_BIDDERS)
       (λ bytes entries e. book-few bytes entries e)) (λ entries few.
-      words-farmers-yield grid sources entries few)))
+      rest-yield files None grid sources entries few)))
 
   -- where a job is done that keeps a whole book, what it has read is so
   pub limited : (auction servers book : List ℕ) →
@@ -368,12 +374,12 @@ module _ (files : List File) where
       (λ words next. farmers_errand (wanted_of None grid) grid words.bidders [] entries
       (λ farmers. next (record { grid = grid; servers = words.servers; farmers = farmers })))
       (λ words. CanServeAll grid words.servers × AreLists words.bidders) (IsLimited files auction)
-      (all-words-yield grid (Some (length entries)) sources) (λ words good.
+      (all-words-yield files None grid (Some (length entries)) sources) (λ words good.
       then-yields files (farmers_errand (wanted_of None grid) grid words.bidders [] entries)
       (λ farmers. gives (record { grid = grid; servers = words.servers; farmers = farmers }))
       (λ farmers. All (IsRead grid) farmers × (length farmers ≡ 0 + length entries))
       (IsLimited files auction)
-      (farmers-yield grid words.bidders good.1 [] (All-nil (IsRead grid)) entries) (λ farmers h.
+      (farmers-yield files None grid words.bidders good.1 [] (All-nil (IsRead grid)) entries) (λ farmers h.
       gives-yield files (IsLimited files auction)
       (record { grid = grid; servers = words.servers; farmers = farmers }) (record {
         grid = held;

@@ -128,7 +128,7 @@ module _ (files : List File) (call : Call) (from : IsOf files call) (w : IsDoneC
 
   trial-yield : (grid : Grid) (bidders : ℕ) → Yields files (trial_over grid bidders) (IsTried grid bidders)
   trial-yield grid bidders =
-      servers-yield files grid (trial_servers grid) (λ next. enough_of_each grid 1 (trial_farmers grid bidders)
+      servers-yield files None grid (trial_servers grid) (λ next. enough_of_each grid 1 (trial_farmers grid bidders)
       (next (trial_answer grid bidders))) (IsTried grid bidders)
       (λ one two three. each-yield grid 1 (trial_farmers grid bidders) (gives (trial_answer grid bidders))
       (IsTried grid bidders) (λ all.
@@ -151,7 +151,7 @@ module _ (files : List File) (call : Call) (from : IsOf files call) (w : IsDoneC
       let serve : (server : ℕ) →
       HasEnough (counts_of grid) (seeded (wanted_of None grid) (server_seed server)) → CanServe grid
       (seeded (wanted_of None grid) (server_seed server)) =
-      λ server enough. record { enough = enough; kept = seeded-kept grid (server_seed server) } in
+      λ server enough. record { enough = enough; kept = seeded-kept None grid (server_seed server) } in
       let all : CanServeAll grid servers =
       record { one = serve 1 f.holds.one; two = serve 2 f.holds.two; three = serve 3 f.holds.three } in
       let few : length farmers ≤ MOST_BIDDERS =

@@ -1,6 +1,6 @@
 -- What each command has read, put and said where its run ends with status 0 or 6, over a shelf whose answers are of
 -- these files.
-use Rattle.std.specs.Prelude.{◌≡◌, ◌≤◌, ◌++◌, ℕ, List, [], ◌∷◌, All, length, map, codes, decimal, Some}
+use Rattle.std.specs.Prelude.{◌≡◌, ◌≤◌, ◌++◌, ℕ, List, All, length, map, codes, decimal, Some}
 use Rattle.std.specs.Prelude.{Ok}
 use Rattle.beet_field.specs.Trio.{member, of_each, trio_of}
 use Rattle.beet_field.specs.declared.point.Point.{Point}
@@ -31,6 +31,7 @@ use Rattle.beet_headline.specs.Statements.{AllHaveEnded, AreOnePair, AreTwoBooks
 use Rattle.beet_errand.specs.Errands.{reads}
 use Rattle.beet_errand.specs.Statuses.{code_of}
 use Rattle.beet_errand.specs.Texts.{line_of}
+use Rattle.beet_errand.specs.Worlds.{equal_text, files_of_worlds}
 use Rattle.beet_load.specs.Counts.{counts_of, words_wanted}
 use Rattle.beet_load.specs.Loading.{loaded_errand}
 use Rattle.beet_load.specs.Servers.{coefficients_of, masks_of}
@@ -49,7 +50,7 @@ use Rattle.beet_job_worlds.specs.Reading.{both_errand}
 use Rattle.beet_view.specs.BookViews.{view_of_book}
 use Rattle.beet_view.specs.Transcripts.{view_bytes}
 use Rattle.beet_transcripts.specs.RunsOn.{view_of_points}
-use Rattle.beet_witness_laws.specs.SealedCurves.{AreSealed}
+use Rattle.beet_witness_laws.specs.SealedCurves.{AreSealed, CanBeWitnessed}
 use Rattle.beet_audit.specs.Audits.{recombined_book, run_of}
 use Rattle.beet_audit.specs.OneRuns.{OneRun}
 use Rattle.beet_job_audit.specs.Reading.{read_errand}
@@ -168,10 +169,12 @@ pub record OpensEnvelopes (files : List File) (auction servers list : List ℕ) 
   pub tells : TellsOfEnvelopes files auction servers list read call.status text
   pub said : Says call text
 
--- `witness`: so it is, and before the text it was put what each server sees of the run on these points. If the files
--- hold what bidders sealed of a book, and no server knows one of them, it is what the server sees of the book's auction
+-- `witness`: so it is, within the limits of transcripts, and before the text it was put what each server sees of the
+-- run on these points. If the files hold what bidders sealed of a book, and no server knows one of them, it is what
+-- the server sees of the book's auction
 pub record WitnessesEnvelopes (files : List File) (auction servers list out : List ℕ) (call : Call) : Type 0 where
   pub read : OpenRead files auction servers list
+  pub limits : CanBeWitnessed read.grid.value read.bidders.value read.words.value.servers
   pub text : List ℕ
   pub tells : TellsOfEnvelopes files auction servers list read call.status text
   pub gives :
@@ -216,11 +219,9 @@ pub record PutsBothWorlds (files : List File) (auction servers book1 book2 : Lis
   pub text : List ℕ
   pub tells : TellsTheEnd first words call.status text
   pub gives : Puts call
-      ((out ++ codes ".first", transcript_with first words s)
-      ∷ (out ++ codes ".second", transcript_with second second_words s)
-      ∷ (out ++ codes ".words", bundle_bytes second_words)
-      ∷ [])
-      (text ++ line_of (codes "transcripts equal"))
+      (files_of_worlds out (transcript_with first words s) (transcript_with second second_words s)
+      (bundle_bytes second_words))
+      (text ++ equal_text)
 
 -- `audit`: the files read as a grid and three views of one run, which is that of a book with words: the book that the
 -- points recombine to, and the words of the tapes, with words of the bidders that begin the same run; how its auction

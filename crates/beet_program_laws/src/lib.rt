@@ -12,7 +12,7 @@ ghost use Rattle.beet_field.specs.declared.point.Point.{Point};
 ghost use Rattle.beet_store.specs.Files.{File};
 ghost use Rattle.beet_app_laws.specs.Calls.{Call, IsDoneCall};
 ghost use Rattle.beet_program_laws.specs.Again.{IsPutAgain, record_words};
-ghost use Rattle.beet_program_laws.specs.Accepted.{IsAccepted, audit_words};
+ghost use Rattle.beet_program_laws.specs.Accepted.{IsAccepted, IsAuditedByPoints, audit_words, witness_words};
 ghost use Rattle.beet_program_laws.specs.Commands.{AuditsOneRun, Clears, OpensEnvelopes, PutsBothWorlds, RecordsRun};
 ghost use Rattle.beet_program_laws.specs.Commands.{RunsTrial, Seals, ShowsStandings, Tallies, Watches};
 ghost use Rattle.beet_program_laws.specs.Commands.{WitnessesEnvelopes};
@@ -68,10 +68,10 @@ pub fn what_open_says_is_what_was_sealed()
 {}
 
 /// `witness AUCTION SERVERS LIST OUT` says the same, and puts what each server sees of the run on the points of the
-/// envelopes.
+/// envelopes. The points and the words are within the limits in which transcripts are read again.
 pub fn what_witness_puts_is_what_servers_see_of_envelopes()
     ensures { (files : List File) (auction servers list out : List ℕ) (call : Call) →
-        IsDoneCall files (codes "witness" ∷ auction ∷ servers ∷ list ∷ out ∷ []) call →
+        IsDoneCall files (witness_words auction servers list out) call →
         WitnessesEnvelopes files auction servers list out call }
 {}
 
@@ -102,6 +102,17 @@ pub fn what_audit_says_is_the_end_of_one_run()
 pub fn what_record_puts_is_accepted()
     ensures { (files : List File) (auction servers book out : List ℕ) (call : Call) →
         IsDoneCall files (record_words auction servers book out) call → IsAccepted files auction out call }
+{}
+
+/// The transcripts that `witness AUCTION SERVERS LIST OUT` puts are accepted exactly if each bidder's points lie on
+/// lines whose values are a curve: then an `audit` over any shelf that holds the auction and these three under any
+/// names ends with the status of the run and says its text. Else it ends with status 8, and its line has the number 2
+/// or 3 and the first bidder of whom this is not so. Or memory runs out, a file cannot be fetched or a call of the desk
+/// fails. A desk that tells its files holds the three.
+pub fn what_witness_puts_is_audited_by_its_points()
+    ensures { (files : List File) (auction servers list out : List ℕ) (call : Call) →
+        IsDoneCall files (witness_words auction servers list out) call →
+        IsAuditedByPoints files auction servers list out call }
 {}
 
 /// What `worlds AUCTION SERVERS BOOK1 BOOK2 SERVER OUT` puts can be made again: whoever records the second book over

@@ -28,7 +28,8 @@ use Rattle.beet_mapped.specs.Trades.{rounds_in, setup_in}
 use Rattle.beet_mapped.proofs.DealerFacts.{AreElements, point-same, first-mapped, rest-mapped}
 use Rattle.beet_mapped.proofs.WorldFacts.{AreInputLines, Stands, are-masks, back, look, only, rounds-same, seen_in, seen-same}
 use Rattle.beet_mapped.proofs.WorldFacts.{trades-mapped}
-use Rattle.beet_trades.specs.Enough.{HasAccepted, HasEnough, read_words, words_read}
+use Rattle.beet_trades.specs.Enough.{HasAccepted, HasEnough, read_words}
+use Rattle.beet_masking.specs.Masks.{with_spare}
 use Rattle.beet_trades.specs.Servers.{world_with}
 use Rattle.beet_trades.proofs.Disagreeing.{as-many}
 use Rattle.beet_trades.proofs.Drawn.{accepted-read, numbers-enough}
@@ -158,11 +159,11 @@ bid-small bids all j lt =
 
 -- the inputs are those of the words that are read
 points-read : (bids : List SaleBid) (words : List (List ℕ)) (i : Point) → All (HasAccepted 1) words →
-    points_of (dealers_of (map party_of bids) (map (take (words_read 1)) words)) i ≡ points_of (dealers_of (map party_of bids) words) i
+    points_of (dealers_of (map party_of bids) (map (take (with_spare 1)) words)) i ≡ points_of (dealers_of (map party_of bids) words) i
 points-read [] words i all = refl
 points-read (b ∷ bs) [] i all = refl
 points-read (b ∷ bs) (w ∷ ws) i all =
-    let here : point_in (record { party = party_of b; words = take (words_read 1) w }) i
+    let here : point_in (record { party = party_of b; words = take (with_spare 1) w }) i
     ≡ point_in (record { party = party_of b; words = w }) i =
     ap (λ a. point_of b.bid a i) (accepted-read 1 w (All-head (HasAccepted 1) w ws all) 0 (omega arith)) in
     let rest = points-read bs ws i (All-tail (HasAccepted 1) w ws all) in

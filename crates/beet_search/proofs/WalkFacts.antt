@@ -12,8 +12,8 @@ use Rattle.beet_gates.specs.Scripts.{bounds_of, start_of}
 use Rattle.beet_gates.proofs.EachFacts.{get-past}
 use Rattle.beet_gates.proofs.Ended.{plan-tells}
 use Rattle.beet_walk.proofs.PlanParts.{past-one, block-batch, last-batch, ended-batch, read-batch, block-finish, last-finish, ended-finish}
-use Rattle.beet_masking.specs.Blocks.{Blocks, blocks_of, after_mask}
-use Rattle.beet_masking.proofs.BlockLaws.{are-blocks}
+use Rattle.beet_masking.specs.Blocks.{Blocks, after_mask}
+use Rattle.beet_masking.proofs.BlockLaws.{AreBlocks, are-blocks, are-five_blocks}
 use Rattle.beet_bids.specs.declared.outcomes.Policy.{Policy}
 use Rattle.beet_bids.specs.Outcomes.{shown_by}
 use Rattle.beet_plan.specs.Auction.{search_plan, end_plan, opening_plan, price_with, with_mask}
@@ -21,7 +21,9 @@ use Rattle.beet_plan.specs.Auction.{Auction, auction_plan, auction_batch, most_r
 use Rattle.beet_plan.proofs.AuctionLaw.{auction-stands, follows-itself}
 use Rattle.beet_plan.specs.declared.Finish.{Finish}
 use Rattle.beet_plan.specs.declared.Finish.TheVariants.{NoPrice, MasksSpent}
-use Rattle.beet_search.specs.Walk.{plan_at, stage_plan}
+use Rattle.beet_search.specs.Walk.{blocks_among, plan_at, stage_plan}
+use Rattle.beet_search.specs.declared.blocks.Dealers.{Dealers}
+use Rattle.beet_search.specs.declared.blocks.Dealers.TheVariants.{Three, Five}
 use Rattle.beet_search.specs.declared.walk.Stage.{Stage}
 use Rattle.beet_search.specs.declared.walk.Stage.TheVariants.{Search, Masked, Borrow, Supply, Ended as StageEnded}
 use Rattle.beet_search.specs.declared.walk.Walk.{Walk}
@@ -90,24 +92,28 @@ closed-from b n lo hi e h = elim (cases_lt 0 n) [
   | inr none ↦ inl (omega arith)
 ]
 
+are-among : (d : Dealers) → AreBlocks (blocks_among d)
+are-among (Three gates) = are-blocks gates
+are-among Five = are-five_blocks
+
 module _ (w : Walk) where
   pub stage-is : (s : Stage) → w.stage ≡ s → plan_at w ≡ stage_plan s w
   stage-is s e = ap (λ (t : Stage). stage_plan t w) e
 
   open-at : w.stage ≡ Search → (b : Bool) → (IsTrue b ↔ ((0 < w.left) × (w.lo < w.hi))) → b ≡ true →
-      plan_at w ≡ Block ((blocks_of w.gates).mask w.first)
-      (after_product (blocks_of w.gates) MasksSpent w.spare w.first (with_mask (blocks_of w.gates) w.prices
-      (search_plan (blocks_of w.gates) w.policy w.prices (w.left - 1)) w.lo w.hi))
+      plan_at w ≡ Block ((blocks_among w.dealers).mask w.first)
+      (after_product (blocks_among w.dealers) MasksSpent w.spare w.first (with_mask (blocks_among w.dealers) w.prices
+      (search_plan (blocks_among w.dealers) w.policy w.prices (w.left - 1)) w.lo w.hi))
   open-at e b says t =
       let o = open-from b w.left w.lo w.hi says t in
-      stage-is Search e ∙ open-plan (blocks_of w.gates) w.policy w.prices w.left w.lo w.hi w.spare w.first o.0 o.1
-      ∙ until-open (blocks_of w.gates) MasksSpent w.spare w.first (with_mask (blocks_of w.gates) w.prices
-      (search_plan (blocks_of w.gates) w.policy w.prices (w.left - 1)) w.lo w.hi)
+      stage-is Search e ∙ open-plan (blocks_among w.dealers) w.policy w.prices w.left w.lo w.hi w.spare w.first o.0 o.1
+      ∙ until-open (blocks_among w.dealers) MasksSpent w.spare w.first (with_mask (blocks_among w.dealers) w.prices
+      (search_plan (blocks_among w.dealers) w.policy w.prices (w.left - 1)) w.lo w.hi)
 
   pub closed-at : w.stage ≡ Search → (b : Bool) → (IsTrue b ↔ ((0 < w.left) × (w.lo < w.hi))) → b ≡ false →
       plan_at w ≡ end_plan w.policy w.prices w.lo
   closed-at e b says t = stage-is Search e ∙ closed-plan
-      (blocks_of w.gates) w.policy w.prices w.left w.lo w.hi w.spare w.first (closed-from b w.left w.lo w.hi says t)
+      (blocks_among w.dealers) w.policy w.prices w.left w.lo w.hi w.spare w.first (closed-from b w.left w.lo w.hi says t)
 
   -- the supply is still to be read
   pub supply-at : (volume : ℕ) → w.stage ≡ Supply volume → plan_at w ≡ Last end_batch 1 (λ opened. price_with w.lo (volume ∷ opened))
@@ -115,25 +121,25 @@ module _ (w : Walk) where
 
   -- lengths
   pub length-open : w.stage ≡ Search → (b : Bool) → (IsTrue b ↔ ((0 < w.left) × (w.lo < w.hi))) → b ≡ true →
-      plan_length (plan_at w) ≡ (blocks_of w.gates).mask_rounds
-  length-open e b says t = ap plan_length (open-at e b says t) ∙ (are-blocks w.gates).masks.rounds w.first
+      plan_length (plan_at w) ≡ (blocks_among w.dealers).mask_rounds
+  length-open e b says t = ap plan_length (open-at e b says t) ∙ (are-among w.dealers).masks.rounds w.first
 
-  pub length-borrow : (c : ℕ) → w.stage ≡ Borrow c → plan_length (plan_at w) ≡ (blocks_of w.gates).compare_rounds - 1
+  pub length-borrow : (c : ℕ) → w.stage ≡ Borrow c → plan_length (plan_at w) ≡ (blocks_among w.dealers).compare_rounds - 1
   length-borrow c e = ap plan_length (stage-is (Borrow c) e)
-      ∙ omega (arith, (are-blocks w.gates).comparisons.rounds (after_mask (blocks_of w.gates) w.first) w.first c)
+      ∙ omega (arith, (are-among w.dealers).comparisons.rounds (after_mask (blocks_among w.dealers) w.first) w.first c)
 
   -- batches
   pub batch-open : w.stage ≡ Search → (b : Bool) → (IsTrue b ↔ ((0 < w.left) × (w.lo < w.hi))) → b ≡ true → (step : ℕ) →
-      plan_batch (plan_at w) step [] ≡ batch_at ((blocks_of w.gates).mask w.first) step
+      plan_batch (plan_at w) step [] ≡ batch_at ((blocks_among w.dealers).mask w.first) step
   batch-open e b says t step = ap (λ (p : Plan Finish). plan_batch p step []) (open-at e b says t) ∙ block-batch _ _ step
 
   pub batch-masked : w.stage ≡ Masked → (step : ℕ) →
-      plan_batch (plan_at w) step [] ≡ batch_at ((blocks_of w.gates).masked
-      (after_mask (blocks_of w.gates) w.first) w.first ((w.lo + w.hi) / 2) (w.prices + (w.lo + w.hi) / 2) ∷ []) step
+      plan_batch (plan_at w) step [] ≡ batch_at ((blocks_among w.dealers).masked
+      (after_mask (blocks_among w.dealers) w.first) w.first ((w.lo + w.hi) / 2) (w.prices + (w.lo + w.hi) / 2) ∷ []) step
   batch-masked e step = ap (λ (p : Plan Finish). plan_batch p step []) (stage-is Masked e) ∙ block-batch _ _ step
 
   pub batch-borrow : (c : ℕ) → w.stage ≡ Borrow c → (step : ℕ) → plan_batch (plan_at w) step []
-      ≡ batch_at ((blocks_of w.gates).answer (after_mask (blocks_of w.gates) w.first) w.first c) step
+      ≡ batch_at ((blocks_among w.dealers).answer (after_mask (blocks_among w.dealers) w.first) w.first c) step
   batch-borrow c e step = ap (λ (p : Plan Finish). plan_batch p step []) (stage-is (Borrow c) e) ∙ block-batch _ _ step
 
   pub batch-ended : (f : Finish) → w.stage ≡ StageEnded f → (step : ℕ) → plan_batch (plan_at w) step [] ≡ end_batch
@@ -143,17 +149,17 @@ module _ (w : Walk) where
   batch-supply volume e step = ap (λ (p : Plan Finish). plan_batch p step []) (supply-at volume e) ∙ read-batch 1 _ step
 
   -- a batch past the end of a short block
-  pub past-borrow : (c : ℕ) → w.stage ≡ Borrow c → (step : ℕ) → (blocks_of w.gates).compare_rounds ≤ step + 1 →
+  pub past-borrow : (c : ℕ) → w.stage ≡ Borrow c → (step : ℕ) → (blocks_among w.dealers).compare_rounds ≤ step + 1 →
       plan_batch (plan_at w) step [] ≡ end_batch
   past-borrow c e step h =
-      let l = (are-blocks w.gates).comparisons.rounds (after_mask (blocks_of w.gates) w.first) w.first c in
+      let l = (are-among w.dealers).comparisons.rounds (after_mask (blocks_among w.dealers) w.first) w.first c in
       batch-borrow c e step ∙ ap (λ (o : Option Batch). unwrap_or o end_batch)
-      (get-past ((blocks_of w.gates).answer (after_mask (blocks_of w.gates) w.first) w.first c) step (omega (arith, l)))
+      (get-past ((blocks_among w.dealers).answer (after_mask (blocks_among w.dealers) w.first) w.first c) step (omega (arith, l)))
 
   -- the plan after a number
   pub after-open : w.stage ≡ Search → (b : Bool) → (IsTrue b ↔ ((0 < w.left) × (w.lo < w.hi))) → b ≡ true → (x : ℕ) →
-      plan_after (plan_at w) x ≡ after_product (blocks_of w.gates) MasksSpent w.spare w.first (with_mask
-      (blocks_of w.gates) w.prices (search_plan (blocks_of w.gates) w.policy w.prices (w.left - 1)) w.lo w.hi) x
+      plan_after (plan_at w) x ≡ after_product (blocks_among w.dealers) MasksSpent w.spare w.first (with_mask
+      (blocks_among w.dealers) w.prices (search_plan (blocks_among w.dealers) w.policy w.prices (w.left - 1)) w.lo w.hi) x
   after-open e b says t x = ap (λ (p : Plan Finish). plan_after p x) (open-at e b says t)
 
 module _ (w : Walk) where

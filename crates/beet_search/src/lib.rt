@@ -2,10 +2,13 @@
 //! masks.
 #![tactic(auto)]
 
+mod blocks;
 mod laws;
 mod script;
 mod walk;
 
 pub use beet_plan::Finish;
+pub use blocks::Dealers;
 pub use laws::{auction_law, book_law, five_law};
 pub use script::AuctionScript;
+pub use walk::Walk;

@@ -5,13 +5,11 @@ ghost use Rattle.beet_gates.specs.Plans.{plan_finish};
 ghost use Rattle.beet_plan.specs.Auction.{auction_over, auction_plan, IsGridSize};
 ghost use Rattle.beet_search.specs.Walk.{plan_at, Fits};
 
-use crate::walk::{Stage, Walk};
-use beet_bids::{Grid, MOST_PRICES, Policy, comparisons};
-use beet_compare::{compare_rounds, compare_wires};
+use crate::blocks::Dealers;
+use crate::walk::Walk;
+use beet_bids::{Grid, MOST_PRICES, Policy};
 use beet_field::Fe;
 use beet_gates::{Batch, Gates, Script};
-use beet_mask::{mask_rounds, mask_wires};
-use beet_masking::{MASK_WORDS, SPARE_MASKS};
 use beet_plan::{Finish, most_coefficients, most_masks};
 use beet_walk::{Place, PlanWalk};
 use std::marker::Model;
@@ -81,17 +79,7 @@ impl AuctionScript {
         ensures fits { Fits result }
         ensures plan { plan_at result ≡ auction_plan self.now }
     {
-        Walk {
-            stage: Stage::Search,
-            gates: self.gates,
-            policy: self.policy,
-            prices: self.prices,
-            lo: 0,
-            hi: self.prices,
-            first: 2 * self.prices,
-            left: comparisons(self.prices),
-            spare: SPARE_MASKS,
-        }
+        Walk::start(Dealers::Three(self.gates), self.policy, self.prices)
     }
 
     /// How the script has ended after these opened numbers, or none where it has not ended.
@@ -135,8 +123,7 @@ impl Script for AuctionScript {
     }
 
     fn rounds(&self) -> u32 {
-        let mask = mask_rounds(self.gates, MASK_WORDS);
-        comparisons(self.prices) * (mask + compare_rounds(self.gates)) + SPARE_MASKS * mask + 1
+        Dealers::Three(self.gates).most_rounds(self.prices)
     }
 
     fn masks(&self) -> u32 {
@@ -148,9 +135,7 @@ impl Script for AuctionScript {
     }
 
     fn wires(&self) -> u32 {
-        self.inputs()
-            + mask_wires(MASK_WORDS) * most_masks(self.prices)
-            + compare_wires(Gates::Tree) * comparisons(self.prices)
+        Dealers::Three(self.gates).most_wires(self.prices)
     }
 
     fn next(&self, done: u32, opened: &[Fe]) -> Batch {

@@ -2,20 +2,17 @@
 
 ghost use Rattle.std.specs.Prelude.{◌≡◌, ◌↔◌, ◌<◌, ◌≤◌, ◌+◌, ◌-◌, ◌*◌, ◌/◌, ◌^◌, IsTrue, MatchOption, []};
 ghost use Rattle.beet_gates.specs.Plans.{plan_length, plan_after, plan_batch, plan_finish, batch_at};
-ghost use Rattle.beet_plan.specs.Auction.{search_plan, end_plan, after_answer, with_mask};
+ghost use Rattle.beet_plan.specs.Auction.{IsGridSize, search_plan, end_plan, after_answer, plan_with, with_mask};
 ghost use Rattle.beet_plan.specs.declared.Finish.TheVariants.{MasksSpent};
 ghost use Rattle.beet_masking.specs.Accepting.{after_product};
-ghost use Rattle.beet_masking.specs.Blocks.{blocks_of};
-ghost use Rattle.beet_mask.specs.Mask.{mask_wires_of};
-ghost use Rattle.beet_compare.specs.Compare.{compare_batches};
-ghost use Rattle.beet_search.specs.Walk.{plan_at, busy, widest, Fits};
+ghost use Rattle.beet_search.specs.Walk.{plan_at, blocks_among, comparison_at, busy, widest, Fits};
 
-use beet_bids::Policy;
-use beet_compare::{CompareWires, compare_rounds, compare_wires, refill_compare};
+use crate::blocks::Dealers;
+use beet_bids::{Policy, comparisons};
+use beet_compare::CompareWires;
 use beet_field::Fe;
-use beet_gates::{Batch, Gates};
-use beet_mask::{mask_rounds, mask_wires, refill_mask};
-use beet_masking::MASK_WORDS;
+use beet_gates::Batch;
+use beet_masking::SPARE_MASKS;
 use beet_plan::Finish;
 use beet_walk::{PlanWalk, both_opened};
 
@@ -38,7 +35,7 @@ pub enum Stage {
 #[derive(Clone, Copy)]
 pub struct Walk {
     pub stage: Stage,
-    pub gates: Gates,
+    pub dealers: Dealers,
     pub policy: Policy,
     pub prices: u32,
     pub lo: u32,
@@ -52,6 +49,25 @@ pub struct Walk {
 }
 
 impl Walk {
+    /// The start of a search among so many prices.
+    pub fn start(dealers: Dealers, policy: Policy, prices: u32) -> Walk
+        requires { IsGridSize prices }
+        ensures fits { Fits result }
+        ensures plan { plan_at result ≡ plan_with (blocks_among dealers) policy prices }
+    {
+        Walk {
+            stage: Stage::Search,
+            dealers,
+            policy,
+            prices,
+            lo: 0,
+            hi: prices,
+            first: 2 * prices,
+            left: comparisons(prices),
+            spare: SPARE_MASKS,
+        }
+    }
+
     /// Whether a mask comes next, where the search goes on.
     fn is_open(&self) -> bool
         ensures { IsTrue result ↔ ((0 < self.now.left) × (self.now.lo < self.now.hi)) }
@@ -146,20 +162,17 @@ impl Walk {
     fn refill_comparison(&self, step: u32, c: Fe, batch: &mut Batch)
         requires fits { Fits self.now }
         requires busy { busy self.now.stage ≡ 1 }
-        ensures { batch.new ≡ batch_at (compare_batches self.now.gates
-            (self.now.first + mask_wires_of 3) self.now.first
-            ((self.now.lo + self.now.hi) / 2)
-            (self.now.prices + (self.now.lo + self.now.hi) / 2) c) step }
+        ensures { batch.new ≡ batch_at (comparison_at self.now c) step }
     {
         let mid = (self.lo + self.hi) / 2;
         let (supply, demand) = (mid, self.prices + mid);
         let wires = CompareWires {
-            first: self.first + mask_wires(MASK_WORDS),
+            first: self.first + self.dealers.mask_wires(),
             mask: self.first,
             supply,
             demand,
         };
-        refill_compare(self.gates, step, wires, c, batch);
+        self.dealers.refill_compare(step, wires, c, batch);
     }
 
     /// The place after the product of a mask.
@@ -168,9 +181,9 @@ impl Walk {
         requires open { (0 < self.left) × (self.lo < self.hi) }
         requires search { self.stage ≡ Stage.Search }
         ensures fits { Fits result }
-        ensures plan { plan_at result ≡ after_product (blocks_of self.gates) MasksSpent self.spare self.first
-            (with_mask (blocks_of self.gates) self.prices
-            (search_plan (blocks_of self.gates) self.policy self.prices (self.left - 1)) self.lo self.hi) product }
+        ensures plan { plan_at result ≡ after_product (blocks_among self.dealers) MasksSpent self.spare self.first
+            (with_mask (blocks_among self.dealers) self.prices
+            (search_plan (blocks_among self.dealers) self.policy self.prices (self.left - 1)) self.lo self.hi) product }
     {
         let mut walk = self;
         if product.value() != 1 {
@@ -179,7 +192,7 @@ impl Walk {
         } else if self.spare == 0 {
             walk.stage = Stage::Ended(Finish::MasksSpent);
         } else {
-            walk.first = self.first + mask_wires(MASK_WORDS);
+            walk.first = self.first + self.dealers.mask_wires();
             walk.spare = self.spare - 1;
         }
         walk
@@ -191,14 +204,14 @@ impl Walk {
         requires busy { (self.lo < self.hi)
             × (self.first + widest * (self.left + 1 + self.spare) < 2 ^ 32) }
         ensures fits { Fits result }
-        ensures plan { plan_at result ≡ after_answer (blocks_of self.gates)
-            (search_plan (blocks_of self.gates) self.policy self.prices self.left)
+        ensures plan { plan_at result ≡ after_answer (blocks_among self.dealers)
+            (search_plan (blocks_among self.dealers) self.policy self.prices self.left)
             self.lo self.hi self.spare self.first answer }
     {
         let mid = (self.lo + self.hi) / 2;
         let mut walk = self;
         walk.stage = Stage::Search;
-        walk.first = self.first + mask_wires(MASK_WORDS) + compare_wires(self.gates);
+        walk.first = self.first + self.dealers.mask_wires() + self.dealers.compare_wires();
         if answer.value() == 1 {
             walk.hi = mid;
         } else {
@@ -236,13 +249,13 @@ impl PlanWalk for Walk {
         match self.stage {
             Stage::Search => {
                 if self.is_open() {
-                    mask_rounds(self.gates, MASK_WORDS)
+                    self.dealers.mask_rounds()
                 } else {
                     self.end_length()
                 }
             }
             Stage::Masked | Stage::Supply(_) => 1,
-            Stage::Borrow(_) => compare_rounds(self.gates) - 1,
+            Stage::Borrow(_) => self.dealers.compare_rounds() - 1,
             Stage::Ended(_) => 0,
         }
     }
@@ -251,7 +264,7 @@ impl PlanWalk for Walk {
         match self.stage {
             Stage::Search => {
                 if self.is_open() {
-                    refill_mask(self.gates, MASK_WORDS, step, self.first, batch);
+                    self.dealers.refill_mask(step, self.first, batch);
                 } else {
                     self.refill_end(step, batch);
                 }
@@ -264,7 +277,7 @@ impl PlanWalk for Walk {
                 }
             }
             Stage::Borrow(c) => {
-                if step < compare_rounds(self.gates) - 1 {
+                if step < self.dealers.compare_rounds() - 1 {
                     self.refill_comparison(step + 1, c, batch);
                 } else {
                     batch.set_end();

@@ -2,9 +2,11 @@
 use Rattle.std.proofs.Common.{◌≡◌, ◌≢◌, ℕ, List, [], ◌∷◌, length, map, None, refl}
 use Rattle.beet_session_app.specs.Jobs.{job_of}
 
-pub no_command : {A : Type 0} (shown : A → List ℕ) (words : List A) → length words ≢ 3 → job_of (map shown words) ≡ None
-no_command shown [] f = refl
-no_command shown (a ∷ []) f = refl
-no_command shown (a ∷ b ∷ []) f = refl
-no_command shown (a ∷ b ∷ c ∷ []) f = absurd (f refl)
-no_command shown (a ∷ b ∷ c ∷ d ∷ words) f = refl
+pub no_command : {A : Type 0} (shown : A → List ℕ) (words : List A) → length words ≢ 3 → length words ≢ 4 →
+    job_of (map shown words) ≡ None
+no_command shown [] f g = refl
+no_command shown (a ∷ []) f g = refl
+no_command shown (a ∷ b ∷ []) f g = refl
+no_command shown (a ∷ b ∷ c ∷ []) f g = absurd (f refl)
+no_command shown (a ∷ b ∷ c ∷ d ∷ []) f g = absurd (g refl)
+no_command shown (a ∷ b ∷ c ∷ d ∷ e ∷ words) f g = refl

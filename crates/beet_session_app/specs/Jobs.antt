@@ -3,6 +3,7 @@ use Rattle.std.specs.Prelude.{ℕ, List, [], ◌∷◌, Option, Some, None, ◌&
 use Rattle.beet_command.specs.Words.{are_names, is_word}
 use Rattle.beet_errand.specs.Errands.{Errand}
 use Rattle.beet_job_session.specs.Sessions.{session_errand}
+use Rattle.beet_job_replay.specs.Replay.{replay_errand}
 
 -- a job: it has an errand, which ends with its answer
 pub data Job : Type 0 where
@@ -15,7 +16,15 @@ job_of_two command session servers =
     then Some (Answering (session_errand session servers))
     else None
 
+-- the job of a command with three files
+abbrev pub job_of_three : List ℕ → List ℕ → List ℕ → List ℕ → Option Job
+job_of_three command session servers schedule =
+    if is_word command (codes "replay") && are_names (session ∷ servers ∷ schedule ∷ [])
+    then Some (Answering (replay_errand session servers schedule))
+    else None
+
 -- the job that the words name: a command, and exactly its words
 abbrev pub job_of : List (List ℕ) → Option Job
 job_of (command ∷ a ∷ b ∷ []) = job_of_two command a b
+job_of (command ∷ a ∷ b ∷ c ∷ []) = job_of_three command a b c
 job_of words = None

@@ -2,28 +2,57 @@
 
 ghost use Rattle.std.specs.Prelude.{◌≡◌, map, option_map, string_bytes};
 ghost use Rattle.beet_session_app.specs.Commands.{job_for};
-ghost use Rattle.beet_session_app.specs.Jobs.{job_of, job_of_two};
+ghost use Rattle.beet_session_app.specs.Jobs.{job_of, job_of_three, job_of_two};
 
 use beet_command::is_file;
+use beet_job_replay::ReplayFiles;
 use beet_job_session::SessionFiles;
 
-/// The files of a command with two words.
-fn with_two<'a>(name: &str, session: &'a str, servers: &'a str) -> Option<SessionFiles<'a>>
+/// A command with its words. Those that stand for files are names.
+#[derive(Clone, Copy)]
+pub(crate) enum Command<'a> {
+    Session(SessionFiles<'a>),
+    Replay(ReplayFiles<'a>),
+}
+
+/// The command of a name with two files.
+fn with_two<'a>(name: &str, session: &'a str, servers: &'a str) -> Option<Command<'a>>
     ensures { option_map job_for result ≡ job_of_two name.now session.now servers.now }
 {
     if name == "session" && is_file(session) && is_file(servers) {
-        Some(SessionFiles { session, servers })
+        Some(Command::Session(SessionFiles { session, servers }))
     } else {
         None
     }
 }
 
-/// The files of the command that the words name, if they name one.
-pub(crate) fn read_command(words: &[String]) -> Option<SessionFiles<'_>>
+/// The command of a name with three files.
+fn with_three<'a>(
+    name: &str,
+    session: &'a str,
+    servers: &'a str,
+    schedule: &'a str,
+) -> Option<Command<'a>>
+    ensures { option_map job_for result ≡ job_of_three name.now session.now servers.now schedule.now }
+{
+    if name == "replay" && is_file(session) && is_file(servers) && is_file(schedule) {
+        Some(Command::Replay(ReplayFiles {
+            session,
+            servers,
+            schedule,
+        }))
+    } else {
+        None
+    }
+}
+
+/// The command that the words name, if they name one.
+pub(crate) fn read_command(words: &[String]) -> Option<Command<'_>>
     ensures { option_map job_for result ≡ job_of (map string_bytes words.now) }
 {
     match words {
-        [name, session, servers] => with_two(name.as_str(), session.as_str(), servers.as_str()),
+        [name, a, b] => with_two(name.as_str(), a.as_str(), b.as_str()),
+        [name, a, b, c] => with_three(name.as_str(), a.as_str(), b.as_str(), c.as_str()),
         _ => None,
     }
 }

@@ -17,12 +17,15 @@ use std::alloc::Global;
 /// bytes.
 ///
 /// - `session SESSION SERVERS` runs the auctions of several lots among three servers, one after another.
+/// - `replay SESSION SERVERS SCHEDULE` delivers the messages of a schedule, each in its lot, and tells how each server
+///   stands in each lot.
 ///
 /// Answers the exit status, as the program `beet` does for its jobs: 0 if the job is done; 1 for want of memory, and
 /// then nothing is said; 2 if the words name no job; 3 if a file cannot be fetched; 4 if the text is not
-/// taken; 5 for a file that is too long, breaks its format or breaks a limit of the job; 6 if the run of a lot has
-/// met the third rejected mask, which is said with the job's text; 9 for a bidder or a server whose tape holds too few
-/// words, which is said with its lot. At 2, 3, 5 and 9 the line that tells the cause is said.
+/// taken; 5 for a file that is too long, breaks its format or breaks a limit of the job; 6 if the run of a lot, or in
+/// `replay` a server of some lot, has met the third rejected mask, which is said with the job's text; 9 for a bidder
+/// or a server whose tape holds too few words, which is said with its lot. At 2, 3, 5 and 9 the line that tells the
+/// cause is said.
 ///
 /// The servers run in lockstep on the caller's thread, so the call waits for nobody.
 pub fn run_session<S: Shelf, K: Desk>(

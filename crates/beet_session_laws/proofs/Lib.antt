@@ -1,1 +1,4 @@
+mod Reading
+mod Standings
+mod Saying
 mod Jobs

@@ -1,11 +1,13 @@
 -- What is right for a job of the program of sessions over these files.
-use Rattle.std.specs.Prelude.{ℕ, List, All}
+use Rattle.std.specs.Prelude.{ℕ, List, All, length}
 use Rattle.beet_store.specs.Files.{File}
 use Rattle.beet_book.specs.Farmers.{book_with}
 use Rattle.beet_book.specs.declared.server_file.TheConstants.{SERVERS_LIMIT}
+use Rattle.beet_world.specs.declared.schedule.TheConstants.{SCHEDULE_LIMIT}
 use Rattle.beet_errand.specs.Errands.{reads}
 use Rattle.beet_load.specs.Loading.{AuctionWithBidders}
 use Rattle.beet_load.specs.Servers.{masks_of}
+use Rattle.beet_lot_files.specs.LotSchedules.{lot_schedule_of}
 use Rattle.beet_lot_files.specs.SeedFiles.{seed_servers_of}
 use Rattle.beet_lot_files.specs.SessionFiles.{session_of}
 use Rattle.beet_lot_files.specs.declared.session_file.TheConstants.{SESSION_LIMIT}
@@ -32,3 +34,8 @@ pub record CanRunSession (files : List File) (session servers : List ℕ) : Type
   pub sources : Read files (reads servers SERVERS_LIMIT seed_servers_of)
   pub lots : Read files (lots_errand sources.value rows.value)
   pub masks : All MasksSufficeIn lots.value
+
+-- `replay`: so it is, and a schedule for these lots is read
+pub record CanReplay (files : List File) (session servers schedule : List ℕ) : Type 0 where
+  pub runs : CanRunSession files session servers
+  pub deliveries : Read files (reads schedule SCHEDULE_LIMIT (lot_schedule_of (length runs.rows.value)))

@@ -12,7 +12,8 @@ use Rattle.beet_words.specs.Bundles.{Words}
 use Rattle.beet_words.specs.Words.{accepted, ones}
 use Rattle.beet_gates.specs.Scripts.{HasWords}
 use Rattle.beet_sharing.specs.Runs.{numbers_of}
-use Rattle.beet_trades.specs.Enough.{HasAccepted, HasEnough, Wants, words_read}
+use Rattle.beet_trades.specs.Enough.{HasAccepted, HasEnough, Wants}
+use Rattle.beet_masking.specs.Masks.{with_spare}
 
 accepted-split : (n : ℕ) (words : List ℕ) → accepted words ≡ accepted (take n words) ++ accepted (drop n words)
 accepted-split n words =
@@ -21,7 +22,7 @@ accepted-split n words =
 -- what the first words hold is there to draw from all
 pub drawn-of : (wanted : ℕ) (words : List ℕ) → HasAccepted wanted words → wanted ≤ length (accepted words)
 drawn-of wanted words h =
-    let n : ℕ = words_read wanted in
+    let n : ℕ = with_spare wanted in
     omega (arith, h, ap length (accepted-split n words), length-append (accepted (take n words)) (accepted (drop n words)))
 
 pub all-drawn : (wanted : ℕ) (lists : List (List ℕ)) → All (HasAccepted wanted) lists → All (λ list. wanted ≤ length (accepted list)) lists
@@ -37,9 +38,9 @@ numbers-enough wants many words e = (
 
 -- the words that are read hold the numbers that are wanted
 pub accepted-read : (wanted : ℕ) (words : List ℕ) → HasAccepted wanted words → (n : ℕ) → n < wanted →
-    slice_index (accepted (take (words_read wanted) words)) n ≡ slice_index (accepted words) n
+    slice_index (accepted (take (with_spare wanted) words)) n ≡ slice_index (accepted words) n
 accepted-read wanted words h n lt =
-    let m : ℕ = words_read wanted in
+    let m : ℕ = with_spare wanted in
     sym (ap (λ l. slice_index l n) (accepted-split m words)
     ∙ get_or_append_left (accepted (take m words)) (accepted (drop m words)) 0 n (omega (arith, h, lt)))
 
@@ -50,7 +51,7 @@ masks-read m t Two n lt = get_or-take m t.two n 0 lt
 masks-read m t Three n lt = get_or-take m t.three n 0 lt
 
 pub numbers-read : (wants : Wants) (many : ℕ) (words : Words) → HasEnough wants many words → (j : Point) (n : ℕ) → n < wants.coefficients →
-    slice_index (member (numbers_of (of_each (take (words_read wants.coefficients)) words.coefficients)) j) n
+    slice_index (member (numbers_of (of_each (take (with_spare wants.coefficients)) words.coefficients)) j) n
     ≡ slice_index (member (numbers_of words.coefficients) j) n
 numbers-read wants many words e One n lt = accepted-read wants.coefficients words.coefficients.one e.one n lt
 numbers-read wants many words e Two n lt = accepted-read wants.coefficients words.coefficients.two e.two n lt

@@ -15,12 +15,13 @@ use Rattle.beet_mapped.specs.Dealers.{Party, DealersMapped, dealers_of}
 use Rattle.beet_mapped.specs.Trades.{Trade, TradesMapped}
 use Rattle.beet_mapped.proofs.DealerFacts.{lists-alike}
 use Rattle.beet_mapped.proofs.WordPlaces.{accepted-length}
-use Rattle.beet_trades.specs.Enough.{HasAccepted, HasEnough, Wants, words_read}
+use Rattle.beet_trades.specs.Enough.{HasAccepted, HasEnough, Wants}
+use Rattle.beet_masking.specs.Masks.{with_spare}
 
 -- as many words are accepted where the same are all ones
 pub has-accepted-same : (wanted : ℕ) (xs ys : List ℕ) → ones_in ys ≡ ones_in xs → HasAccepted wanted xs → HasAccepted wanted ys
 has-accepted-same wanted xs ys e h =
-    let n : ℕ = words_read wanted in
+    let n : ℕ = with_spare wanted in
     let front : ones_in (take n ys) ≡ ones_in (take n xs) =
     sym (take-map (λ w. w == ones) n ys) ∙ ap (take n) e ∙ take-map (λ w. w == ones) n xs in
     omega (arith, h, accepted-length (take n ys) (take n xs) front)

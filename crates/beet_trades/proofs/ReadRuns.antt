@@ -15,14 +15,15 @@ use Rattle.beet_sharing.proofs.SameRuns.{UseSame, ends-same, message-same, run-s
 use Rattle.beet_sharing.proofs.Walk.{Walks, deals-fit, draws-fit, walks}
 use Rattle.beet_mapped.specs.Trades.{Trade, rounds_in, setup_in}
 use Rattle.beet_mapped.proofs.WorldFacts.{seen_in}
-use Rattle.beet_trades.specs.Enough.{HasEnough, Wants, read_words, words_read}
+use Rattle.beet_trades.specs.Enough.{HasEnough, Wants, read_words}
+use Rattle.beet_masking.specs.Masks.{with_spare}
 use Rattle.beet_trades.proofs.Drawn.{masks-read, numbers-read}
 
 -- what is seen of a run, with the words that are read
 abbrev pub seen_read : Wants → SeenRun → SeenRun
 seen_read wants run = record {
   masks = take wants.masks run.masks;
-  coefficients = take (words_read wants.coefficients) run.coefficients;
+  coefficients = take (with_spare wants.coefficients) run.coefficients;
   rounds = run.rounds;
 }
 
@@ -95,7 +96,7 @@ module _ (trade : Trade) (wants : Wants) (words : Words) (r : Reads trade wants 
         ≡ seen_read wants (run_seen whole s rounds (member words.masks s) (member words.coefficients s))
     run-seen-read s = λ x. record {
       masks = member-each (take wants.masks) words.masks s x;
-      coefficients = member-each (take (words_read wants.coefficients)) words.coefficients s x;
+      coefficients = member-each (take (with_spare wants.coefficients)) words.coefficients s x;
       rounds = (
           ap (rounds_seen read s) rounds-read
           ∙ each-same (round_seen read s) (round_seen whole s) rounds

@@ -88,8 +88,8 @@ impl<W: PlanWalk> Place<W> {
         }
     }
 
-    /// Goes on from the place, and makes a batch that after `done` batches, where these numbers were opened so far. It
-    /// reads only the numbers that were opened since.
+    /// Goes on from the place, and makes in `batch` the batch that comes after `done` batches, if these numbers were
+    /// opened so far. It reads only the numbers that were opened since.
     pub fn refill(&mut self, done: u32, opened: &[Fe], batch: &mut Batch)
         requires { (whole : Plan W.Finish) × IsAt W.fits W.plan_of whole done opened.now self.old }
         ensures batch { (whole : Plan W.Finish) → IsAt W.fits W.plan_of whole done opened.now self.old →

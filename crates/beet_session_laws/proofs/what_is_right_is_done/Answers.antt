@@ -1,5 +1,8 @@
-use Rattle.beet_session_laws.proofs.Jobs.{session}
+use Rattle.beet_session_laws.proofs.Jobs.{replay, session}
 use Rattle.beet_session_laws.proofs.what_is_right_is_done.Goals as goal
 
-pub returns : goal.returns
-returns c = λ files name servers call w can. session files call name servers w can
+pub returns-clause-session : goal.returns-clause-session
+returns-clause-session c = λ files name servers call w can. session files call name servers w can
+
+pub returns-clause-replay : goal.returns-clause-replay
+returns-clause-replay c = λ files name servers schedule call w can. replay files call name servers schedule w can

@@ -7,6 +7,7 @@ use Rattle.beet_sale_map.specs.Bids.{Agree}
 use Rattle.beet_sale_map.specs.Disagreement.{RefusesMap}
 use Rattle.beet_sale_map.specs.MappedSales.{Ends, SalesMapped}
 use Rattle.beet_highbid.specs.SaleViews.{sale_bytes, view_of_sale}
+use Rattle.beet_highbid.proofs.CutWords.{mapped-kept}
 use Rattle.beet_highbid.proofs.SaleMaps.{of-sales}
 use Rattle.beet_highbid.proofs.SaleRows.{are-sale-bids}
 use Rattle.beet_highbid.proofs.SeenBids.{views-same}
@@ -84,3 +85,12 @@ returns-clause-bytes c =
     let same = views-same c.args.me first.gates (bids_of first.rows) (bids_of second.rows) c.args.words.now c.in_ok-mapped.mapped
     (are-sale-bids first c.bids.ensures.limits) (are-sale-bids second c.bids-2.ensures.limits) a c.requires.enough m in
     rw c.requires.gates (ap sale_bytes same)
+
+pub returns-clause-cut : goal.returns-clause-cut
+returns-clause-cut c cut =
+    let m = of-sales (λ (g : Gates) (f s : List SaleBid). SalesMapped c.args.me g f c.args.words.now s c.in_ok-mapped.mapped)
+    c.gates.ensures c.bids.ensures.value c.bids-2.ensures.value c.in_ok-mapped.ensures.mapped in
+    let a = of-sales (λ (g : Gates) (f s : List SaleBid). Agree c.args.me f s)
+    c.gates.ensures c.bids.ensures.value c.bids-2.ensures.value c.in_ok-mapped.ensures.agreed in
+    mapped-kept c.args.me c.args.first.now.gates (bids_of c.args.first.now.rows) (bids_of c.args.second.now.rows) c.args.words.now
+    c.in_ok-mapped.mapped a.shape c.requires.enough m cut

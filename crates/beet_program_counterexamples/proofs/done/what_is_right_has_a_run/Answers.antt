@@ -1,5 +1,5 @@
 use Rattle.beet_program_counterexamples.proofs.DoneRuns.{audit, clear, opened, recorded, rehearse, seal, tally, trial}
-use Rattle.beet_program_counterexamples.proofs.DoneRuns.{worlds}
+use Rattle.beet_program_counterexamples.proofs.DoneRuns.{watch, witness, worlds}
 use Rattle.beet_program_counterexamples.proofs.done.what_is_right_has_a_run.Goals as goal
 
 pub returns-clause-tally : goal.returns-clause-tally
@@ -7,6 +7,9 @@ returns-clause-tally c = tally
 
 pub returns-clause-clear : goal.returns-clause-clear
 returns-clause-clear c = clear
+
+pub returns-clause-watch : goal.returns-clause-watch
+returns-clause-watch c = watch
 
 pub returns-clause-rehearse : goal.returns-clause-rehearse
 returns-clause-rehearse c = rehearse
@@ -19,6 +22,9 @@ returns-clause-seal c = seal
 
 pub returns-clause-opened : goal.returns-clause-opened
 returns-clause-opened c = opened
+
+pub returns-clause-witness : goal.returns-clause-witness
+returns-clause-witness c = witness
 
 pub returns-clause-trial : goal.returns-clause-trial
 returns-clause-trial c = trial

@@ -5,7 +5,7 @@ use Rattle.beet_session_app.specs.Commands.{job_for}
 use Rattle.beet_session_app.specs.Jobs.{job_of}
 use Rattle.beet_session_app.proofs.Counts.{no_command}
 use Rattle.beet_session_app.proofs.commands.read_command.Goals.{in_default-via-then-words-lt3}
-use Rattle.beet_session_app.proofs.commands.read_command.Goals.{in_default-via-else-words-lt3+else-words-lt4}
+use Rattle.beet_session_app.proofs.commands.read_command.Goals.{in_default-via-else-words-lt3+else-words-lt4+else-words-lt5}
 use Rattle.beet_session_app.proofs.commands.read_command.Goals as goal
 
 pub returns-in_default : goal.returns-in_default
@@ -13,16 +13,28 @@ returns-in_default c =
     let words = c.args.words.now in elim c.in_default.branch [
       | in_default-via-then-words-lt3 w ↦
           let few : length words < 3 = search rules in
-          sym (no_command string_bytes words (λ e. omega (arith, e, few)))
-      | in_default-via-else-words-lt3+else-words-lt4 w ↦
-          let many : 4 ≤ length words = search rules in
-          sym (no_command string_bytes words (λ e. omega (arith, e, many)))
+          sym (no_command string_bytes words (λ e. omega (arith, e, few)) (λ e. omega (arith, e, few)))
+      | in_default-via-else-words-lt3+else-words-lt4+else-words-lt5 w ↦
+          let many : 5 ≤ length words = search rules in
+          sym (no_command string_bytes words (λ e. omega (arith, e, many)) (λ e. omega (arith, e, many)))
     ]
 
 pub returns-in-len3 : goal.returns-in-len3
 returns-in-len3 c =
     by_words job_of string_bytes (λ job. option_map job_for c.with_two.result ≡ job) c.args.words.now
-    (c.name-item.result ∷ c.session-item.result ∷ c.servers-item.result ∷ [])
-    (omega (arith, c.in-len3.len_at_least, c.in-len3.len_below))
-    (c.name-item.is, (c.session-item.is, (c.servers-item.is, tt)))
+    (c.name-item.result ∷ c.a-item.result ∷ c.b-item.result ∷ [])
+    (omega (arith, c.in-len3.len_at_least, c.in-len3.len_below)) (c.name-item.is, (c.a-item.is, (c.b-item.is, tt)))
     (rw (c.as_str.ensures.value, c.as_str-in-len3.ensures.value, c.as_str-in-len3-2.ensures.value) at c.with_two.ensures)
+
+pub returns-in-len4 : goal.returns-in-len4
+returns-in-len4 c =
+    by_words job_of string_bytes (λ job. option_map job_for c.with_three.result ≡ job) c.args.words.now
+    (c.name-item-then-words-lt5.result ∷ c.a-item-then-words-lt5.result ∷ c.b-item-then-words-lt5.result ∷ c.c-item.result ∷ [])
+    (omega (arith, c.in-len4.len_at_least, c.in-len4.len_below))
+    (c.name-item-then-words-lt5.is, (c.a-item-then-words-lt5.is, (c.b-item-then-words-lt5.is, (c.c-item.is, tt))))
+    (rw (
+      c.as_str-in-len4.ensures.value,
+      c.as_str-in-len4-2.ensures.value,
+      c.as_str-in-len4-3.ensures.value,
+      c.as_str-in-len4-4.ensures.value,
+    ) at c.with_three.ensures)

@@ -24,7 +24,7 @@ returns-else-step-eq0 c =
 
 pub returns-then-step-compare_rounds : goal.returns-then-step-compare_rounds
 returns-then-step-compare_rounds c = rw (facts.batch-borrow c.args.self.now c.in-Borrow.c c.in-Borrow.is c.args.step)
-    (rw add-one at c.refill_comparison-then-step-compare_rounds.ensures)
+    (rw (add-one c.args.step) at c.refill_comparison-then-step-compare_rounds.ensures)
 
 pub returns-else-step-compare_rounds : goal.returns-else-step-compare_rounds
 returns-else-step-compare_rounds c = rw (facts.past-borrow c.args.self.now c.in-Borrow.c c.in-Borrow.is c.args.step

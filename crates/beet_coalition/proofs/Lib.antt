@@ -1,0 +1,14 @@
+pub mod Laws
+pub mod Alike
+pub mod Unique
+pub mod Symmetry
+pub mod Extending
+pub mod Reaching
+pub mod Whole
+pub mod WordPairs
+pub mod Alternating
+pub mod SumFacts
+pub mod ListMoves
+pub mod Examples
+pub mod Enough
+pub mod Arithmetic

@@ -1,0 +1,2 @@
+pub mod FiveEnds
+pub mod FiveCores

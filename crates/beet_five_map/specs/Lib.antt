@@ -1,0 +1,4 @@
+pub mod FiveMasks
+pub mod FiveWords
+pub mod FiveInputs
+pub mod FiveWorlds

@@ -1,0 +1,9 @@
+pub mod MailFacts
+pub mod Handing
+pub mod RunSteps
+pub mod Peers
+pub mod Standing
+pub mod Beginning
+pub mod Delivering
+pub mod Networking
+pub mod Passing

@@ -1,0 +1,3 @@
+pub mod MemberFacts
+pub mod Places
+pub mod WorldFacts

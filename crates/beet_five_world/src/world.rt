@@ -1,0 +1,150 @@
+//! Five servers and the events of a run.
+
+ghost use Rattle.std.specs.Prelude.{◌≡◌, ◌↔◌, ◌≤◌, ◌<◌, ◌+◌, ◌-◌, ℕ, ◌≢◌, List, length, true, false, slice_get, Some};
+ghost use Rattle.std.specs.Prelude.{MatchOption, IfOk};
+ghost use Rattle.beet_delivery.specs.Networks.{Delivered, is_sent, nothing};
+ghost use Rattle.beet_weights.specs.Quadratics.{IsServer};
+ghost use Rattle.beet_linear_sharing.specs.Runs.{Setup};
+ghost use Rattle.beet_five_server.specs.Cores.{is_quiet};
+ghost use Rattle.beet_five_server.specs.Network.{five};
+ghost use Rattle.beet_five_server.specs.Runs.{HasRounds};
+ghost use Rattle.beet_five_world.specs.Members.{AllBegin, AllFit, AreFresh, GivesAt, IsAt, Leads, Seen, rank};
+ghost use Rattle.beet_five_world.specs.Members.{triple, verdict_at};
+ghost use Rattle.beet_five_world.specs.declared.world.FiveEvent.TheVariants.{Delivered as DeliveredBy, NotSent};
+ghost use Rattle.beet_five_server.specs.declared.mail.FiveMessage.{FiveMessage as Message};
+
+use crate::member::Member;
+use beet_five_gates::ScriptOfFive;
+use beet_five_server::{FiveCore, FiveMessage};
+use beet_round::Verdict;
+use std::alloc::{AllocError, Global};
+use std::marker::Model;
+
+/// What comes of an event.
+#[derive(Clone, Copy, PartialEq, Eq, Debug)]
+pub enum FiveEvent {
+    /// The message was delivered, and the receiver says this of it.
+    Delivered(Verdict),
+    /// The message was never sent.
+    NotSent,
+}
+
+/// Gives the server at a place of the list a message.
+fn give_at<S: ScriptOfFive>(members: &mut Vec<Member<S>>, k: usize, m: FiveMessage) -> Verdict
+    requires place { k < length members.old.items }
+    requires quiet { (s : Seen S) → IsAt members.old.items k s → is_quiet S.batch_of s.core.work ≡ true }
+    ensures gives { GivesAt S.batch_of members.old.items members.new.items k m }
+    ensures verdict { (s : Seen S) → IsAt members.old.items k s → result ≡ verdict_at S.batch_of s.core m }
+{
+    let member = &mut members[k];
+    member.give(m)
+}
+
+/// The message at a place of four.
+fn message_at(messages: &[FiveMessage; 4], place: u32) -> &FiveMessage
+    requires { place < 4 }
+    ensures { Some result.now ≡ slice_get messages.now place }
+{
+    let [one, two, three, four] = messages;
+    match place {
+        0 => one,
+        1 => two,
+        2 => three,
+        _ => four,
+    }
+}
+
+/// The place of a peer among the four of a server, in rising order.
+fn rank(from: u32, to: u32) -> u32
+    requires from { IsServer from }
+    requires to { IsServer to }
+    requires other { from ≢ to }
+    ensures value { result ≡ rank from to }
+    ensures small { result < 4 }
+{
+    if to < from { to - 1 } else { to - 2 }
+}
+
+/// A copy of what a server sent another in a round, if it did.
+fn copy_of<S: ScriptOfFive>(
+    member: &Member<S>,
+    from: u32,
+    to: u32,
+    round: u32,
+) -> Option<FiveMessage>
+    requires from { IsServer from }
+    requires to { IsServer to }
+    requires other { from ≢ to }
+    ensures { MatchOption result (length member.now.sent ≤ round)
+        (λ m. (row : List Message) × (slice_get member.now.sent round ≡ Some row)
+        × (slice_get row (rank from to) ≡ Some m)) }
+{
+    let row = member.sent().get(round as usize)?;
+    Some(message_at(row, rank(from, to)).copy())
+}
+
+/// Five servers.
+#[derive(Drop)]
+pub struct FiveWorld<S: ScriptOfFive> {
+    members: Vec<Member<S>>,
+}
+
+impl<S: ScriptOfFive> Model for FiveWorld<S> {
+    ghost use Rattle.std.specs.Prelude.{List};
+    ghost use Rattle.beet_five_world.specs.Members.{IsWorld, Seen};
+
+    ghost Value = { List (Seen S) };
+
+    ghost view = { λ w. w.members.items };
+
+    ghost invariant = { λ w. IsWorld S.batch_of w.members.items };
+}
+
+impl<S: ScriptOfFive> FiveWorld<S> {
+    /// The servers 1 to 5 in order, from cores of one script that have handed out nothing. Each has then sent its
+    /// messages of round 0. It takes the memory for all messages, and no other call takes memory. That it fails only if
+    /// there is too little is no clause: a body that always fails meets the contract.
+    pub fn of(alloc: Global, cores: Vec<FiveCore<S>>) -> Result<FiveWorld<S>, AllocError>
+        requires { AreFresh S.batch_of S.rounds_of cores.items }
+        ensures { IfOk result (λ w. (o : Setup) (rounds : ℕ) → HasRounds o rounds →
+            AllBegin S.batch_of o cores.items → AllFit S.batch_of o rounds nothing w) }
+    {
+        let mut members = Vec::with_capacity(alloc, cores.len())?;
+        for core in cores {
+            members.push_reserved(Member::begin(alloc, core)?);
+        }
+        Ok(FiveWorld { members })
+    }
+
+    /// The core of a server.
+    pub fn core(&self, at: u32) -> &FiveCore<S>
+        requires { IsServer at }
+        ensures { (s : Seen S) × IsAt self.now (at - 1) s × (result.now ≡ s.core) }
+    {
+        self.members[at as usize - 1].core()
+    }
+
+    /// Delivers the message of one server to another in a round, counted from 0. It may be delivered again. What the
+    /// receiver then sends is sent. If the message was not sent yet, or no such message ever is, the answer is
+    /// `NotSent`, and nothing changes.
+    pub fn event(&mut self, from: u32, to: u32, round: u32) -> FiveEvent
+        requires from { IsServer from }
+        requires to { IsServer to }
+        ensures fits { Leads S.batch_of self.old (triple from to round) self.new }
+        ensures sent { (o : Setup) (rounds : ℕ) (x : Delivered ℕ) → AllFit S.batch_of o rounds x self.old
+            → (result ≡ NotSent) ↔ (is_sent five rounds x (triple from to round) ≡ false) }
+        ensures verdict { (sender receiver : Seen S) (row : List Message) (m : Message) → from ≢ to
+            → IsAt self.old (from - 1) sender → IsAt self.old (to - 1) receiver
+            → slice_get sender.sent round ≡ Some row → slice_get row (rank from to) ≡ Some m
+            → result ≡ DeliveredBy (verdict_at S.batch_of receiver.core m) }
+        ensures unchanged { result ≡ NotSent → self.new ≡ self.old }
+    {
+        if from == to {
+            return FiveEvent::NotSent;
+        }
+        match copy_of(&self.members[from as usize - 1], from, to, round) {
+            None => FiveEvent::NotSent,
+            Some(m) => FiveEvent::Delivered(give_at(&mut self.members, to as usize - 1, m)),
+        }
+    }
+}

@@ -1,0 +1,3 @@
+pub mod SaleTexts
+pub mod SaleAnswers
+pub mod Sales

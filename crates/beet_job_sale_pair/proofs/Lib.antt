@@ -1,0 +1,4 @@
+pub mod DifferenceFacts
+pub mod Judged
+pub mod SaleAnswers
+pub mod JobSteps

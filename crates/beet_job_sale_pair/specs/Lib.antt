@@ -1,0 +1,4 @@
+pub mod Differences
+pub mod Reading
+pub mod Answering
+pub mod Ending

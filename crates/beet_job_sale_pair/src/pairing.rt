@@ -1,0 +1,42 @@
+//! The job `pair`.
+
+ghost use Rattle.beet_errand.specs.Tasks.{DoesTask};
+ghost use Rattle.beet_job_sale_pair.specs.Ending.{pair_task};
+
+use crate::answering::answer_both;
+use crate::reading::load_second;
+use beet_errand::{Reply, Stop};
+use beet_field::Point;
+use beet_forms::beside;
+use beet_sale_load::load_sale;
+use beet_store::Shelf;
+use std::alloc::Global;
+
+/// The names of the files of the job, and the name with which those that it puts begin.
+#[derive(Clone, Copy)]
+pub struct PairFiles<'a> {
+    pub first: &'a str,
+    pub second: &'a str,
+    pub servers: &'a str,
+    pub out: &'a str,
+}
+
+/// Holds the first sale with the words that are read, and the second with words with which it looks the same to the
+/// server. It answers the transcripts of the server, which are equal, and the words of the second sale.
+pub fn pair<S: Shelf>(
+    alloc: Global,
+    shelf: &mut S,
+    files: &PairFiles<'_>,
+    server: Point,
+) -> Result<Reply, Stop>
+    ensures { DoesTask (pair_task files.now.first.now files.now.second.now files.now.servers.now server
+        files.now.out.now)
+        (S.seen shelf.old) (S.seen shelf.new) result }
+{
+    let first = load_sale(alloc, shelf, files.first, files.servers)?;
+    let second = load_second(alloc, shelf, files.second, first.sale.gates());
+    let (first, second) = beside(first, second)?;
+    let reply = answer_both(alloc, server, files.out, &first, second);
+    drop(first);
+    reply
+}

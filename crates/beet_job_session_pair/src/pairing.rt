@@ -1,0 +1,42 @@
+//! The job `pair`.
+
+ghost use Rattle.beet_errand.specs.Tasks.{DoesTask};
+ghost use Rattle.beet_job_session_pair.specs.Ending.{pair_task};
+
+use crate::answering::answer_sessions;
+use crate::reading::read_both;
+use beet_errand::{Reply, Stop};
+use beet_field::Point;
+use beet_store::Shelf;
+use std::alloc::Global;
+use std::marker::Sync;
+use std::thread::Threads;
+
+/// The names of the files of the job, and the name with which those that it puts begin.
+#[derive(Clone, Copy)]
+pub struct PairFiles<'a> {
+    pub first: &'a str,
+    pub second: &'a str,
+    pub servers: &'a str,
+    pub out: &'a str,
+}
+
+/// Runs the lots of the first session with the words that are read, and those of the second with words with which each
+/// looks the same to the server: `pair SESSION1 SESSION2 SERVERS SERVER OUT`. It answers what the server has seen of
+/// either session, which are the same bytes, and the words of the second.
+pub fn pair<S: Shelf, R: Threads + Sync>(
+    rt: &R,
+    alloc: Global,
+    shelf: &mut S,
+    files: &PairFiles<'_>,
+    server: Point,
+) -> Result<Reply, Stop>
+    ensures { DoesTask (pair_task files.now.first.now files.now.second.now files.now.servers.now server
+        files.now.out.now)
+        (S.seen shelf.old) (S.seen shelf.new) result }
+{
+    let both = read_both(alloc, shelf, files.first, files.second, files.servers)?;
+    let reply = answer_sessions(rt, alloc, server, files.out, &both);
+    drop(both);
+    reply
+}

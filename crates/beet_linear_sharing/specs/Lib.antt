@@ -1,0 +1,4 @@
+pub mod Sharings
+pub mod Runs
+pub mod Polynomials
+pub mod Schemes

@@ -1,0 +1,6 @@
+1fffffffffffffff
+1fffffffffffffff
+1fffffffffffffff
+0000000000000007
+0000000000000007
+0000000000000007

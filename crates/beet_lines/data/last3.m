@@ -1,0 +1,6 @@
+0000000000000007
+0000000000000007
+0000000000000007
+1fffffffffffffff
+1fffffffffffffff
+1fffffffffffffff

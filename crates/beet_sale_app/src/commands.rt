@@ -1,0 +1,72 @@
+//! Reading the words of a command.
+
+ghost use Rattle.std.specs.Prelude.{◌≡◌, map, option_map, string_bytes};
+ghost use Rattle.beet_sale_app.specs.Commands.{job_for};
+ghost use Rattle.beet_sale_app.specs.Jobs.{job_of, job_of_five, job_of_two};
+
+use beet_command::is_file;
+use beet_field::Point;
+use beet_job_sale::SaleFiles;
+use beet_job_sale_pair::PairFiles;
+
+/// A command with its words. Those that stand for files are names.
+#[derive(Clone, Copy)]
+pub(crate) enum Command<'a> {
+    Sale(SaleFiles<'a>),
+    Pair(PairFiles<'a>, Point),
+}
+
+/// The command of a name with two words.
+fn with_two<'a>(name: &str, sale: &'a str, servers: &'a str) -> Option<Command<'a>>
+    ensures { option_map job_for result ≡ job_of_two name.now sale.now servers.now }
+{
+    if name == "sale" && is_file(sale) && is_file(servers) {
+        Some(Command::Sale(SaleFiles { sale, servers }))
+    } else {
+        None
+    }
+}
+
+/// The command of a name with five words, of which the fourth is a server's number.
+fn with_five<'a>(
+    name: &str,
+    first: &'a str,
+    second: &'a str,
+    servers: &'a str,
+    server: &str,
+    out: &'a str,
+) -> Option<Command<'a>>
+    ensures { option_map job_for result
+        ≡ job_of_five name.now first.now second.now servers.now server.now out.now }
+{
+    let named = is_file(first) && is_file(second) && is_file(servers) && is_file(out);
+    if !(name == "pair" && named) {
+        return None;
+    }
+    let server = Point::of_digit(server.as_bytes())?;
+    let files = PairFiles {
+        first,
+        second,
+        servers,
+        out,
+    };
+    Some(Command::Pair(files, server))
+}
+
+/// The command that the words name, if they name one.
+pub(crate) fn read_command(words: &[String]) -> Option<Command<'_>>
+    ensures { option_map job_for result ≡ job_of (map string_bytes words.now) }
+{
+    match words {
+        [name, a, b] => with_two(name.as_str(), a.as_str(), b.as_str()),
+        [name, a, b, c, d, e] => with_five(
+            name.as_str(),
+            a.as_str(),
+            b.as_str(),
+            c.as_str(),
+            d.as_str(),
+            e.as_str(),
+        ),
+        _ => None,
+    }
+}

@@ -1,0 +1,2 @@
+pub mod SaleWants
+pub mod SaleLoading
