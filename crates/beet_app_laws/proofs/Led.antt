@@ -260,7 +260,7 @@ module _ (auction one two three : List ℕ) (files : List File) (told told_now :
 
 module _ (files : List File) (call : Call) (from : IsOf files call) (due : Status) where
   -- a job that shows, where its answer has what is due
-  shows-led : {A : Type 0} (own : OwnRefusal) (step : Step A) (shows : Shows) (next : A → Errand) →
+  pub shows-led : {A : Type 0} (own : OwnRefusal) (step : Step A) (shows : Shows) (next : A → Errand) →
       due ≡ (answer_over files (step next)).status →
       ((answer : Answer) → shows call.shelf call.shelf_now answer → due ≡ answer.status) →
       RunsTask (ToShow own step shows) call.shelf call.shelf_now call.desk call.desk_now call.status →

@@ -33,13 +33,13 @@ abbrev pub IsTold : Type 0 → Type 0
 IsTold A = (a b : A) → AreAlike a b → a ≡ b
 
 -- a part of values that are alike is one where it is told
-part : {A B : Type 0} → IsTold B → (f : A → B) (a b : A) → AreAlike a b → f a ≡ f b
+pub part : {A B : Type 0} → IsTold B → (f : A → B) (a b : A) → AreAlike a b → f a ≡ f b
 part t f a b h = t (f a) (f b) (λ g. h (λ x. g (f x)))
 
 pub told-list : IsTold (List ℕ)
 told-list a b h = h (λ l. l)
 
-told-number : IsTold ℕ
+pub told-number : IsTold ℕ
 told-number a b h = ap (λ l. get_or l 0 0) (h (λ n. n ∷ []))
 
 -- a type is told where it is read back from what is told
@@ -51,10 +51,10 @@ server-again One = refl
 server-again Two = refl
 server-again Three = refl
 
-told-server : IsTold Point
+pub told-server : IsTold Point
 told-server = told-back number_of server_of server-again told-number
 
-told-gates : IsTold Gates
+pub told-gates : IsTold Gates
 told-gates = told-back number_of_gates gates_of gates_of-number told-number
 
 abbrev policy_in : List ℕ → Policy
@@ -92,7 +92,7 @@ abbrev count : {A : Type 0} → Option A → List ℕ
 count None = []
 count (Some x) = 0 ∷ []
 
-told-option : {A : Type 0} → IsTold A → IsTold (Option A)
+pub told-option : {A : Type 0} → IsTold A → IsTold (Option A)
 told-option t None None h = refl
 told-option t None (Some y) h = let e : 0 ≡ 1 = ap length (h count) in absurd (omega (arith, e))
 told-option t (Some x) None h = let e : 1 ≡ 0 = ap length (h count) in absurd (omega (arith, e))

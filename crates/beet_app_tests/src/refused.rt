@@ -10,8 +10,9 @@ use std::sync::Wait;
 use std::thread::Threads;
 use std::time::Clock;
 
-/// A book and two sales whose bidders have tapes, two schedules of no message, and the tape of a bid that is sealed.
-const FILES: [(&str, &str); 9] = [
+/// A book and two sales whose bidders have tapes, a second session, two schedules of no message, and the tape of a bid
+/// that is sealed.
+const FILES: [(&str, &str); 10] = [
     (
         "tapes.book",
         "beet-book,1\ndan,0,dan.bid,tape,two\neva,0,eva.bid,tape,pair\n",
@@ -24,6 +25,10 @@ const FILES: [(&str, &str); 9] = [
     (
         "d.sal",
         "beet-sale,1\ngates,chain\nann,0,700,tape,two\nben,0,950,tape,pair\n",
+    ),
+    (
+        "moved.ses",
+        "beet-session,1\nnorth,g.auc,c.book\nsouth,g1.auc,b1.book\n",
     ),
     ("two", "0000000000000001\n0000000000000002\n"),
     ("pair", "0000000000000003\n0000000000000004\n"),
@@ -54,12 +59,18 @@ const BOTH_SALES: [Put; 3] = [
     ("w.words", 37_264),
 ];
 
+const BOTH_SESSIONS: [Put; 3] = [
+    ("w.first", 54_488),
+    ("w.second", 54_488),
+    ("w.words", 99_536),
+];
+
 const ENVELOPES: [Put; 3] = [("e.1", 104), ("e.2", 104), ("e.3", 104)];
 
 const SEEN: [Put; 3] = [("w.1", 34_800), ("w.2", 34_800), ("w.3", 34_800)];
 
 /// What is said of a tally, of a watched auction, of a schedule of no message, of two worlds, of a sealed bid, of two
-/// lots that are run or replayed, of a sale, and of two sales.
+/// lots that are run or replayed, of a sale, and of two sales and two sessions.
 const SUMS: &str = "supply 80\ndemand 35\n";
 
 const COUNTS: &str = "price 110\nvolume 35\nrounds 255\nserver 1 notes 255 opened 7\n\
@@ -79,6 +90,10 @@ const SOLD: &str = "winner ben\nprice 700\nrounds 255\n";
 
 const SOLD_ALIKE: &str = "winner ben\nprice 700\nrounds 255\ntranscripts equal\n";
 
+const LOTS_ALIKE: &str =
+    "lot north\nprice 110\nvolume 35\nrounds 255\nlot south\nprice 100\nvolume 35\nrounds 128\n\
+    transcripts equal\n";
+
 const REPLAYED: &str =
     "lot north\nserver 1 round 0 waiting\nserver 2 round 0 waiting\nserver 3 round 0 waiting\n\
     lot south\nserver 1 round 0 waiting\nserver 2 round 0 waiting\nserver 3 round 0 waiting\nundelivered 12\n";
@@ -95,7 +110,7 @@ type Job = (
 );
 
 /// A case of each job.
-const JOBS: [Job; 15] = [
+const JOBS: [Job; 16] = [
     (
         "tally g1.auc tapes.book",
         &["g1.auc", "tapes.book", "dan.bid", "two", "eva.bid", "pair"],
@@ -175,7 +190,7 @@ const JOBS: [Job; 15] = [
     ),
     ("trial 0 1", &[], &[], TRIAL),
     (
-        "session day.ses s.srv",
+        "beet_session session day.ses s.srv",
         &[
             "day.ses", "s.srv", "g.auc", "b.book", "anna.bid", "bo.bid", "carl.bid", "g1.auc",
             "b1.book", "dan.bid",
@@ -184,19 +199,19 @@ const JOBS: [Job; 15] = [
         LOTS,
     ),
     (
-        "sale c.sal s.srv",
+        "beet_sale sale c.sal s.srv",
         &["c.sal", "s.srv", "two", "pair"],
         &[],
         SOLD,
     ),
     (
-        "pair c.sal d.sal s.srv 2 w",
+        "beet_sale pair c.sal d.sal s.srv 2 w",
         &["c.sal", "s.srv", "two", "pair", "d.sal"],
         &BOTH_SALES,
         SOLD_ALIKE,
     ),
     (
-        "replay day.ses s.srv none.lots",
+        "beet_session replay day.ses s.srv none.lots",
         &[
             "day.ses",
             "s.srv",
@@ -212,6 +227,32 @@ const JOBS: [Job; 15] = [
         ],
         &[],
         REPLAYED,
+    ),
+    (
+        "beet_session pair day.ses moved.ses s.srv 2 w",
+        &[
+            "day.ses",
+            "s.srv",
+            "g.auc",
+            "b.book",
+            "anna.bid",
+            "bo.bid",
+            "carl.bid",
+            "g1.auc",
+            "b1.book",
+            "dan.bid",
+            "moved.ses",
+            "g.auc",
+            "c.book",
+            "anna2.bid",
+            "bo2.bid",
+            "carl.bid",
+            "g1.auc",
+            "b1.book",
+            "dan.bid",
+        ],
+        &BOTH_SESSIONS,
+        LOTS_ALIKE,
     ),
 ];
 

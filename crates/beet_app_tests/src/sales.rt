@@ -20,7 +20,15 @@ fn expect_front(
 ) {
     let made = SALE.get(0..length).expect(rt, "a front");
     let text = format!(in alloc; "bad file: made row {row} reason {reason}\n").expect(rt, "memory");
-    expect_job(rt, alloc, "sale made s.srv", made, 0, 5, text.as_str());
+    expect_job(
+        rt,
+        alloc,
+        "beet_sale sale made s.srv",
+        made,
+        0,
+        5,
+        text.as_str(),
+    );
 }
 
 /// From where to where a cut is told by which row and reason: in the header, in the gates, in a row of a bidder, right

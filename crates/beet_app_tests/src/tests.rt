@@ -11,8 +11,8 @@ use std::thread::Threads;
 use std::time::Clock;
 
 /// An auction of four prices with three bidders, another book of them that has the same outcome, an auction of one
-/// price with a bidder, a list of no envelopes, and a session of both auctions.
-const FILES: [(&str, &str); 15] = [
+/// price with a bidder, a list of no envelopes, a session of both auctions, and one of the second alone.
+const FILES: [(&str, &str); 16] = [
     (
         "g.auc",
         "beet-auction,1\nbase,100\ntick,5\nprices,4\ngates,chain\n",
@@ -61,6 +61,7 @@ const FILES: [(&str, &str); 15] = [
         "day.ses",
         "beet-session,1\nnorth,g.auc,b.book\nsouth,g1.auc,b1.book\n",
     ),
+    ("south.ses", "beet-session,1\nsouth,g1.auc,b1.book\n"),
     (
         "made.srv",
         "beet-servers,1\n1,tape,made,made\n2,tape,made,made\n3,tape,made,made\n",
@@ -118,7 +119,8 @@ pub(crate) fn words_of(rt: &impl Abort, alloc: Global, line: &str) -> Vec<String
     words
 }
 
-/// Does the job of a line over these files, where this fetch fails: its status.
+/// Does the job of a line over these files, where this fetch fails: its status. A line that begins with `beet_session`
+/// or `beet_sale` is of that program.
 pub(crate) fn run_over<G: Gate>(
     rt: &(impl Abort + Threads + Wait + Clock + Sync),
     alloc: Global,
@@ -131,11 +133,11 @@ pub(crate) fn run_over<G: Gate>(
     let words = words_of(rt, alloc, line);
     let mut shelf = MemoryShelf::new(files, only(rt, alloc, fetch));
     match words.as_slice() {
-        [command, ..] if command.as_str() == "session" || command.as_str() == "replay" => {
-            run_session(alloc, &words, &mut shelf, desk)
+        [program, ..] if program.as_str() == "beet_session" => {
+            run_session(rt, alloc, &words.as_slice()[1..], &mut shelf, desk)
         }
-        [command, ..] if command.as_str() == "sale" || command.as_str() == "pair" => {
-            run_sale(alloc, &words, &mut shelf, desk)
+        [program, ..] if program.as_str() == "beet_sale" => {
+            run_sale(alloc, &words.as_slice()[1..], &mut shelf, desk)
         }
         _ => run(rt, alloc, &words, &mut shelf, desk, gate),
     }
@@ -194,15 +196,18 @@ fn expect_too_long(
     expect_job(rt, alloc, line, made.as_str(), 0, 5, text);
 }
 
-/// A book, a session, a sale and two schedules that are a byte too long.
+/// A book, a session, a sale, two schedules and the second of two sessions that are a byte too long.
 #[test]
 fn files_are_too_long(rt: HostRuntime) {
     expect_too_long(&rt, rt.alloc(), "clear g.auc s.srv made", 4_194_305);
-    expect_too_long(&rt, rt.alloc(), "session made s.srv", 65_537);
-    expect_too_long(&rt, rt.alloc(), "sale made s.srv", 65_537);
+    expect_too_long(&rt, rt.alloc(), "beet_session session made s.srv", 65_537);
+    expect_too_long(&rt, rt.alloc(), "beet_sale sale made s.srv", 65_537);
     let rehearse = "rehearse g.auc s.srv b.book made";
     expect_too_long(&rt, rt.alloc(), rehearse, 16_777_217);
-    expect_too_long(&rt, rt.alloc(), "replay day.ses s.srv made", 16_777_217);
+    let replay = "beet_session replay day.ses s.srv made";
+    expect_too_long(&rt, rt.alloc(), replay, 16_777_217);
+    let pair = "beet_session pair day.ses made s.srv 2 w";
+    expect_too_long(&rt, rt.alloc(), pair, 65_537);
 }
 
 /// A tape whose masks are all rejected.

@@ -26,6 +26,9 @@ use Rattle.beet_mapped.proofs.DealerFacts.{AreElements, dealers-back, dealers-el
 use Rattle.beet_mapped.proofs.DealerFacts.{first-mapped, point-same, rest-mapped, told-parties, words-told}
 use Rattle.beet_auction_map.specs.Agreement.{SameKnown}
 use Rattle.beet_auction_map.specs.MappedBidders.{BiddersMapped, party_of}
+use Rattle.beet_mapped.proofs.DealerFacts.{element-at}
+use Rattle.beet_field.specs.Field.{IsElement}
+use Rattle.beet_bids.specs.Curves.{quantity}
 
 -- quantities are numbers of the field
 pub curve-elements : (curve : Curve) → IsCurve curve → AreElements (quantities curve)
@@ -33,6 +36,10 @@ curve-elements curve c k d lt =
     let few : get_or (quantities curve) k d ≤ LARGEST_QUANTITY =
     All-append (λ (q : ℕ). q ≤ LARGEST_QUANTITY) curve.buy curve.sell c.buy_limit c.sell_limit k d lt in
     omega (arith, few)
+
+-- past the end too
+pub quantity-element : (curve : Curve) → IsCurve curve → (n : ℕ) → IsElement (quantity curve n)
+quantity-element curve c n = element-at (quantities curve) (curve-elements curve c) n
 
 pub parties-elements : (bidders : List Bidder) → All (λ (b : Bidder). IsCurve b.curve) bidders →
     All (λ (b : Party). AreElements b.quantities) (map party_of bidders)

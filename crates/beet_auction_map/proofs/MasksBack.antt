@@ -27,7 +27,7 @@ agree-back s first second a = record {
   outcomes = sym a.outcomes;
 }
 
-lost-back : (first second : Book) (k : ℕ) → lost_at second first k ≡ neg_of (lost_at first second k)
+pub lost-back : (first second : Book) (k : ℕ) → lost_at second first k ≡ neg_of (lost_at first second k)
 lost-back first second k = by (doubled_at first k) (doubled_at second k) (omega arith) (omega arith) where
   by : (y z : ℕ) → IsElement y → IsElement z → sub_of z y ≡ neg_of (sub_of y z)
   by y z h l = omega arith

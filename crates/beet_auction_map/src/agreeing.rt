@@ -43,7 +43,7 @@ impl From<AllocError> for MapFault {
 }
 
 /// The first place at which the marks of two books differ, or at which one book has no bidder.
-fn other_mark(first: &Book, second: &Book) -> Option<u32>
+pub fn other_mark(first: &Book, second: &Book) -> Option<u32>
     ensures place { MatchOption result (marks_of second.now ≡ marks_of first.now)
         (λ n. DifferFirst (marks_of first.now) (marks_of second.now) n) }
     ensures below { IfSome result (λ n. n ≤ MOST_BIDDERS) }
@@ -89,7 +89,7 @@ fn same_curve(grid: &Grid, first: &Curve, second: &Curve) -> bool
 }
 
 /// The first place at which a bidder is known to the server and has another curve in the second book.
-fn other_own_bid(me: Point, first: &Book, second: &Book) -> Option<u32>
+pub fn other_own_bid(me: Point, first: &Book, second: &Book) -> Option<u32>
     requires grids { second.now.grid ≡ first.now.grid }
     requires marks { marks_of second.now ≡ marks_of first.now }
     ensures place { MatchOption result (SameKnown me first.now second.now)

@@ -30,7 +30,7 @@ fn quantity_of(grid: &Grid, curve: &Curve, n: u32) -> Fe
 }
 
 /// The quantities of a curve: what is bought at each place, and then what is sold.
-fn quantities_of(alloc: Global, grid: &Grid, curve: &Curve) -> Result<Vec<Fe>, AllocError>
+pub fn quantities_of(alloc: Global, grid: &Grid, curve: &Curve) -> Result<Vec<Fe>, AllocError>
     requires { IsOfGrid grid.now curve.now }
     ensures { IfOk result (λ numbers. numbers.items ≡ quantities curve.now) }
 {

@@ -11,8 +11,8 @@ mod mapping;
 mod masks;
 mod wanted;
 
-pub use agreeing::{MapFault, agreement};
-pub use bidders::map_bidders;
+pub use agreeing::{MapFault, agreement, other_mark, other_own_bid};
+pub use bidders::{map_bidders, quantities_of};
 pub use inputs::input_lines;
 pub use laws::{
     agreeing_books_open_alike, books_open_alike_among_five, enough_words_can_be_drawn,
@@ -21,5 +21,5 @@ pub use laws::{
     mapped_worlds_map_back, unread_words_change_nothing,
 };
 pub use mapping::world_map;
-pub use masks::map_masks;
+pub use masks::{losses, map_masks};
 pub use wanted::enough;

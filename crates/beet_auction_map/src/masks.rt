@@ -63,7 +63,7 @@ fn losses_at(
 }
 
 /// What each comparison of the first book's auction loses, in their order.
-pub(crate) fn losses(alloc: Global, first: &Book, second: &Book) -> Result<Vec<Fe>, AllocError>
+pub fn losses(alloc: Global, first: &Book, second: &Book) -> Result<Vec<Fe>, AllocError>
     requires { first.now.grid.prices ≡ second.now.grid.prices }
     ensures { IfOk result (λ losses. losses.items ≡ losses_of first.now second.now) }
 {

@@ -26,9 +26,7 @@ use Rattle.beet_audit.specs.Audits.{Message, MessageFrom, Rounds, held_from}
 use Rattle.beet_audit.specs.Verdicts.{InTurn, Judges, Wants}
 use Rattle.beet_audit.specs.declared.fault.AuditFault.{AuditFault}
 use Rattle.beet_audit.specs.declared.fault.AuditFault.TheVariants.{OutOfMemory, RoundsDiffer}
-
-from-some : {A : Type 0} {x y : A} → Some x ≡ Some y → x ≡ y
-from-some e = cc
+use Rattle.beet_gates.proofs.Lists.{from-some}
 
 -- of a round the numbers of the lower and of the higher peer
 from-low : (s : Point) (round : List ℕ × List ℕ) → from_peer s (peer s Low) round ≡ Some round.0

@@ -16,9 +16,10 @@ use Rattle.beet_sharing.specs.Runs.{Setup, Shared, coming, hidden_at, message, s
 use Rattle.beet_sharing.specs.Runs.{standing_at, with_batch_lets}
 use Rattle.beet_sharing.proofs.SameRuns.{UseSame, first, second}
 use Rattle.beet_map.specs.Mapped.{AreWords}
-use Rattle.beet_map.proofs.Moves.{same_or, secret_small}
+use Rattle.beet_map.proofs.Moves.{same_or}
 use Rattle.beet_map.proofs.Symmetry.{AreElements}
 use Rattle.beet_audit_laws.proofs.CommonPoints.{same-line, same-slope}
+use Rattle.beet_gates.proofs.Acts.{secret_small}
 
 -- lists by rules that are the same have the same items
 pub each-item : {A : Type 0} (f g : ℕ → A) (n m k : ℕ) → each f n ≡ each g m → k < n → k < m → f k ≡ g k

@@ -4,7 +4,6 @@ use Rattle.std.proofs.Common.{sym, refl, ap, subst, ◌∙◌, arith}
 use Rattle.std.specs.Int.{bit_at}
 use Rattle.std.proofs.lemmas.Bool.{cases_Bool}
 use Rattle.std.proofs.lemmas.List.{append_cancel_left}
-use Rattle.beet_field.specs.Field.{IsElement}
 use Rattle.beet_gates.specs.Clear.{Values, with_lets, product_of, act_on}
 use Rattle.beet_gates.specs.Each.{each}
 use Rattle.beet_gates.specs.Scripts.{deals_in}
@@ -12,7 +11,7 @@ use Rattle.beet_gates.specs.declared.Act.{Act}
 use Rattle.beet_gates.specs.declared.Act.TheVariants.{Deal, Mul, Reveal, End}
 use Rattle.beet_gates.specs.declared.Batch.{Batch}
 use Rattle.beet_gates.proofs.EachFacts.{each-same}
-use Rattle.beet_gates.specs.Draws.{draws_in, pair_at, secret_of}
+use Rattle.beet_gates.specs.Draws.{draws_in, pair_at}
 use Rattle.beet_linear_sharing.specs.Sharings.{Sharing, IsAmong, joined}
 use Rattle.beet_linear_sharing.specs.Runs.{Setup, Shared, act_among, coming, deals_among, gained, hidden_at, message, number_drawn}
 use Rattle.beet_linear_sharing.specs.Runs.{product_at, secret_hidden, sent_for, shared_at, standing_at, with_batch_lets}
@@ -23,6 +22,8 @@ use Rattle.beet_linear_sharing.proofs.Laws.{SharingLaws}
 use Rattle.beet_coalition.proofs.Laws.{CoalitionLaws}
 use Rattle.beet_linear_sharing.proofs.AtOne.{at-one}
 use Rattle.beet_linear_sharing.proofs.Closure.{shared-lets}
+use Rattle.beet_gates.proofs.Acts.{secret_small}
+use Rattle.beet_gates.proofs.Lists.{over_wires}
 
 -- what the servers that watch see of two runs
 pub record Alike (q : Sharing) (c : Coalition) (r r' : Shared) : Type 0 where
@@ -31,28 +32,12 @@ pub record Alike (q : Sharing) (c : Coalition) (r r' : Shared) : Type 0 where
   pub dealt : r'.dealt ≡ r.dealt
   pub mine : (i : ℕ) → IsAmong q.servers i → c.watches i ≡ true → r'.wires i ≡ r.wires i
 
--- what is hidden is a number of the field
-pub secret_small : (a : Act) (points : List ℕ) (word k : ℕ) → IsElement (secret_of a points word k)
-secret_small Deal points word k = omega arith
-secret_small (Mul pairs) points word k = omega arith
-secret_small (Reveal shown) points word k = omega arith
-secret_small End points word k = omega arith
-
 pub joined-same : (f g : ℕ → List ℕ) (js : List ℕ) → ((j : ℕ) → IsAmong js j → f j ≡ g j) → joined f js ≡ joined g js
 joined-same f g [] same = refl
 joined-same f g (j ∷ []) same = same j (inl refl)
 joined-same f g (j ∷ k ∷ js) same =
     let rest = joined-same f g (k ∷ js) (λ i am. same i (inr am)) in
     let here = same j (inl refl) in λ x. here x ++ rest x
-
-over_wires : (wires : List ℕ) (f f' g g' : ℕ → ℕ) → ((w : ℕ) → f' w ≡ f w → g' w ≡ g w) → map f' wires ≡ map f wires → map g' wires
-    ≡ map g wires
-over_wires [] f f' g g' step e = refl
-over_wires (w ∷ ws) f f' g g' step e =
-    let here : f' w ≡ f w = cc in
-    let others : map f' ws ≡ map f ws = cc in
-    let first = step w here in
-    let rest = over_wires ws f f' g g' step others in λ i. first i ∷ rest i
 
 module _ (q : Sharing) (c : Coalition) (laws : SharingLaws q) (watch : CoalitionLaws q c) where
   pub alike_lets : (b : Batch) (r r' : Shared) → Alike q c r r' → Alike q c (with_batch_lets b r) (with_batch_lets b r')

@@ -3,7 +3,7 @@ use Rattle.std.proofs.Common.{◌≡◌, ◌<◌, ◌+◌, ◌*◌, ◌%◌, ◌
 use Rattle.beet_field.specs.Field.{p, IsElement, sub_of}
 use Rattle.beet_linear_sharing.specs.Sharings.{Sharing, IsAmong}
 use Rattle.beet_coalition.specs.Coalitions.{Coalition, moved_of}
-use Rattle.beet_linear_sharing.proofs.Laws.{less-or}
+use Rattle.beet_gates.proofs.ClearAt.{less-or}
 
 pub record CoalitionLaws (q : Sharing) (c : Coalition) : Type 0 where
   -- moved numbers show a server that watches the point that it saw

@@ -1,9 +1,7 @@
 -- The map the other way round.
 use Rattle.std.proofs.Common.{◌≡◌, ◌≤◌, ◌<◌, ◌+◌, ◌*◌, ℕ, zero, suc, List, slice_index, sym, refl, ap, subst, ◌∙◌, arith}
-use Rattle.beet_gates.specs.Clear.{Values, act_on}
+use Rattle.beet_gates.specs.Clear.{act_on}
 use Rattle.beet_gates.specs.Scripts.{deals_in}
-use Rattle.beet_gates.specs.declared.Act.{Act}
-use Rattle.beet_gates.specs.declared.Act.TheVariants.{Deal, Mul, Reveal, End}
 use Rattle.beet_gates.specs.declared.Batch.{Batch}
 use Rattle.beet_gates.specs.Draws.{draws_in}
 use Rattle.beet_linear_sharing.specs.Sharings.{Sharing}
@@ -12,16 +10,10 @@ use Rattle.beet_coalition.specs.Coalitions.{Coalition, GateMapped, moved_of, num
 use Rattle.beet_coalition.specs.Premise.{MayMap, Secrets, begin_in, clear_of, standing_of}
 use Rattle.beet_linear_sharing.proofs.Laws.{SharingLaws}
 use Rattle.beet_coalition.proofs.Laws.{CoalitionLaws, moved_back}
-use Rattle.beet_coalition.proofs.Alike.{alike_at, same_batch, secret_small}
+use Rattle.beet_coalition.proofs.Alike.{alike_at, same_batch}
 use Rattle.beet_coalition.specs.Pairs.{AreElements, SameNumbers}
 use Rattle.beet_coalition.proofs.Unique.{only_one}
-
-level_act : (deals deals' : ℕ → List ℕ) (a : Act) (v v' : Values) → v'.dealt ≡ v.dealt → (act_on deals' a v').dealt
-    ≡ (act_on deals a v).dealt
-level_act deals deals' Deal v v' e = ap (λ n. n + 1) e
-level_act deals deals' (Mul pairs) v v' e = e
-level_act deals deals' (Reveal shown) v v' e = e
-level_act deals deals' End v v' e = e
+use Rattle.beet_gates.proofs.Acts.{level_act, secret_small}
 
 module _ (q : Sharing) (c : Coalition) (laws : SharingLaws q) (watch : CoalitionLaws q c) (next : ℕ → List ℕ → Batch) (rounds : ℕ)
     (w w' : Secrets) where

@@ -1,5 +1,5 @@
 -- Files that lead a job to its end.
-use Rattle.std.proofs.Common.{◌≡◌, inl, inr, ◌+◌, ◌*◌, ℕ, List, Bool, true, false, Option, Some, None, length}
+use Rattle.std.proofs.Common.{◌≡◌, ◌⊎◌, inl, inr, ◌+◌, ◌*◌, ℕ, List, Bool, true, false, Option, Some, None, length}
 use Rattle.std.proofs.Common.{slice_index, nat_lt, if◌then◌else◌, refl, sym, ap, subst, ◌∙◌}
 use Rattle.beet_field.specs.declared.trio.Trio.{Trio}
 use Rattle.beet_store.specs.Files.{File}
@@ -17,7 +17,9 @@ use Rattle.beet_plan.specs.declared.Finish.TheVariants.{NoPrice, MasksSpent}
 use Rattle.beet_auction.specs.AnyPoints.{points_finish, points_place, values_on}
 use Rattle.beet_auction.specs.Endings.{book_finish}
 use Rattle.beet_errand.specs.Errands.{Answer, Errand, Step}
+use Rattle.beet_errand.specs.Statuses.{code_of}
 use Rattle.beet_errand.specs.Tasks.{Task}
+use Rattle.beet_errand.specs.declared.answer.Status.{Status}
 use Rattle.beet_errand.specs.declared.answer.Status.TheVariants.{Done}
 use Rattle.beet_run.specs.Outcomes.{status_of}
 use Rattle.beet_app.specs.Jobs.{Job, job_of}
@@ -32,12 +34,18 @@ use Rattle.beet_completeness_laws.specs.WithoutFault.{IsDoneOrShort, RunsTableWi
 
 module _ {J : Type 0} {job_named : List (List ℕ) → Option J} {task_for : Option J → Task} where
   -- a run without a fault ends with the status that is due
+  pub undisturbed-by : (due : Status) (files : List File) (words : List (List ℕ)) (call : Call) →
+      RunsTableWithoutFault job_named task_for files words call → EndsAsDue due call.status →
+      (call.status ≡ code_of due) ⊎ (call.status ≡ 1)
+  undisturbed-by due files words call w (inl e) = inl e
+  undisturbed-by due files words call w (inr (inl e)) = inr e
+  undisturbed-by due files words call w (inr (inr (inl e))) = absurd (w.shelf_rests (w.read e))
+  undisturbed-by due files words call w (inr (inr (inr e))) = absurd (w.desk_rests (w.write e))
+
+  -- which is 0 for a job that is done
   pub undisturbed : (files : List File) (words : List (List ℕ)) (call : Call) →
       RunsTableWithoutFault job_named task_for files words call → EndsAsDue Done call.status → IsDoneOrShort call
-  undisturbed files words call w (inl e) = inl e
-  undisturbed files words call w (inr (inl e)) = inr e
-  undisturbed files words call w (inr (inr (inl e))) = absurd (w.shelf_rests (w.read e))
-  undisturbed files words call w (inr (inr (inr e))) = absurd (w.desk_rests (w.write e))
+  undisturbed files words call w e = undisturbed-by Done files words call w e
 
 -- where the files lead the job that the words name to it, it is done
 pub done-or-short : (files : List File) (words : List (List ℕ)) (call : Call) → RunsWithoutFault files words call →

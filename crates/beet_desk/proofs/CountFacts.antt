@@ -1,17 +1,17 @@
 -- The counts of notes.
-use Rattle.std.proofs.Common.{◌≡◌, ◌≤◌, ◌<◌, ◌+◌, ◌*◌, ◌^◌, ℕ, zero, suc, Bool, true, false, true≢false, List, [], ◌∷◌, ◌++◌, length}
-use Rattle.std.proofs.Common.{take, drop, Option, None, Some, MatchOption, slice_get, sym, refl, ap, ◌∙◌, subst, arith, add-one}
+use Rattle.std.proofs.Common.{◌≡◌, ◌≤◌, ◌<◌, ◌+◌, ◌*◌, ◌^◌, ℕ, zero, suc, true, false, true≢false, List, [], ◌∷◌, ◌++◌, length}
+use Rattle.std.proofs.Common.{take, drop, Some, slice_get, sym, refl, ap, ◌∙◌, subst, arith}
 use Rattle.std.proofs.Common.{length-append}
-use Rattle.std.proofs.lemmas.List.{append-nil, drop_at, take-append-drop, length_push}
+use Rattle.std.proofs.lemmas.List.{append-nil, take-append-drop}
 use Rattle.std.proofs.lemmas.Option.{slice_get_within}
-use Rattle.beet_field.specs.Trio.{member, trio_of, with_member}
+use Rattle.beet_field.specs.Trio.{member, with_member}
 use Rattle.beet_field.specs.declared.TheConstants.{MOST_NUMBERS}
 use Rattle.beet_field.specs.declared.point.Point.{Point}
 use Rattle.beet_field.specs.declared.trio.Trio.{Trio}
 use Rattle.beet_delivery.specs.Events.{same}
 use Rattle.beet_delivery.proofs.ThreeServers.{same_self}
 use Rattle.beet_gates.proofs.EachFacts.{each-suc, each-zero}
-use Rattle.beet_queue.proofs.Members.{at_member, member-here, member-trio_of}
+use Rattle.beet_queue.proofs.Members.{at_member, member-here}
 use Rattle.beet_queue.proofs.Keeps.{of-snoc, of-snoc_other}
 use Rattle.beet_gates.specs.declared.Batch.{Batch}
 use Rattle.beet_server.specs.Cores.{Core}
@@ -21,7 +21,7 @@ use Rattle.beet_station.specs.declared.notes.DeskNote.{DeskNote}
 use Rattle.beet_station.specs.Notes.{note_of, notes, opened_in}
 use Rattle.beet_desk.specs.declared.counts.NoteCount.{NoteCount}
 use Rattle.beet_desk.specs.Counts.{HasPlace, IsTally, count_in, count_of, none_yet, one_more, together, with_note}
-use Rattle.beet_desk.specs.Ends.{AreFirst, Hands, Receiver, Sender, left_after, of_server}
+use Rattle.beet_desk.specs.Ends.{Hands, of_server}
 
 count_is : (a b : NoteCount) → a.notes ≡ b.notes → a.opened ≡ b.opened → a ≡ b
 count_is a b n o = λ i. record { notes = n i; opened = o i }

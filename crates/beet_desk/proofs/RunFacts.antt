@@ -1,6 +1,6 @@
 -- What is known of the notes of a run.
 use Rattle.std.proofs.Common.{◌≡◌, ◌≤◌, ◌<◌, ◌+◌, ◌*◌, ◌^◌, ℕ, zero, suc, List, [], ◌∷◌, ◌++◌, length, take, drop, Some, Result, Ok, Err}
-use Rattle.std.proofs.Common.{IfErr, IfOk, slice_get, sym, refl, ap, ◌∙◌, subst, arith, length-append}
+use Rattle.std.proofs.Common.{IfErr, IfOk, slice_get, sym, ap, ◌∙◌, subst, arith, length-append}
 use Rattle.std.proofs.lemmas.List.{append-nil, take-append-drop}
 use Rattle.std.proofs.lemmas.Option.{slice_get_within}
 use Rattle.atomic_table.specs.Seated.{TableId}
@@ -12,17 +12,17 @@ use Rattle.beet_gates.specs.Scripts.{LawFrom, Standing, start_of}
 use Rattle.beet_gates.specs.declared.Batch.{Batch}
 use Rattle.beet_gates.proofs.EachFacts.{get-each, length-each}
 use Rattle.beet_queue.proofs.Members.{member-trio_of}
-use Rattle.beet_sharing.specs.Runs.{Setup, rounds_among}
+use Rattle.beet_sharing.specs.Runs.{Setup}
 use Rattle.beet_sharing.proofs.Rounds.{lawful-rounds}
 use Rattle.beet_server.specs.Cores.{Core, setup_of}
 use Rattle.beet_server.proofs.Passing.{is_round}
 use Rattle.beet_link.specs.Streams.{rounds_from}
 use Rattle.beet_station.specs.Stations.{IsEnded}
 use Rattle.beet_station.specs.declared.notes.DeskNote.{DeskNote}
-use Rattle.beet_station.specs.Notes.{note_of, notes, notes_at, notes_from, notes_left, opened_in}
+use Rattle.beet_station.specs.Notes.{note_of, notes, notes_at, notes_from, notes_left}
 use Rattle.beet_station.proofs.Telling.{opens-few}
 use Rattle.beet_desk.specs.declared.counts.NoteCount.{NoteCount}
-use Rattle.beet_desk.specs.Counts.{Added, HasPlace, IsTally, count_in, count_of, together}
+use Rattle.beet_desk.specs.Counts.{Added, HasPlace, IsTally, count_of, together}
 use Rattle.beet_desk.specs.Ends.{AreSmall, AreFirst, Receiver, Sender, left_after, of_server, sender_at_start, IsWholeOf}
 use Rattle.beet_desk.proofs.CountFacts.{count-length, taken-and-left}
 

@@ -6,7 +6,7 @@ use Rattle.beet_field.specs.Point.{number_of}
 use Rattle.beet_field.specs.declared.point.Point.{Point}
 use Rattle.beet_forms.specs.Faults.{Reading}
 use Rattle.beet_words.specs.declared.fields.Allowed.{Allowed}
-use Rattle.beet_words.specs.Fields.{◌>>=◌, Part, number_bytes, number_at, times, after_magic, ended}
+use Rattle.beet_words.specs.Fields.{Part, number_bytes, number_at, times, after_magic, ended, ◌>>=◌}
 use Rattle.beet_bids.specs.Grids.{Grid}
 use Rattle.beet_words.specs.declared.bundle.TheConstants.{BAD_MAGIC}
 use Rattle.beet_farmer.specs.declared.envelope.TheConstants.{WRONG_GRID, TRUNCATED_ENVELOPE, BAD_POINT, AFTER_POINTS}

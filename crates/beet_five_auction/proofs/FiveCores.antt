@@ -1,22 +1,19 @@
 -- How a server has ended in the auction of a book.
-use Rattle.std.proofs.Common.{◌≡◌, ◌≢◌, ◌↔◌, ℕ, zero, suc, ◌<◌, ◌^◌, List, [], slice_index, slice_index_or, Option, Some, IsSome}
-use Rattle.std.proofs.Common.{true, false, true≢false, refl, sym, ◌∙◌, ap, subst, arith}
+use Rattle.std.proofs.Common.{◌≡◌, ◌↔◌, ℕ, ◌<◌, ◌^◌, [], slice_index, slice_index_or, Option, Some, IsSome}
+use Rattle.std.proofs.Common.{true, true≢false, refl, sym, ◌∙◌, ap}
 use Rattle.beet_gates.specs.Clear.{is_end}
 use Rattle.beet_gates.specs.Ends.{ComesTo, TellsEnd}
 use Rattle.beet_gates.specs.Plans.{plan_finish}
-use Rattle.beet_gates.specs.Scripts.{start_among}
 use Rattle.beet_gates.specs.declared.Act.{Act}
 use Rattle.beet_gates.specs.declared.Act.TheVariants.{Deal, Mul, Reveal, End}
-use Rattle.beet_gates.specs.declared.Batch.{Batch}
 use Rattle.beet_bids.specs.Books.{Book, IsBook}
 use Rattle.beet_bids.specs.Sums.{sums_of}
 use Rattle.beet_plan.specs.declared.Finish.{Finish}
 use Rattle.beet_delivery.specs.Networks.{Delivered}
 use Rattle.beet_weights.specs.Quadratics.{IsServer, of_five}
 use Rattle.beet_linear_sharing.specs.Polynomials.{AreShared}
-use Rattle.beet_linear_sharing.specs.Runs.{Setup, coming, shared_at}
+use Rattle.beet_linear_sharing.specs.Runs.{Setup, shared_at}
 use Rattle.beet_linear_sharing.specs.Schemes.{five_servers}
-use Rattle.beet_linear_sharing.proofs.Ends.{are-opened}
 use Rattle.beet_five_plan.specs.FivePlan.{FiveAuction, five_batch, five_over, five_plan}
 use Rattle.beet_five_server.specs.Cores.{Work, has_ended}
 use Rattle.beet_five_server.specs.Fits.{Fits}
@@ -25,45 +22,23 @@ use Rattle.beet_five_server.proofs.Passing.{ended-at}
 use Rattle.beet_five_auction.specs.FiveEndings.{book_finish, book_rounds}
 use Rattle.beet_five_auction.proofs.FiveEnds.{book-ends-among}
 
-not-end : (a : Act) → is_end a ≡ false → a ≢ End
-not-end a h = λ e. absurd (true≢false (ap is_end (sym e) ∙ h))
-
 is-the-end : (a : Act) → is_end a ≡ true → a ≡ End
 is-the-end Deal h = absurd (true≢false (sym h))
 is-the-end (Mul pairs) h = absurd (true≢false (sym h))
 is-the-end (Reveal shown) h = absurd (true≢false (sym h))
 is-the-end End h = refl
 
--- the numbers that a run has opened after so many rounds are some that the script may have opened
-comes-to : (o : Setup) (t : ℕ) → ((k : ℕ) → k < t → is_end (coming five_servers o k).act ≡ false) →
-    ComesTo o.next t (shared_at five_servers o t).opened
-comes-to o zero goes = refl
-comes-to o (suc t) goes =
-    let are = are-opened five_servers o (start_among 5 0) 5 0 0 in (
-      (shared_at five_servers o t).opened,
-      are.more t,
-      comes-to o t (λ k h. goes k (omega (arith, h))),
-      not-end (coming five_servers o t).act (goes t (omega arith)),
-      are.count t,
-      are.grows t,
+-- an answer is there exactly if the server has ended
+pub tells-end : (w : Work FiveAuction) (answer : Option Finish) → ComesTo (five_batch w.script) w.round w.opened →
+    TellsEnd (five_batch w.script) w.opened answer → IsSome answer ↔ (has_ended five_batch w ≡ true)
+tells-end w answer came tells =
+    let t = tells w.round came in (
+      λ some. ap is_end (t.0 some),
+      λ ended. t.1 (is-the-end (five_batch w.script w.round w.opened).act ended),
     )
 
 module _ (o : Setup) (x : Delivered ℕ) (w : Work FiveAuction) (bag : Mailbag) (f : Fits five_batch o x w bag) where
-  came : ComesTo (five_batch w.script) w.round w.opened
-  came = subst (λ opened. ComesTo (five_batch w.script) w.round opened) (sym f.opened)
-      (subst (λ (next : ℕ → List ℕ → Batch). ComesTo next w.round (shared_at five_servers o w.round).opened) f.script
-      (comes-to o w.round f.rounds))
-
-  -- an answer is there exactly if it has ended
-  pub tells-end : (answer : Option Finish) → TellsEnd (five_batch w.script) w.opened answer →
-      IsSome answer ↔ (has_ended five_batch w ≡ true)
-  tells-end answer tells =
-      let t = tells w.round came in (
-        λ some. ap is_end (t.0 some),
-        λ ended. t.1 (is-the-end (five_batch w.script w.round w.opened).act ended),
-      )
-
-  -- and then it is the book's outcome, or spent
+  -- a server that fits a run and has ended has the book's outcome, or spent
   pub opens-the-outcome : (book : Book) → IsBook book →
       ((k i : ℕ) → slice_index (slice_index_or (of_five o.masks) k []) i < 2 ^ 61) → w.script ≡ five_over book.grid →
       AreShared five_servers (sums_of book) o.inputs → IsServer w.me → has_ended five_batch w ≡ true →

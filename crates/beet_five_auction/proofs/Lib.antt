@@ -1,2 +1,5 @@
 pub mod FiveEnds
 pub mod FiveCores
+pub mod Ends
+pub mod WorldEnds
+pub mod ThreeTell

@@ -1,1 +1,2 @@
 pub mod FiveEndings
+pub mod WorldEndings

@@ -41,8 +41,8 @@ use Rattle.beet_coalition.proofs.SumFacts.{five-deals}
 use Rattle.beet_coalition.proofs.Symmetry.{map_back}
 use Rattle.beet_coalition.proofs.Whole.{has_rounds}
 use Rattle.beet_coalition.proofs.WordPairs.{few_numbers, words-image, words-together}
-use Rattle.beet_five_map.specs.FiveInputs.{rounds_of, world_of}
-use Rattle.beet_five_map.specs.FiveWords.{AreFive, CanDraw, FiveWords}
+use Rattle.beet_five_dealing.specs.FiveInputs.{rounds_of, world_of}
+use Rattle.beet_five_dealing.specs.FiveWords.{AreFive, CanDraw, FiveWords}
 
 -- two books over one grid that clear alike, with mask words that are turned, and inputs that two servers cannot tell apart
 pub record AreWorlds (a b : ℕ) (first : Book) (words : FiveWords) (second : Book) (words' : FiveWords) : Type 0 where

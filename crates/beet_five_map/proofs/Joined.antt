@@ -1,90 +1,52 @@
 -- All words of two worlds of the auction among five servers: the only ones that are mapped, the way back, and that they are there.
-use Rattle.std.proofs.Common.{◌≡◌, ◌≤◌, ◌<◌, ◌-◌, ◌*◌, ℕ, zero, suc, inl, inr, List, length, map}
-use Rattle.std.proofs.Common.{refl, sym, ap, subst, ◌∙◌, arith}
+use Rattle.std.proofs.Common.{◌≡◌, ◌≤◌, ◌<◌, ◌-◌, ◌*◌, ℕ, List, length, map, refl, sym, ap, subst, ◌∙◌, arith}
 use Rattle.std.specs.Prelude.{All, nat_le, option_map}
 use Rattle.std.proofs.lemmas.List.{length-map}
 use Rattle.std.proofs.lemmas.Simd.{map-map}
-use Rattle.beet_field.specs.Field.{IsElement, neg_of, sub_of}
+use Rattle.beet_field.specs.Field.{neg_of}
 use Rattle.beet_words.specs.Words.{accepted, ones_in}
 use Rattle.beet_gates.specs.declared.Batch.{Batch}
-use Rattle.beet_bids.specs.Books.{Book, IsBook}
+use Rattle.beet_bids.specs.Books.{Book}
 use Rattle.beet_bids.specs.Curves.{IsCurve}
 use Rattle.beet_bids.specs.Grids.{Grid, comparisons_of}
 use Rattle.beet_bids.specs.Outcomes.{clearing_place}
-use Rattle.beet_bids.specs.Sums.{sums_of}
 use Rattle.beet_bids.specs.declared.book.Bidder.{Bidder}
-use Rattle.beet_book.specs.Farmers.{BidderWithWords, book_with, farmers_of}
-use Rattle.beet_book.proofs.FarmerLists.{book-whole}
+use Rattle.beet_book.specs.Farmers.{BidderWithWords, farmers_of}
 use Rattle.beet_masking.specs.Masks.{mask_among}
 use Rattle.beet_masking.proofs.Places.{compared-early}
 use Rattle.beet_plan.specs.Search.{path}
 use Rattle.beet_turned.specs.MappedMasks.{mask_mapped}
 use Rattle.beet_turned.proofs.MasksBack.{compared-map}
-use Rattle.beet_auction_map.specs.Losses.{doubled_at, losses_of, lost_at}
+use Rattle.beet_auction_map.specs.Losses.{losses_of, lost_at}
 use Rattle.beet_auction_map.proofs.Agreed.{clearing-alike, prices-alike}
 use Rattle.beet_auction_map.proofs.BidderFacts.{bidders-have, same-own}
 use Rattle.beet_auction_map.proofs.BookWorlds.{tested-length}
-use Rattle.beet_auction_map.proofs.MasksBack.{agree-back, losses-small}
+use Rattle.beet_auction_map.proofs.MasksBack.{agree-back, losses-small, lost-back}
 use Rattle.beet_weights.specs.Quadratics.{of_five}
-use Rattle.beet_linear_sharing.specs.Polynomials.{AreShared}
 use Rattle.beet_linear_sharing.specs.Schemes.{five_servers}
-use Rattle.beet_linear_sharing.specs.Sharings.{IsAmong}
 use Rattle.beet_linear_sharing.proofs.Arithmetic.{among-bounds, five-laws}
 use Rattle.beet_five_plan.specs.FivePlan.{five_batch, five_over}
 use Rattle.beet_coalition.specs.Lists.{at_server}
 use Rattle.beet_coalition.specs.Watchers.{two_watch}
-use Rattle.beet_coalition.specs.Words.{AreWords, WordsMapped, WordsTogether, run_with}
+use Rattle.beet_coalition.specs.Words.{WordsMapped, WordsTogether, run_with}
 use Rattle.beet_coalition.proofs.Arithmetic.{two-of-five}
 use Rattle.beet_coalition.proofs.ListMoves.{accepted-long}
 use Rattle.beet_coalition.proofs.SumFacts.{five-lists}
 use Rattle.beet_coalition.proofs.WordPairs.{gate-same}
-use Rattle.beet_five_map.specs.FiveInputs.{inputs_at, rounds_of, world_of}
+use Rattle.beet_five_dealing.specs.FiveInputs.{rounds_of, world_of}
 use Rattle.beet_five_map.specs.FiveMasks.{MasksMappedFor, lowest_other}
-use Rattle.beet_five_map.specs.FiveWords.{AreFive, AreWordLists, CanRun, FiveWords}
+use Rattle.beet_five_dealing.specs.FiveWords.{AreFive, CanRun, FiveWords}
 use Rattle.beet_five_map.specs.FiveWorlds.{AreOnePair, AreTwoBooks, MappedForTwo}
-use Rattle.beet_five_map.proofs.Bidders.{Mapped, bidders-back, bidders-enough, bidders-image, bidders-only}
+use Rattle.beet_five_map.proofs.BidderFacts.{Mapped, bidders-back, bidders-enough, bidders-image, bidders-only}
 use Rattle.beet_five_map.proofs.BooksMap.{AreWorlds, alike, five-back, five-image, five-together}
-use Rattle.beet_five_map.proofs.Inputs.{SameCurves, each-same-share, inputs-same, inputs-shared, own-mark}
-use Rattle.beet_five_map.proofs.Masks.{all-ones, as-long, mask-turned, other-some, own-same}
+use Rattle.beet_five_map.proofs.Inputs.{SameCurves, each-same-share, inputs-same, own-mark}
+use Rattle.beet_five_map.proofs.MaskFacts.{all-ones, as-long, mask-turned, other-some, own-same}
 use Rattle.beet_five_map.proofs.MasksBack.{masks-back, masks-image, masks-only}
-
--- what the comparisons lose is made up on the way back
-lost-back : (first second : Book) (k : ℕ) → lost_at second first k ≡ neg_of (lost_at first second k)
-lost-back first second k = by (doubled_at first k) (doubled_at second k) (omega arith) (omega arith) where
-  by : (y z : ℕ) → IsElement y → IsElement z → sub_of z y ≡ neg_of (sub_of y z)
-  by y z h l = omega arith
-
--- the lists of five servers
-at-five : (c : ℕ → List ℕ) (j : ℕ) → IsAmong five_servers.servers j → at_server (of_five c) j ≡ c j
-at-five c j (inl e) = rw e refl
-at-five c j (inr (inl e)) = rw e refl
-at-five c j (inr (inr (inl e))) = rw e refl
-at-five c j (inr (inr (inr (inl e)))) = rw e refl
-at-five c j (inr (inr (inr (inr (inl e))))) = rw e refl
-at-five c j (inr (inr (inr (inr (inr e))))) = absurd e
-
-pub words-five : (c : ℕ → List ℕ) → AreWords five_servers c → AreWordLists (of_five c)
-words-five c are zero i = are 1 i (inl refl)
-words-five c are (suc zero) i = are 2 i (inr (inl refl))
-words-five c are (suc (suc zero)) i = are 3 i (inr (inr (inl refl)))
-words-five c are (suc (suc (suc zero))) i = are 4 i (inr (inr (inr (inl refl))))
-words-five c are (suc (suc (suc (suc zero)))) i = are 5 i (inr (inr (inr (inr (inl refl)))))
-words-five c are (suc (suc (suc (suc (suc k))))) i = omega arith
-
-pub at-words : (lists : List (List ℕ)) → AreWordLists lists → AreWords five_servers (at_server lists)
-at-words lists small j n at = small (j - 1) n
+use Rattle.beet_five_dealing.proofs.Lists.{at-five, at-words, words-five}
+use Rattle.beet_five_dealing.proofs.Shares.{book-shared}
 
 abbrev pub over : Grid → List Bidder → Book
 over grid bidders = record { grid = grid; bidders = bidders }
-
--- the inputs of a book with a list of words for each bidder
-pub book-shared : (book : Book) (words : FiveWords) → IsBook book → length words.bidders ≡ length book.bidders →
-    AreShared five_servers (sums_of book) (world_of book words).inputs
-book-shared book words is long =
-    let farmers = farmers_of book.bidders words.bidders in
-    let whole : book_with book.grid farmers ≡ book = book-whole book words.bidders long in
-    subst (λ (x : Book). AreShared five_servers (sums_of x) (inputs_at book.grid.prices farmers)) whole
-    (inputs-shared book.grid farmers (subst IsBook (sym whole) is))
 
 module _ (a b : ℕ) (some : 1 ≤ a) (less : a < b) (few : b ≤ 5) where
   pub books-back : (first second : Book) → AreTwoBooks a b first second → AreTwoBooks a b second first
@@ -104,7 +66,7 @@ module _ (a b : ℕ) (some : 1 ≤ a) (less : a < b) (few : b ≤ 5) where
     };
   }
 
-  abbrev lowest : ℕ
+  abbrev pub lowest : ℕ
   lowest = lowest_other a b - 1
 
   -- two books over one grid
@@ -118,7 +80,7 @@ module _ (a b : ℕ) (some : 1 ≤ a) (less : a < b) (few : b ≤ 5) where
     abbrev next : ℕ → List ℕ → Batch
     next = five_batch (five_over grid)
 
-    many : length others ≡ length bidders
+    pub many : length others ≡ length bidders
     many =
         sym (length-map others (λ (x : Bidder). x.known)) ∙ ap length two.agree.marks ∙ length-map bidders (λ (x : Bidder). x.known)
 
@@ -129,7 +91,7 @@ module _ (a b : ℕ) (some : 1 ≤ a) (less : a < b) (few : b ≤ 5) where
         (clearing-alike first second two.agree.grids two.agree.outcomes j)))
         ∙ sym (map-map neg_of (lost_at first second) (path grid.prices (clearing_place first)))
 
-    within : (words : FiveWords) → CanRun first words → lowest < length words.masks
+    pub within : (words : FiveWords) → CanRun first words → lowest < length words.masks
     within words can = let low = other-some a b in omega (arith, low, can.are_words.masks.five)
 
     -- the curves of bidders are curves, and those that a or b knows are the same
@@ -143,14 +105,14 @@ module _ (a b : ℕ) (some : 1 ≤ a) (less : a < b) (few : b ≤ 5) where
         same-own known.0 first second lists lists' (two.agree.own known.0 known.2) k one other e d known.1
 
     -- the mask words and the words of bidders are mapped
-    record Half (words words' : FiveWords) : Type 0 where
-      can : CanRun first words
-      masks_are : AreFive words'.masks
-      masks : MasksMappedFor a b (losses_of first second) words.masks words'.masks
-      long : length words'.bidders ≡ length others
-      dealt : Mapped a b grid.prices bidders words.bidders others words'.bidders
+    pub record Half (words words' : FiveWords) : Type 0 where
+      pub can : CanRun first words
+      pub masks_are : AreFive words'.masks
+      pub masks : MasksMappedFor a b (losses_of first second) words.masks words'.masks
+      pub long : length words'.bidders ≡ length others
+      pub dealt : Mapped a b grid.prices bidders words.bidders others words'.bidders
 
-    worlds : (words words' : FiveWords) → Half words words' → AreWorlds a b first words second words'
+    pub worlds : (words words' : FiveWords) → Half words words' → AreWorlds a b first words second words'
     worlds words words' h =
         let losses = losses_of first second in
         let inside = within words h.can in

@@ -1,8 +1,13 @@
-pub mod Masks
+pub mod MaskFacts
 pub mod MasksBack
 pub mod Inputs
-pub mod Bidders
+pub mod BidderFacts
 pub mod BooksMap
 pub mod Joined
-pub mod Zeros
-pub mod Ends
+pub mod Differing
+pub mod AsThree
+pub mod MaskLists
+pub mod Pairs
+pub mod MappedLists
+pub mod Computed
+pub mod EnoughFacts

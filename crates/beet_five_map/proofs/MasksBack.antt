@@ -1,24 +1,24 @@
 -- Mapped mask words of five servers: the only ones, the way back, and that they are there.
 use Rattle.std.proofs.Common.{◌≡◌, ◌≢◌, ◌<◌, ◌^◌, ℕ, zero, suc, inl, inr, List, [], ◌∷◌, length, map, slice_index, slice_index_or}
 use Rattle.std.proofs.Common.{Option, Some, None, refl, sym, ap, ◌∙◌, arith}
-use Rattle.std.specs.Prelude.{All, bit_xor, option_map}
+use Rattle.std.specs.Prelude.{All, option_map}
 use Rattle.std.proofs.lemmas.Bool.{cases_eq, cases_lt}
 use Rattle.std.proofs.lemmas.List.{ext_get_or, get_or_past}
 use Rattle.std.proofs.lemmas.Nat.{xor_lt}
-use Rattle.beet_field.specs.Field.{IsElement, add_of, neg_of}
+use Rattle.beet_field.specs.Field.{IsElement, neg_of}
 use Rattle.beet_gates.specs.Each.{each}
 use Rattle.beet_gates.proofs.EachFacts.{item-each, length-each}
 use Rattle.beet_masking.specs.Masks.{mask_among}
 use Rattle.beet_masking.proofs.AlikeMasks.{Alike, compared-same}
 use Rattle.beet_masking.proofs.Places.{some-place}
 use Rattle.beet_masking.proofs.Words.{among-five}
-use Rattle.beet_turned.specs.MappedMasks.{mask_mapped, word_mapped}
+use Rattle.beet_turned.specs.MappedMasks.{word_mapped}
 use Rattle.beet_turned.proofs.MasksBack.{all-at, compared-map}
-use Rattle.beet_turned.proofs.Turned.{turned-small, turned-undone, word-back}
-use Rattle.beet_turned.specs.Turn.{turned}
+use Rattle.beet_turned.proofs.Turned.{turned-small}
 use Rattle.beet_five_map.specs.FiveMasks.{MasksMapped, loss_among}
-use Rattle.beet_five_map.specs.FiveWords.{AreFive}
-use Rattle.beet_five_map.proofs.Masks.{all-ones, mask-turned}
+use Rattle.beet_five_dealing.specs.FiveWords.{AreFive}
+use Rattle.beet_five_map.proofs.MaskFacts.{all-ones, mask-turned}
+use Rattle.beet_turned.proofs.MasksBack.{word-mapped-back}
 
 -- as many lists that are the same at each place
 all-lists : (u v : List (List ℕ)) → length u ≡ length v → ((k : ℕ) → slice_index_or u k [] ≡ slice_index_or v k []) → u ≡ v
@@ -38,18 +38,6 @@ masks-only l losses words u v a b =
       | inr away ↦ a.others k away ∙ sym (b.others k away)
     ])
 
-nothing-lost : (d : ℕ) → IsElement d → add_of d (neg_of d) ≡ 0
-nothing-lost d h = omega arith
-
--- a word is mapped back
-word-undone : (word mask word' mask' : ℕ) (loss : Option ℕ) → mask < 2 ^ 61 → ((d : ℕ) → loss ≡ Some d → IsElement d) →
-    mask' ≡ mask_mapped mask loss → word' ≡ word_mapped mask word loss → word ≡ word_mapped mask' word' (option_map neg_of loss)
-word-undone word mask word' mask' None small below m w = sym w
-word-undone word mask word' mask' (Some d) small below m w =
-    let back : turned mask' (neg_of d) ≡ mask =
-    ap (λ x. turned x (neg_of d)) m ∙ turned-undone mask d (neg_of d) small (nothing-lost d (below d refl)) in
-    sym (word-back word mask (turned mask d)) ∙ sym (λ j. bit_xor (bit_xor (w j) (m j)) (back j))
-
 pub masks-back : (l : ℕ) (losses : List ℕ) (words words' : List (List ℕ)) → All IsElement losses → l < length words →
     AreFive words → MasksMapped l losses words words' → MasksMapped l (map neg_of losses) words' words
 masks-back l losses words words' elements within are m =
@@ -62,7 +50,7 @@ masks-back l losses words words' elements within are m =
           let loss : loss_among (map neg_of losses) words' i ≡ option_map neg_of (loss_among losses words i) =
           compared-map neg_of losses (mask_among words') i
           ∙ ap (option_map neg_of) (compared-same losses (mask_among words) (mask_among words') i alike) in
-          word-undone (slice_index (slice_index_or words l []) i) (mask_among words i)
+          word-mapped-back (slice_index (slice_index_or words l []) i) (mask_among words i)
           (slice_index (slice_index_or words' l []) i) (mask_among words' i) (loss_among losses words i)
           ((among-five words are.five are.small).small i)
           (λ d e. let q = some-place losses (mask_among words) i d e in all-at IsElement losses q.0 d elements q.1)

@@ -18,9 +18,9 @@ use Rattle.beet_coalition.specs.Moved.{WordsMoved}
 use Rattle.beet_coalition.specs.Watchers.{two_watch}
 use Rattle.beet_coalition.specs.Words.{WordsMapped}
 use Rattle.beet_five_plan.specs.FivePlan.{five_batch, five_over}
-use Rattle.beet_five_map.specs.FiveInputs.{rounds_of, setup_of, share_for, world_of}
+use Rattle.beet_five_dealing.specs.FiveInputs.{rounds_of, setup_of, share_for, world_of}
 use Rattle.beet_five_map.specs.FiveMasks.{MasksMappedFor}
-use Rattle.beet_five_map.specs.FiveWords.{AreAllWords, CanRun, FiveWords}
+use Rattle.beet_five_dealing.specs.FiveWords.{AreAllWords, CanRun, FiveWords}
 
 -- the number of the server that a bidder is marked by, and 0 if there is none; so servers 4 and 5 know no bidder
 abbrev pub known_by : Option Point → ℕ

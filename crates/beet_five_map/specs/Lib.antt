@@ -1,4 +1,5 @@
 pub mod FiveMasks
-pub mod FiveWords
-pub mod FiveInputs
 pub mod FiveWorlds
+pub mod FiveDisagreement
+pub mod PairsMoved
+pub mod FiveWanted

@@ -1,73 +1,15 @@
-//! What two servers of five see of the auction of a book, whatever the bids of those that they do not know.
-//!
-//! There is no code here: the laws are contracts of functions that do nothing.
+//! Two worlds of the auction of a book among five servers that two of them cannot tell apart, whatever the bids of the
+//! bidders that they do not know: how the words of one are mapped to those of the other, and the laws of it.
 #![tactic(auto)]
 
-ghost use Rattle.std.specs.Prelude.{◌≡◌, ◌≢◌, ◌+◌, ◌<◌, ◌≤◌, ◌==◌, ℕ, List, [], All, length, map, slice_index_or, Some};
-ghost use Rattle.beet_field.specs.Field.{IsElement, neg_of};
-ghost use Rattle.beet_words.specs.Words.{ones};
-ghost use Rattle.beet_bids.specs.Books.{Book, IsBook};
-ghost use Rattle.beet_bids.specs.Sums.{sums_of};
-ghost use Rattle.beet_masking.specs.Masks.{mask_among};
-ghost use Rattle.beet_turned.specs.MappedMasks.{mask_mapped};
-ghost use Rattle.beet_linear_sharing.specs.Polynomials.{AreShared};
-ghost use Rattle.beet_linear_sharing.specs.Schemes.{five_servers};
-ghost use Rattle.beet_five_plan.specs.FivePlan.{five_over};
-ghost use Rattle.beet_five_auction.specs.FiveEndings.{FiveAuctionEnds, book_finish, book_rounds};
-ghost use Rattle.beet_coalition.specs.Lists.{at_server};
-ghost use Rattle.beet_five_map.specs.FiveInputs.{setup_of};
-ghost use Rattle.beet_five_map.specs.FiveMasks.{MasksMapped, loss_among};
-ghost use Rattle.beet_five_map.specs.FiveWords.{AreFive, CanRun, FiveWords};
-ghost use Rattle.beet_five_map.specs.FiveWorlds.{AreOnePair, AreTwoBooks, MappedForTwo};
+mod agreeing;
+mod bidders;
+mod laws;
+mod mapping;
+mod masks;
+mod wanted;
 
-/// Mapped mask words turn each mask that is compared, and the same masks are all ones. They are the only ones that are
-/// mapped, they are there for all mask words of the first world, and they are mapped back by what takes the losses off
-/// again.
-pub fn masks_are_mapped_one_to_one()
-    ensures turns { (l : ℕ) (losses : List ℕ) (words words' : List (List ℕ)) → MasksMapped l losses words words' →
-        l < length words → (i : ℕ) → i < length (slice_index_or words l []) →
-        mask_among words' i ≡ mask_mapped (mask_among words i) (loss_among losses words i) }
-    ensures all_ones { (l : ℕ) (losses : List ℕ) (words words' : List (List ℕ)) → MasksMapped l losses words words' →
-        l < length words → (i : ℕ) → (mask_among words' i == ones) ≡ (mask_among words i == ones) }
-    ensures only { (l : ℕ) (losses : List ℕ) (words u v : List (List ℕ)) → MasksMapped l losses words u →
-        MasksMapped l losses words v → u ≡ v }
-    ensures back { (l : ℕ) (losses : List ℕ) (words words' : List (List ℕ)) → All IsElement losses →
-        l < length words → AreFive words → MasksMapped l losses words words' →
-        MasksMapped l (map neg_of losses) words' words }
-    ensures image { (l : ℕ) (losses : List ℕ) (words : List (List ℕ)) → l < length words → AreFive words →
-        (words' : List (List ℕ)) × AreFive words' × MasksMapped l losses words words' }
-{}
-
-/// For every book there are words with which its auction can be run.
-pub fn there_are_words_for_every_book()
-    ensures { (book : Book) → (words : FiveWords) × CanRun book words }
-{}
-
-/// What the bidders of a book deal among five servers, added up, are shares of the book's sums. So the run ends with
-/// the outcome of the book, or spent exactly if the mask words say so, after the number of rounds that the book and the
-/// mask words tell.
-pub fn dealt_books_end_with_their_outcome()
-    ensures shared { (book : Book) (words : FiveWords) → IsBook book → CanRun book words →
-        AreShared five_servers (sums_of book) (setup_of book words).inputs }
-    ensures ends { (book : Book) (words : FiveWords) → IsBook book → CanRun book words →
-        FiveAuctionEnds (five_over book.grid) (setup_of book words) (book_rounds book (at_server words.masks))
-        (book_finish book (at_server words.masks)) }
-{}
-
-/// For two books that agree for two of five servers, which is to say that they are over one grid, clear alike, and have
-/// as many bidders with the same marks and the same curves of those that one of the two knows, all words with which the
-/// auction of the first can be run go with exactly one choice of words of the second, and all words of the second go
-/// with exactly one choice of the first. Whatever the words, the two servers together have the same words, hold the
-/// same shares of each bidder and the same points, get the same messages and open the same numbers in both worlds.
-/// Nothing is said of three servers.
-pub fn two_of_five_cannot_tell_books_apart_that_clear_alike()
-    ensures second { (a b : ℕ) (first second : Book) (words : FiveWords) → 1 ≤ a → a < b → b ≤ 5 →
-        AreTwoBooks a b first second → CanRun first words →
-        (words' : FiveWords) × AreOnePair a b first words second words' }
-    ensures first { (a b : ℕ) (first second : Book) (words' : FiveWords) → 1 ≤ a → a < b → b ≤ 5 →
-        AreTwoBooks a b first second → CanRun second words' →
-        (words : FiveWords) × AreOnePair a b first words second words' }
-    ensures mapped { (a b : ℕ) (first second : Book) (words words' : FiveWords) → 1 ≤ a → a < b → b ≤ 5 →
-        AreTwoBooks a b first second → CanRun first words → MappedForTwo a b first words second words' →
-        AreOnePair a b first words second words' }
-{}
+pub use agreeing::FiveMapFault;
+pub use laws::{masks_are_mapped_one_to_one, two_of_five_cannot_tell_books_apart_that_clear_alike};
+pub use mapping::five_map;
+pub use wanted::enough;

@@ -23,15 +23,11 @@ use Rattle.beet_five_server.proofs.Peers.{IsPeer, five-heard, five-hears, peer-i
 use Rattle.beet_five_server.proofs.RunSteps.{length-sent_for}
 use Rattle.beet_five_server.proofs.Standing.{Almost, after-moving, almost, coming-is, place-delivered, put-here, put-there, still-waits}
 use Rattle.beet_five_server.proofs.Standing.{wholly, within-bag}
+use Rattle.beet_server.proofs.Delivering.{or-same}
 
 or-false : (a b : Bool) → b ≡ false → (a || b) ≡ a
 or-false true b e = refl
 or-false false b e = e
-
-or-same : (a b : Bool) → (b ≡ true → a ≡ true) → (a || b) ≡ a
-or-same true b f = refl
-or-same false true f = sym (f refl)
-or-same false false f = refl
 
 -- a set with one message to a server more
 module _ (x : Delivered ℕ) (me j t : ℕ) where

@@ -7,3 +7,6 @@ pub mod Beginning
 pub mod Delivering
 pub mod Networking
 pub mod Passing
+pub mod Going
+pub mod TwoRounds
+pub mod PassedRounds

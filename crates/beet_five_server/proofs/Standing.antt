@@ -1,5 +1,5 @@
 -- A core that fits a run among five goes on fitting it.
-use Rattle.std.proofs.Common.{◌≡◌, ◌≤◌, ◌<◌, ◌+◌, ◌*◌, ◌==◌, ◌||◌, if◌then◌else◌, ℕ, suc, Bool, true, false, true≢false, Some}
+use Rattle.std.proofs.Common.{◌≡◌, ◌≤◌, ◌<◌, ◌+◌, ◌*◌, ◌==◌, if◌then◌else◌, ℕ, suc, Bool, true, false, true≢false, Some}
 use Rattle.std.proofs.Common.{None, is_some, List, ◌++◌, drop, map, length, sym, refl, ap, subst, ◌∙◌, ◌⊎◌, inl, inr, ⊎_elim}
 use Rattle.std.proofs.Common.{arith, add-one}
 use Rattle.std.proofs.lemmas.Bool.{cases_eq}
@@ -28,6 +28,7 @@ use Rattle.beet_five_server.specs.declared.mail.FiveMessage.{FiveMessage}
 use Rattle.beet_five_server.proofs.MailFacts.{one-place}
 use Rattle.beet_five_server.proofs.Peers.{five-heard, five-hears, peer-is, peer-or, there-all, there-each}
 use Rattle.beet_five_server.proofs.RunSteps.{drawn-more, gains-run, given-by, length-sent_for, opened-by-same, opens-run, sends-run}
+use Rattle.beet_server.proofs.Delivering.{below-cases}
 
 -- all that fits but for the wait
 pub record Almost {S : Type 0} (next : S → ℕ → List ℕ → Batch) (o : Setup) (x : Delivered ℕ) (w : Work S) (bag : Mailbag) : Type 0 where
@@ -96,9 +97,6 @@ pub put-there : (bag : Mailbag) (m : FiveMessage) (t j : ℕ) → IsServer j →
     cell (put bag m).places t j ≡ cell bag.places t j
 put-there bag m t j a b other =
     get_or-set_other bag.places (place_of m.round m.from) (place_of t j) (Some m) None (λ e. other (one-place t m.round j m.from a b e))
-
-below-cases : (t n : ℕ) → t < n + 1 → (t < n) ⊎ (t ≡ n)
-below-cases t n h = grind arith
 
 pub within-bag : (t j n : ℕ) (bag : Mailbag) → IsServer j → t ≤ n + 1 → 5 * (n + 2) ≤ length bag.places → place_of t j < length bag.places
 within-bag t j n bag h le room = omega (arith, h.0, h.1, le, room)
@@ -276,14 +274,6 @@ module _ {S : Type 0} (next : S → ℕ → List ℕ → Batch) (o : Setup) (x :
 
         own_stays : kept want (cell bag.places (w.round + 1) w.me) ≡ cell bag.places (w.round + 1) w.me
         own_stays = rw own_none refl
-
-pub not-handed : (a b : Bool) → (a || b) ≡ false → (a ≡ false) × (b ≡ false)
-not-handed true b e = cc e
-not-handed false b e = (refl, e)
-
-pub handed-first : (a b : Bool) → (a || b) ≡ true → b ≡ false → a ≡ true
-handed-first true b e f = refl
-handed-first false b e f = cc (e, f)
 
 module _ {S : Type 0} (next : S → ℕ → List ℕ → Batch) (o : Setup) (x : Delivered ℕ) (c d : Core S) (server : IsServer c.work.me)
     (at : c.mail.round ≡ c.work.round) where

@@ -5,6 +5,7 @@ ghost use Rattle.std.specs.Prelude.{◌≡◌, ◌<◌, ◌≤◌, ◌+◌, ◌*
 ghost use Rattle.beet_field.specs.declared.TheConstants.{MOST_NUMBERS};
 ghost use Rattle.beet_words.specs.Tapes.{left_of};
 ghost use Rattle.beet_gates.specs.Clear.{is_end};
+ghost use Rattle.beet_gates.specs.Ends.{ComesTo};
 ghost use Rattle.beet_gates.specs.Scripts.{size_of};
 ghost use Rattle.beet_five_server.specs.Parts.{by_sender};
 ghost use Rattle.beet_five_server.specs.Cores.{Work, batch_of, fresh, sends, handing, passing};
@@ -32,7 +33,8 @@ pub struct Engine<S: ScriptOfFive> {
 }
 
 impl<S: ScriptOfFive> Model for Engine<S> {
-    ghost use Rattle.std.specs.Prelude.{vec_capacity};
+    ghost use Rattle.std.specs.Prelude.{◌<◌, ◌^◌, vec_capacity};
+    ghost use Rattle.beet_gates.specs.Ends.{ComesTo};
     ghost use Rattle.beet_gates.specs.Scripts.{bounds_of};
     ghost use Rattle.beet_five_server.specs.Cores.{Work};
     ghost use Rattle.beet_server.specs.Sound.{IsSound};
@@ -55,7 +57,8 @@ impl<S: ScriptOfFive> Model for Engine<S> {
         (S.rounds_of e.script)
         e.batch e.round e.wires.items e.opened.items e.tapes.masks e.tapes.coefficients e.handed
         (vec_capacity e.wires) (vec_capacity e.opened)
-        × S.is_at e.script e.round e.opened.items e.place };
+        × S.is_at e.script e.round e.opened.items e.place
+        × ComesTo (S.batch_of e.script) e.round e.opened.items × (S.rounds_of e.script < 2 ^ 31) };
 }
 
 impl<S: ScriptOfFive> Engine<S> {
@@ -74,7 +77,7 @@ impl<S: ScriptOfFive> Engine<S> {
         requires coefficients_start { coefficients.passed ≡ 0 }
         requires words { S.masks_of script ≤ length masks.words }
         requires numbers { 2 * S.secrets_of script ≤ length (left_of coefficients) }
-        requires counted { S.rounds_of script < 2 ^ 32 }
+        requires counted { S.rounds_of script < 2 ^ 31 }
         requires wires { (wires.items ≡ []) × (S.wires_of script ≤ vec_capacity wires) }
         requires opened { (opened.items ≡ [])
             × (MOST_NUMBERS * S.rounds_of script ≤ vec_capacity opened) }
@@ -182,14 +185,16 @@ impl<S: ScriptOfFive> Engine<S> {
 
     /// The rounds passed.
     pub fn round(&self) -> u32
-        ensures { result ≡ self.now.round }
+        ensures value { result ≡ self.now.round }
+        ensures few { result < 2 ^ 31 }
     {
         self.round
     }
 
-    /// The opened numbers.
+    /// The opened numbers. They are some that the script may have opened in the rounds passed.
     pub fn opened(&self) -> &[Fe]
-        ensures { result.now ≡ self.now.opened }
+        ensures value { result.now ≡ self.now.opened }
+        ensures came { ComesTo (S.batch_of self.now.script) self.now.round result.now }
     {
         self.opened.as_slice()
     }

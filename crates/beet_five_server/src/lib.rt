@@ -8,6 +8,7 @@ mod engine;
 mod laws_of_cores;
 mod mail;
 mod parts;
+mod receiving;
 mod server;
 
 pub use laws_of_cores::{

@@ -54,7 +54,7 @@ pub struct Mail {
     me: u32,
     round: u32,
     want: u32,
-    places: Vec<Option<FiveMessage>>,
+    pub(crate) places: Vec<Option<FiveMessage>>,
 }
 
 impl Model for Mail {
@@ -80,7 +80,7 @@ fn empty_places(alloc: Global, rounds: u32) -> Result<Vec<Option<FiveMessage>>, 
 }
 
 /// The place of a message.
-fn place_of(round: u32, from: u32) -> usize
+pub(crate) fn place_of(round: u32, from: u32) -> usize
     requires { 1 ≤ from }
     ensures { result ≡ place_of round from }
 {
@@ -111,7 +111,7 @@ impl Mail {
     }
 
     /// Whether the message of the sender in the round is there.
-    fn is_filled(&self, round: u32, from: u32) -> bool
+    pub fn is_filled(&self, round: u32, from: u32) -> bool
         requires from { IsServer from }
         requires near { round ≤ self.now.round + 1 }
         ensures { result ≡ is_some (cell self.now.places round from) }

@@ -1,9 +1,10 @@
 //! One server of five.
 
 ghost use Rattle.std.specs.Prelude.{◌≡◌, ◌↔◌, ◌<◌, ◌≤◌, ◌+◌, ◌*◌, ◌^◌, ℕ, List, length, map, IfOk, IsNone, IfNone};
-ghost use Rattle.std.specs.Prelude.{IfSome, IsErrOf, vec_capacity, true, false};
+ghost use Rattle.std.specs.Prelude.{IfSome, IsErrOf, is_some, vec_capacity, true, false};
 ghost use Rattle.beet_field.specs.declared.TheConstants.{MOST_NUMBERS};
 ghost use Rattle.beet_words.specs.Tapes.{left_of};
+ghost use Rattle.beet_gates.specs.Ends.{ComesTo};
 ghost use Rattle.beet_delivery.specs.Networks.{Delivered, nothing, with_triple};
 ghost use Rattle.beet_weights.specs.Quadratics.{IsServer};
 ghost use Rattle.beet_linear_sharing.specs.Runs.{Setup};
@@ -11,7 +12,7 @@ ghost use Rattle.beet_five_server.specs.Answers.{Answers, AreTied, HandsOut, Mov
 ghost use Rattle.beet_five_server.specs.Answers.{messages_out};
 ghost use Rattle.beet_five_server.specs.Cores.{has_ended, is_quiet};
 ghost use Rattle.beet_five_server.specs.Fits.{Fits, IsRound, OpensAt, message_of, messages_from};
-ghost use Rattle.beet_five_server.specs.Mails.{all_there};
+ghost use Rattle.beet_five_server.specs.Mails.{all_there, cell};
 ghost use Rattle.beet_five_server.specs.Network.{five, peers, sends_to};
 ghost use Rattle.beet_five_server.specs.Parts.{by_sender};
 ghost use Rattle.beet_five_server.specs.declared.mail.FiveMessage.{FiveMessage as Message};
@@ -104,7 +105,7 @@ fn address(me: u32, round: u32, out: Outgoing) -> (FiveMessage, [FiveMessage; 4]
 #[derive(Drop)]
 pub struct FiveCore<S: ScriptOfFive> {
     engine: Engine<S>,
-    mail: Mail,
+    pub(crate) mail: Mail,
 }
 
 impl<S: ScriptOfFive> Model for FiveCore<S> {
@@ -280,7 +281,8 @@ impl<S: ScriptOfFive> FiveCore<S> {
 
     /// Which server it is, from 1 to 5.
     pub fn me(&self) -> u32
-        ensures { result ≡ self.now.work.me }
+        ensures value { result ≡ self.now.work.me }
+        ensures server { IsServer result }
     {
         self.engine.me()
     }
@@ -291,17 +293,30 @@ impl<S: ScriptOfFive> FiveCore<S> {
         self.engine.script()
     }
 
-    /// How many rounds it has passed.
+    /// How many rounds it has passed, below 2^31.
     pub fn round(&self) -> u32
-        ensures { result ≡ self.now.work.round }
+        ensures value { result ≡ self.now.work.round }
+        ensures few { result < 2 ^ 31 }
     {
         self.engine.round()
     }
 
-    /// The opened numbers, in the order in which they were opened.
+    /// The opened numbers, in the order in which they were opened. They are some that the script may have opened in the
+    /// rounds passed.
     pub fn opened(&self) -> &[Fe]
-        ensures { result.now ≡ self.now.work.opened }
+        ensures value { result.now ≡ self.now.work.opened }
+        ensures came { ComesTo (S.batch_of self.now.work.script) self.now.work.round result.now }
     {
         self.engine.opened()
+    }
+
+    /// Whether the message of a server in a round is in its place, of a round up to the one after its own: its own once
+    /// it was handed out, and that of a peer once it came.
+    pub fn holds(&self, round: u32, from: u32) -> bool
+        requires from { IsServer from }
+        requires near { round ≤ self.now.work.round + 1 }
+        ensures { result ≡ is_some (cell self.now.mail.places round from) }
+    {
+        self.mail.is_filled(round, from)
     }
 }

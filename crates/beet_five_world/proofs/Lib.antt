@@ -1,3 +1,4 @@
 pub mod MemberFacts
 pub mod Places
 pub mod WorldFacts
+pub mod MissingFacts

@@ -19,8 +19,9 @@ use Rattle.beet_five_server.specs.Network.{sends_to}
 use Rattle.beet_five_server.specs.declared.mail.FiveMessage.{FiveMessage}
 use Rattle.beet_five_server.proofs.MailFacts.{by-server}
 use Rattle.beet_five_server.proofs.Peers.{five-heard}
-use Rattle.beet_five_server.proofs.Standing.{all-delivered, almost, handed-first, hands-out, not-handed}
+use Rattle.beet_five_server.proofs.Standing.{all-delivered, almost, hands-out}
 use Rattle.beet_five_world.specs.Members.{IsKept, IsMember, handed_rounds, verdict_at}
+use Rattle.beet_server.proofs.Delivering.{handed-first, not-handed}
 
 -- how far a core is once it has handed out: one round's messages more
 pub record Steps {S : Type 0} (c d : Core S) : Type 0 where

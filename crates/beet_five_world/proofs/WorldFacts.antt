@@ -28,11 +28,11 @@ get-seam : {A : Type 0} → (xs : List A) (y : A) (ys : List A) → slice_get (x
 get-seam [] y ys = refl
 get-seam (x ∷ xs) y ys = get-seam xs y ys
 
-module _ {S : Type 0} (next : S → ℕ → List ℕ → Batch) (o : Setup) (rounds : ℕ) (x : Delivered ℕ) where
+module _ {S : Type 0} (next : S → ℕ → List ℕ → Batch) (script : S) (o : Setup) (rounds : ℕ) (x : Delivered ℕ) where
   -- a message that is sent is delivered to the server at its place, and nothing changes at the others
-  pub delivers : (old new : List (Seen S)) (from to t : ℕ) → IsServer to → AllFit next o rounds x old →
+  pub delivers : (old new : List (Seen S)) (from to t : ℕ) → IsServer to → AllFit next script o rounds x old →
       is_sent five rounds x (triple from to t) ≡ true →
-      GivesAt next old new (to - 1) (message_of o from to t) → AllFit next o rounds (deliver five rounds x (triple from to t)) new
+      GivesAt next old new (to - 1) (message_of o from to t) → AllFit next script o rounds (deliver five rounds x (triple from to t)) new
   delivers old new from to t server f sent g =
       let e = triple from to t in
       let p = sent_parts five-is rounds x e sent in
@@ -44,7 +44,7 @@ module _ {S : Type 0} (next : S → ℕ → List ℕ → Batch) (o : Setup) (rou
       let given = g.gives o x from t at.member (subst (λ i. sends_to from i ≡ true) (sym at.me) p.0)
       (λ i. message_of o from (sym at.me i) t) (is-round o rounds t f.has p.1.0) close in
       let y = with_triple five x e in
-      subst (λ (z : Delivered ℕ). AllFit next o rounds z new) (sym (deliver_sent five-is rounds x e sent)) (record {
+      subst (λ (z : Delivered ℕ). AllFit next script o rounds z new) (sym (deliver_sent five-is rounds x e sent)) (record {
         has = f.has;
         was = subst (λ (z : Delivered ℕ). (d : Triple ℕ) → has z d ≡ true → is_sent five rounds z d ≡ true)
             (deliver_sent five-is rounds x e sent)
@@ -53,8 +53,9 @@ module _ {S : Type 0} (next : S → ℕ → List ℕ → Batch) (o : Setup) (rou
         stands = λ j is m there. elim (cases_eq j to) [
           | inl same ↦
               let k : g.after ≡ m = same_Some g.after m (sym g.is ∙ ap (λ i. slice_get new (i - 1)) (sym same) ∙ there) in
-              subst (λ (v : Seen S). Stands next o y j v) k (record {
+              subst (λ (v : Seen S). Stands next script o y j v) k (record {
                 me = g.me ∙ at.me ∙ sym same;
+                runs = g.script ∙ at.runs;
                 member = subst
                     (λ i. IsMember next o
                     (with_triple five x (record { from = from; to = i; round = t })) g.after.core g.after.sent) at.me given.0;
@@ -64,6 +65,7 @@ module _ {S : Type 0} (next : S → ℕ → List ℕ → Batch) (o : Setup) (rou
               let s = f.stands j is m (sym (g.others (j - 1) (λ e. other (omega (arith, e, is.0, server.0)))) ∙ there) in
               record {
                 me = s.me;
+                runs = s.runs;
                 member = record {
                   fits = away next o x m.core.work m.core.mail e (λ k. other (sym s.me ∙ sym k)) s.member.fits;
                   messages = s.member.messages;
@@ -74,12 +76,13 @@ module _ {S : Type 0} (next : S → ℕ → List ℕ → Batch) (o : Setup) (rou
         ];
       })
 
-  pub nothing-changes : (ms : List (Seen S)) (e : Triple ℕ) → AllFit next o rounds x ms → is_sent five rounds x e ≡ false →
-      AllFit next o rounds (deliver five rounds x e) ms
-  nothing-changes ms e f unsent = subst (λ (z : Delivered ℕ). AllFit next o rounds z ms) (sym (deliver_unsent five-is rounds x e unsent)) f
+  pub nothing-changes : (ms : List (Seen S)) (e : Triple ℕ) → AllFit next script o rounds x ms → is_sent five rounds x e ≡ false →
+      AllFit next script o rounds (deliver five rounds x e) ms
+  nothing-changes ms e f unsent =
+      subst (λ (z : Delivered ℕ). AllFit next script o rounds z ms) (sym (deliver_unsent five-is rounds x e unsent)) f
 
   -- a server is at the rounds that it has passed
-  pub is-passed : (ms : List (Seen S)) (j : ℕ) (m : Seen S) → IsServer j → AllFit next o rounds x ms → IsAt ms (j - 1) m →
+  pub is-passed : (ms : List (Seen S)) (j : ℕ) (m : Seen S) → IsServer j → AllFit next script o rounds x ms → IsAt ms (j - 1) m →
       m.core.work.round ≡ passed five rounds x j
   is-passed ms j m server f there =
       let at = f.stands j server m there in
@@ -87,12 +90,12 @@ module _ {S : Type 0} (next : S → ℕ → List ℕ → Batch) (o : Setup) (rou
       ∙ ap (passed five rounds x) at.me
 
   -- how many rounds' messages a server has handed out
-  count-sent : (ms : List (Seen S)) (from : ℕ) (s : Seen S) → Stands next o x from s → length s.sent ≡ handed_rounds s.core
+  count-sent : (ms : List (Seen S)) (from : ℕ) (s : Seen S) → Stands next script o x from s → length s.sent ≡ handed_rounds s.core
   count-sent ms from s at = ap length at.member.messages ∙ length-each (messages_from o s.core.work.me) (handed_rounds s.core)
 
   -- what a server has handed out is what it has sent
-  pub sent-counts : (ms : List (Seen S)) (from to t : ℕ) → IsServer from → IsServer to → (from ≡ to → ⊥) → AllFit next o rounds x ms →
-      (s : Seen S) → IsAt ms (from - 1) s →
+  pub sent-counts : (ms : List (Seen S)) (from to t : ℕ) → IsServer from → IsServer to → (from ≡ to → ⊥) →
+      AllFit next script o rounds x ms → (s : Seen S) → IsAt ms (from - 1) s →
       (t < length s.sent) ↔ (is_sent five rounds x (triple from to t) ≡ true)
   sent-counts ms from to t a b other f s there =
       let at = f.stands from a s there in
@@ -140,7 +143,7 @@ module _ {S : Type 0} (next : S → ℕ → List ℕ → Batch) (o : Setup) (rou
       (λ n. refl) (λ n. refl) (λ n. absurd (n refl)))
       from a to b other
 
-  pub copy-is : (ms : List (Seen S)) (from to t : ℕ) → IsServer from → IsServer to → (from ≡ to → ⊥) → AllFit next o rounds x ms →
+  pub copy-is : (ms : List (Seen S)) (from to t : ℕ) → IsServer from → IsServer to → (from ≡ to → ⊥) → AllFit next script o rounds x ms →
       (s : Seen S) → IsAt ms (from - 1) s →
       (row : List FiveMessage) (m : FiveMessage) → slice_get s.sent t ≡ Some row → slice_get row (rank from to) ≡ Some m →
       m ≡ message_of o from to t
@@ -154,18 +157,19 @@ module _ {S : Type 0} (next : S → ℕ → List ℕ → Batch) (o : Setup) (rou
       same_Some m (message_of o from to t) (sym is_m ∙ ap (λ l. slice_get l (rank from to)) row_is ∙ at-rank from to t a b other)
 
   -- where the sender has not handed out the round's messages, nothing was sent
-  pub event-none : (ms : List (Seen S)) (from to t : ℕ) → IsServer from → IsServer to → (from ≡ to → ⊥) → AllFit next o rounds x ms →
+  pub event-none : (ms : List (Seen S)) (from to t : ℕ) → IsServer from → IsServer to → (from ≡ to → ⊥) → AllFit next script o rounds x ms →
       (s : Seen S) → IsAt ms (from - 1) s →
       length s.sent ≤ t → is_sent five rounds x (triple from to t) ≡ false
   event-none ms from to t a b other f s there le =
       false_from_ne_true _ (λ e. absurd (let lt = (sent-counts ms from to t a b other f s there).1 e in omega (arith, lt, le)))
 
   -- and else it is delivered
-  pub event-some : (old new : List (Seen S)) (from to t : ℕ) → IsServer from → IsServer to → (from ≡ to → ⊥) → AllFit next o rounds x old →
+  pub event-some : (old new : List (Seen S)) (from to t : ℕ) → IsServer from → IsServer to → (from ≡ to → ⊥) →
+      AllFit next script o rounds x old →
       (s : Seen S) → IsAt old (from - 1) s →
       (row : List FiveMessage) (m : FiveMessage) → slice_get s.sent t ≡ Some row → slice_get row (rank from to) ≡ Some m →
       GivesAt next old new (to - 1) m →
-      AllFit next o rounds (deliver five rounds x (triple from to t)) new × (is_sent five rounds x (triple from to t) ≡ true)
+      AllFit next script o rounds (deliver five rounds x (triple from to t)) new × (is_sent five rounds x (triple from to t) ≡ true)
   event-some old new from to t a b other f s there row m is_row is_m g =
       let sent = (sent-counts old from to t a b other f s there).0 (slice_get_within s.sent t row is_row) in (
         delivers old new from to t b f sent
@@ -176,7 +180,7 @@ module _ {S : Type 0} (next : S → ℕ → List ℕ → Batch) (o : Setup) (rou
 
   -- servers that began stand in each run that their cores fit
   pub begun-fit : (cores : List (Core S)) (ms : List (Seen S)) → HasRounds o rounds → length cores ≡ 5 → HaveBegun next cores ms →
-      AllBegin next o cores → AllFit next o rounds nothing ms
+      AllBegin next script o cores → AllFit next script o rounds nothing ms
   begun-fit cores ms has five_cores begun all = record {
     has = has;
     was = λ e h. absurd (true≢false (sym h));
@@ -184,8 +188,8 @@ module _ {S : Type 0} (next : S → ℕ → List ℕ → Batch) (o : Setup) (rou
     stands = λ j server m at.
         let began = begun.each_began (j - 1) m at in
         let here = all j server began.0 began.1 in
-        let member = began.2.begins o nothing here.1 in
-        record { me = began.2.me ∙ here.0; member = member.0; quiet = member.1 };
+        let member = began.2.begins o nothing here.2 in
+        record { me = began.2.me ∙ here.0; runs = began.2.script ∙ here.1; member = member.0; quiet = member.1 };
   }
 
 module _ {S : Type 0} (next : S → ℕ → List ℕ → Batch) where
@@ -219,11 +223,12 @@ module _ {S : Type 0} (next : S → ℕ → List ℕ → Batch) where
       numbers = λ j. accepted (fresh.coefficients j).words;
     }
 
-    pub all-begin : AllBegin next their_setup cores
+    pub all-begin : AllBegin next fresh.script their_setup cores
     all-begin j server c at =
         let is : fresh_core next j fresh.script (fresh.inputs j) (fresh.masks j) (fresh.coefficients j) (most fresh.script) ≡ c =
         same_Some _ c (sym (fresh.are j server) ∙ at) in
-        subst (λ (d : Core S). (d.work.me ≡ j) × Fits next their_setup nothing d.work d.mail) is (
+        subst (λ (d : Core S). (d.work.me ≡ j) × (d.work.script ≡ fresh.script) × Fits next their_setup nothing d.work d.mail) is (
+          refl,
           refl,
           begins next j fresh.script (fresh.inputs j) (fresh.masks j) (fresh.coefficients j) (most fresh.script)
               (fresh.no_mask j) (fresh.no_number j) their_setup
@@ -246,8 +251,9 @@ module _ {S : Type 0} (next : S → ℕ → List ℕ → Batch) where
         subst (λ (d : Core S). IsServer d.work.me × (d.work.round ≡ 0) × (d.work.handed ≡ false)) is (server, refl, refl)
 
 -- the servers that a list of events led to stand after it
-pub led-all : {S : Type 0} → (next : S → ℕ → List ℕ → Batch) (o : Setup) (rounds : ℕ) (es : List (Triple ℕ)) (old new : List (Seen S))
-    (x : Delivered ℕ) → LeadAll next old es new → AllFit next o rounds x old → AllFit next o rounds (after_from five rounds x es) new
-led-all next o rounds [] old new x lead f = subst (λ ms. AllFit next o rounds x ms) lead f
-led-all next o rounds (e ∷ es) old new x lead f =
-    led-all next o rounds es lead.0 new (deliver five rounds x e) lead.2 (lead.1 o rounds x f)
+pub led-all : {S : Type 0} → (next : S → ℕ → List ℕ → Batch) (script : S) (o : Setup) (rounds : ℕ) (es : List (Triple ℕ))
+    (old new : List (Seen S)) (x : Delivered ℕ) → LeadAll next old es new → AllFit next script o rounds x old →
+    AllFit next script o rounds (after_from five rounds x es) new
+led-all next script o rounds [] old new x lead f = subst (λ ms. AllFit next script o rounds x ms) lead f
+led-all next script o rounds (e ∷ es) old new x lead f =
+    led-all next script o rounds es lead.0 new (deliver five rounds x e) lead.2 (lead.1 script o rounds x f)

@@ -63,36 +63,44 @@ pub record GivesAt {S : Type 0} (next : S → ℕ → List ℕ → Batch) (old n
   pub is : IsAt new k after
   pub gives : Gives next before after m
   pub me : after.core.work.me ≡ before.core.work.me
+  pub script : after.core.work.script ≡ before.core.work.script
   pub others : (i : ℕ) → (i ≡ k → ⊥) → slice_get new i ≡ slice_get old i
   pub count : length new ≡ length old
 
--- a server of a world stands in a run with these messages delivered
-pub record Stands {S : Type 0} (next : S → ℕ → List ℕ → Batch) (o : Setup) (x : Delivered ℕ) (j : ℕ)
+-- a server of a world runs the script, and stands in a run with these messages delivered
+pub record Stands {S : Type 0} (next : S → ℕ → List ℕ → Batch) (script : S) (o : Setup) (x : Delivered ℕ) (j : ℕ)
     (m : Seen S) : Type 0 where
   pub me : m.core.work.me ≡ j
+  pub runs : m.core.work.script ≡ script
   pub member : IsMember next o x m.core m.sent
   pub quiet : is_quiet next m.core.work ≡ true
 
--- all five servers stand in a run of so many rounds, and what was delivered was sent
-pub record AllFit {S : Type 0} (next : S → ℕ → List ℕ → Batch) (o : Setup) (rounds : ℕ) (x : Delivered ℕ)
-    (ms : List (Seen S)) : Type 0 where
+-- all five servers run the script, and stand in a run of so many rounds; what was delivered was sent
+pub record AllFit {S : Type 0} (next : S → ℕ → List ℕ → Batch) (script : S) (o : Setup) (rounds : ℕ)
+    (x : Delivered ℕ) (ms : List (Seen S)) : Type 0 where
   pub has : HasRounds o rounds
   pub was : (e : Triple ℕ) → is_in x e ≡ true → is_sent five rounds x e ≡ true
   pub count : length ms ≡ 5
-  pub stands : (j : ℕ) → IsServer j → (m : Seen S) → IsAt ms (j - 1) m → Stands next o x j m
+  pub stands : (j : ℕ) → IsServer j → (m : Seen S) → IsAt ms (j - 1) m → Stands next script o x j m
+
+-- the round is that of each server, one before it, or the next
+abbrev pub AreNear : {S : Type 0} → List (Seen S) → ℕ → Type 0
+AreNear {S} ms round =
+    (j : ℕ) (s : Seen S) → IsServer j → IsAt ms (j - 1) s → round ≤ s.core.work.round + 1
 
 -- the servers stand in some run
 pub record IsWorld {S : Type 0} (next : S → ℕ → List ℕ → Batch) (ms : List (Seen S)) : Type 0 where
+  pub script : S
   pub o : Setup
   pub rounds : ℕ
   pub x : Delivered ℕ
-  pub fit : AllFit next o rounds x ms
+  pub fit : AllFit next script o rounds x ms
 
 -- these servers are those that an event led to: in each run in which the old ones stand, the new ones stand after it
 abbrev pub Leads : {S : Type 0} → (S → ℕ → List ℕ → Batch) → List (Seen S) → Triple ℕ → List (Seen S) → Type 0
-Leads next old e new =
-    (o : Setup) (rounds : ℕ) (x : Delivered ℕ) → AllFit next o rounds x old →
-    AllFit next o rounds (deliver five rounds x e) new
+Leads {S} next old e new =
+    (script : S) (o : Setup) (rounds : ℕ) (x : Delivered ℕ) → AllFit next script o rounds x old →
+    AllFit next script o rounds (deliver five rounds x e) new
 
 -- a list of events led to them, one after another
 abbrev pub LeadAll : {S : Type 0} → (S → ℕ → List ℕ → Batch) → List (Seen S) → List (Triple ℕ) → List (Seen S) → Type 0
@@ -114,6 +122,7 @@ pub record AreFresh {S : Type 0} (next : S → ℕ → List ℕ → Batch) (most
 -- a server of a world from its core: in each run that the core fits it is a member, and quiet
 pub record Begins {S : Type 0} (next : S → ℕ → List ℕ → Batch) (c : Core S) (m : Seen S) : Type 0 where
   pub me : m.core.work.me ≡ c.work.me
+  pub script : m.core.work.script ≡ c.work.script
   pub begins : (o : Setup) (x : Delivered ℕ) → Fits next o x c.work c.mail →
       IsMember next o x m.core m.sent × (is_quiet next m.core.work ≡ true)
 
@@ -123,11 +132,11 @@ pub record HaveBegun {S : Type 0} (next : S → ℕ → List ℕ → Batch) (cor
   pub count : length ms ≡ length cores
   pub each_began : (k : ℕ) (m : Seen S) → IsAt ms k m → (c : Core S) × (slice_get cores k ≡ Some c) × Begins next c m
 
--- each of these cores is that of the server of its place, and fits a run before any delivery
-abbrev pub AllBegin : {S : Type 0} → (S → ℕ → List ℕ → Batch) → Setup → List (Core S) → Type 0
-AllBegin {S} next o cores =
+-- each of these cores is that of the server of its place, runs the script, and fits a run before any delivery
+abbrev pub AllBegin : {S : Type 0} → (S → ℕ → List ℕ → Batch) → S → Setup → List (Core S) → Type 0
+AllBegin {S} next script o cores =
     (j : ℕ) → IsServer j → (c : Core S) → slice_get cores (j - 1) ≡ Some c →
-    (c.work.me ≡ j) × Fits next o nothing c.work c.mail
+    (c.work.me ≡ j) × (c.work.script ≡ script) × Fits next o nothing c.work c.mail
 
 -- the message of a server's round to another
 abbrev pub triple : ℕ → ℕ → ℕ → Triple ℕ

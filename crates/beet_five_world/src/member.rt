@@ -19,6 +19,7 @@ fn hand_out<S: ScriptOfFive>(core: &mut FiveCore<S>, sent: &mut Vec<[FiveMessage
     requires { IsKept S.batch_of (S.rounds_of core.old.work.script) (vec_capacity sent.old)
         core.old (length sent.old.items) }
     ensures me { core.new.work.me ≡ core.old.work.me }
+    ensures script { core.new.work.script ≡ core.old.work.script }
     ensures moved { is_quiet S.batch_of core.old.work ≡ false → HandsOut S.batch_of core.old core.new
         × (5 * (core.old.work.round + 2) ≤ length core.old.mail.places) }
     ensures kept { IsKept S.batch_of (S.rounds_of core.new.work.script) (vec_capacity sent.new)
@@ -72,6 +73,7 @@ impl<S: ScriptOfFive> Member<S> {
         requires { is_quiet S.batch_of self.old.core.work ≡ true }
         ensures gives { Gives S.batch_of self.old self.new m }
         ensures me { self.new.core.work.me ≡ self.old.core.work.me }
+        ensures script { self.new.core.work.script ≡ self.old.core.work.script }
         ensures verdict { result ≡ verdict_at S.batch_of self.old.core m }
     {
         let verdict = self.core.deliver(m);

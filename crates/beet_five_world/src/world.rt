@@ -1,14 +1,15 @@
 //! Five servers and the events of a run.
 
 ghost use Rattle.std.specs.Prelude.{◌≡◌, ◌↔◌, ◌≤◌, ◌<◌, ◌+◌, ◌-◌, ℕ, ◌≢◌, List, length, true, false, slice_get, Some};
-ghost use Rattle.std.specs.Prelude.{MatchOption, IfOk};
-ghost use Rattle.beet_delivery.specs.Networks.{Delivered, is_sent, nothing};
+ghost use Rattle.std.specs.Prelude.{MatchOption, IfOk, ◌^◌, ◌&&◌, not, count_by, if◌then◌else◌, map};
+ghost use Rattle.beet_delivery.specs.Networks.{Delivered, is_sent, nothing, undelivered as undelivered_in};
 ghost use Rattle.beet_weights.specs.Quadratics.{IsServer};
 ghost use Rattle.beet_linear_sharing.specs.Runs.{Setup};
 ghost use Rattle.beet_five_server.specs.Cores.{is_quiet};
-ghost use Rattle.beet_five_server.specs.Network.{five};
+ghost use Rattle.beet_five_server.specs.Missing.{is_missing, of_round};
+ghost use Rattle.beet_five_server.specs.Network.{five, peers};
 ghost use Rattle.beet_five_server.specs.Runs.{HasRounds};
-ghost use Rattle.beet_five_world.specs.Members.{AllBegin, AllFit, AreFresh, GivesAt, IsAt, Leads, Seen, rank};
+ghost use Rattle.beet_five_world.specs.Members.{AllBegin, AllFit, AreFresh, AreNear, GivesAt, IsAt, Leads, Seen, rank};
 ghost use Rattle.beet_five_world.specs.Members.{triple, verdict_at};
 ghost use Rattle.beet_five_world.specs.declared.world.FiveEvent.TheVariants.{Delivered as DeliveredBy, NotSent};
 ghost use Rattle.beet_five_server.specs.declared.mail.FiveMessage.{FiveMessage as Message};
@@ -83,6 +84,13 @@ fn copy_of<S: ScriptOfFive>(
     Some(message_at(row, rank(from, to)).copy())
 }
 
+/// 1 for a message that was sent and has not come, and else 0.
+fn one_if_missing(sent: bool, came: bool) -> u32
+    ensures { result ≡ (if sent && not came then 1 else 0) }
+{
+    if sent && !came { 1 } else { 0 }
+}
+
 /// Five servers.
 #[derive(Drop)]
 pub struct FiveWorld<S: ScriptOfFive> {
@@ -106,8 +114,8 @@ impl<S: ScriptOfFive> FiveWorld<S> {
     /// there is too little is no clause: a body that always fails meets the contract.
     pub fn of(alloc: Global, cores: Vec<FiveCore<S>>) -> Result<FiveWorld<S>, AllocError>
         requires { AreFresh S.batch_of S.rounds_of cores.items }
-        ensures { IfOk result (λ w. (o : Setup) (rounds : ℕ) → HasRounds o rounds →
-            AllBegin S.batch_of o cores.items → AllFit S.batch_of o rounds nothing w) }
+        ensures { IfOk result (λ w. (script : S) (o : Setup) (rounds : ℕ) → HasRounds o rounds →
+            AllBegin S.batch_of script o cores.items → AllFit S.batch_of script o rounds nothing w) }
     {
         let mut members = Vec::with_capacity(alloc, cores.len())?;
         for core in cores {
@@ -116,12 +124,20 @@ impl<S: ScriptOfFive> FiveWorld<S> {
         Ok(FiveWorld { members })
     }
 
+    /// The server of this number.
+    fn member(&self, at: u32) -> &Member<S>
+        requires { IsServer at }
+        ensures { IsAt self.now (at - 1) result.now }
+    {
+        &self.members[at as usize - 1]
+    }
+
     /// The core of a server.
     pub fn core(&self, at: u32) -> &FiveCore<S>
         requires { IsServer at }
         ensures { (s : Seen S) × IsAt self.now (at - 1) s × (result.now ≡ s.core) }
     {
-        self.members[at as usize - 1].core()
+        self.member(at).core()
     }
 
     /// Delivers the message of one server to another in a round, counted from 0. It may be delivered again. What the
@@ -131,7 +147,8 @@ impl<S: ScriptOfFive> FiveWorld<S> {
         requires from { IsServer from }
         requires to { IsServer to }
         ensures fits { Leads S.batch_of self.old (triple from to round) self.new }
-        ensures sent { (o : Setup) (rounds : ℕ) (x : Delivered ℕ) → AllFit S.batch_of o rounds x self.old
+        ensures sent { (script : S) (o : Setup) (rounds : ℕ) (x : Delivered ℕ)
+            → AllFit S.batch_of script o rounds x self.old
             → (result ≡ NotSent) ↔ (is_sent five rounds x (triple from to round) ≡ false) }
         ensures verdict { (sender receiver : Seen S) (row : List Message) (m : Message) → from ≢ to
             → IsAt self.old (from - 1) sender → IsAt self.old (to - 1) receiver
@@ -146,5 +163,81 @@ impl<S: ScriptOfFive> FiveWorld<S> {
             None => FiveEvent::NotSent,
             Some(m) => FiveEvent::Delivered(give_at(&mut self.members, to as usize - 1, m)),
         }
+    }
+
+    /// The fewest rounds that a server has passed.
+    fn behind(&self) -> u32
+        ensures least { (j : ℕ) (s : Seen S) → IsServer j → IsAt self.now (j - 1) s → result ≤ s.core.work.round }
+        ensures passed { (j : ℕ) × (s : Seen S) × IsServer j × IsAt self.now (j - 1) s
+            × (result ≡ s.core.work.round) }
+        ensures few { result < 2 ^ 31 }
+    {
+        self.core(1)
+            .round()
+            .min(self.core(2).round())
+            .min(self.core(3).round())
+            .min(self.core(4).round())
+            .min(self.core(5).round())
+    }
+
+    /// 1 for a message of a round that was sent and not delivered, and else 0.
+    fn missing(&self, from: u32, to: u32, round: u32) -> u32
+        requires from { IsServer from }
+        requires to { IsServer to }
+        requires near { AreNear self.now round }
+        ensures missing { (script : S) (o : Setup) (rounds : ℕ) (x : Delivered ℕ)
+            → AllFit S.batch_of script o rounds x self.now
+            → result ≡ (if is_missing five rounds x (triple from to round) then 1 else 0) }
+        ensures own { from ≡ to → result ≡ 0 }
+        ensures few { result ≤ 1 }
+    {
+        if from == to {
+            return 0;
+        }
+        let was_sent = (round as usize) < self.member(from).sent().len();
+        let came = self.core(to).holds(round, from);
+        one_if_missing(was_sent, came)
+    }
+
+    /// How many messages of a server in a round were sent and not delivered.
+    fn missing_from(&self, from: u32, round: u32) -> u32
+        requires from { IsServer from }
+        requires near { AreNear self.now round }
+        ensures missing { (script : S) (o : Setup) (rounds : ℕ) (x : Delivered ℕ)
+            → AllFit S.batch_of script o rounds x self.now
+            → result ≡ count_by (is_missing five rounds x) (map (λ to. triple from to round) (peers from)) }
+        ensures few { result ≤ 4 }
+    {
+        self.missing(from, 1, round)
+            + self.missing(from, 2, round)
+            + self.missing(from, 3, round)
+            + self.missing(from, 4, round)
+            + self.missing(from, 5, round)
+    }
+
+    /// How many messages of a round were sent and not delivered.
+    fn missing_of(&self, round: u32) -> u32
+        requires near { AreNear self.now round }
+        ensures missing { (script : S) (o : Setup) (rounds : ℕ) (x : Delivered ℕ)
+            → AllFit S.batch_of script o rounds x self.now
+            → result ≡ of_round five (is_missing five rounds x) round }
+        ensures few { result ≤ 20 }
+    {
+        self.missing_from(1, round)
+            + self.missing_from(2, round)
+            + self.missing_from(3, round)
+            + self.missing_from(4, round)
+            + self.missing_from(5, round)
+    }
+
+    /// How many messages were sent that no event has delivered, 40 at most. They are of the round of the server that is
+    /// behind, and of the next. If there are none, each server has ended.
+    pub fn undelivered(&self) -> u32
+        ensures count { (script : S) (o : Setup) (rounds : ℕ) (x : Delivered ℕ)
+            → AllFit S.batch_of script o rounds x self.now → result ≡ undelivered_in five rounds x }
+        ensures few { result ≤ 40 }
+    {
+        let behind = self.behind();
+        self.missing_of(behind) + self.missing_of(behind + 1)
     }
 }

@@ -12,7 +12,7 @@ use Rattle.beet_gates.specs.Clear.{is_end, clear_at, clear_act, first_end, round
 use Rattle.beet_gates.specs.Scripts.{Standing, LawFrom, start_among, start_of}
 use Rattle.beet_gates.proofs.ClearFacts.{DealtBy, Underway, begins, by-three, goes-on, ends-at-last}
 
-less-or : (r s : ℕ) → (r < s) ⊎ ((r ≡ s) ⊎ (s < r))
+pub less-or : (r s : ℕ) → (r < s) ⊎ ((r ≡ s) ⊎ (s < r))
 less-or r s = grind arith
 
 module _ (next : ℕ → List ℕ → Batch) (deals : ℕ → List ℕ) (inputs : List ℕ) where

@@ -18,3 +18,4 @@ pub mod Laws
 pub mod ClearFacts
 pub mod AllAlong
 pub mod ClearAt
+pub mod Acts

@@ -1,6 +1,6 @@
 -- The items of lists that are cut and mapped.
 use Rattle.std.proofs.Common.{◌≡◌, ℕ, ◌+◌, ◌<◌, List, [], ◌∷◌, take, drop, map, length, slice_index, slice_index_or}
-use Rattle.std.proofs.Common.{refl, sym, ap, ◌∙◌}
+use Rattle.std.proofs.Common.{Some, refl, sym, ap, ◌∙◌}
 use Rattle.std.proofs.lemmas.List.{get_or-drop, get_or-map, get_or-take}
 use Rattle.beet_gates.specs.Each.{each}
 use Rattle.beet_gates.proofs.EachFacts.{each-zero, each-cons}
@@ -27,3 +27,17 @@ each-map g xs = sym (map-places g 0 xs)
 pub map-same : (f g : ℕ → ℕ) → ((w : ℕ) → f w ≡ g w) → (ws : List ℕ) → map f ws ≡ map g ws
 map-same f g same [] = refl
 map-same f g same (w ∷ ws) = λ j. same w j ∷ map-same f g same ws j
+
+-- lists that are read at the same wires
+pub over_wires : (wires : List ℕ) (f f' g g' : ℕ → ℕ) → ((w : ℕ) → f' w ≡ f w → g' w ≡ g w) → map f' wires ≡ map f wires →
+    map g' wires ≡ map g wires
+over_wires [] f f' g g' step e = refl
+over_wires (w ∷ ws) f f' g g' step e =
+    let here : f' w ≡ f w = cc in
+    let others : map f' ws ≡ map f ws = cc in
+    let first = step w here in
+    let rest = over_wires ws f f' g g' step others in λ i. first i ∷ rest i
+
+-- a place has one item
+pub from-some : {A : Type 0} {x y : A} → Some x ≡ Some y → x ≡ y
+from-some e = cc e

@@ -6,7 +6,7 @@ use Rattle.beet_bids.specs.Grids.{Grid}
 use Rattle.beet_farmer.specs.Envelopes.{envelope_of}
 use Rattle.beet_farmer.specs.Sealing.{points_in}
 use Rattle.beet_farmer.specs.declared.list_file.ListEntry.{ListEntry}
-use Rattle.beet_errand.specs.Errands.{Step, ◌>>=◌, gives, reads}
+use Rattle.beet_errand.specs.Errands.{Step, gives, reads, ◌>>=◌}
 use Rattle.beet_farmer.specs.declared.envelope.TheConstants.{ENVELOPE_LIMIT}
 
 -- the points in the three envelopes of a bidder, for the servers in order

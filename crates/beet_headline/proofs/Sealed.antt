@@ -8,25 +8,20 @@ use Rattle.beet_field.specs.declared.point.Point.{Point}
 use Rattle.beet_field.specs.declared.point.Point.TheVariants.{One, Two, Three}
 use Rattle.beet_shamir.specs.Line.{point_of}
 use Rattle.beet_words.specs.Words.{accepted}
-use Rattle.beet_bids.specs.Curves.{Curve, IsCurve, IsOfGrid, quantity}
+use Rattle.beet_bids.specs.Curves.{Curve, IsOfGrid, quantity}
 use Rattle.beet_bids.specs.Grids.{Grid}
 use Rattle.beet_book.specs.Dealing.{points_at, quantities}
 use Rattle.beet_book.proofs.Quantities.{quantities-many}
 use Rattle.beet_map.proofs.Moves.{moved_only, moved_same}
 use Rattle.beet_words.proofs.WordLists.{words_same}
-use Rattle.beet_mapped.proofs.DealerFacts.{element-at}
 use Rattle.beet_mapped.proofs.WordPlaces.{accepted-length, accepted-small}
-use Rattle.beet_auction_map.proofs.BidderFacts.{curve-elements}
 use Rattle.beet_farmer.specs.Envelopes.{envelope_bytes, envelope_of}
 use Rattle.beet_farmer.specs.Sealing.{envelope_for, sealed_envelope}
 use Rattle.beet_farmer.specs.declared.envelope.Envelope.{Envelope}
 use Rattle.beet_farmer.proofs.SealedAgain.{item, long, member-dealt, sealed-again}
 use Rattle.beet_headline.specs.Envelopes.{AreOneEnvelope, AreTwoBids, CanSeal, DifferInSlopes}
 use Rattle.beet_trades.proofs.DealersThere.{moved}
-
--- quantities are numbers of the field
-pub quantity-element : (curve : Curve) → IsCurve curve → (n : ℕ) → IsElement (quantity curve n)
-quantity-element curve c n = element-at (quantities curve) (curve-elements curve c) n
+use Rattle.beet_auction_map.proofs.BidderFacts.{quantity-element}
 
 -- what is read is one value
 pub same-read : {A E : Type 0} (x y : A) (read : Result A E) → read ≡ Ok x → read ≡ Ok y → x ≡ y

@@ -25,8 +25,9 @@ use Rattle.beet_auction_map.proofs.Disagreeing.{curves-same}
 use Rattle.beet_farmer.specs.Sealing.{envelope_for}
 use Rattle.beet_headline.specs.Envelopes.{AreTwoBids, CanSeal}
 use Rattle.beet_headline.specs.Statements.{CanRun}
-use Rattle.beet_headline.proofs.Sealed.{points-told, quantity-element}
+use Rattle.beet_headline.proofs.Sealed.{points-told}
 use Rattle.beet_headline.proofs.Telling.{over}
+use Rattle.beet_auction_map.proofs.BidderFacts.{quantity-element}
 
 -- two points of a line tell its value
 pub one-value : (s t : Point) (v w a b : ℕ) → s ≢ t → IsElement v → IsElement w → point_of w b s ≡ point_of v a s →

@@ -1,5 +1,5 @@
 -- The bids of a sale's rows are as many as a sale may have, each within its limit.
-use Rattle.std.proofs.Common.{◌≡◌, List, length, map, sym, subst}
+use Rattle.std.proofs.Common.{length, map, sym, subst}
 use Rattle.std.proofs.lemmas.List.{length-map}
 use Rattle.std.proofs.lemmas.List.Elements.{All-map}
 use Rattle.beet_sale_plan.specs.Outcome.{IsBid}

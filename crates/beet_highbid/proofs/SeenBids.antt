@@ -1,5 +1,5 @@
 -- A server sees the same bids in both sales.
-use Rattle.std.proofs.Common.{◌≡◌, suc, inl, inr, true, List, [], ◌∷◌, map, take, slice_get, Some}
+use Rattle.std.proofs.Common.{◌≡◌, suc, inl, inr, List, [], ◌∷◌, map, take, slice_get, Some}
 use Rattle.std.proofs.Common.{ℕ, refl, sym, ap, ◌∙◌, arith}
 use Rattle.std.specs.Prelude.{All}
 use Rattle.std.proofs.lemmas.Bool.{cases_Bool}

@@ -5,6 +5,6 @@ mod laws;
 mod mapping;
 mod writing;
 
-pub use laws::sales_that_sell_alike_look_the_same;
+pub use laws::{sales_that_sell_alike_look_the_same, winning_bids_look_alike};
 pub use mapping::sale_map;
 pub use writing::write_sale_view;

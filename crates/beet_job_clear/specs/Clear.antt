@@ -1,6 +1,6 @@
 -- The job `clear`: the outcome of a book, and the rounds in which three servers find it.
 use Rattle.std.specs.Prelude.{ℕ, List}
-use Rattle.beet_errand.specs.Errands.{Answer, Errand, Ends, Step, ◌>>=◌, gives}
+use Rattle.beet_errand.specs.Errands.{Answer, Errand, Ends, Step, gives, ◌>>=◌}
 use Rattle.beet_load.specs.Loading.{loaded_errand}
 use Rattle.beet_run.specs.Outcomes.{cleared}
 

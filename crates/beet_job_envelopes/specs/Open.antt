@@ -6,7 +6,7 @@ use Rattle.beet_book.specs.ServerFiles.{servers_of}
 use Rattle.beet_book.specs.declared.sources.Servers.{Servers}
 use Rattle.beet_farmer.specs.Lists.{list_of}
 use Rattle.beet_farmer.specs.declared.list_file.ListEntry.{ListEntry}
-use Rattle.beet_errand.specs.Errands.{Answer, Errand, Ends, Step, ◌>>=◌, gives, reads}
+use Rattle.beet_errand.specs.Errands.{Answer, Errand, Ends, Step, gives, reads, ◌>>=◌}
 use Rattle.beet_load.specs.Wanted.{wanted_of}
 use Rattle.beet_load.specs.Servers.{all_words_errand}
 use Rattle.beet_gathering.specs.Gather.{bidders_errand}

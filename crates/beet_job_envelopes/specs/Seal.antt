@@ -9,7 +9,7 @@ use Rattle.beet_bids.specs.AuctionFiles.{auction_of}
 use Rattle.beet_bids.specs.BidFiles.{bid_of}
 use Rattle.beet_book.specs.declared.entries.BidderSource.{BidderSource}
 use Rattle.beet_farmer.specs.Sealing.{envelope_for}
-use Rattle.beet_errand.specs.Errands.{Answer, Errand, Ends, Step, ◌>>=◌, file_for, gives, reads}
+use Rattle.beet_errand.specs.Errands.{Answer, Errand, Ends, Step, file_for, gives, reads, ◌>>=◌}
 use Rattle.beet_errand.specs.Texts.{line_of}
 use Rattle.beet_errand.specs.declared.answer.Status.TheVariants.{Done}
 use Rattle.beet_load.specs.Wanted.{wanted_of}

@@ -1,7 +1,7 @@
 -- The job `replay`: how three servers stand in each lot of a session once the messages of a schedule are delivered.
 use Rattle.std.specs.Prelude.{ℕ, ◌+◌, List, [], ◌∷◌, ◌++◌, length}
 use Rattle.beet_book.specs.declared.server_file.TheConstants.{SERVERS_LIMIT}
-use Rattle.beet_errand.specs.Errands.{Answer, Errand, Ends, Step, ◌>>=◌, gives, reads, text_answer}
+use Rattle.beet_errand.specs.Errands.{Answer, Errand, Ends, Step, gives, reads, text_answer, ◌>>=◌}
 use Rattle.beet_load.specs.Loading.{AuctionWithBidders}
 use Rattle.beet_world.specs.declared.schedule.TheConstants.{SCHEDULE_LIMIT}
 use Rattle.beet_lots.specs.LotEvents.{of_lot}

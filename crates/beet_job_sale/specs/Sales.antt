@@ -1,6 +1,6 @@
 -- The job `sale`: who wins a sale, for how much, and the rounds in which three servers find it.
 use Rattle.std.specs.Prelude.{ℕ, List}
-use Rattle.beet_errand.specs.Errands.{Answer, Errand, Ends, Step, ◌>>=◌, gives}
+use Rattle.beet_errand.specs.Errands.{Answer, Errand, Ends, Step, gives, ◌>>=◌}
 use Rattle.beet_sale_load.specs.SaleLoading.{sale_errand as read_errand}
 use Rattle.beet_job_sale.specs.SaleAnswers.{sold}
 

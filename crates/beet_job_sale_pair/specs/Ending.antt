@@ -5,7 +5,7 @@ use Rattle.beet_sale_file.specs.Sales.{SaleRecord, bids_of}
 use Rattle.beet_sale_file.specs.declared.rows.SaleBid.{SaleBid}
 use Rattle.beet_sale_map.specs.declared.agreeing.SaleFault.{SaleFault}
 use Rattle.beet_sale_map.specs.declared.agreeing.SaleFault.TheVariants.{OutOfMemory as MemoryOut}
-use Rattle.beet_errand.specs.Errands.{Answer, Errand, Step, ◌>>=◌, ◌>>◌, gives, refuses}
+use Rattle.beet_errand.specs.Errands.{Answer, Errand, Step, gives, refuses, ◌>>=◌, ◌>>◌}
 use Rattle.beet_errand.specs.Tasks.{Shows, ShowsRead, Task, ToShow}
 use Rattle.beet_errand.specs.declared.answer.OwnRefusal.TheVariants.{OfWorlds}
 use Rattle.beet_errand.specs.declared.answer.Refusal.TheVariants.{Own}

@@ -6,7 +6,7 @@ use Rattle.beet_gates.specs.declared.Gates.TheVariants.{Chain, Tree}
 use Rattle.beet_sale_file.specs.SaleFiles.{sale_of}
 use Rattle.beet_sale_file.specs.Sales.{SaleRecord}
 use Rattle.beet_sale_file.specs.declared.sale_file.TheConstants.{SALE_LIMIT}
-use Rattle.beet_errand.specs.Errands.{Step, ◌>>=◌, gives, reads}
+use Rattle.beet_errand.specs.Errands.{Step, gives, reads, ◌>>=◌}
 use Rattle.beet_sale_load.specs.SaleLoading.{SaleRead, sale_errand}
 use Rattle.beet_job_sale_pair.specs.declared.reading.TheConstants.{OTHER_GATES}
 

@@ -8,5 +8,5 @@ mod reading;
 mod refusing;
 
 pub use laws::{differences_of_sales_are_told, other_gates_have_this_reason};
-pub use pairing::{PairFiles, pair};
+pub use pairing::pair;
 pub use reading::OTHER_GATES;

@@ -8,18 +8,10 @@ use crate::reading::load_second;
 use beet_errand::{Reply, Stop};
 use beet_field::Point;
 use beet_forms::beside;
+use beet_pair_words::PairFiles;
 use beet_sale_load::load_sale;
 use beet_store::Shelf;
 use std::alloc::Global;
-
-/// The names of the files of the job, and the name with which those that it puts begin.
-#[derive(Clone, Copy)]
-pub struct PairFiles<'a> {
-    pub first: &'a str,
-    pub second: &'a str,
-    pub servers: &'a str,
-    pub out: &'a str,
-}
 
 /// Holds the first sale with the words that are read, and the second with words with which it looks the same to the
 /// server. It answers the transcripts of the server, which are equal, and the words of the second sale.

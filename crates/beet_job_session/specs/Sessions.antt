@@ -1,7 +1,7 @@
 -- The job `session`: how the auction of each lot ends.
 use Rattle.std.specs.Prelude.{ℕ, List, map}
 use Rattle.beet_book.specs.declared.server_file.TheConstants.{SERVERS_LIMIT}
-use Rattle.beet_errand.specs.Errands.{Answer, Errand, Ends, Step, ◌>>=◌, gives, reads, text_answer}
+use Rattle.beet_errand.specs.Errands.{Answer, Errand, Ends, Step, gives, reads, text_answer, ◌>>=◌}
 use Rattle.beet_load.specs.Loading.{AuctionWithBidders}
 use Rattle.beet_run.specs.Outcomes.{cleared}
 use Rattle.beet_lot_files.specs.SeedFiles.{seed_servers_of}

@@ -1,14 +1,12 @@
 -- The lots that are kept, one after another, and their books and words.
 use Rattle.std.proofs.Common.{◌≡◌, ◌<◌, ◌≤◌, ◌+◌, ℕ, zero, suc, List, [], ◌∷◌, ◌++◌, map, length, get_or, refl, sym, ap}
 use Rattle.std.proofs.Common.{subst, ◌∙◌, arith}
-use Rattle.std.proofs.lemmas.List.{map-append, take_all}
+use Rattle.std.proofs.lemmas.List.{map-append}
 use Rattle.std.proofs.lemmas.List.Sums.{sum_by_push}
 use Rattle.beet_words.specs.Bundles.{Words}
 use Rattle.beet_words.specs.Words.{accepted}
-use Rattle.beet_masking.specs.Masks.{with_spare}
 use Rattle.beet_bids.specs.Books.{Book}
 use Rattle.beet_book.proofs.FarmerLists.{book-whole, farmers-words}
-use Rattle.beet_trades.specs.Enough.{HasAccepted}
 use Rattle.beet_auction.specs.Endings.{book_finish, book_rounds}
 use Rattle.beet_auction_map.specs.Enough.{AreEnough}
 use Rattle.beet_load.specs.Counts.{coefficients_wanted, words_wanted}
@@ -23,12 +21,9 @@ use Rattle.beet_lot_files.specs.declared.session_file.LotRow.{LotRow}
 use Rattle.beet_job_session_pair.specs.Reading.{Both, LimitedLot, book_of_lot, words_of_lot}
 use Rattle.beet_job_session_pair.specs.Starting.{CanStartEach}
 use Rattle.beet_job_session_pair.specs.declared.sessions.WholeLots.{WholeLots}
+use Rattle.beet_trades.proofs.EnoughFacts.{has-accepted}
 
 -- ---- one lot
-
-enough-has : (wanted : ℕ) (words : List ℕ) → length words ≤ with_spare wanted → wanted ≤ length (accepted words) → HasAccepted wanted words
-enough-has wanted words short h =
-    subst (λ (w : List ℕ). wanted ≤ length (accepted w)) (sym (take_all (with_spare wanted) words short)) h
 
 -- words with which an auction can run are enough for it
 pub start-enough : (book : Book) (words : Words) → CanStart book words → AreEnough book words
@@ -36,12 +31,12 @@ start-enough book words r =
     let wanted = coefficients_wanted book.grid in
     record {
       masks = (r.servers.one.masks, r.servers.two.masks, r.servers.three.masks);
-      one = enough-has wanted words.coefficients.one r.cut.one.coefficients r.servers.one.coefficients;
-      two = enough-has wanted words.coefficients.two r.cut.two.coefficients r.servers.two.coefficients;
-      three = enough-has wanted words.coefficients.three r.cut.three.coefficients r.servers.three.coefficients;
+      one = has-accepted wanted words.coefficients.one r.cut.one.coefficients r.servers.one.coefficients;
+      two = has-accepted wanted words.coefficients.two r.cut.two.coefficients r.servers.two.coefficients;
+      three = has-accepted wanted words.coefficients.three r.cut.three.coefficients r.servers.three.coefficients;
       count = r.lists;
       bidders = λ k d lt.
-          let h = r.bidders k d lt in enough-has (words_wanted book.grid) (get_or words.bidders k d) h.kept h.enough;
+          let h = r.bidders k d lt in has-accepted (words_wanted book.grid) (get_or words.bidders k d) h.kept h.enough;
     }
 
 -- the words that are kept of a lot are those that were read

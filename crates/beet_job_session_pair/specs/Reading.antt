@@ -9,7 +9,7 @@ use Rattle.beet_book.specs.Farmers.{book_with}
 use Rattle.beet_book.specs.declared.book_file.TheConstants.{BOOK_LIMIT}
 use Rattle.beet_book.specs.declared.server_file.TheConstants.{SERVERS_LIMIT}
 use Rattle.beet_book.specs.declared.sources.Servers.{Servers}
-use Rattle.beet_errand.specs.Errands.{Step, ◌>>=◌, gives, reads}
+use Rattle.beet_errand.specs.Errands.{Step, gives, reads, ◌>>=◌}
 use Rattle.beet_load.specs.Loading.{AuctionWithBidders}
 use Rattle.beet_load.specs.Wholes.{all_words, curves_errand, limited_rest}
 use Rattle.beet_lot_files.specs.SeedFiles.{seed_servers_of}

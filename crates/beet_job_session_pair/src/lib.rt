@@ -7,4 +7,4 @@ mod reading;
 mod refusing;
 mod sessions;
 
-pub use pairing::{PairFiles, pair};
+pub use pairing::pair;

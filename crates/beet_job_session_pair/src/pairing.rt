@@ -7,19 +7,11 @@ use crate::answering::answer_sessions;
 use crate::reading::read_both;
 use beet_errand::{Reply, Stop};
 use beet_field::Point;
+use beet_pair_words::PairFiles;
 use beet_store::Shelf;
 use std::alloc::Global;
 use std::marker::Sync;
 use std::thread::Threads;
-
-/// The names of the files of the job, and the name with which those that it puts begin.
-#[derive(Clone, Copy)]
-pub struct PairFiles<'a> {
-    pub first: &'a str,
-    pub second: &'a str,
-    pub servers: &'a str,
-    pub out: &'a str,
-}
 
 /// Runs the lots of the first session with the words that are read, and those of the second with words with which each
 /// looks the same to the server: `pair SESSION1 SESSION2 SERVERS SERVER OUT`. It answers what the server has seen of

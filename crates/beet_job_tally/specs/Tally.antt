@@ -8,7 +8,7 @@ use Rattle.beet_bids.specs.declared.auction_file.TheConstants.{AUCTION_LIMIT, NO
 use Rattle.beet_book.specs.BookFiles.{book_of}
 use Rattle.beet_book.specs.declared.book_file.TheConstants.{BOOK_LIMIT}
 use Rattle.beet_book.specs.Farmers.{BidderWithWords}
-use Rattle.beet_errand.specs.Errands.{Answer, Errand, Ends, Step, ◌>>=◌, ◌>>◌, bad_file, gives, reads, text_answer}
+use Rattle.beet_errand.specs.Errands.{Answer, Errand, Ends, Step, bad_file, gives, reads, text_answer, ◌>>=◌, ◌>>◌}
 use Rattle.beet_errand.specs.Texts.{line_of}
 use Rattle.beet_errand.specs.declared.answer.Status.TheVariants.{Done}
 use Rattle.beet_load.specs.Wanted.{wanted_of}

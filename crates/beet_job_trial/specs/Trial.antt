@@ -2,7 +2,7 @@
 use Rattle.std.specs.Prelude.{ℕ, List, ◌++◌, codes, decimal, None}
 use Rattle.beet_auction.specs.Endings.{book_finish, book_rounds}
 use Rattle.beet_bids.specs.Grids.{Grid}
-use Rattle.beet_errand.specs.Errands.{Answer, Errand, Ends, Step, ◌>>◌, gives, text_answer}
+use Rattle.beet_errand.specs.Errands.{Answer, Errand, Ends, Step, gives, text_answer, ◌>>◌}
 use Rattle.beet_errand.specs.Texts.{line_of}
 use Rattle.beet_load.specs.Wanted.{wanted_of}
 use Rattle.beet_load.specs.Servers.{enough_of_all, masks_of}

@@ -12,7 +12,7 @@ use Rattle.beet_book.specs.Farmers.{book_with}
 use Rattle.beet_plan.specs.Auction.{auction_batch, auction_over, most_rounds}
 use Rattle.beet_desk.specs.declared.counts.NoteCount.{NoteCount}
 use Rattle.beet_auction.specs.Endings.{book_rounds}
-use Rattle.beet_errand.specs.Errands.{Answer, Errand, Ends, Step, ◌>>=◌, gives}
+use Rattle.beet_errand.specs.Errands.{Answer, Errand, Ends, Step, gives, ◌>>=◌}
 use Rattle.beet_errand.specs.Texts.{line_of}
 use Rattle.beet_load.specs.Loading.{AuctionWithBidders, loaded_errand}
 use Rattle.beet_load.specs.Servers.{masks_of}

@@ -14,7 +14,7 @@ use Rattle.beet_book.specs.Totals.{Totals}
 use Rattle.beet_book.specs.declared.sources.Servers.{Servers}
 use Rattle.beet_farmer.specs.Lists.{list_of}
 use Rattle.beet_farmer.specs.declared.list_file.ListEntry.{ListEntry}
-use Rattle.beet_errand.specs.Errands.{Answer, Errand, Ends, Step, ◌>>=◌, ◌>>◌, file_for, gives, reads}
+use Rattle.beet_errand.specs.Errands.{Answer, Errand, Ends, Step, file_for, gives, reads, ◌>>=◌, ◌>>◌}
 use Rattle.beet_load.specs.Limits.{within_product}
 use Rattle.beet_load.specs.Servers.{ServerWords, all_words_errand}
 use Rattle.beet_load.specs.Wanted.{wanted_of}

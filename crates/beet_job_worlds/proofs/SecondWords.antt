@@ -1,8 +1,8 @@
 -- The words of the second world are as many as those of the first.
-use Rattle.std.proofs.Common.{◌≡◌, ◌<◌, ◌≤◌, ◌+◌, ◌*◌, ℕ, List, [], ◌∷◌, map, take, length, get_or, refl, sym, ap, subst, ◌∙◌, arith}
+use Rattle.std.proofs.Common.{◌≡◌, ◌<◌, ◌≤◌, ◌+◌, ◌*◌, ℕ, List, [], map, length, get_or, sym, ap, subst, ◌∙◌, arith}
 use Rattle.std.specs.Prelude.{All}
 use Rattle.std.proofs.lemmas.List.{get_or-map, length-map, take_all}
-use Rattle.std.proofs.lemmas.List.Elements.{All-from_get_or, All-get_or, All-head, All-tail}
+use Rattle.std.proofs.lemmas.List.Elements.{All-from_get_or, All-get_or}
 use Rattle.beet_field.specs.declared.point.Point.{Point}
 use Rattle.beet_field.specs.declared.point.Point.TheVariants.{One, Two, Three}
 use Rattle.beet_words.specs.declared.bundle.TheConstants.{MOST_BIDDERS}
@@ -23,14 +23,7 @@ use Rattle.beet_auction_map.specs.MappedWords.{Mapped}
 use Rattle.beet_auction_map.specs.ViewsWith.{cut_words, transcript_with}
 use Rattle.beet_view.specs.BookViews.{transcript_for}
 use Rattle.beet_mapped.proofs.DealerFacts.{lists-alike, lists-long}
-
--- lists that are short enough are not cut
-lists-uncut : (n : ℕ) (lists : List (List ℕ)) → All (λ (list : List ℕ). length list ≤ n) lists → map (take n) lists ≡ lists
-lists-uncut n [] all = refl
-lists-uncut n (l ∷ ls) all =
-    let here = take_all n l (All-head (λ (list : List ℕ). length list ≤ n) l ls all) in
-    let rest = lists-uncut n ls (All-tail (λ (list : List ℕ). length list ≤ n) l ls all) in
-    λ i. here i ∷ rest i
+use Rattle.beet_words.proofs.WordLists.{lists-uncut}
 
 bidders-kept : (grid : Grid) (lists : List (List ℕ)) → All (CanDeal (counts_of grid)) lists → All
     (λ (list : List ℕ). length list ≤ words_kept grid.prices) lists

@@ -5,7 +5,7 @@ use Rattle.beet_words.specs.Bundles.{Words}
 use Rattle.beet_bids.specs.Books.{Book}
 use Rattle.beet_auction_map.specs.declared.agreeing.MapFault.{MapFault}
 use Rattle.beet_auction_map.specs.declared.agreeing.MapFault.TheVariants.{OutOfMemory as MemoryOut}
-use Rattle.beet_errand.specs.Errands.{Answer, Errand, Step, ◌>>=◌, ◌>>◌, gives, refuses}
+use Rattle.beet_errand.specs.Errands.{Answer, Errand, Step, gives, refuses, ◌>>=◌, ◌>>◌}
 use Rattle.beet_errand.specs.Tasks.{Shows, ShowsRead, Task, ToShow}
 use Rattle.beet_errand.specs.declared.answer.OwnRefusal.TheVariants.{OfWorlds}
 use Rattle.beet_errand.specs.declared.answer.Refusal.TheVariants.{Own}

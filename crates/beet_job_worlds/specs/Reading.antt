@@ -4,7 +4,7 @@ use Rattle.beet_words.specs.Bundles.{Words}
 use Rattle.beet_bids.specs.Books.{Book}
 use Rattle.beet_bids.specs.declared.book.Bidder.{Bidder}
 use Rattle.beet_book.specs.Farmers.{book_with}
-use Rattle.beet_errand.specs.Errands.{Step, ◌>>=◌, gives}
+use Rattle.beet_errand.specs.Errands.{Step, gives, ◌>>=◌}
 use Rattle.beet_load.specs.Loading.{AuctionWithBidders}
 use Rattle.beet_load.specs.Servers.{masks_of, coefficients_of}
 use Rattle.beet_load.specs.Wholes.{limited_errand, curves_errand}

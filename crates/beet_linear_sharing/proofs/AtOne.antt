@@ -1,8 +1,7 @@
 -- A shared run beside the run on the values of its inputs.
-use Rattle.std.proofs.Common.{◌≡◌, ℕ, zero, suc, ◌+◌, List, [], ◌++◌, map, length, slice_index, refl, sym, ◌∙◌, ap, subst, arith}
+use Rattle.std.proofs.Common.{◌≡◌, ℕ, zero, suc, ◌+◌, List, [], ◌++◌, map, length, slice_index, refl, sym, ◌∙◌, ap, subst}
 use Rattle.std.proofs.Common.{append-nil, add-zero}
 use Rattle.std.specs.Int.{bit_at}
-use Rattle.beet_field.specs.Field.{IsElement, mul_of}
 use Rattle.beet_gates.specs.Clear.{Values, with_lets, product_of, act_on, batch_on, clear_act, clear_at, is_end}
 use Rattle.beet_gates.specs.Each.{each}
 use Rattle.beet_gates.specs.declared.Act.{Act}
@@ -17,17 +16,12 @@ use Rattle.beet_linear_sharing.specs.Polynomials.{AreShared, HaveSameRounds, IsA
 use Rattle.beet_linear_sharing.proofs.Laws.{SharingLaws}
 use Rattle.beet_linear_sharing.proofs.Closure.{opened-shared, product-shared, shared-append, shared-each, shared-joined, shared-lets}
 use Rattle.beet_linear_sharing.proofs.Closure.{shared-nil}
+use Rattle.beet_gates.proofs.Acts.{bit-small, product-small}
 
 pub record Beside (q : Sharing) (c : Values) (s : Shared) : Type 0 where
   pub shared : AreShared q c.wires s.wires
   pub opened : s.opened ≡ c.opened
   pub dealt : s.dealt ≡ c.dealt
-
-bit-small : (word k : ℕ) → IsElement (bit_at word k)
-bit-small word k = omega arith
-
-product-small : (x y : ℕ) → IsElement (mul_of x y)
-product-small x y = omega arith
 
 module _ (q : Sharing) (laws : SharingLaws q) (o : Setup) where
   deals-shared : (s : Shared) → AreShared q (deals_among q o.masks s.dealt) (gained q o s Deal)

@@ -1,7 +1,7 @@
 -- Lists of shared wires: what is appended, lets, deals, products.
-use Rattle.std.proofs.Common.{◌≡◌, ℕ, zero, suc, ◌+◌, ◌-◌, ◌*◌, ◌%◌, ◌<◌, ◌≤◌, ◌⊎◌, inl, inr, List, [], ◌∷◌, ◌++◌, length, slice_index}
+use Rattle.std.proofs.Common.{◌≡◌, ℕ, zero, suc, ◌+◌, ◌-◌, ◌*◌, ◌%◌, ◌<◌, inl, inr, List, [], ◌∷◌, ◌++◌, length, slice_index}
 use Rattle.std.proofs.Common.{refl, sym, ◌∙◌, ap, subst, arith, length-append}
-use Rattle.std.proofs.Math.ListN.{get_or-append, get_or-eq_default}
+use Rattle.std.proofs.Math.ListN.{get_or-append}
 use Rattle.std.proofs.Math.Seq.{get_or-append_right}
 use Rattle.beet_field.specs.Field.{p, IsElement, mul_of}
 use Rattle.beet_gates.specs.Clear.{weighed, let_of, with_lets, product_of}
@@ -11,12 +11,7 @@ use Rattle.beet_gates.proofs.EachFacts.{length-each, item-each}
 use Rattle.beet_linear_sharing.specs.Sharings.{Sharing, IsAmong, joined}
 use Rattle.beet_linear_sharing.specs.Polynomials.{IsShared, AreShared}
 use Rattle.beet_linear_sharing.proofs.Laws.{SharingLaws}
-
-pub below_or : (k n : ℕ) → (k < n) ⊎ (n ≤ k)
-below_or k n = grind arith
-
-each-past : (f : ℕ → ℕ) (n k : ℕ) → n ≤ k → slice_index (each f n) k ≡ 0
-each-past f n k h = get_or-eq_default (each f n) 0 (omega (arith, h, length-each f n))
+use Rattle.beet_gates.proofs.EachFacts.{below_or, each-past}
 
 module _ (q : Sharing) (laws : SharingLaws q) where
   -- the same value and points by another name

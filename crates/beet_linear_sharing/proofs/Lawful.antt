@@ -3,23 +3,10 @@
 use Rattle.std.proofs.Common.{◌≡◌, ℕ, zero, suc, ◌+◌, ◌-◌, ◌<◌, ◌≤◌, true, false, List, [], ◌++◌, length, refl, sym, ◌∙◌, ap, subst, arith}
 use Rattle.beet_gates.specs.Clear.{is_end}
 use Rattle.beet_gates.specs.Scripts.{Standing, BatchStands, IsWithin, LawFrom, acted, after, revealed, start_among}
-use Rattle.beet_gates.specs.declared.Act.{Act}
-use Rattle.beet_gates.specs.declared.Act.TheVariants.{Deal, Mul, Reveal, End}
 use Rattle.beet_gates.specs.declared.Batch.{Batch}
 use Rattle.beet_gates.proofs.Laws.{law-now, law-next, law-last}
 use Rattle.beet_gates.specs.Draws.{draws_in}
-
-acted-coefficients : (n : Standing) (a : Act) → (acted n a).coefficients ≡ n.coefficients + draws_in a
-acted-coefficients n Deal = refl
-acted-coefficients n (Mul pairs) = refl
-acted-coefficients n (Reveal shown) = omega arith
-acted-coefficients n End = omega arith
-
-acted-done : (n : Standing) (a : Act) → is_end a ≡ false → (acted n a).done ≡ n.done + 1
-acted-done n Deal h = refl
-acted-done n (Mul pairs) h = refl
-acted-done n (Reveal shown) h = refl
-acted-done n End h = cc h
+use Rattle.beet_gates.proofs.Acts.{acted-coefficients, acted-done}
 
 module _ (next : ℕ → List ℕ → Batch) (bounds : Standing) (dealers inputs most : ℕ) (opened : ℕ → List ℕ) where
   -- how far the script stands after t batches

@@ -2,12 +2,8 @@
 use Rattle.std.proofs.Common.{◌≡◌, ◌<◌, ◌≤◌, ◌+◌, ◌*◌, ◌%◌, ◌⊎◌, ⊎_elim, ℕ, suc, ap, arith, mul-suc, mul-le-mul_left}
 use Rattle.beet_field.specs.Field.{p, IsElement, mul_of}
 use Rattle.beet_linear_sharing.specs.Sharings.{Sharing, IsAmong}
-
-pub less-or : (r s : ℕ) → (r < s) ⊎ ((r ≡ s) ⊎ (s < r))
-less-or r s = grind arith
-
-below_or : (k n : ℕ) → (k < n) ⊎ (n ≤ k)
-below_or k n = grind arith
+use Rattle.beet_gates.proofs.EachFacts.{below_or}
+use Rattle.beet_gates.proofs.ClearAt.{less-or}
 
 -- the place of a number in a list of which each secret takes as many
 pub record IsPlace (q : Sharing) (n : ℕ) : Type 0 where

@@ -1,9 +1,9 @@
 //! The jobs of the programs over real files: each line of the file `lines` is one command, and what it says and its
-//! status are printed below it. Lines `session ..` and `replay ..` are of the program of sessions, and lines `sale ..`
-//! and `pair ..` are of the program of sales. A line `same ONE OTHER` compares two files, and its status is 0 if they
-//! hold the same bytes. A line `size FILE` says how many bytes a file holds. A line `splice FILE AT COUNT DIGITS OUT`
-//! puts a file in which so many bytes from a place on give way to those of hexadecimal digits, or to none if these are
-//! `-`.
+//! status are printed below it. A line that begins with `beet_session` or `beet_sale` is of that program, and its
+//! command stands behind this word; other commands are of `beet`. A line `same ONE OTHER` compares two files, and its
+//! status is 0 if they hold the same bytes. A line `size FILE` says how many bytes a file holds. A line `splice FILE AT
+//! COUNT DIGITS OUT` puts a file in which so many bytes from a place on give way to those of hexadecimal digits, or to
+//! none if these are `-`.
 #![tactic(auto)]
 
 use beet_link::FreeGate;
@@ -131,11 +131,11 @@ fn run_words<S: Shelf, K: Desk, R: Threads + Wait + Clock + Sync>(
             };
             splice(alloc, shelf, desk, &words)
         }
-        [command, ..] if command.as_str() == "session" || command.as_str() == "replay" => {
-            run_session(alloc, words, shelf, desk)
+        [program, ..] if program.as_str() == "beet_session" => {
+            run_session(rt, alloc, &words[1..], shelf, desk)
         }
-        [command, ..] if command.as_str() == "sale" || command.as_str() == "pair" => {
-            run_sale(alloc, words, shelf, desk)
+        [program, ..] if program.as_str() == "beet_sale" => {
+            run_sale(alloc, &words[1..], shelf, desk)
         }
         _ => beet_app::run(rt, alloc, words, shelf, desk, &FreeGate),
     }

@@ -11,7 +11,7 @@ use Rattle.beet_book.specs.Farmers.{BidderWithWords}
 use Rattle.beet_book.specs.declared.entries.Entry.{Entry}
 use Rattle.beet_book.specs.declared.entries.BidderSource.{BidderSource}
 use Rattle.beet_book.specs.declared.entries.BidderSource.TheVariants.{Seed, Tape}
-use Rattle.beet_errand.specs.Errands.{Errand, Step, ◌>>=◌, ◌>>◌, gives, reads, refuses}
+use Rattle.beet_errand.specs.Errands.{Errand, Step, gives, reads, refuses, ◌>>=◌, ◌>>◌}
 use Rattle.beet_masking.specs.Masks.{with_spare}
 use Rattle.beet_load.specs.WordTexts.{too_few_text}
 use Rattle.beet_load.specs.declared.wanted.Wanted.{Wanted}

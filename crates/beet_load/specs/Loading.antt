@@ -5,7 +5,7 @@ use Rattle.beet_bids.specs.Grids.{Grid}
 use Rattle.beet_bids.specs.Books.{IsBook}
 use Rattle.beet_book.specs.Dealing.{AreShares}
 use Rattle.beet_bids.specs.Sums.{sums_of}
-use Rattle.beet_errand.specs.Errands.{Step, ◌>>=◌, gives}
+use Rattle.beet_errand.specs.Errands.{Step, gives, ◌>>=◌}
 use Rattle.beet_book.specs.Farmers.{BidderWithWords, book_with}
 use Rattle.beet_load.specs.Farmers.{farmers_errand}
 use Rattle.beet_load.specs.Servers.{ServerWords, all_words_errand}

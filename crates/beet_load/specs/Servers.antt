@@ -12,7 +12,7 @@ use Rattle.beet_book.specs.declared.sources.ServerSource.{ServerSource}
 use Rattle.beet_book.specs.declared.sources.ServerSource.TheVariants.{Seed, Tapes}
 use Rattle.beet_book.specs.declared.sources.Servers.{Servers}
 use Rattle.beet_book.specs.declared.sources.Servers.TheVariants.{Three, Bundle}
-use Rattle.beet_errand.specs.Errands.{Errand, Step, ◌>>=◌, ◌>>◌, gives, reads, refuses}
+use Rattle.beet_errand.specs.Errands.{Errand, Step, gives, reads, refuses, ◌>>=◌, ◌>>◌}
 use Rattle.beet_load.specs.Counts.{Counts}
 use Rattle.beet_masking.specs.Masks.{with_spare}
 use Rattle.beet_load.specs.Lots.{first_stream}

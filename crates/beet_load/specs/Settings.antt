@@ -6,7 +6,7 @@ use Rattle.beet_book.specs.BookFiles.{book_of}
 use Rattle.beet_book.specs.ServerFiles.{servers_of}
 use Rattle.beet_book.specs.declared.entries.Entry.{Entry}
 use Rattle.beet_book.specs.declared.sources.Servers.{Servers}
-use Rattle.beet_errand.specs.Errands.{Step, ◌>>=◌, gives, reads}
+use Rattle.beet_errand.specs.Errands.{Step, gives, reads, ◌>>=◌}
 use Rattle.beet_bids.specs.declared.auction_file.TheConstants.{AUCTION_LIMIT}
 use Rattle.beet_book.specs.declared.server_file.TheConstants.{SERVERS_LIMIT}
 use Rattle.beet_book.specs.declared.book_file.TheConstants.{BOOK_LIMIT}

@@ -11,7 +11,7 @@ use Rattle.beet_bids.specs.declared.book.Bidder.{Bidder}
 use Rattle.beet_book.specs.BookFiles.{book_of}
 use Rattle.beet_book.specs.declared.entries.Entry.{Entry}
 use Rattle.beet_book.specs.Farmers.{BidderWithWords}
-use Rattle.beet_errand.specs.Errands.{Step, ◌>>=◌, ◌>>◌, gives, reads}
+use Rattle.beet_errand.specs.Errands.{Step, ◌>>◌, gives, reads, ◌>>=◌}
 use Rattle.beet_load.specs.Counts.{Counts, counts_of}
 use Rattle.beet_masking.specs.Masks.{with_spare}
 use Rattle.beet_load.specs.Limits.{within_product}

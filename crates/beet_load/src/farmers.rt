@@ -190,7 +190,7 @@ pub struct BidderWithTape {
 }
 
 /// The bidder of an entry of the book, which has this number, with the words that are given or those of its source.
-pub(crate) fn read_farmer<S: Shelf>(
+pub fn read_farmer<S: Shelf>(
     alloc: Global,
     shelf: &mut S,
     wanted: &Wanted,

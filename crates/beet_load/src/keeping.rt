@@ -20,7 +20,7 @@ use std::marker::Model;
 
 /// Bidders, and the words of each.
 #[derive(Drop)]
-pub(crate) struct Farmers {
+pub struct Farmers {
     bidders: Vec<Bidder>,
     words: Vec<WordList>,
 }
@@ -67,7 +67,7 @@ impl Farmers {
     }
 
     /// The bidders, and the words of each, given away.
-    pub(crate) fn into_parts(self) -> (Vec<Bidder>, Vec<WordList>)
+    pub fn into_parts(self) -> (Vec<Bidder>, Vec<WordList>)
         ensures farmers { farmers_of result.0.items result.1.items ≡ self }
         ensures bidders { result.0.items ≡ map (λ farmer. farmer.bidder) self }
         ensures words { result.1.items ≡ map (λ farmer. farmer.words) self }
@@ -77,7 +77,7 @@ impl Farmers {
 }
 
 /// Reads each bidder in order, with the words that are given or those of its source.
-pub(crate) fn read_farmers<S: Shelf>(
+pub fn read_farmers<S: Shelf>(
     alloc: Global,
     shelf: &mut S,
     wanted: &Wanted,

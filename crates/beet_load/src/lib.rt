@@ -19,7 +19,10 @@ mod whole_loading;
 pub use books::{read_entries, read_grid};
 pub use collecting::{add_farmers, list_of};
 pub use curves::load_curves;
-pub use farmers::{BidderWithTape, check_words, front, read_bidder, read_curve, read_tape_file};
+pub use farmers::{
+    BidderWithTape, check_words, front, read_bidder, read_curve, read_farmer, read_tape_file,
+};
+pub use keeping::{Farmers, read_farmers};
 pub use limits::check_product;
 pub use loading::{Loaded, lists_in, load, load_rest};
 pub use servers::{

@@ -5,7 +5,7 @@ use Rattle.beet_bids.specs.declared.auction_file.TheConstants.{AUCTION_LIMIT}
 use Rattle.beet_book.specs.BookFiles.{book_of}
 use Rattle.beet_book.specs.declared.book_file.TheConstants.{BOOK_LIMIT}
 use Rattle.beet_book.specs.declared.sources.Servers.{Servers}
-use Rattle.beet_errand.specs.Errands.{Step, ◌>>=◌, gives, reads}
+use Rattle.beet_errand.specs.Errands.{Step, gives, reads, ◌>>=◌}
 use Rattle.beet_load.specs.Loading.{AuctionWithBidders, rest_errand}
 use Rattle.beet_lot_files.specs.declared.session_file.LotRow.{LotRow}
 

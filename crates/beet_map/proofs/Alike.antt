@@ -1,5 +1,5 @@
 -- Two runs that look alike to one server.
-use Rattle.std.proofs.Common.{◌≡◌, ◌≢◌, ◌≤◌, ◌<◌, ◌+◌, ℕ, zero, suc, List, [], ◌∷◌, ◌++◌, length, slice_index, map, sym}
+use Rattle.std.proofs.Common.{◌≡◌, ◌≢◌, ◌≤◌, ◌<◌, ◌+◌, ℕ, zero, suc, List, [], ◌++◌, length, slice_index, map, sym}
 use Rattle.std.proofs.Common.{refl, ap, subst, ◌∙◌, ⊎_elim, arith, append-nil}
 use Rattle.std.specs.Int.{bit_at}
 use Rattle.std.proofs.lemmas.List.{append_cancel_left}
@@ -24,8 +24,10 @@ use Rattle.beet_sharing.specs.Runs.{Setup, Shared, act_among, coming, gained, hi
 use Rattle.beet_sharing.specs.Runs.{product_at, secret_hidden, sent_for, shared_at, standing_at, with_batch_lets}
 use Rattle.beet_map.specs.Secrets.{Secrets, begin_in, shares_of, slopes_of, values_of}
 use Rattle.beet_map.specs.Mapped.{GateMapped, moved_of, number_at, secret_at}
-use Rattle.beet_map.proofs.Moves.{moved_same, reshared_point, same_or, secret_small, slope_same}
+use Rattle.beet_map.proofs.Moves.{moved_same, reshared_point, same_or, slope_same}
 use Rattle.beet_map.specs.Premise.{MayMap, clear_of}
+use Rattle.beet_gates.proofs.Acts.{secret_small}
+use Rattle.beet_gates.proofs.Lists.{over_wires}
 
 -- the values in the batch that comes, once its lets are there
 abbrev pub standing_of : (ℕ → List ℕ → Batch) → Secrets → ℕ → Values
@@ -51,16 +53,6 @@ alike_lets me b r r' g = record {
   mine = member_each (λ points. with_lets points b.lets.items) r'.wires me ∙ (λ i. with_lets (g.mine i) b.lets.items)
       ∙ sym (member_each (λ points. with_lets points b.lets.items) r.wires me);
 }
-
--- lists that are read at the same wires
-over_wires : (wires : List ℕ) (f f' g g' : ℕ → ℕ) → ((w : ℕ) → f' w ≡ f w → g' w ≡ g w) → map f' wires ≡ map f wires →
-    map g' wires ≡ map g wires
-over_wires [] f f' g g' step e = refl
-over_wires (w ∷ ws) f f' g g' step e =
-    let here : f' w ≡ f w = cc in
-    let others : map f' ws ≡ map f ws = cc in
-    let first = step w here in
-    let rest = over_wires ws f f' g g' step others in λ i. first i ∷ rest i
 
 -- one batch, whose lets are among the wires
 module _ (me : Point) (o o' : Setup) (s s' : Shared) (alike : Alike me s s') where

@@ -5,8 +5,6 @@ use Rattle.beet_field.specs.declared.point.Point.{Point}
 use Rattle.beet_field.specs.declared.point.Point.TheVariants.{One, Two, Three}
 use Rattle.beet_shamir.specs.Line.{point_of, reshared}
 use Rattle.beet_gates.specs.declared.Act.{Act}
-use Rattle.beet_gates.specs.declared.Act.TheVariants.{Deal, Mul, Reveal, End}
-use Rattle.beet_gates.specs.Draws.{secret_of}
 use Rattle.beet_sharing.specs.Runs.{Shared}
 use Rattle.beet_field.specs.Trio.{member, trio_of}
 use Rattle.beet_field.specs.declared.trio.Trio.{Trio}
@@ -48,13 +46,6 @@ pub reshared_point : (x n : Point → ℕ) (i : Point) →
 reshared_point x n One = omega arith
 reshared_point x n Two = omega arith
 reshared_point x n Three = omega arith
-
--- what is hidden is a number of the field
-pub secret_small : (a : Act) (points : List ℕ) (word k : ℕ) → IsElement (secret_of a points word k)
-secret_small Deal points word k = omega arith
-secret_small (Mul pairs) points word k = omega arith
-secret_small (Reveal shown) points word k = omega arith
-secret_small End points word k = omega arith
 
 pub same_or : (j s : Point) → (j ≡ s) ⊎ (j ≢ s)
 same_or One One = inl refl

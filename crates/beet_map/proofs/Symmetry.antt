@@ -4,27 +4,19 @@ use Rattle.beet_field.specs.Field.{IsElement}
 use Rattle.beet_field.specs.Trio.{member}
 use Rattle.beet_field.specs.declared.point.Point.{Point}
 use Rattle.beet_field.specs.declared.trio.Trio.{Trio}
-use Rattle.beet_gates.specs.Clear.{Values, act_on}
+use Rattle.beet_gates.specs.Clear.{act_on}
 use Rattle.beet_gates.specs.Deals.{deals_of}
 use Rattle.beet_gates.specs.Scripts.{deals_in}
-use Rattle.beet_gates.specs.declared.Act.{Act}
-use Rattle.beet_gates.specs.declared.Act.TheVariants.{Deal, Mul, Reveal, End}
 use Rattle.beet_gates.specs.declared.Batch.{Batch}
 use Rattle.beet_gates.specs.Draws.{draws_in}
 use Rattle.beet_sharing.specs.Runs.{Setup, coming, shared_at, standing_at}
 use Rattle.beet_map.specs.Secrets.{Secrets, begin_in}
 use Rattle.beet_map.specs.Mapped.{GateMapped, moved_of, number_at, secret_at}
-use Rattle.beet_map.proofs.Moves.{moved_back, secret_small}
+use Rattle.beet_map.proofs.Moves.{moved_back}
 use Rattle.beet_map.specs.Premise.{MayMap, clear_of}
 use Rattle.beet_map.proofs.Alike.{alike_at, same_batch, standing_of}
 use Rattle.beet_map.proofs.Unique.{only_one}
-
-level_act : (deals deals' : ℕ → List ℕ) (a : Act) (v v' : Values) → v'.dealt ≡ v.dealt →
-    (act_on deals' a v').dealt ≡ (act_on deals a v).dealt
-level_act deals deals' Deal v v' e = ap (λ n. n + 1) e
-level_act deals deals' (Mul pairs) v v' e = e
-level_act deals deals' (Reveal shown) v v' e = e
-level_act deals deals' End v v' e = e
+use Rattle.beet_gates.proofs.Acts.{level_act, secret_small}
 
 -- runs on values that have come as far, with the same numbers opened, deal as many words in the next batch
 pub level_next : (next : ℕ → List ℕ → Batch) (w w' : Secrets) (t : ℕ) → (clear_of next w' t).opened ≡ (clear_of next w t).opened →

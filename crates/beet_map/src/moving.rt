@@ -13,7 +13,7 @@ use beet_gates::Act;
 use beet_words::Word;
 
 /// How many numbers each server draws for an act.
-pub(crate) fn draws(act: &Act) -> usize
+pub fn draws(act: &Act) -> usize
     ensures { result ≡ draws_in act.now }
 {
     match act {
@@ -24,7 +24,7 @@ pub(crate) fn draws(act: &Act) -> usize
 }
 
 /// The word at a place as a number, or 0 past the end.
-pub(crate) fn word_at(words: &[Word], place: usize) -> u64
+pub fn word_at(words: &[Word], place: usize) -> u64
     ensures { result ≡ slice_index words.now place }
 {
     match words.get(place) {
@@ -42,7 +42,7 @@ fn bit_of(word: u64, k: usize) -> Fe
 }
 
 /// The product of two points.
-pub(crate) fn multiply(points: &[Fe], pair: (u32, u32)) -> Fe
+pub fn multiply(points: &[Fe], pair: (u32, u32)) -> Fe
     ensures { result ≡ product_of points.now pair }
 {
     number_at(points, pair.0 as usize).mul(number_at(points, pair.1 as usize))
@@ -50,7 +50,7 @@ pub(crate) fn multiply(points: &[Fe], pair: (u32, u32)) -> Fe
 
 /// What the k-th number that a server draws for an act hides: a bit of the word that it deals, or the
 /// product of its points of a pair.
-pub(crate) fn secret(act: &Act, points: &[Fe], word: u64, k: usize) -> Fe
+pub fn secret(act: &Act, points: &[Fe], word: u64, k: usize) -> Fe
     requires { k < draws_in act.now }
     ensures { result ≡ secret_of act.now points.now word k }
 {

@@ -35,7 +35,7 @@ fn evaluate(wires: &[Fe], linear: &Linear) -> Fe
 }
 
 /// Appends the points of the lets, each of which may use those before it.
-pub(crate) fn append_lets(wires: &mut Vec<Fe>, lets: &[Linear]) -> Result<(), AllocError>
+pub fn append_lets(wires: &mut Vec<Fe>, lets: &[Linear]) -> Result<(), AllocError>
     ensures { OnOk result (wires.new.items ≡ with_lets wires.old.items lets.now) }
 {
     for linear in lets {

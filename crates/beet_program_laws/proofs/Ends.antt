@@ -1,6 +1,6 @@
 -- How a run over told files ends with status 0 or 6: with the answer of its job, which went out whole.
 use Rattle.std.proofs.Common.{◌≡◌, ◌≢◌, ◌⊎◌, inl, inr, ℕ, List, [], Bool, true, false, Option, None, Ok, Err}
-use Rattle.std.proofs.Common.{if◌then◌else◌, refl, sym, subst, ◌∙◌, arith}
+use Rattle.std.proofs.Common.{if◌then◌else◌, refl, sym, ap, subst, ◌∙◌, arith}
 use Rattle.beet_store.specs.Files.{File}
 use Rattle.beet_store.specs.Desks.{Done}
 use Rattle.beet_store.specs.declared.desk.PutFault.TheVariants.{Failed, OutOfMemory as NoMemoryToPut}
@@ -23,7 +23,7 @@ use Rattle.beet_errand.specs.Texts.{usage_text}
 use Rattle.beet_errand.specs.declared.answer.OwnRefusal.{OwnRefusal}
 use Rattle.beet_errand.specs.declared.answer.Refusal.TheVariants.{Usage, ReadFault, Own}
 use Rattle.beet_errand.specs.declared.answer.Status.TheVariants.{Refused}
-use Rattle.beet_errand.proofs.Statuses.{done_end, not_done}
+use Rattle.beet_errand.proofs.Statuses.{done_end}
 use Rattle.beet_errand.proofs.Steps.{at_end}
 use Rattle.beet_run.specs.OutcomeTexts.{outcome_text}
 use Rattle.beet_run.specs.Outcomes.{status_of}
@@ -38,6 +38,14 @@ use Rattle.beet_program_laws.proofs.Steps.{Yields}
 not-one : (status : ℕ) → IsDoneCode status → status ≡ 1 → ⊥
 not-one status (inl e) f = omega (arith, e, f)
 not-one status (inr e) f = omega (arith, e, f)
+
+not-two : (status : ℕ) → IsDoneCode status → status ≡ 2 → ⊥
+not-two status (inl e) f = omega (arith, e, f)
+not-two status (inr e) f = omega (arith, e, f)
+
+not-three : (status : ℕ) → IsDoneCode status → status ≡ 3 → ⊥
+not-three status (inl e) f = omega (arith, e, f)
+not-three status (inr e) f = omega (arith, e, f)
 
 not-four : (status : ℕ) → IsDoneCode status → status ≡ 4 → ⊥
 not-four status (inl e) f = omega (arith, e, f)
@@ -65,58 +73,80 @@ done-out : (answer : Answer) (call : Call) → IsDoneCode call.status → WentWh
 done-out answer call w whole =
     record { done = done_end answer.status (subst IsDoneCode whole.code w); code = whole.code; calls = whole.calls }
 
-went-out : (answer : Answer) (call : Call) (d : Done) → IsDoneCode call.status →
-    call.status ≡ code_of (status_after answer.status d) →
-    GivesAll call.desk call.desk_now answer.files answer.text d → WentOut answer call
-went-out answer call d w e calls =
-    done-out answer call w (went-whole answer call d (not-one call.status w) (not-four call.status w) e calls)
-
 -- the answer of an errand over the files went out whole
+pub record EndsWhole (files : List File) (errand : Errand) (call : Call) : Type 0 where
+  pub answer : Answer
+  pub is : answer_over files errand ≡ answer
+  pub out : WentWhole answer call
+
+-- and it is one that is done
 pub record EndsWith (files : List File) (errand : Errand) (call : Call) : Type 0 where
   pub answer : Answer
   pub is : answer_over files errand ≡ answer
   pub out : WentOut answer call
 
-read-all : (answer over : Answer) → IsDone answer.status →
+read-all : (answer over : Answer) (status : ℕ) → status ≢ 3 → status ≡ code_of answer.status →
     (answer.status ≡ Refused ReadFault) ⊎ (over ≡ answer) → over ≡ answer
-read-all answer over done (inl unread) = absurd (not_done ReadFault (subst IsDone unread done))
-read-all answer over done (inr is) = is
+read-all answer over status read e (inl unread) = absurd (read (e ∙ ap code_of unread))
+read-all answer over status read e (inr is) = is
+
+module _ (files : List File) (call : Call) (from : IsOf files call) (spent : call.status ≢ 1) (read : call.status ≢ 3)
+    (failed : call.status ≢ 4) where
+  whole-by : (errand rest : Errand) → Went call.shelf call.shelf_now errand rest →
+      EndsBy rest call.desk call.desk_now call.status → EndsWhole files errand call
+  whole-by errand (Ends answer) went (inl goes) = record {
+    answer = answer;
+    is = read-all answer (answer_over files errand) call.status read whole.code
+        (went-end files call.shelf call.shelf_now from errand answer went);
+    out = whole;
+  } where
+    whole : WentWhole answer call
+    whole = went-whole answer call goes.done spent failed goes.code goes.calls
+  whole-by errand (Ends answer) went (inr runs) = absurd (spent runs.code)
+  whole-by errand (Wants name limit next) went runs = absurd (spent runs.code)
+
+  -- an errand that is run to no failure has ended with its answer over the files
+  pub run-whole : (errand : Errand) → Runs errand call.shelf call.shelf_now call.desk call.desk_now call.status →
+      EndsWhole files errand call
+  run-whole errand r = whole-by errand r.rest r.went r.ends
+
+  -- words that name no job end with the status of the usage line, which is 2
+  pub no-task : {A : Type 0} → call.status ≢ 2 →
+      Runs (refuses Usage usage_text) call.shelf call.shelf_now call.desk call.desk_now call.status → A
+  no-task named r =
+      let e = run-whole (refuses Usage usage_text) r in
+      absurd (named (e.out.code ∙ ap (λ (a : Answer). code_of a.status) (sym e.is)))
+
+  -- so words that pass a test name the job of a table
+  pub named-by : {J : Type 0} (task_for : Option J → Task) → task_for None ≡ NoTask → call.status ≢ 2 → (b : Bool)
+      (job : Option J) →
+      RunsTask (task_for (if b then job else None)) call.shelf call.shelf_now call.desk call.desk_now call.status →
+      RunsTask (task_for job) call.shelf call.shelf_now call.desk call.desk_now call.status
+  named-by task_for none named true job r = r
+  named-by task_for none named false job r =
+      no-task named (subst (λ task. RunsTask task call.shelf call.shelf_now call.desk call.desk_now call.status) none r)
 
 module _ (files : List File) (call : Call) (from : IsOf files call) (w : IsDoneCode call.status) where
-  ends-by : (errand rest : Errand) → Went call.shelf call.shelf_now errand rest →
-      EndsBy rest call.desk call.desk_now call.status → EndsWith files errand call
-  ends-by errand (Ends answer) went (inl goes) =
-      let out = went-out answer call goes.done w goes.code goes.calls in
-      record {
-        answer = answer;
-        is = read-all answer (answer_over files errand) out.done
-            (went-end files call.shelf call.shelf_now from errand answer went);
-        out = out;
-      }
-  ends-by errand (Ends answer) went (inr runs) = absurd (not-one call.status w runs.code)
-  ends-by errand (Wants name limit next) went runs = absurd (not-one call.status w runs.code)
-
   pub run-ends : (errand : Errand) → Runs errand call.shelf call.shelf_now call.desk call.desk_now call.status →
       EndsWith files errand call
-  run-ends errand r = ends-by errand r.rest r.went r.ends
+  run-ends errand r =
+      let e = run-whole files call from (not-one call.status w) (not-three call.status w) (not-four call.status w) errand r in
+      record { answer = e.answer; is = e.is; out = done-out e.answer call w e.out }
 
-  usage-ends : EndsWith files (refuses Usage usage_text) call → ⊥
-  usage-ends e = not_done Usage (subst (λ (a : Answer). IsDone a.status) (sym e.is) e.out.done)
-
-  -- words that pass a test name the job of a table
   pub named-in : {J : Type 0} (task_for : Option J → Task) → task_for None ≡ NoTask → (b : Bool) (job : Option J) →
       RunsTask (task_for (if b then job else None)) call.shelf call.shelf_now call.desk call.desk_now call.status →
       RunsTask (task_for job) call.shelf call.shelf_now call.desk call.desk_now call.status
-  named-in task_for none true job r = r
-  named-in task_for none false job r =
-      absurd (usage-ends (run-ends (refuses Usage usage_text)
-      (subst (λ task. RunsTask task call.shelf call.shelf_now call.desk call.desk_now call.status) none r)))
+  named-in task_for none b job r =
+      named-by files call from (not-one call.status w) (not-three call.status w) (not-four call.status w) task_for none
+      (not-two call.status w) b job r
 
   pub named : (b : Bool) (job : Option Job) → RunsJob (if b then job else None) call → RunsJob job call
   named b job r = named-in task_of refl b job r
 
   pub no-job : {A : Type 0} → RunsJob None call → A
-  no-job r = absurd (usage-ends (run-ends (refuses Usage usage_text) r))
+  no-job r =
+      no-task files call from (not-one call.status w) (not-three call.status w) (not-four call.status w)
+      (not-two call.status w) r
 
   -- a step gave a value, and the answer that is made of it went out
   pub record Found {A : Type 0} (step : Step A) (answer : A → Answer) (P : A → Type 0) : Type 0 where

@@ -67,22 +67,21 @@ bid-is grid bytes curve e =
     subst (λ (c : Curve). IsCurve c × IsOfGrid grid c) read.1 is
 
 -- the row that is one too many is refused
-too-many : {A : Type 0} (value_in : Row → Result A ℕ) (taken : Bool) (number : ℕ) (row : Row) → number ≡ ONE_TOO_MANY →
-    result_err (named_in value_in ONE_TOO_MANY taken number row) ≢ None
-too-many value_in taken number row e none =
-    let at : (number == ONE_TOO_MANY) ≡ true = eq-eqb number ONE_TOO_MANY e in
-    let refused : result_err (named_in value_in ONE_TOO_MANY taken number row) ≡ Some TOO_MANY = rw at refl in
+too-many : {A : Type 0} (value_in : Row → Result A ℕ) (most : ℕ) (taken : Bool) (number : ℕ) (row : Row) → number ≡ most →
+    result_err (named_in value_in most taken number row) ≢ None
+too-many value_in most taken number row e none =
+    let at : (number == most) ≡ true = eq-eqb number most e in
+    let refused : result_err (named_in value_in most taken number row) ≡ Some TOO_MANY = rw at refl in
     cc
 
-few-rows : (judge : ℕ → Row → Option ℕ) (number : ℕ) (rows : List Row) → ((row : Row) → judge ONE_TOO_MANY row ≢ None) →
-    number ≤ ONE_TOO_MANY →
-    first_row_fault judge number rows ≡ None → number + length rows ≤ ONE_TOO_MANY
-few-rows judge number [] all low e = omega (arith, low)
-few-rows judge number (row ∷ rows) all low e =
+few-rows : (judge : ℕ → Row → Option ℕ) (most number : ℕ) (rows : List Row) → ((row : Row) → judge most row ≢ None) →
+    number ≤ most → first_row_fault judge number rows ≡ None → number + length rows ≤ most
+few-rows judge most number [] all low e = omega (arith, low)
+few-rows judge most number (row ∷ rows) all low e =
     let here = none-here number (judge number row) (first_row_fault judge (number + 1) rows) e in
     let later = none-later number (judge number row) (first_row_fault judge (number + 1) rows) e in
-    let apart : number ≢ ONE_TOO_MANY = λ same. all row (ap (λ n. judge n row) (sym same) ∙ here) in
-    omega (arith, few-rows judge (number + 1) rows all (omega (arith, low, apart)) later)
+    let apart : number ≢ most = λ same. all row (ap (λ n. judge n row) (sym same) ∙ here) in
+    omega (arith, few-rows judge most (number + 1) rows all (omega (arith, low, apart)) later)
 
 cons-few : {B : Type 0} (o : Option B) (ys : List B) (n : ℕ) → length ys ≤ n → length (cons_option o ys) ≤ n + 1
 cons-few None ys n h = omega (arith, h)
@@ -92,21 +91,21 @@ fewer : {A B : Type 0} (f : A → Option B) (xs : List A) → length (filter_map
 fewer f [] = omega arith
 fewer f (x ∷ xs) = omega (arith, cons-few (f x) (filter_map f xs) (length xs) (fewer f xs))
 
--- a file of named rows has at most so many
+-- named rows end before the one that is one too many
 module _ {A : Type 0} (value_in : Row → Result A ℕ) where
-  named-rows-few : (rows : List Row) (values : List A) → named_rows value_in 2 ONE_TOO_MANY rows ≡ Ok values →
-      length values ≤ MOST_BIDDERS
-  named-rows-few rows values e =
-      let judge = reason_against value_in 2 ONE_TOO_MANY rows in
+  pub named-rows-few : (first most : ℕ) (rows : List Row) (values : List A) → first ≤ most →
+      named_rows value_in first most rows ≡ Ok values → first + length values ≤ most
+  named-rows-few first most rows values low e =
+      let judge = reason_against value_in first most rows in
       let all = filter_map (λ row. result_ok (value_in row)) rows in
-      let read = read-is (first_row_fault judge 2 rows) all values e in
-      let few = few-rows judge 2 rows (λ row none. too-many value_in
-      (has_name (first_field row) (take (ONE_TOO_MANY - 2) rows)) ONE_TOO_MANY row refl none) (omega arith) read.0 in
+      let read = read-is (first_row_fault judge first rows) all values e in
+      let few = few-rows judge most first rows (λ row none. too-many value_in most
+      (has_name (first_field row) (take (most - first) rows)) most row refl none) low read.0 in
       omega (arith, few, fewer (λ (row : Row). result_ok (value_in row)) rows, ap (λ (l : List A). length l) read.1)
 
   chosen-few : (b : Bool) (rows : List Row) (values : List A) (fault : Fault) →
       (if b then named_rows value_in 2 ONE_TOO_MANY rows else Err fault) ≡ Ok values → length values ≤ MOST_BIDDERS
-  chosen-few true rows values fault e = named-rows-few rows values e
+  chosen-few true rows values fault e = omega (arith, named-rows-few 2 ONE_TOO_MANY rows values (omega arith) e)
   chosen-few false rows values fault e = absurd cc
 
   named-few : (header : Row) (rows : List Row) (values : List A) → named_file value_in ONE_TOO_MANY header rows ≡ Ok values →

@@ -72,7 +72,7 @@ use Rattle.beet_program_laws.specs.Outcomes.{IsShown, ServersOpen, TellsTheEnd, 
 use Rattle.beet_program_laws.proofs.Ends.{WentOut, found, named, servers-open, tells}
 use Rattle.beet_program_laws.proofs.Envelopes.{AreHeld, bidders-yield}
 use Rattle.beet_program_laws.proofs.Grids.{grid-is}
-use Rattle.beet_program_laws.proofs.Read.{AreLists, CanServeAll, IsLoaded, IsRead, all-words-yield, back, can-run}
+use Rattle.beet_program_laws.proofs.Read.{AreServed, CanServeAll, IsLoaded, IsRead, all-words-yield, back, can-run}
 use Rattle.beet_program_laws.proofs.Read.{can-run-cut, farmers-back, is-book, limited-yield, loaded-yield, the_book}
 use Rattle.beet_program_laws.proofs.Read.{the_words}
 use Rattle.beet_program_laws.proofs.Steps.{Yields, any-yield, gives-yield, reads-yield, then-told}
@@ -253,7 +253,7 @@ module _ (files : List File) where
   record IsOpened (auction servers list : List ℕ) (answer : Answer) : Type 0 where
     read : OpenRead files auction servers list
     limits : IsGrid read.grid.value
-    can_serve : CanServeAll read.grid.value read.words.value.servers
+    can_serve : CanServeAll (counts_of read.grid.value) read.words.value.servers
     is : answer ≡ opened_answer read.grid.value read.words.value.servers read.bidders.value
 
   open-yield : (auction servers list : List ℕ) →
@@ -268,8 +268,8 @@ module _ (files : List File) where
       (any-yield files list LIST_LIMIT list_of) (λ entries r3 h3.
       then-told files (all_words_errand (wanted_of None grid) None sources)
       (λ words. bidders_errand grid [] entries >>= λ bidders. gives (opened_answer grid words.servers bidders))
-      (λ words. CanServeAll grid words.servers × AreLists words.bidders) (IsOpened auction servers list)
-      (all-words-yield files None grid None sources) (λ words r4 h4.
+      (AreServed (counts_of grid)) (IsOpened auction servers list)
+      (all-words-yield files (wanted_of None grid) None sources) (λ words r4 h4.
       then-told files (bidders_errand grid [] entries) (λ bidders. gives (opened_answer grid words.servers bidders))
       (AreHeld grid (0 + length entries)) (IsOpened auction servers list) (bidders-yield grid files entries)
       (λ bidders r5 h5.
@@ -306,7 +306,7 @@ farmers-read grid farmers b each = λ k d lt.
 
 -- what is told of envelopes that are read so
 pub tells-of : (files : List File) (auction servers list : List ℕ) (read : OpenRead files auction servers list) →
-    IsGrid read.grid.value → CanServeAll read.grid.value read.words.value.servers → (status : ℕ) →
+    IsGrid read.grid.value → CanServeAll (counts_of read.grid.value) read.words.value.servers → (status : ℕ) →
     status ≡ code_of (opened_answer read.grid.value read.words.value.servers read.bidders.value).status →
     TellsOfEnvelopes files auction servers list read status
     (opened_answer read.grid.value read.words.value.servers read.bidders.value).text

@@ -26,7 +26,7 @@ use Rattle.beet_bids.specs.Grids.{Grid}
 use Rattle.beet_bids.specs.declared.auction_file.TheConstants.{AUCTION_LIMIT}
 use Rattle.beet_bids.specs.declared.bid_file.TheConstants.{BID_LIMIT}
 use Rattle.beet_bids.specs.declared.book.Bidder.{Bidder}
-use Rattle.beet_plan.specs.Kept.{coefficients_kept, words_kept}
+use Rattle.beet_masking.specs.Masks.{with_spare}
 use Rattle.beet_masking.specs.declared.TheConstants.{SPARE_WORDS}
 use Rattle.beet_book.specs.BookFiles.{book_of}
 use Rattle.beet_book.specs.Farmers.{BidderWithWords, book_with, farmers_of}
@@ -44,9 +44,9 @@ use Rattle.beet_trades.specs.Enough.{HasAccepted}
 use Rattle.beet_headline.specs.Statements.{CanRun}
 use Rattle.beet_errand.specs.Errands.{Step, gives, reads}
 use Rattle.beet_errand.specs.declared.answer.Refusal.TheVariants.{BadFile, TooFewWords}
-use Rattle.beet_load.specs.Counts.{coefficients_wanted, counts_of, masks_wanted, words_wanted}
+use Rattle.beet_load.specs.Counts.{Counts, coefficients_wanted, counts_of, words_wanted}
 use Rattle.beet_load.specs.Wanted.{wanted_of}
-use Rattle.beet_load.specs.Farmers.{farmer_errand, farmers_errand, list_at, words_errand}
+use Rattle.beet_load.specs.Farmers.{bidder_errand, farmer_errand, farmers_errand, list_at, words_errand}
 use Rattle.beet_load.specs.Limits.{over_product}
 use Rattle.beet_load.specs.Lots.{first_stream}
 use Rattle.beet_load.specs.Loading.{AuctionWithBidders, loaded_errand, rest_errand}
@@ -55,6 +55,7 @@ use Rattle.beet_load.specs.Servers.{cut_servers, enough_held, enough_of, enough_
 use Rattle.beet_load.specs.Servers.{source_errand, three_errand, wrong_count}
 use Rattle.beet_load.specs.Settings.{setting_errand}
 use Rattle.beet_load.specs.Wholes.{CanDeal, CanStart, IsFarmer, all_words, bids_errand, curves_errand, limited_errand}
+use Rattle.beet_load.specs.declared.wanted.Wanted.{Wanted}
 use Rattle.beet_load.specs.WordTexts.{server_short_text, too_few_text}
 use Rattle.beet_load.proofs.Cuts.{seeded_cut, take-few}
 use Rattle.beet_app_laws.specs.Held.{IsHeld}
@@ -70,38 +71,46 @@ pub record IsRead (grid : Grid) (farmer : BidderWithWords) : Type 0 where
   pub words : All IsWord farmer.words
 
 -- the words of a server that are read
-pub record AreKept (grid : Grid) (words : ServerWords) : Type 0 where
-  pub cut : IsCut (counts_of grid) words
+pub record AreKept (counts : Counts) (words : ServerWords) : Type 0 where
+  pub cut : IsCut counts words
   pub masks : All IsWord words.masks
   pub coefficients : All IsWord words.coefficients
 
 -- those of a seed
-pub seeded-kept : (lot : Option ℕ) (grid : Grid) (seed : List ℕ) → AreKept grid (seeded (wanted_of lot grid) seed)
-seeded-kept lot grid seed = record {
-  cut = seeded_cut (wanted_of lot grid) seed (seeded (wanted_of lot grid) seed) refl;
-  masks = seed-are seed (first_stream lot + 1) (masks_wanted grid);
-  coefficients = seed-are seed (first_stream lot) (coefficients_kept grid);
+pub seeded-kept : (wanted : Wanted) (seed : List ℕ) → AreKept wanted.counts (seeded wanted seed)
+seeded-kept wanted seed = record {
+  cut = seeded_cut wanted seed (seeded wanted seed) refl;
+  masks = seed-are seed (first_stream wanted.lot + 1) wanted.counts.masks;
+  coefficients = seed-are seed (first_stream wanted.lot) (with_spare wanted.counts.coefficients);
 }
 
 -- and are enough
-pub record CanServe (grid : Grid) (words : ServerWords) : Type 0 where
-  pub enough : HasEnough (counts_of grid) words
-  pub kept : AreKept grid words
+pub record CanServe (counts : Counts) (words : ServerWords) : Type 0 where
+  pub enough : HasEnough counts words
+  pub kept : AreKept counts words
 
-pub record CanServeAll (grid : Grid) (servers : Trio ServerWords) : Type 0 where
-  pub one : CanServe grid servers.one
-  pub two : CanServe grid servers.two
-  pub three : CanServe grid servers.three
+pub record CanServeAll (counts : Counts) (servers : Trio ServerWords) : Type 0 where
+  pub one : CanServe counts servers.one
+  pub two : CanServe counts servers.two
+  pub three : CanServe counts servers.three
 
 -- lists of words, where they are given
 abbrev pub AreLists : Option (List (List ℕ)) → Type 0
 AreLists lists = IfSome lists (λ all. All (λ list. All IsWord list) all)
 
+-- the words of a bidder that are read
+abbrev pub IsDealt : Counts → List ℕ → Type 0
+IsDealt counts words = All IsWord words × CanDeal counts words
+
+-- all words that are read: those of the servers are enough, and those of the bidders are words
+abbrev pub AreServed : Counts → AllWords → Type 0
+AreServed counts words = CanServeAll counts words.servers × AreLists words.bidders
+
 -- what is read of an auction
 pub record IsLoaded (loaded : AuctionWithBidders) : Type 0 where
   pub few : length loaded.farmers ≤ MOST_BIDDERS
   pub farmers : All (IsRead loaded.grid) loaded.farmers
-  pub servers : CanServeAll loaded.grid loaded.servers
+  pub servers : CanServeAll (counts_of loaded.grid) loaded.servers
 
 -- what is read of an auction whose book is kept whole: the auction's file was held, and the book is within the limit
 pub record IsLimited (files : List File) (auction : List ℕ) (loaded : AuctionWithBidders) : Type 0 where
@@ -122,7 +131,7 @@ item-has P [] i all = tt
 item-has P (x ∷ xs) zero all = All-head P x xs all
 item-has P (x ∷ xs) (suc i) all = item-has P xs i (All-tail P x xs all)
 
-list-has : (lists : Option (List (List ℕ))) (i : ℕ) → AreLists lists →
+pub list-has : (lists : Option (List (List ℕ))) (i : ℕ) → AreLists lists →
     IfSome (list_at lists i) (λ list. All IsWord list)
 list-has None i all = tt
 list-has (Some lists) i all = item-has (λ list. All IsWord list) lists i all
@@ -144,7 +153,143 @@ module _ (files : List File) where
   words-yield None all (Tape name) kept = reads-yield files name TAPE_LIMIT (λ bytes. tape_of bytes kept) (AreFew kept)
       (λ bytes words e. tape-are bytes kept words e)
 
--- the bidders and the servers of an auction alone, or of a lot
+-- the words of bidders and of servers of which so many are wanted
+module _ (files : List File) (wanted : Wanted) where
+  pub bidder-yield : (given : Option (List ℕ)) → IfSome given (λ list. All IsWord list) → (number : ℕ)
+      (source : BidderSource) → Yields files (bidder_errand wanted given number source) (IsDealt wanted.counts)
+  bidder-yield given all number source =
+      let kept = with_spare wanted.counts.words in
+      then-yields files (words_errand given source kept) _ (AreFew kept) (IsDealt wanted.counts)
+      (words-yield files given all source kept) (λ words few.
+      passes-yield files (nat_lt (length (accepted words)) wanted.counts.words) TooFewWords
+      (too_few_text wanted.lot number (length (accepted words)) wanted.counts.words) (gives words)
+      (IsDealt wanted.counts) (λ enough.
+      gives-yield files (IsDealt wanted.counts) words (few.0, record { enough = ltb-false _ _ enough; kept = few.1 })))
+
+  -- ---- servers
+
+  source-yield : (source : ServerSource) → Yields files (source_errand wanted source) (AreKept wanted.counts)
+  source-yield (ServerSeed seed) =
+      gives-yield files (AreKept wanted.counts) (seeded wanted seed) (seeded-kept wanted seed)
+  source-yield (Tapes coefficients masks) =
+      let few = with_spare wanted.counts.coefficients in
+      let most = wanted.counts.masks in
+      then-yields files (reads coefficients TAPE_LIMIT (λ bytes. tape_of bytes few)) _
+      (AreFew few) (AreKept wanted.counts)
+      (reads-yield files coefficients TAPE_LIMIT (λ bytes. tape_of bytes few) (AreFew few)
+      (λ bytes words e. tape-are bytes few words e)) (λ numbers h.
+      then-yields files (reads masks TAPE_LIMIT (λ bytes. tape_of bytes most)) _
+      (AreFew most) (AreKept wanted.counts)
+      (reads-yield files masks TAPE_LIMIT (λ bytes. tape_of bytes most) (AreFew most)
+      (λ bytes words e. tape-are bytes most words e)) (λ words h'.
+      gives-yield files (AreKept wanted.counts) (record { masks = words; coefficients = numbers })
+      (record { cut = record { masks = h'.1; coefficients = h.1 }; masks = h'.0; coefficients = h.0 })))
+
+  enough-yield : {A : Type 0} (server : ℕ) (words : ServerWords) (step : Step A) (P : A → Type 0) →
+      (HasEnough wanted.counts words → Yields files step P) → Yields {A = A} files
+      (λ next. enough_of wanted server words (step next)) P
+  enough-yield server words step P y =
+      passes-yield files (nat_lt (length (accepted words.coefficients)) wanted.counts.coefficients) TooFewWords
+      (server_short_text wanted.lot server (codes "coefficients") (length (accepted words.coefficients))
+      wanted.counts.coefficients)
+      (λ next. enough_held wanted.lot server (codes "masks") (length words.masks) wanted.counts.masks (step next)) P
+      (λ numbers.
+      passes-yield files (nat_lt (length words.masks) wanted.counts.masks) TooFewWords
+      (server_short_text wanted.lot server (codes "masks") (length words.masks) wanted.counts.masks)
+      step P (λ masks.
+      y (record { coefficients = ltb-false _ _ numbers; masks = ltb-false _ _ masks })))
+
+  pub servers-yield : {A : Type 0} (servers : Trio ServerWords) (step : Step A) (P : A → Type 0) →
+      (HasEnough wanted.counts servers.one → HasEnough wanted.counts servers.two →
+      HasEnough wanted.counts servers.three →
+      Yields files step P) →
+      Yields {A = A} files (λ next. enough_of_all wanted servers (step next)) P
+  servers-yield servers step P y =
+      enough-yield 1 servers.one
+      (λ next. enough_of wanted 2 servers.two (enough_of wanted 3 servers.three (step next))) P (λ one.
+      enough-yield 2 servers.two (λ next. enough_of wanted 3 servers.three (step next)) P (λ two.
+      enough-yield 3 servers.three step P (λ three. y one two three)))
+
+  server-yield : (server : ℕ) (source : ServerSource) →
+      Yields files (server_errand wanted server source) (CanServe wanted.counts)
+  server-yield server source =
+      then-yields files (source_errand wanted source) _ (AreKept wanted.counts) (CanServe wanted.counts)
+      (source-yield source)
+      (λ words kept.
+      enough-yield server words (gives words) (CanServe wanted.counts)
+      (λ enough. gives-yield files (CanServe wanted.counts) words (record { enough = enough; kept = kept })))
+
+  three-yield : (sources : Trio ServerSource) →
+      Yields files (three_errand wanted sources) (CanServeAll wanted.counts)
+  three-yield sources =
+      let all = CanServeAll wanted.counts in
+      let each = CanServe wanted.counts in
+      then-yields files (server_errand wanted 1 sources.one) _ each all (server-yield 1 sources.one) (λ one h1.
+      then-yields files (server_errand wanted 2 sources.two) _ each all (server-yield 2 sources.two) (λ two h2.
+      then-yields files (server_errand wanted 3 sources.three) _ each all (server-yield 3 sources.three) (λ three h3.
+      gives-yield files all (record { one = one; two = two; three = three })
+      (record { one = h1; two = h2; three = h3 }))))
+
+  cut-kept : (masks coefficients : List ℕ) → All IsWord masks → All IsWord coefficients →
+      AreKept wanted.counts (cut_server wanted.counts masks coefficients)
+  cut-kept masks coefficients m c = record {
+    cut = record {
+      masks = take-few wanted.counts.masks masks;
+      coefficients = take-few (with_spare wanted.counts.coefficients) coefficients;
+    };
+    masks = All-take IsWord wanted.counts.masks masks m;
+    coefficients = All-take IsWord (with_spare wanted.counts.coefficients) coefficients c;
+  }
+
+  chosen-words : (b : Bool) (held words : Words) → (if b then Ok held else Err wrong_count) ≡ Ok words →
+      AreWords held → AreWords words
+  chosen-words true held words e are = let same : held ≡ words = cc e in subst AreWords same are
+  chosen-words false held words e are = absurd cc
+
+  counted-are : (count : Option ℕ) (bytes : List ℕ) (reading : Reading Words) → bundle_of bytes ≡ reading →
+      (words : Words) → counted count reading ≡ Ok words → AreWords words
+  counted-are None bytes reading is words e = bundle-are bytes words (is ∙ e)
+  counted-are (Some count) bytes (Ok held) is words e =
+      chosen-words (length held.bidders == count) held words e (bundle-are bytes held is)
+  counted-are (Some count) bytes (Err fault) is words e = absurd cc
+
+  pub all-words-yield : (count : Option ℕ) (sources : Servers) →
+      Yields files (all_words_errand wanted count sources) (AreServed wanted.counts)
+  all-words-yield count (Three sources) =
+      then-yields files (three_errand wanted sources)
+      (λ servers. gives (record { servers = servers; bidders = None }))
+      (CanServeAll wanted.counts) (AreServed wanted.counts)
+      (three-yield sources) (λ servers h.
+      gives-yield files (AreServed wanted.counts) (record { servers = servers; bidders = None }) (h, tt))
+  all-words-yield count (Bundle name) =
+      then-yields files (reads name LONGEST_FILE (λ bytes. counted count (bundle_of bytes)))
+      (λ words next. enough_of_all wanted (cut_servers wanted.counts words) (next (record {
+        servers = cut_servers wanted.counts words;
+        bidders = Some words.bidders;
+      }))) AreWords (AreServed wanted.counts)
+      (reads-yield files name LONGEST_FILE (λ bytes. counted count (bundle_of bytes)) AreWords
+      (λ bytes words e. counted-are count bytes (bundle_of bytes) refl words e)) (λ words are.
+      let all : AllWords = record { servers = cut_servers wanted.counts words; bidders = Some words.bidders } in
+      servers-yield (cut_servers wanted.counts words) (gives all) (AreServed wanted.counts) (λ one two three.
+      gives-yield files (AreServed wanted.counts) all (
+        record {
+          one = record {
+            enough = one;
+            kept = cut-kept words.masks.one words.coefficients.one are.masks.0 are.coefficients.0;
+          };
+          two = record {
+            enough = two;
+            kept = cut-kept words.masks.two words.coefficients.two are.masks.1 are.coefficients.1;
+          };
+          three = record {
+            enough = three;
+            kept = cut-kept words.masks.three words.coefficients.three are.masks.2 are.coefficients.2;
+          };
+        },
+        are.bidders,
+      )))
+
+-- the bidders of an auction alone, or of a lot
 module _ (files : List File) (lot : Option ℕ) where
   farmer-yield : (grid : Grid) (given : Option (List ℕ)) → IfSome given (λ list. All IsWord list) →
       (number : ℕ) (entry : Entry) →
@@ -154,17 +299,12 @@ module _ (files : List File) (lot : Option ℕ) where
       (λ curve. IsCurve curve × IsOfGrid grid curve) (IsRead grid)
       (reads-yield files entry.bid BID_LIMIT (bid_of grid) (λ curve. IsCurve curve × IsOfGrid grid curve)
       (λ bytes curve e. bid-is grid bytes curve e)) (λ curve is.
-      then-yields files (words_errand given entry.source (words_kept grid.prices)) _
-      (AreFew (words_kept grid.prices)) (IsRead grid)
-      (words-yield files given all entry.source (words_kept grid.prices)) (λ words few.
-      let farmer : BidderWithWords = record { bidder = record { known = entry.known; curve = curve }; words = words } in
-      passes-yield files (nat_lt (length (accepted words)) (words_wanted grid))
-      TooFewWords (too_few_text lot number (length (accepted words)) (words_wanted grid)) (gives farmer)
-      (IsRead grid) (λ enough.
-      gives-yield files (IsRead grid) farmer (record {
-        is = record { curve = is.0; of_grid = is.1; words = record { enough = ltb-false _ _ enough; kept = few.1 } };
-        words = few.0;
-      }))))
+      then-yields files (bidder_errand (wanted_of lot grid) given number entry.source) _
+      (IsDealt (counts_of grid)) (IsRead grid)
+      (bidder-yield files (wanted_of lot grid) given all number entry.source) (λ words dealt.
+      gives-yield files (IsRead grid)
+      (record { bidder = record { known = entry.known; curve = curve }; words = words })
+      (record { is = record { curve = is.0; of_grid = is.1; words = dealt.1 }; words = dealt.0 })))
 
   pub farmers-yield : (grid : Grid) (lists : Option (List (List ℕ))) → AreLists lists → (read : List BidderWithWords) →
       All (IsRead grid) read → (entries : List Entry) →
@@ -189,135 +329,6 @@ module _ (files : List File) (lot : Option ℕ) where
       (h.0, one-more (length farmers) (length (read ++ farmer ∷ [])) (length read) (length entries) h.1 long))
       (farmers-yield grid lists all (read ++ farmer ∷ []) more entries))
 
-  -- ---- servers
-
-  source-yield : (grid : Grid) (source : ServerSource) →
-      Yields files (source_errand (wanted_of lot grid) source) (AreKept grid)
-  source-yield grid (ServerSeed seed) =
-      gives-yield files (AreKept grid) (seeded (wanted_of lot grid) seed) (seeded-kept lot grid seed)
-  source-yield grid (Tapes coefficients masks) =
-      then-yields files (reads coefficients TAPE_LIMIT (λ bytes. tape_of bytes (coefficients_kept grid))) _
-      (AreFew (coefficients_kept grid)) (AreKept grid)
-      (reads-yield files coefficients TAPE_LIMIT (λ bytes. tape_of bytes (coefficients_kept grid)) (AreFew
-      (coefficients_kept grid)) (λ bytes words e. tape-are bytes (coefficients_kept grid) words e)) (λ numbers few.
-      then-yields files (reads masks TAPE_LIMIT (λ bytes. tape_of bytes (masks_wanted grid))) _
-      (AreFew (masks_wanted grid)) (AreKept grid)
-      (reads-yield files masks TAPE_LIMIT (λ bytes. tape_of bytes (masks_wanted grid)) (AreFew (masks_wanted grid))
-      (λ bytes words e. tape-are bytes (masks_wanted grid) words e)) (λ words few'.
-      gives-yield files (AreKept grid) (record { masks = words; coefficients = numbers })
-      (record { cut = record { masks = few'.1; coefficients = few.1 }; masks = few'.0; coefficients = few.0 })))
-
-  enough-yield : {A : Type 0} (grid : Grid) (server : ℕ) (words : ServerWords) (step : Step A) (P : A → Type 0) →
-      (HasEnough (counts_of grid) words → Yields files step P) → Yields {A = A} files
-      (λ next. enough_of (wanted_of lot grid) server words (step next)) P
-  enough-yield grid server words step P y =
-      passes-yield files (nat_lt (length (accepted words.coefficients)) (coefficients_wanted grid))
-      TooFewWords (server_short_text lot server (codes "coefficients") (length (accepted words.coefficients))
-      (coefficients_wanted grid))
-      (λ next. enough_held lot server (codes "masks") (length words.masks) (masks_wanted grid) (step next)) P
-      (λ numbers.
-      passes-yield files (nat_lt (length words.masks) (masks_wanted grid))
-      TooFewWords (server_short_text lot server (codes "masks") (length words.masks) (masks_wanted grid))
-      step P (λ masks.
-      y (record { coefficients = ltb-false _ _ numbers; masks = ltb-false _ _ masks })))
-
-  pub servers-yield : {A : Type 0} (grid : Grid) (servers : Trio ServerWords) (step : Step A) (P : A → Type 0) →
-      (HasEnough (counts_of grid) servers.one → HasEnough (counts_of grid) servers.two →
-      HasEnough (counts_of grid) servers.three →
-      Yields files step P) →
-      Yields {A = A} files (λ next. enough_of_all (wanted_of lot grid) servers (step next)) P
-  servers-yield grid servers step P y =
-      enough-yield grid 1 servers.one
-      (λ next. enough_of (wanted_of lot grid) 2 servers.two
-      (enough_of (wanted_of lot grid) 3 servers.three (step next))) P (λ one.
-      enough-yield grid 2 servers.two (λ next. enough_of (wanted_of lot grid) 3 servers.three (step next)) P (λ two.
-      enough-yield grid 3 servers.three step P (λ three. y one two three)))
-
-  server-yield : (grid : Grid) (server : ℕ) (source : ServerSource) →
-      Yields files (server_errand (wanted_of lot grid) server source)
-      (CanServe grid)
-  server-yield grid server source =
-      then-yields files (source_errand (wanted_of lot grid) source) _ (AreKept grid) (CanServe grid)
-      (source-yield grid source)
-      (λ words kept.
-      enough-yield grid server words (gives words) (CanServe grid)
-      (λ enough. gives-yield files (CanServe grid) words (record { enough = enough; kept = kept })))
-
-  three-yield : (grid : Grid) (sources : Trio ServerSource) →
-      Yields files (three_errand (wanted_of lot grid) sources) (CanServeAll grid)
-  three-yield grid sources =
-      then-yields files (server_errand (wanted_of lot grid) 1 sources.one) _ (CanServe grid) (CanServeAll grid)
-      (server-yield grid 1 sources.one) (λ one h1.
-      then-yields files (server_errand (wanted_of lot grid) 2 sources.two) _ (CanServe grid) (CanServeAll grid)
-      (server-yield grid 2 sources.two) (λ two h2.
-      then-yields files (server_errand (wanted_of lot grid) 3 sources.three) _ (CanServe grid) (CanServeAll grid)
-      (server-yield grid 3 sources.three) (λ three h3.
-      gives-yield files (CanServeAll grid) (record { one = one; two = two; three = three })
-      (record { one = h1; two = h2; three = h3 }))))
-
-  cut-kept : (grid : Grid) (masks coefficients : List ℕ) → All IsWord masks → All IsWord coefficients → AreKept grid
-      (cut_server (counts_of grid) masks coefficients)
-  cut-kept grid masks coefficients m c = record {
-    cut = record {
-      masks = take-few (masks_wanted grid) masks;
-      coefficients = take-few (coefficients_kept grid) coefficients;
-    };
-    masks = All-take IsWord (masks_wanted grid) masks m;
-    coefficients = All-take IsWord (coefficients_kept grid) coefficients c;
-  }
-
-  chosen-words : (b : Bool) (held words : Words) → (if b then Ok held else Err wrong_count) ≡ Ok words →
-      AreWords held → AreWords words
-  chosen-words true held words e are = let same : held ≡ words = cc in subst AreWords same are
-  chosen-words false held words e are = absurd cc
-
-  counted-are : (count : Option ℕ) (bytes : List ℕ) (reading : Reading Words) → bundle_of bytes ≡ reading →
-      (words : Words) → counted count reading ≡ Ok words → AreWords words
-  counted-are None bytes reading is words e = bundle-are bytes words (is ∙ e)
-  counted-are (Some count) bytes (Ok held) is words e =
-      chosen-words (length held.bidders == count) held words e (bundle-are bytes held is)
-  counted-are (Some count) bytes (Err fault) is words e = absurd cc
-
-  pub all-words-yield : (grid : Grid) (count : Option ℕ) (sources : Servers) →
-      Yields files (all_words_errand (wanted_of lot grid) count sources)
-      (λ words. CanServeAll grid words.servers × AreLists words.bidders)
-  all-words-yield grid count (Three sources) =
-      then-yields files (three_errand (wanted_of lot grid) sources)
-      (λ servers. gives (record { servers = servers; bidders = None }))
-      (CanServeAll grid) (λ words. CanServeAll grid words.servers × AreLists words.bidders)
-      (three-yield grid sources) (λ servers h.
-      gives-yield files (λ words. CanServeAll grid words.servers × AreLists words.bidders)
-      (record { servers = servers; bidders = None }) (h, tt))
-  all-words-yield grid count (Bundle name) =
-      then-yields files (reads name LONGEST_FILE (λ bytes. counted count (bundle_of bytes)))
-      (λ words next. enough_of_all (wanted_of lot grid) (cut_servers (counts_of grid) words) (next (record {
-        servers = cut_servers
-            (counts_of grid) words;
-        bidders = Some words.bidders;
-      }))) AreWords (λ words. CanServeAll grid words.servers × AreLists words.bidders)
-      (reads-yield files name LONGEST_FILE (λ bytes. counted count (bundle_of bytes)) AreWords
-      (λ bytes words e. counted-are count bytes (bundle_of bytes) refl words e)) (λ words are.
-      let all : AllWords = record { servers = cut_servers (counts_of grid) words; bidders = Some words.bidders } in
-      servers-yield grid (cut_servers (counts_of grid) words) (gives all)
-      (λ words. CanServeAll grid words.servers × AreLists words.bidders) (λ one two three.
-      gives-yield files (λ words. CanServeAll grid words.servers × AreLists words.bidders) all (
-        record {
-          one = record {
-            enough = one;
-            kept = cut-kept grid words.masks.one words.coefficients.one are.masks.0 are.coefficients.0;
-          };
-          two = record {
-            enough = two;
-            kept = cut-kept grid words.masks.two words.coefficients.two are.masks.1 are.coefficients.1;
-          };
-          three = record {
-            enough = three;
-            kept = cut-kept grid words.masks.three words.coefficients.three are.masks.2 are.coefficients.2;
-          };
-        },
-        are.bidders,
-      )))
-
   -- ---- both
 
   pub rest-yield : (grid : Grid) (sources : Servers) (entries : List Entry) → length entries ≤ MOST_BIDDERS →
@@ -329,8 +340,8 @@ module _ (files : List File) (lot : Option ℕ) where
       then-yields files (all_words_errand (wanted_of lot grid) (Some (length entries)) sources)
       (λ words next. farmers_errand (wanted_of lot grid) grid words.bidders [] entries (λ farmers. next (record
       { grid = grid; servers = words.servers; farmers = farmers })))
-      (λ words. CanServeAll grid words.servers × AreLists words.bidders) IsLoaded
-      (all-words-yield grid (Some (length entries)) sources) (λ words good.
+      (AreServed (counts_of grid)) IsLoaded
+      (all-words-yield files (wanted_of lot grid) (Some (length entries)) sources) (λ words good.
       then-yields files (farmers_errand (wanted_of lot grid) grid words.bidders [] entries)
       (λ farmers. gives (record { grid = grid; servers = words.servers; farmers = farmers }))
       (λ farmers. All (IsRead grid) farmers × (length farmers ≡ 0 + length entries)) IsLoaded
@@ -373,8 +384,8 @@ module _ (files : List File) where
       then-yields files (all_words_errand (wanted_of None grid) (Some (length entries)) sources)
       (λ words next. farmers_errand (wanted_of None grid) grid words.bidders [] entries
       (λ farmers. next (record { grid = grid; servers = words.servers; farmers = farmers })))
-      (λ words. CanServeAll grid words.servers × AreLists words.bidders) (IsLimited files auction)
-      (all-words-yield files None grid (Some (length entries)) sources) (λ words good.
+      (AreServed (counts_of grid)) (IsLimited files auction)
+      (all-words-yield files (wanted_of None grid) (Some (length entries)) sources) (λ words good.
       then-yields files (farmers_errand (wanted_of None grid) grid words.bidders [] entries)
       (λ farmers. gives (record { grid = grid; servers = words.servers; farmers = farmers }))
       (λ farmers. All (IsRead grid) farmers × (length farmers ≡ 0 + length entries))
@@ -469,7 +480,7 @@ module _ (grid : Grid) (servers : Trio ServerWords) (farmers : List BidderWithWo
   back = ap (λ (l : List BidderWithWords). record { grid = grid; servers = servers; farmers = l }) (farmers-back farmers)
 
   module _ (few : length farmers ≤ MOST_BIDDERS) (each : All (IsRead grid) farmers)
-      (all : CanServeAll grid servers) where
+      (all : CanServeAll (counts_of grid) servers) where
     pub is-book : IsBook the_book
     is-book = farmers-book grid farmers few each
 

@@ -236,7 +236,7 @@ module _ (files held : List File) (auction list2 : List ℕ) (second : Book) (wo
       (λ other. other ≡ words) Q
       (weaker-yield held step (IsHeld held h.words LONGEST_FILE counted_words) (λ other. other ≡ words) is-bundle
       (held-yield held h.words LONGEST_FILE counted_words)) (λ other is.
-      servers-yield held None grid (cut_servers (counts_of grid) other) (gives (all_of other)) Q (λ one two three.
+      servers-yield held (wanted_of None grid) (cut_servers (counts_of grid) other) (gives (all_of other)) Q (λ one two three.
       gives-yield held Q (all_of other) (ap all_of is)))
 
   -- ---- the whole

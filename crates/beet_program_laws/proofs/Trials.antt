@@ -128,7 +128,7 @@ module _ (files : List File) (call : Call) (from : IsOf files call) (w : IsDoneC
 
   trial-yield : (grid : Grid) (bidders : ℕ) → Yields files (trial_over grid bidders) (IsTried grid bidders)
   trial-yield grid bidders =
-      servers-yield files None grid (trial_servers grid) (λ next. enough_of_each grid 1 (trial_farmers grid bidders)
+      servers-yield files (wanted_of None grid) (trial_servers grid) (λ next. enough_of_each grid 1 (trial_farmers grid bidders)
       (next (trial_answer grid bidders))) (IsTried grid bidders)
       (λ one two three. each-yield grid 1 (trial_farmers grid bidders) (gives (trial_answer grid bidders))
       (IsTried grid bidders) (λ all.
@@ -149,10 +149,10 @@ module _ (files : List File) (call : Call) (from : IsOf files call) (w : IsDoneC
       let farmers = trial_farmers grid sizes.0 in
       let servers = trial_servers grid in
       let serve : (server : ℕ) →
-      HasEnough (counts_of grid) (seeded (wanted_of None grid) (server_seed server)) → CanServe grid
+      HasEnough (counts_of grid) (seeded (wanted_of None grid) (server_seed server)) → CanServe (counts_of grid)
       (seeded (wanted_of None grid) (server_seed server)) =
-      λ server enough. record { enough = enough; kept = seeded-kept None grid (server_seed server) } in
-      let all : CanServeAll grid servers =
+      λ server enough. record { enough = enough; kept = seeded-kept (wanted_of None grid) (server_seed server) } in
+      let all : CanServeAll (counts_of grid) servers =
       record { one = serve 1 f.holds.one; two = serve 2 f.holds.two; three = serve 3 f.holds.three } in
       let few : length farmers ≤ MOST_BIDDERS =
       omega (arith, limits.0, length-map-range_with_len (trial_farmer grid) 0 sizes.0) in

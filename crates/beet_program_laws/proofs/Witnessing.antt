@@ -23,6 +23,7 @@ use Rattle.beet_errand.specs.Statuses.{IsDoneCode}
 use Rattle.beet_errand.specs.declared.answer.Refusal.TheVariants.{BadFile}
 use Rattle.beet_load.specs.Limits.{over_product}
 use Rattle.beet_load.specs.Servers.{ServerWords, all_words_errand}
+use Rattle.beet_load.specs.Counts.{counts_of}
 use Rattle.beet_load.specs.Wanted.{wanted_of}
 use Rattle.beet_transcripts.specs.RunsOn.{view_of_points}
 use Rattle.beet_gathering.specs.Gather.{bidders_errand}
@@ -42,13 +43,13 @@ use Rattle.beet_program_laws.proofs.Files.{list-few}
 use Rattle.beet_program_laws.proofs.Grids.{grid-is}
 use Rattle.beet_program_laws.proofs.Held.{held-yield}
 use Rattle.beet_program_laws.proofs.Jobs.{points-sealed, tells-of}
-use Rattle.beet_program_laws.proofs.Read.{AreLists, CanServeAll, all-words-yield, within-limit}
+use Rattle.beet_program_laws.proofs.Read.{AreServed, CanServeAll, all-words-yield, within-limit}
 use Rattle.beet_program_laws.proofs.Steps.{Yields, any-yield, gives-yield, passes-yield, reads-yield, then-told}
 
 -- bidders whose points are in envelopes, and words that are enough and no more than are kept
 within-limits : (grid : Grid) (bidders : List (Trio (List ℕ))) (words : Trio ServerWords) → IsGrid grid →
     length bidders ≤ MOST_BIDDERS → length bidders * grid.prices ≤ MOST_PRODUCT → All (AreInEnvelopes grid) bidders →
-    CanServeAll grid words → CanBeWitnessed grid bidders words
+    CanServeAll (counts_of grid) words → CanBeWitnessed grid bidders words
 within-limits grid bidders words is_grid few product held all = record {
   is_grid = is_grid;
   few = few;
@@ -74,7 +75,7 @@ module _ (files : List File) where
   pub record IsWitnessed (auction servers list out : List ℕ) (answer : Answer) : Type 0 where
     pub read : OpenRead files auction servers list
     pub grid_held : IsHeld files auction AUCTION_LIMIT auction_of read.grid.value
-    pub can_serve : CanServeAll read.grid.value read.words.value.servers
+    pub can_serve : CanServeAll (counts_of read.grid.value) read.words.value.servers
     pub limits : CanBeWitnessed read.grid.value read.bidders.value read.words.value.servers
     pub is : answer ≡ witnessed_answer out read.grid.value read.words.value.servers read.bidders.value
 
@@ -94,8 +95,8 @@ module _ (files : List File) where
       then-told files (all_words_errand (wanted_of None grid) None sources)
       (λ words. bidders_errand grid [] entries
       >>= λ bidders. gives (witnessed_answer out grid words.servers bidders))
-      (λ words. CanServeAll grid words.servers × AreLists words.bidders) (IsWitnessed auction servers list out)
-      (all-words-yield files None grid None sources) (λ words r4 h4.
+      (AreServed (counts_of grid)) (IsWitnessed auction servers list out)
+      (all-words-yield files (wanted_of None grid) None sources) (λ words r4 h4.
       then-told files (bidders_errand grid [] entries)
       (λ bidders. gives (witnessed_answer out grid words.servers bidders)) (AreHeld grid (0 + length entries))
       (IsWitnessed auction servers list out) (bidders-yield grid files entries) (λ bidders r5 h5.

@@ -1,10 +1,10 @@
 -- The table of commands: a row for each, with its words and the job that they name.
-use Rattle.std.specs.Prelude.{ℕ, List, [], ◌∷◌, Option, Some, None, option_map, ◌&&◌, if◌then◌else◌, codes}
-use Rattle.beet_field.specs.Point.{server_of}
+use Rattle.std.specs.Prelude.{ℕ, List, [], ◌∷◌, Option, Some, None, ◌&&◌, if◌then◌else◌, codes}
 use Rattle.beet_field.specs.declared.point.Point.{Point}
 use Rattle.beet_command.specs.Words.{are_names, is_word}
 use Rattle.beet_errand.specs.Errands.{Errand}
 use Rattle.beet_job_sale.specs.Sales.{sale_errand}
+use Rattle.beet_pair_words.specs.Pairs.{pair_of}
 
 -- a job: it has an errand, which ends with its answer; or it compares two sales, for the servers of a file, at one of
 -- them, with the words of the second as they are mapped
@@ -21,10 +21,7 @@ job_of_two command sale servers =
 
 -- the job of a command with five words, of which the fourth is a server's number
 abbrev pub job_of_five : List ℕ → List ℕ → List ℕ → List ℕ → List ℕ → List ℕ → Option Job
-job_of_five command first second servers server out =
-    if is_word command (codes "pair") && are_names (first ∷ second ∷ servers ∷ out ∷ [])
-    then option_map (λ s. Comparing first second servers s out) (server_of server)
-    else None
+job_of_five command first second servers server out = pair_of Comparing command first second servers server out
 
 -- the job that the words name: a command, and exactly its words
 abbrev pub job_of : List (List ℕ) → Option Job

@@ -7,7 +7,7 @@ ghost use Rattle.beet_sale_app.specs.Jobs.{job_of, job_of_five, job_of_two};
 use beet_command::is_file;
 use beet_field::Point;
 use beet_job_sale::SaleFiles;
-use beet_job_sale_pair::PairFiles;
+use beet_pair_words::{PairFiles, read_pair};
 
 /// A command with its words. Those that stand for files are names.
 #[derive(Clone, Copy)]
@@ -39,17 +39,7 @@ fn with_five<'a>(
     ensures { option_map job_for result
         ≡ job_of_five name.now first.now second.now servers.now server.now out.now }
 {
-    let named = is_file(first) && is_file(second) && is_file(servers) && is_file(out);
-    if !(name == "pair" && named) {
-        return None;
-    }
-    let server = Point::of_digit(server.as_bytes())?;
-    let files = PairFiles {
-        first,
-        second,
-        servers,
-        out,
-    };
+    let (files, server) = read_pair(name, first, second, servers, server, out)?;
     Some(Command::Pair(files, server))
 }
 

@@ -1,1 +1,4 @@
+mod Reading
+mod Saying
 mod Jobs
+mod Examples

@@ -1,13 +1,12 @@
 -- The words that are read for a sale are enough, and no more than are kept.
-use Rattle.std.proofs.Common.{◌≡◌, ◌≤◌, ℕ, List, [], ◌∷◌, map, take, length, refl, sym, subst}
+use Rattle.std.proofs.Common.{◌≡◌, ℕ, List, map, length, sym, subst}
 use Rattle.std.specs.Prelude.{All}
 use Rattle.std.proofs.lemmas.List.{length-map, take_all}
-use Rattle.std.proofs.lemmas.List.Elements.{All-head, All-tail}
 use Rattle.beet_field.specs.declared.trio.Trio.{Trio}
 use Rattle.beet_words.specs.Bundles.{Words}
 use Rattle.beet_words.specs.Words.{accepted}
 use Rattle.beet_masking.specs.Masks.{with_spare}
-use Rattle.beet_trades.specs.Enough.{HasAccepted, HasEnough, read_words}
+use Rattle.beet_trades.specs.Enough.{HasEnough, read_words}
 use Rattle.beet_sale_file.specs.Sales.{SaleRecord}
 use Rattle.beet_sale_file.specs.declared.rows.SaleRow.{SaleRow}
 use Rattle.beet_sale_map.specs.Enough.{wants_of}
@@ -15,19 +14,8 @@ use Rattle.beet_load.specs.Servers.{AreCut, HaveEnough, ServerWords}
 use Rattle.beet_load.specs.Wholes.{CanDeal, all_words}
 use Rattle.beet_sale_load.specs.SaleLoading.{CanStart}
 use Rattle.beet_sale_load.specs.SaleWants.{counts_of}
-
--- words that are no more than are kept have as many numbers among those that are read
-has-accepted : (wanted : ℕ) (words : List ℕ) → length words ≤ with_spare wanted → wanted ≤ length (accepted words) →
-    HasAccepted wanted words
-has-accepted wanted words short h =
-    subst (λ (w : List ℕ). wanted ≤ length (accepted w)) (sym (take_all (with_spare wanted) words short)) h
-
-uncut : (n : ℕ) (lists : List (List ℕ)) → All (λ (list : List ℕ). length list ≤ n) lists → map (take n) lists ≡ lists
-uncut n [] all = refl
-uncut n (l ∷ ls) all =
-    let here = take_all n l (All-head (λ (list : List ℕ). length list ≤ n) l ls all) in
-    let rest = uncut n ls (All-tail (λ (list : List ℕ). length list ≤ n) l ls all) in
-    λ i. here i ∷ rest i
+use Rattle.beet_words.proofs.WordLists.{lists-uncut}
+use Rattle.beet_trades.proofs.EnoughFacts.{has-accepted}
 
 module _ (n : ℕ) (servers : Trio ServerWords) (lists : List (List ℕ)) (enough : HaveEnough (counts_of n) servers)
     (cut : AreCut (counts_of n) servers) (count : length lists ≡ n) (deal : All (CanDeal (counts_of n)) lists) where
@@ -52,7 +40,7 @@ module _ (n : ℕ) (servers : Trio ServerWords) (lists : List (List ℕ)) (enoug
       let c1 = take_all _ servers.one.coefficients cut.one.coefficients in
       let c2 = take_all _ servers.two.coefficients cut.two.coefficients in
       let c3 = take_all _ servers.three.coefficients cut.three.coefficients in
-      let all = uncut (with_spare 1) lists (λ k d lt. (deal k d lt).kept) in
+      let all = lists-uncut (with_spare 1) lists (λ k d lt. (deal k d lt).kept) in
       λ i. record {
         masks = record { one = m1 i; two = m2 i; three = m3 i };
         coefficients = record { one = c1 i; two = c2 i; three = c3 i };

@@ -9,7 +9,7 @@ use Rattle.beet_sale_file.specs.Sales.{SaleRecord, bids_of}
 use Rattle.beet_sale_file.specs.declared.rows.SaleRow.{SaleRow}
 use Rattle.beet_sale_file.specs.declared.sale_file.TheConstants.{SALE_LIMIT}
 use Rattle.beet_sale_map.specs.Enough.{AreEnough, cut_words}
-use Rattle.beet_errand.specs.Errands.{Step, ◌>>=◌, gives, reads}
+use Rattle.beet_errand.specs.Errands.{Step, gives, reads, ◌>>=◌}
 use Rattle.beet_load.specs.Farmers.{bidder_errand, list_at}
 use Rattle.beet_load.specs.Servers.{all_words_errand}
 use Rattle.beet_load.specs.Wholes.{all_words}

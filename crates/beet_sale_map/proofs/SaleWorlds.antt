@@ -150,7 +150,7 @@ losses-small first second =
     All-map IsElement lost (compared_both (length first - 1) (bids_of first) (bids_of second)) (λ k d lt. omega arith)
 
 -- each bid at a place is below 2^48
-bid-small : (bids : List SaleBid) → All (λ (b : SaleBid). IsBid b.bid) bids → (j : ℕ) → j < length bids →
+pub bid-small : (bids : List SaleBid) → All (λ (b : SaleBid). IsBid b.bid) bids → (j : ℕ) → j < length bids →
     slice_index (bids_of bids) j < 2 ^ 48
 bid-small bids all j lt =
     let l = length-map bids (λ (b : SaleBid). b.bid) in

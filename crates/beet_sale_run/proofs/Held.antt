@@ -1,9 +1,9 @@
 -- Three servers that have held a sale: how it ended, and what each of them has seen.
-use Rattle.std.proofs.Common.{◌≡◌, ◌<◌, ◌≤◌, ◌^◌, ℕ, List, [], ◌∷◌, ◌++◌, map, length, slice_index, sym, ap, ◌∙◌, subst, arith, refl}
-use Rattle.std.proofs.Common.{Some, None, Option, Result, IfOk, All, inl, inr, append-nil}
+use Rattle.std.proofs.Common.{◌≡◌, ◌≤◌, ℕ, List, [], map, length, slice_index, sym, ap, ◌∙◌, subst, arith, refl}
+use Rattle.std.proofs.Common.{Some, None, Option, All, inl, inr, append-nil}
 use Rattle.std.proofs.lemmas.Bool.{cases_lt}
 use Rattle.std.proofs.lemmas.List.{get_or_past, length-map}
-use Rattle.std.proofs.lemmas.List.Elements.{All-get_or, All-map}
+use Rattle.std.proofs.lemmas.List.Elements.{All-map}
 use Rattle.beet_field.specs.Field.{IsElement}
 use Rattle.beet_field.specs.Trio.{member, trio_of}
 use Rattle.beet_field.specs.declared.point.Point.{Point}
@@ -15,7 +15,7 @@ use Rattle.beet_gates.specs.Scripts.{LawFrom, Standing, bounds_of, start_of}
 use Rattle.beet_gates.specs.declared.Gates.{Gates}
 use Rattle.beet_words.specs.Bundles.{Words}
 use Rattle.beet_words.specs.Words.{accepted}
-use Rattle.beet_masking.specs.Masks.{AreMasks, mask_at}
+use Rattle.beet_masking.specs.Masks.{AreMasks}
 use Rattle.beet_sharing.specs.Lines.{OnLines}
 use Rattle.beet_sharing.specs.Runs.{Setup, rounds_among, shared_at}
 use Rattle.beet_sharing.specs.Seen.{SeenRun, run_seen}
@@ -28,11 +28,11 @@ use Rattle.beet_server.specs.Lockstep.{IsAtRound}
 use Rattle.beet_map.specs.Secrets.{shares_of, slopes_of, values_of}
 use Rattle.beet_map.proofs.Grounds.{on_lines}
 use Rattle.beet_mapped.specs.Dealers.{Dealer, dealers_of}
-use Rattle.beet_mapped.specs.Trades.{Trade, rounds_in, setup_in}
+use Rattle.beet_mapped.specs.Trades.{rounds_in, setup_in}
 use Rattle.beet_sale_plan.specs.Outcome.{IsBid}
 use Rattle.beet_sale_plan.specs.Kept.{kept_of}
 use Rattle.beet_sale_plan.specs.Sale.{Sale, bidders_of, most_coefficients, most_masks, most_rounds, most_wires, sale_batch, sale_plan}
-use Rattle.beet_sale_plan.specs.SaleRuns.{AreOpened, SaleEnds, sale_rounds, values_of_sale}
+use Rattle.beet_sale_plan.specs.SaleRuns.{AreOpened, SaleEnds, values_of_sale}
 use Rattle.beet_sale_plan.specs.declared.SaleEnd.{SaleEnd}
 use Rattle.beet_sale_plan.proofs.SaleFacts.{is-sale}
 use Rattle.beet_sale_plan.proofs.SaleRun.{sale-run}
@@ -49,7 +49,6 @@ use Rattle.beet_sale_map.proofs.SaleWorlds.{bid-values, input-lines, many-dealer
 use Rattle.beet_highbid.specs.SaleViews.{sale_bytes, sale_transcript, seen_bid}
 use Rattle.beet_highbid.proofs.CutWords.{transcript-read}
 use Rattle.beet_highbid.proofs.SaleRows.{are-sale-bids}
-use Rattle.beet_errand.specs.declared.answer.Stop.{Stop}
 use Rattle.beet_load.specs.Servers.{ServerWords, cut_servers}
 use Rattle.beet_load.specs.Wholes.{by_server}
 use Rattle.beet_run.specs.Runs.{CanStart, HaveRunScript}
@@ -58,14 +57,7 @@ use Rattle.beet_sale_load.specs.SaleWants.{counts_of}
 use Rattle.beet_sale_run.specs.Results.{price_of, winner_of}
 use Rattle.beet_sale_run.specs.SaleRuns.{HaveHeld, bids_finish, bids_rounds, finish_read, rounds_read}
 use Rattle.beet_sale_run.proofs.ResultFacts.{told-sale}
-
--- each bid at a place is below 2^48
-bid-few : (bids : List SaleBid) → All (λ (b : SaleBid). IsBid b.bid) bids → (j : ℕ) → j < length bids →
-    slice_index (bids_of bids) j < 2 ^ 48
-bid-few bids all j lt =
-    let l = length-map bids (λ (b : SaleBid). b.bid) in
-    let b = All-get_or IsBid (bids_of bids) j 0 (omega (arith, l, lt)) (All-map IsBid (λ (b : SaleBid). b.bid) bids all) in
-    omega (arith, b)
+use Rattle.beet_sale_map.proofs.SaleWorlds.{bid-small}
 
 -- the tapes of words that are not cut
 pub tapes-read : (rows : List SaleRow) (words : Words) → cut_words (bids_in rows) words ≡ words →
@@ -127,7 +119,7 @@ module _ (gates : Gates) (bids : List SaleBid) (words : Words) (are : AreSaleBid
 
     element : (k : ℕ) → IsElement (slice_index (bids_of bids) k)
     element k = elim (cases_lt k (length bids)) [
-      | inl within ↦ (let small = bid-few bids are.limits k within in omega (arith, small))
+      | inl within ↦ (let small = bid-small bids are.limits k within in omega (arith, small))
       | inr past ↦
           (let none = get_or_past (bids_of bids) k 0 (omega (arith, past, length-map bids (λ (b : SaleBid). b.bid))) in
           omega (arith, none))
@@ -147,28 +139,28 @@ module _ (gates : Gates) (bids : List SaleBid) (words : Words) (are : AreSaleBid
     abbrev setup : Setup
     setup = setup_in (trade_of gates bids) words
 
-    abbrev bounds : Standing
+    abbrev pub bounds : Standing
     bounds = bounds_of (most_wires sale) (most_masks sale) (most_coefficients sale)
 
     many : length (bids_of bids) ≡ bidders_of sale
     many = length-map bids (λ (b : SaleBid). b.bid) ∙ sym count
 
-    law : LawFrom (sale_batch sale) bounds (most_rounds sale) (start_of (length (bids_of bids))) []
+    pub law : LawFrom (sale_batch sale) bounds (most_rounds sale) (start_of (length (bids_of bids))) []
     law = subst (λ n. LawFrom (sale_batch sale) bounds (most_rounds sale) (start_of n) []) (sym many) (sale-law sale)
 
-    alike : (rounds_among setup (most_rounds sale) ≡ rounds_run (sale_batch sale) (most_rounds sale) (bids_of bids) words.masks)
+    pub alike : (rounds_among setup (most_rounds sale) ≡ rounds_run (sale_batch sale) (most_rounds sale) (bids_of bids) words.masks)
         × ((shared_at setup (rounds_among setup (most_rounds sale))).opened
         ≡ (clear_values (sale_batch sale) (most_rounds sale) (bids_of bids) words.masks).opened)
     alike = ends-alike setup bounds (most_rounds sale) (bids_of bids) (slopes_of (lines_of bids words.bidders)) law lines
 
     -- the sale of the bids ends with their winner and price, or spent
-    ends : AreMasks words.masks → SaleEnds sale (bids_of bids) words.masks (winner_of (bids_of bids)) (price_of (bids_of bids))
+    pub ends : AreMasks words.masks → SaleEnds sale (bids_of bids) words.masks (winner_of (bids_of bids)) (price_of (bids_of bids))
     ends masks =
         let all = bids_of bids in
         let k = kept_of (slice_index all) sale.further in
         let told = told-sale all k.who k.next (is-sale all sale.further many (omega (arith, are.size.some))) in
         let run = sale-run sale all words.masks (omega (arith, count, are.size.few)) many
-        (λ j lt. bid-few bids are.limits j (omega (arith, count, lt))) masks in
+        (λ j lt. bid-small bids are.limits j (omega (arith, count, lt))) masks in
         subst (λ w. SaleEnds sale all words.masks w (price_of all)) (sym told.0)
         (subst (SaleEnds sale all words.masks k.who) (sym told.1) run)
 
@@ -323,6 +315,3 @@ module _ (read : SaleRead) (cores : Trio (Core Sale)) (h : HaveHeld read cores) 
       }))
       ∙ transcript-read read.sale.gates bids read.words s run h.starts.cut
       (seen-is read.sale.gates bids read.words are h.starts.enough cores h.ran s core run h.starts.cut e tells)
-
-pub some-same : {A : Type 0} {x y : A} → Some x ≡ Some y → x ≡ y
-some-same e = cc e

@@ -1,2 +1,3 @@
 pub mod ResultFacts
 pub mod Held
+pub mod Standings

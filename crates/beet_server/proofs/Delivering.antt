@@ -44,7 +44,7 @@ some-place : (b : Bool) (m : RoundMessage) → is_some (some_if b m) ≡ b
 some-place true m = refl
 some-place false m = refl
 
-below-cases : (t n : ℕ) → t < n + 1 → (t < n) ⊎ (t ≡ n)
+pub below-cases : (t n : ℕ) → t < n + 1 → (t < n) ⊎ (t ≡ n)
 below-cases t n h = grind arith
 
 below-or : {P : Type 0} → (t n : ℕ) → t < n + 1 → (t < n → P) → (t ≡ n → P) → P
@@ -214,7 +214,7 @@ or-false : (a b : Bool) → b ≡ false → (a || b) ≡ a
 or-false true b e = refl
 or-false false b e = e
 
-or-same : (a b : Bool) → (b ≡ true → a ≡ true) → (a || b) ≡ a
+pub or-same : (a b : Bool) → (b ≡ true → a ≡ true) → (a || b) ≡ a
 or-same true b f = refl
 or-same false true f = sym (f refl)
 or-same false false f = refl

@@ -13,11 +13,13 @@ use beet_errand::Status;
 use beet_session_app::run_session;
 use beet_store::{Desk, HostDesk, HostShelf, Shelf};
 use std::alloc::Global;
+use std::marker::Sync;
 use std::process::ExitCode;
+use std::thread::Threads;
 
 /// Runs the words, if there was memory for them, and tells what standard output does not. The exit status is that of
 /// the run.
-fn end_of<S: Shelf, K: Desk, R: Eprint>(
+fn end_of<S: Shelf, K: Desk, R: Threads + Sync + Eprint>(
     rt: &R,
     alloc: Global,
     words: Option<Vec<String>>,
@@ -30,7 +32,7 @@ fn end_of<S: Shelf, K: Desk, R: Eprint>(
         (K.seen desk.old) (K.seen desk.new) (exit_status result) }
 {
     let status = match words {
-        Some(words) => run_session(alloc, &words, shelf, desk),
+        Some(words) => run_session(rt, alloc, &words, shelf, desk),
         None => Status::OutOfMemory.code(),
     };
     end_program(rt, status)

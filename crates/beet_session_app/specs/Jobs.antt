@@ -1,13 +1,17 @@
 -- The table of commands: a row for each, with its words and the job that they name.
 use Rattle.std.specs.Prelude.{ℕ, List, [], ◌∷◌, Option, Some, None, ◌&&◌, if◌then◌else◌, codes}
+use Rattle.beet_field.specs.declared.point.Point.{Point}
 use Rattle.beet_command.specs.Words.{are_names, is_word}
 use Rattle.beet_errand.specs.Errands.{Errand}
 use Rattle.beet_job_session.specs.Sessions.{session_errand}
 use Rattle.beet_job_replay.specs.Replay.{replay_errand}
+use Rattle.beet_pair_words.specs.Pairs.{pair_of}
 
--- a job: it has an errand, which ends with its answer
+-- a job: it has an errand, which ends with its answer; or it compares two sessions, for the servers of a file, at one
+-- of them, with the words of the second as they are mapped
 pub data Job : Type 0 where
   Answering : Errand → Job
+  Comparing : List ℕ → List ℕ → List ℕ → Point → List ℕ → Job
 
 -- the job of a command with two files
 abbrev pub job_of_two : List ℕ → List ℕ → List ℕ → Option Job
@@ -23,8 +27,13 @@ job_of_three command session servers schedule =
     then Some (Answering (replay_errand session servers schedule))
     else None
 
+-- the job of a command with five words, of which the fourth is a server's number
+abbrev pub job_of_five : List ℕ → List ℕ → List ℕ → List ℕ → List ℕ → List ℕ → Option Job
+job_of_five command first second servers server out = pair_of Comparing command first second servers server out
+
 -- the job that the words name: a command, and exactly its words
 abbrev pub job_of : List (List ℕ) → Option Job
 job_of (command ∷ a ∷ b ∷ []) = job_of_two command a b
 job_of (command ∷ a ∷ b ∷ c ∷ []) = job_of_three command a b c
+job_of (command ∷ a ∷ b ∷ c ∷ d ∷ e ∷ []) = job_of_five command a b c d e
 job_of words = None

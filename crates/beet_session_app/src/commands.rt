@@ -2,17 +2,20 @@
 
 ghost use Rattle.std.specs.Prelude.{◌≡◌, map, option_map, string_bytes};
 ghost use Rattle.beet_session_app.specs.Commands.{job_for};
-ghost use Rattle.beet_session_app.specs.Jobs.{job_of, job_of_three, job_of_two};
+ghost use Rattle.beet_session_app.specs.Jobs.{job_of, job_of_five, job_of_three, job_of_two};
 
 use beet_command::is_file;
+use beet_field::Point;
 use beet_job_replay::ReplayFiles;
 use beet_job_session::SessionFiles;
+use beet_pair_words::{PairFiles, read_pair};
 
 /// A command with its words. Those that stand for files are names.
 #[derive(Clone, Copy)]
 pub(crate) enum Command<'a> {
     Session(SessionFiles<'a>),
     Replay(ReplayFiles<'a>),
+    Pair(PairFiles<'a>, Point),
 }
 
 /// The command of a name with two files.
@@ -46,6 +49,22 @@ fn with_three<'a>(
     }
 }
 
+/// The command of a name with five words, of which the fourth is a server's number.
+fn with_five<'a>(
+    name: &str,
+    first: &'a str,
+    second: &'a str,
+    servers: &'a str,
+    server: &str,
+    out: &'a str,
+) -> Option<Command<'a>>
+    ensures { option_map job_for result
+        ≡ job_of_five name.now first.now second.now servers.now server.now out.now }
+{
+    let (files, server) = read_pair(name, first, second, servers, server, out)?;
+    Some(Command::Pair(files, server))
+}
+
 /// The command that the words name, if they name one.
 pub(crate) fn read_command(words: &[String]) -> Option<Command<'_>>
     ensures { option_map job_for result ≡ job_of (map string_bytes words.now) }
@@ -53,6 +72,14 @@ pub(crate) fn read_command(words: &[String]) -> Option<Command<'_>>
     match words {
         [name, a, b] => with_two(name.as_str(), a.as_str(), b.as_str()),
         [name, a, b, c] => with_three(name.as_str(), a.as_str(), b.as_str(), c.as_str()),
+        [name, a, b, c, d, e] => with_five(
+            name.as_str(),
+            a.as_str(),
+            b.as_str(),
+            c.as_str(),
+            d.as_str(),
+            e.as_str(),
+        ),
         _ => None,
     }
 }

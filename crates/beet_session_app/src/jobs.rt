@@ -10,21 +10,31 @@ use crate::commands::{Command, read_command};
 use beet_errand::{Reply, Stop};
 use beet_job_replay::replay;
 use beet_job_session::session;
+use beet_job_session_pair::pair;
 use beet_store::Shelf;
 use std::alloc::Global;
+use std::marker::Sync;
+use std::thread::Threads;
 
 /// Does the job of a command.
-fn do_job<S: Shelf>(alloc: Global, shelf: &mut S, command: Command<'_>) -> Result<Reply, Stop>
+fn do_job<S: Shelf, R: Threads + Sync>(
+    rt: &R,
+    alloc: Global,
+    shelf: &mut S,
+    command: Command<'_>,
+) -> Result<Reply, Stop>
     ensures { DoesTask (task_of (Some (job_for command.entry))) (S.seen shelf.old) (S.seen shelf.new) result }
 {
     match command {
         Command::Session(files) => session(alloc, shelf, &files),
         Command::Replay(files) => replay(alloc, shelf, &files),
+        Command::Pair(files, server) => pair(rt, alloc, shelf, &files, server),
     }
 }
 
 /// Does the job that the words name, if they name one.
-pub(crate) fn do_named<S: Shelf>(
+pub(crate) fn do_named<S: Shelf, R: Threads + Sync>(
+    rt: &R,
     alloc: Global,
     shelf: &mut S,
     words: &[String],
@@ -32,7 +42,7 @@ pub(crate) fn do_named<S: Shelf>(
     ensures { DoesNamed (task_of (job_of (map string_bytes words.now))) (S.seen shelf.old) (S.seen shelf.new) result }
 {
     match read_command(words) {
-        Some(command) => Some(do_job(alloc, shelf, command)),
+        Some(command) => Some(do_job(rt, alloc, shelf, command)),
         None => None,
     }
 }

@@ -1,8 +1,10 @@
 -- What is right for a job leads it to its end, job by job.
-use Rattle.std.proofs.Common.{◌≡◌, ◌∷◌, ◌∙◌, ◌||◌, ◌+◌, ℕ, Bool, false, List, [], All, length, map, Option}
-use Rattle.std.proofs.Common.{Some, None, if◌then◌else◌, ap, refl, subst, sym}
-use Rattle.std.specs.Prelude.{codes}
+use Rattle.std.proofs.Common.{◌≡◌, ◌∷◌, ◌∙◌, ◌||◌, ◌+◌, inl, inr, ℕ, Bool, false, List, [], All, length, map, Option}
+use Rattle.std.proofs.Common.{Some, None, if◌then◌else◌, ap, append-nil, refl, subst, sym}
+use Rattle.std.specs.Prelude.{codes, option_map}
 use Rattle.std.proofs.lemmas.List.Elements.{All-head, All-tail}
+use Rattle.beet_field.specs.Point.{server_of}
+use Rattle.beet_field.specs.declared.point.Point.{Point}
 use Rattle.beet_store.specs.Files.{File}
 use Rattle.beet_book.specs.Farmers.{book_with}
 use Rattle.beet_book.specs.declared.server_file.TheConstants.{SERVERS_LIMIT}
@@ -13,7 +15,8 @@ use Rattle.beet_lots.specs.LotEvents.{of_lot}
 use Rattle.beet_lots.specs.LotWorlds.{lot_triples}
 use Rattle.beet_lots.specs.declared.lots.LotDelivery.{LotDelivery}
 use Rattle.beet_command.specs.Words.{are_names}
-use Rattle.beet_errand.specs.Errands.{Errand, reads}
+use Rattle.beet_errand.specs.Errands.{Answer, Ends, Errand, Step, answers, reads}
+use Rattle.beet_errand.specs.Overs.{ReadsTo}
 use Rattle.beet_errand.specs.Tasks.{RunsTask}
 use Rattle.beet_errand.specs.declared.answer.Status.TheVariants.{Done, MasksSpent}
 use Rattle.beet_load.specs.Loading.{AuctionWithBidders}
@@ -27,14 +30,21 @@ use Rattle.beet_lot_load.specs.Lots.{lots_errand}
 use Rattle.beet_lot_load.specs.Telling.{any_spent, is_spent}
 use Rattle.beet_job_session.specs.Sessions.{session_errand}
 use Rattle.beet_job_replay.specs.Replay.{lot_answers, replay_errand}
+use Rattle.beet_job_session_pair.specs.Ending.{TellsOf}
+use Rattle.beet_job_session_pair.specs.Reading.{Both, both_errand, first_books}
 use Rattle.beet_session_app.specs.Doing.{task_of}
-use Rattle.beet_session_app.specs.Jobs.{Answering, Job, job_of}
-use Rattle.beet_app_laws.specs.Calls.{Call}
-use Rattle.beet_app_laws.proofs.Led.{run-led}
+use Rattle.beet_session_app.specs.Jobs.{Answering, Comparing, Job, job_of}
+use Rattle.beet_app_laws.specs.Calls.{Call, IsOf}
+use Rattle.beet_app_laws.specs.Dues.{EndsAsDue}
+use Rattle.beet_app_laws.proofs.Led.{read-to, run-led}
+use Rattle.beet_app_laws.proofs.Telling.{one-value}
 use Rattle.beet_completeness_laws.specs.WithoutFault.{IsDoneOrShort}
 use Rattle.beet_completeness_laws.proofs.Jobs.{rehearsal-done}
 use Rattle.beet_completeness_laws.proofs.Leading.{IsDoneOver, book-done, passes, then-done, undisturbed}
-use Rattle.beet_session_laws.specs.Complete.{CanReplay, CanRunSession, MasksSufficeIn, RunsSessionWithoutFault}
+use Rattle.beet_session_laws.specs.Complete.{CanPair, CanReplay, CanRunSession, MasksSufficeIn, RunsSessionWithoutFault}
+use Rattle.beet_session_laws.specs.Pairs.{SessionsAgree}
+use Rattle.beet_session_laws.proofs.PairReading.{told-both}
+use Rattle.beet_session_laws.proofs.Pairing.{sessions-apart}
 
 -- the masks of no lot are spent where they suffice in each
 none-spent : (lots : List AuctionWithBidders) → All MasksSufficeIn lots → any_spent (map cleared lots) ≡ false
@@ -98,3 +108,49 @@ module _ (files : List File) where
   replay call name servers schedule w can =
       ends-done (codes "replay" ∷ name ∷ servers ∷ schedule ∷ []) call (are_names (name ∷ servers ∷ schedule ∷ []))
       (replay_errand name servers schedule) w refl (replay-done name servers schedule can)
+
+  -- ---- pair
+
+  module _ (call : Call) (session1 session2 servers server out : List ℕ) (can : CanPair files session1 session2 servers server) where
+    abbrev step : Step Both
+    step = both_errand session1 session2 servers
+
+    abbrev all : List AuctionWithBidders
+    all = can.both.value.lots
+
+    -- what two sessions that agree are told by is no refusal, and the masks of no lot of the first are spent
+    told-done : (both : Both) → ReadsTo files step both → (answer : Answer) →
+        TellsOf can.s out both answer → Done ≡ answer.status
+    told-done both read answer (inl same) =
+        let is = one-value files step can.both.value both can.both.is read told-both in
+        ap (λ (b : Bool). if b then MasksSpent else Done)
+        (sym (none-spent all can.masks) ∙ ap (λ (b : Both). any_spent (map cleared b.lots)) is)
+        ∙ sym (ap (λ (a : Answer). a.status) same.is)
+    told-done both read answer (inr (text, t, e)) =
+        let is = one-value files step can.both.value both can.both.is read told-both in
+        absurd (sessions-apart can.s (first_books both) both.seconds t.fault text t.apart t.line
+        (subst (λ (b : Both). SessionsAgree can.s (first_books b) b.seconds) is can.agree))
+
+    abbrev job_at : Point → Job
+    job_at s = Comparing session1 session2 servers s out
+
+    due-by : IsOf files call → RunsTask (task_of (Some (job_at can.s))) call.shelf call.shelf_now call.desk call.desk_now
+        call.status → EndsAsDue Done call.status
+    due-by from (inl (answer, shows, r)) =
+        run-led files call.shelf_now call.shelf_now
+        (record { fetches = []; recorded = sym (append-nil call.shelf_now.fetches); answered = tt }) (Ends answer) call.desk
+        call.desk_now call.status Done
+        (told-done shows.value (read-to files call.shelf call.shelf_now from step shows.value shows.read) answer shows.shown) r
+    due-by from (inr f) =
+        let next : Both → Errand = λ both. answers Done [] in
+        run-led files call.shelf call.shelf_now from (step next) call.desk call.desk_now call.status Done
+        (sym (ap (λ (a : Answer). a.status) (can.both.is next))) (f next)
+
+    pub paired : RunsSessionWithoutFault files (codes "pair" ∷ session1 ∷ session2 ∷ servers ∷ server ∷ out ∷ []) call →
+        IsDoneOrShort call
+    paired w =
+        let named = passes (are_names (session1 ∷ session2 ∷ servers ∷ out ∷ [])) (option_map job_at (server_of server)) w.job w.named
+        ∙ ap (option_map job_at) can.server_is in
+        undisturbed files (codes "pair" ∷ session1 ∷ session2 ∷ servers ∷ server ∷ out ∷ []) call w
+        (due-by w.from
+        (subst (λ (j : Option Job). RunsTask (task_of j) call.shelf call.shelf_now call.desk call.desk_now call.status) named w.runs))

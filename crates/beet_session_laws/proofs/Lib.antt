@@ -1,4 +1,6 @@
 mod Reading
 mod Standings
 mod Saying
+mod PairReading
+mod Pairing
 mod Jobs

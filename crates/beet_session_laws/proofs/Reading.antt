@@ -1,6 +1,6 @@
 -- What the files of a session are read as: lots, each a book of accepted bids with words with which its auction can be
 -- run.
-use Rattle.std.proofs.Common.{◌≡◌, ◌≤◌, ◌+◌, ℕ, List, [], ◌∷◌, ◌++◌, length, map, Some, refl, ap, ◌∙◌, arith, length-append, suc}
+use Rattle.std.proofs.Common.{◌≡◌, ◌≤◌, ◌+◌, ℕ, List, [], ◌∷◌, ◌++◌, length, map, Some, refl, ap, arith, length-append, suc}
 use Rattle.std.specs.Prelude.{All}
 use Rattle.std.proofs.lemmas.List.Elements.{All-append, All-cons, All-head, All-nil, All-tail}
 use Rattle.beet_store.specs.Files.{File}
@@ -10,7 +10,7 @@ use Rattle.beet_book.specs.BookFiles.{book_of}
 use Rattle.beet_book.specs.declared.book_file.TheConstants.{BOOK_LIMIT}
 use Rattle.beet_book.specs.declared.sources.Servers.{Servers}
 use Rattle.beet_words.specs.declared.bundle.TheConstants.{MOST_BIDDERS}
-use Rattle.beet_errand.specs.Errands.{reads}
+use Rattle.beet_errand.specs.Errands.{Step, reads}
 use Rattle.beet_load.specs.Loading.{AuctionWithBidders, rest_errand}
 use Rattle.beet_lot_files.specs.declared.session_file.LotRow.{LotRow}
 use Rattle.beet_lot_load.specs.Lots.{each_row, lot_errand, lots_errand, next_lot}
@@ -43,6 +43,34 @@ lots-back (loaded ∷ all) h =
 
 -- ---- reading
 
+-- values for so many rows, each of which has P
+pub record AreAll {A : Type 0} (P : A → Type 0) (count : ℕ) (values : List A) : Type 0 where
+  pub each : All P values
+  pub many : length values ≡ count
+
+-- a step for each row in order yields such values, where it does for one row
+module _ {A : Type 0} (files : List File) (step : List A → LotRow → Step A) (P : A → Type 0)
+    (one : (read : List A) (row : LotRow) → Yields files (step read row) P) where
+  more-yield : (read : List A) → All P read → (rows : List LotRow) →
+      Yields files (each_row step read rows) (AreAll P (length read + length rows))
+  more-yield read are [] =
+      gives-yield files (AreAll P (length read + 0)) read (record { each = are; many = omega arith })
+  more-yield read are (row ∷ rows) =
+      then-yields files (step read row) (λ value. each_row step (read ++ value ∷ []) rows) P
+      (AreAll P (length read + length (row ∷ rows))) (one read row) (λ value is.
+      let all = All-append P read (value ∷ []) are (All-cons P value [] is (All-nil P)) in
+      let long : length (read ++ value ∷ []) ≡ length read + 1 = length-append read (value ∷ []) in
+      weaker-yield files (each_row step (read ++ value ∷ []) rows)
+      (AreAll P (length (read ++ value ∷ []) + length rows)) (AreAll P (length read + length (row ∷ rows)))
+      (λ values h. record { each = h.each; many = omega (arith, h.many, long) })
+      (more-yield (read ++ value ∷ []) all rows))
+
+  pub each-yield : (rows : List LotRow) → Yields files (each_row step [] rows) (AreAll P (length rows))
+  each-yield rows =
+      weaker-yield files (each_row step [] rows) (AreAll P (0 + length rows)) (AreAll P (length rows))
+      (λ values h. record { each = h.each; many = omega (arith, h.many) })
+      (more-yield [] (All-nil P) rows)
+
 module _ (files : List File) (sources : Servers) where
   lot-yield : (lot : ℕ) (row : LotRow) → Yields files (lot_errand sources lot row) IsLoaded
   unfolding rest_errand
@@ -54,27 +82,5 @@ module _ (files : List File) (sources : Servers) where
       (λ bytes entries e. book-few bytes entries e)) (λ entries few.
       rest-yield files (Some lot) grid sources entries few))
 
-  -- lots of so many rows
-  pub record AreLoaded (count : ℕ) (lots : List AuctionWithBidders) : Type 0 where
-    pub each : All IsLoaded lots
-    pub many : length lots ≡ count
-
-  more-yield : (read : List AuctionWithBidders) → All IsLoaded read → (rows : List LotRow) →
-      Yields files (each_row (next_lot sources) read rows) (AreLoaded (length read + length rows))
-  more-yield read are [] =
-      gives-yield files (AreLoaded (length read + 0)) read (record { each = are; many = omega arith })
-  more-yield read are (row ∷ rows) =
-      then-yields files (next_lot sources read row) (λ lot. each_row (next_lot sources) (read ++ lot ∷ []) rows) IsLoaded
-      (AreLoaded (length read + length (row ∷ rows))) (lot-yield (length read) row) (λ lot is.
-      let all = All-append IsLoaded read (lot ∷ []) are (All-cons IsLoaded lot [] is (All-nil IsLoaded)) in
-      let long : length (read ++ lot ∷ []) ≡ length read + 1 = length-append read (lot ∷ []) in
-      weaker-yield files (each_row (next_lot sources) (read ++ lot ∷ []) rows)
-      (AreLoaded (length (read ++ lot ∷ []) + length rows)) (AreLoaded (length read + length (row ∷ rows)))
-      (λ lots h. record { each = h.each; many = omega (arith, h.many, long) })
-      (more-yield (read ++ lot ∷ []) all rows))
-
-  pub lots-yield : (rows : List LotRow) → Yields files (lots_errand sources rows) (AreLoaded (length rows))
-  lots-yield rows =
-      weaker-yield files (lots_errand sources rows) (AreLoaded (0 + length rows)) (AreLoaded (length rows))
-      (λ lots h. record { each = h.each; many = omega (arith, h.many) })
-      (more-yield [] (All-nil IsLoaded) rows)
+  pub lots-yield : (rows : List LotRow) → Yields files (lots_errand sources rows) (AreAll IsLoaded (length rows))
+  lots-yield rows = each-yield files (next_lot sources) IsLoaded (λ read row. lot-yield (length read) row) rows

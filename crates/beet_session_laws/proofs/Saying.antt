@@ -1,5 +1,5 @@
 -- What each command of the program of sessions has read and said.
-use Rattle.std.proofs.Common.{◌≡◌, ◌+◌, ℕ, List, [], ◌∷◌, ◌++◌, length, map, sum, Some, refl, sym, ap, ◌∙◌, arith, subst, slice_get}
+use Rattle.std.proofs.Common.{◌≡◌, ◌+◌, ℕ, List, [], ◌∷◌, ◌++◌, length, map, sum, Some, refl, sym, ap, ◌∙◌, arith, subst}
 use Rattle.std.specs.Prelude.{All, codes}
 use Rattle.std.proofs.lemmas.List.Sums.{sum-map}
 use Rattle.beet_store.specs.Files.{File}
@@ -27,13 +27,13 @@ use Rattle.beet_job_rehearse.specs.declared.standing.Rehearsal.{Rehearsal}
 use Rattle.beet_job_session.specs.Sessions.{session_answer, session_errand, session_job}
 use Rattle.beet_job_replay.specs.Replay.{replay_errand, replay_job, replayed, undelivered_in}
 use Rattle.beet_session_app.specs.Doing.{task_of}
-use Rattle.beet_session_app.specs.Jobs.{Answering, job_of}
+use Rattle.beet_session_app.specs.Jobs.{Answering}
 use Rattle.beet_app_laws.specs.Calls.{Call, Says}
 use Rattle.beet_program_laws.proofs.Ends.{WentOut, found, named-in}
 use Rattle.beet_program_laws.proofs.Read.{IsLoaded}
 use Rattle.beet_program_laws.proofs.Steps.{Yields, any-yield, gives-yield, then-told}
-use Rattle.beet_session_laws.specs.Lots.{IsDoneSession, LotsRead, RunsLots, ShowsLots, end_of_lot, loaded_lot, standing_answers}
-use Rattle.beet_session_laws.proofs.Reading.{AreLoaded, lots-back, lots-many, lots-of, lots-yield}
+use Rattle.beet_session_laws.specs.Lots.{IsDoneSession, LotsRead, RunsLots, ShowsLots, standing_answers}
+use Rattle.beet_session_laws.proofs.Reading.{AreAll, lots-back, lots-many, lots-of, lots-yield}
 use Rattle.beet_session_laws.proofs.Standings.{all-end, answers-told, ends-told, left-told, lot_rehearsals, stand-alone}
 
 module _ (files : List File) (session servers : List ℕ) where
@@ -68,7 +68,7 @@ module _ (files : List File) (session servers : List ℕ) where
       (any-yield files session SESSION_LIMIT session_of) (λ rows r1 any.
       then-told files (reads servers SERVERS_LIMIT seed_servers_of) _ (λ sources. Unit {0}) Q
       (any-yield files servers SERVERS_LIMIT seed_servers_of) (λ sources r2 any.
-      then-told files (lots_errand sources rows) (λ loaded. rest rows loaded) (AreLoaded files sources (length rows)) Q
+      then-told files (lots_errand sources rows) (λ loaded. rest rows loaded) (AreAll IsLoaded (length rows)) Q
       (lots-yield files sources rows) (λ loaded r3 are.
       go (record {
         rows = rows;
@@ -103,9 +103,9 @@ module _ (files : List File) (session servers : List ℕ) where
   pub runs : (call : Call) → IsDoneSession files (codes "session" ∷ session ∷ servers ∷ []) call →
       RunsLots files session servers call
   runs call done =
-      let r = named-in files call done.from done.code task_of refl (are_names (session ∷ servers ∷ []))
-      (Some (Answering (session_errand session servers))) done.runs in
-      let f = found files call done.from done.code (session_job session servers) (λ answer. answer) IsRun run-yield r in
+      let r = named-in files call done.ran.from done.code task_of refl (are_names (session ∷ servers ∷ []))
+      (Some (Answering (session_errand session servers))) done.ran.runs in
+      let f = found files call done.ran.from done.code (session_job session servers) (λ answer. answer) IsRun run-yield r in
       run-by call f.value f.holds f.out
 
   -- ---- replay
@@ -157,8 +157,8 @@ module _ (files : List File) (session servers : List ℕ) where
     pub replays : (call : Call) → IsDoneSession files (codes "replay" ∷ session ∷ servers ∷ schedule ∷ []) call →
         ShowsLots files session servers schedule call
     replays call done =
-        let r = named-in files call done.from done.code task_of refl (are_names (session ∷ servers ∷ schedule ∷ []))
-        (Some (Answering (replay_errand session servers schedule))) done.runs in
-        let f = found files call done.from done.code (replay_job session servers schedule) (λ answer. answer) IsReplayed
+        let r = named-in files call done.ran.from done.code task_of refl (are_names (session ∷ servers ∷ schedule ∷ []))
+        (Some (Answering (replay_errand session servers schedule))) done.ran.runs in
+        let f = found files call done.ran.from done.code (replay_job session servers schedule) (λ answer. answer) IsReplayed
         replay-yield r in
         replay-by call f.value f.holds f.out

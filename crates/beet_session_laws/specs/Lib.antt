@@ -1,2 +1,3 @@
-pub mod Complete
 pub mod Lots
+pub mod Pairs
+pub mod Complete

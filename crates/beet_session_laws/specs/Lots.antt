@@ -40,10 +40,14 @@ use Rattle.beet_app_laws.specs.Calls.{Call, IsOf, Says}
 use Rattle.beet_app_laws.specs.Readings.{Read}
 use Rattle.beet_program_laws.specs.Outcomes.{IsShown, ServersOpen}
 
--- the call ran these words of the program of sessions over these files, and ended with status 0 or 6
-pub record IsDoneSession (files : List File) (words : List (List ℕ)) (call : Call) : Type 0 where
+-- the call ran these words of the program of sessions over these files
+pub record RunsSession (files : List File) (words : List (List ℕ)) (call : Call) : Type 0 where
   pub from : IsOf files call
   pub runs : RunsTask (task_of (job_of words)) call.shelf call.shelf_now call.desk call.desk_now call.status
+
+-- and ended with status 0 or 6
+pub record IsDoneSession (files : List File) (words : List (List ℕ)) (call : Call) : Type 0 where
+  pub ran : RunsSession files words call
   pub code : IsDoneCode call.status
 
 -- a lot: a book, and words with which its auction can be run, so that its servers open the outcome of the book, or the

@@ -1,7 +1,7 @@
 -- Lists of points on lines: what is appended, lets, deals, products and openings.
-use Rattle.std.proofs.Common.{◌≡◌, ℕ, zero, suc, ◌+◌, ◌-◌, ◌*◌, ◌%◌, ◌<◌, ◌≤◌, ◌⊎◌, inl, inr, List, [], ◌∷◌, ◌++◌}
+use Rattle.std.proofs.Common.{◌≡◌, ℕ, zero, suc, ◌+◌, ◌-◌, ◌*◌, ◌%◌, ◌<◌, inl, inr, List, [], ◌∷◌, ◌++◌}
 use Rattle.std.proofs.Common.{length, slice_index, refl, sym, ◌∙◌, ap, subst, arith, length-append}
-use Rattle.std.proofs.Math.ListN.{get_or-append, get_or-eq_default}
+use Rattle.std.proofs.Math.ListN.{get_or-append}
 use Rattle.std.proofs.Math.Seq.{get_or-append_right}
 use Rattle.beet_field.specs.Field.{p, IsElement, add_of, mul_of, sub_of}
 use Rattle.beet_field.proofs.Modular.{mul_same}
@@ -16,6 +16,7 @@ use Rattle.beet_gates.specs.Each.{each}
 use Rattle.beet_gates.specs.declared.Linear.{Linear}
 use Rattle.beet_gates.proofs.EachFacts.{length-each, item-each}
 use Rattle.beet_sharing.specs.Lines.{OnLines, slope_of, with_slopes}
+use Rattle.beet_gates.proofs.EachFacts.{below_or, each-past}
 
 -- the three points of each wire are those of the line with its value and its slope
 pub record Lined (values slopes : List ℕ) (points : Point → List ℕ) : Type 0 where
@@ -49,9 +50,6 @@ member-each f t One = refl
 member-each f t Two = refl
 member-each f t Three = refl
 
-below_or : (k n : ℕ) → (k < n) ⊎ (n ≤ k)
-below_or k n = grind arith
-
 -- past the end all are 0
 none : (i : Point) → 0 ≡ point_of 0 0 i
 none One = refl
@@ -80,10 +78,6 @@ lined-append v s v' s' f g a b = record {
     | inr x ↦ subst (λ z. z < p) (sym (get_or-append_right v v' w 0 x)) (b.elements (w - length v))
   ];
 }
-
--- past the end of such a list there is 0
-each-past : (f : ℕ → ℕ) (n k : ℕ) → n ≤ k → slice_index (each f n) k ≡ 0
-each-past f n k h = get_or-eq_default (each f n) 0 (omega (arith, h, length-each f n))
 
 -- lists that are given by a rule for the place
 pub lined-each : (n : ℕ) (value slope : ℕ → ℕ) (points : Point → ℕ → ℕ) → ((k : ℕ) → k < n → IsElement (value k)) →

@@ -1,8 +1,7 @@
 -- A shared run beside the clear run on the values of the lines that its inputs are on.
 use Rattle.std.proofs.Common.{◌≡◌, ℕ, zero, suc, ◌+◌, List, [], ◌++◌, map, length, slice_index, refl, sym, ◌∙◌, ap}
-use Rattle.std.proofs.Common.{subst, arith, append-nil, add-zero}
+use Rattle.std.proofs.Common.{subst, append-nil, add-zero}
 use Rattle.std.specs.Int.{bit_at}
-use Rattle.beet_field.specs.Field.{IsElement, mul_of}
 use Rattle.beet_field.specs.Trio.{member, trio_of}
 use Rattle.beet_field.specs.declared.point.Point.{Point}
 use Rattle.beet_field.specs.declared.point.Point.TheVariants.{One, Two, Three}
@@ -20,18 +19,13 @@ use Rattle.beet_sharing.specs.Runs.{opened_at, product_at, shared_at, with_batch
 use Rattle.beet_sharing.specs.Lines.{OnLines, IsAtOne, HaveSameRounds, slopes_at, slopes_gained, with_slopes}
 use Rattle.beet_sharing.proofs.Lined.{Lined, lined, on-lines, lined-same, lined-nil, lined-append, lined-each}
 use Rattle.beet_sharing.proofs.Lined.{lined-lets, member-trio, member-each, products-together, opened-line}
+use Rattle.beet_gates.proofs.Acts.{bit-small, product-small}
 
 -- the shared run and the clear run have come equally far
 pub record Beside (slopes : List ℕ) (c : Values) (s : Shared) : Type 0 where
   pub lines : Lined c.wires slopes (member s.wires)
   pub opened : s.opened ≡ c.opened
   pub dealt : s.dealt ≡ c.dealt
-
-bit-small : (word k : ℕ) → IsElement (bit_at word k)
-bit-small word k = omega arith
-
-product-small : (x y : ℕ) → IsElement (mul_of x y)
-product-small x y = omega arith
 
 -- with the lets of a batch the wires are on lines too
 pub lets-on-lines : (b : Batch) (values slopes : List ℕ) (s : Shared) → OnLines values slopes s.wires →

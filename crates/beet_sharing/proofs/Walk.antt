@@ -22,6 +22,7 @@ use Rattle.beet_sharing.specs.Runs.{Setup, Shared, act_among, batch_among, comin
 use Rattle.beet_sharing.specs.Runs.{opened_at, opened_by, product_at, sent_for, shared_at, standing_at, with_batch_lets}
 use Rattle.beet_sharing.specs.Rounds.{HasInputs}
 use Rattle.beet_sharing.proofs.Lined.{member-trio, member-each}
+use Rattle.beet_gates.proofs.Acts.{acted-coefficients, acted-done}
 
 -- the standing after t batches of a run
 abbrev pub stands_at : Setup → ℕ → ℕ → Standing
@@ -91,23 +92,11 @@ acted-masks n (Mul pairs) = omega arith
 acted-masks n (Reveal shown) = omega arith
 acted-masks n End = omega arith
 
-acted-coefficients : (n : Standing) (a : Act) → (acted n a).coefficients ≡ n.coefficients + draws_in a
-acted-coefficients n Deal = refl
-acted-coefficients n (Mul pairs) = refl
-acted-coefficients n (Reveal shown) = omega arith
-acted-coefficients n End = omega arith
-
 acted-opened : (n : Standing) (a : Act) → (acted n a).opened ≡ n.opened + revealed a
 acted-opened n Deal = omega arith
 acted-opened n (Mul pairs) = omega arith
 acted-opened n (Reveal shown) = refl
 acted-opened n End = omega arith
-
-acted-done : (n : Standing) (a : Act) → is_end a ≡ false → (acted n a).done ≡ n.done + 1
-acted-done n Deal h = refl
-acted-done n (Mul pairs) h = refl
-acted-done n (Reveal shown) h = refl
-acted-done n End h = cc h
 
 acted-dealers : (n : Standing) (a : Act) → (acted n a).dealers ≡ n.dealers
 acted-dealers n Deal = refl

@@ -1,25 +1,23 @@
 -- What a server tells of a round.
 use Rattle.std.proofs.Common.{◌≡◌, ◌≤◌, ◌<◌, ◌+◌, ◌-◌, ℕ, List, [], ◌∷◌, ◌++◌, length, drop, Some, slice_get, sym, refl}
-use Rattle.std.proofs.Common.{ap, subst, ◌∙◌, arith, add-one, length-append}
+use Rattle.std.proofs.Common.{ap, subst, ◌∙◌, arith, add-one}
 use Rattle.std.proofs.lemmas.List.{drop_at, drop_all, drop_more, length-map}
 use Rattle.std.proofs.lemmas.Option.{slice_get_within, get_or_from_slice_get}
 use Rattle.beet_field.specs.declared.TheConstants.{MOST_NUMBERS}
 use Rattle.beet_field.specs.declared.point.Point.{Point}
-use Rattle.beet_field.specs.declared.trio.Trio.{Trio}
 use Rattle.beet_gates.specs.Scripts.{LawFrom, Standing, size_of, start_of}
 use Rattle.beet_gates.specs.declared.Act.{Act}
 use Rattle.beet_gates.specs.declared.Act.TheVariants.{Deal, Mul, Reveal, End}
 use Rattle.beet_gates.specs.declared.Batch.{Batch}
 use Rattle.beet_gates.proofs.EachFacts.{get-each, length-each}
 use Rattle.beet_sharing.specs.Runs.{Setup, Shared, coming, opened_at, opened_by, shared_at, standing_at}
-use Rattle.beet_server.specs.Cores.{Core, setup_of}
+use Rattle.beet_server.specs.Cores.{Core}
 use Rattle.beet_server.specs.Fits.{IsRound}
 use Rattle.beet_server.specs.Lockstep.{IsAtRound}
 use Rattle.beet_gates.proofs.Laws.{law-now}
 use Rattle.beet_sharing.proofs.Walk.{along, stands_at}
-use Rattle.beet_link.specs.Streams.{rounds_from}
 use Rattle.beet_station.specs.declared.notes.DeskNote.{DeskNote}
-use Rattle.beet_station.specs.Notes.{a_note, note_of, notes, notes_left, opened_in}
+use Rattle.beet_station.specs.Notes.{a_note, note_of, notes, opened_in}
 
 -- the front of what is left
 pub drop-front : {A : Type 0} (l : List A) (n : ℕ) (x : A) → slice_get l n ≡ Some x → drop n l ≡ x ∷ drop (n + 1) l

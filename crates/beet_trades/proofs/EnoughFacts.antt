@@ -17,6 +17,15 @@ use Rattle.beet_mapped.proofs.DealerFacts.{lists-alike}
 use Rattle.beet_mapped.proofs.WordPlaces.{accepted-length}
 use Rattle.beet_trades.specs.Enough.{HasAccepted, HasEnough, Wants}
 use Rattle.beet_masking.specs.Masks.{with_spare}
+use Rattle.std.proofs.Common.{◌≤◌, subst}
+use Rattle.std.proofs.lemmas.List.{take_all}
+use Rattle.beet_words.specs.Words.{accepted}
+
+-- words that are no more than are kept have as many numbers among those that are read
+pub has-accepted : (wanted : ℕ) (words : List ℕ) → length words ≤ with_spare wanted → wanted ≤ length (accepted words) →
+    HasAccepted wanted words
+has-accepted wanted words short h =
+    subst (λ (w : List ℕ). wanted ≤ length (accepted w)) (sym (take_all (with_spare wanted) words short)) h
 
 -- as many words are accepted where the same are all ones
 pub has-accepted-same : (wanted : ℕ) (xs ys : List ℕ) → ones_in ys ≡ ones_in xs → HasAccepted wanted xs → HasAccepted wanted ys

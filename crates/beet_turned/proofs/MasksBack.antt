@@ -1,7 +1,7 @@
 -- Mask words are mapped back, and in one way.
-use Rattle.std.proofs.Common.{◌≡◌, inl, inr, ℕ, ◌^◌, ◌<◌, List, ◌∷◌, map, length, slice_index, slice_get, Option, Some}
+use Rattle.std.proofs.Common.{◌≡◌, inl, inr, ℕ, ◌^◌, ◌<◌, List, map, length, slice_index, slice_get, Option, Some}
 use Rattle.std.proofs.Common.{None, refl, sym, ap, subst, ◌∙◌, arith}
-use Rattle.std.specs.Prelude.{All, if◌then◌else◌, nat_le, bit_xor, option_map, unwrap_or}
+use Rattle.std.specs.Prelude.{All, nat_le, bit_xor, option_map, unwrap_or}
 use Rattle.std.proofs.lemmas.Bool.{cases_Bool}
 use Rattle.std.proofs.lemmas.List.{ext_get_or}
 use Rattle.std.proofs.lemmas.Option.{slice_get-map, slice_get_within, unwrap_or-slice_get}
@@ -45,7 +45,7 @@ all-at P xs k x all e =
 nothing-lost : (d : ℕ) → IsElement d → add_of d (neg_of d) ≡ 0
 nothing-lost d h = omega arith
 
-word-mapped-back : (word mask word' mask' : ℕ) (loss : Option ℕ) → mask < 2 ^ 61 → ((d : ℕ) → loss ≡ Some d → IsElement d) →
+pub word-mapped-back : (word mask word' mask' : ℕ) (loss : Option ℕ) → mask < 2 ^ 61 → ((d : ℕ) → loss ≡ Some d → IsElement d) →
     mask' ≡ mask_mapped mask loss → word' ≡ word_mapped mask word loss → word ≡ word_mapped mask' word' (option_map neg_of loss)
 word-mapped-back word mask word' mask' None small below m w = sym w
 word-mapped-back word mask word' mask' (Some d) small below m w =

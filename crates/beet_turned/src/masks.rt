@@ -40,7 +40,7 @@ fn mask(masks: &Trio<WordList>, place: usize) -> Word
 }
 
 /// What the number under a mask loses, after so many rejected and accepted ones, if it is compared.
-fn loss_for(losses: &[Fe], mask: Word, rejected: usize, accepted: usize) -> Option<Fe>
+pub fn loss_for(losses: &[Fe], mask: Word, rejected: usize, accepted: usize) -> Option<Fe>
     ensures { result ≡ item_after losses.now mask rejected accepted }
 {
     if mask.is_ones() || rejected > SPARE_MASKS as usize {
@@ -53,7 +53,7 @@ fn loss_for(losses: &[Fe], mask: Word, rejected: usize, accepted: usize) -> Opti
 }
 
 /// The word of a server in the second world, where the number under the mask loses so much.
-fn word_for(mask: Word, word: Word, loss: Option<Fe>) -> Word
+pub fn word_for(mask: Word, word: Word, loss: Option<Fe>) -> Word
     ensures { result ≡ word_mapped mask word loss }
 {
     match loss {
@@ -63,7 +63,7 @@ fn word_for(mask: Word, word: Word, loss: Option<Fe>) -> Word
 }
 
 /// One more where the mask is rejected.
-fn count_rejected(before: usize, mask: Word) -> usize
+pub fn count_rejected(before: usize, mask: Word) -> usize
     requires { before + 1 < 2 ^ 64 }
     ensures { result ≡ before + (if mask == ones then 1 else 0) }
 {

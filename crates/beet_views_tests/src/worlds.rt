@@ -41,7 +41,7 @@ pub(crate) const SELLS_MORE: Only = (None, 41, 35);
 pub(crate) const SELLS_LESS: Only = (None, 34, 35);
 
 /// The first where it buys one less.
-const BUYS_LESS: Only = (None, 40, 34);
+pub(crate) const BUYS_LESS: Only = (None, 40, 34);
 
 /// The same bidders where server 2 knows them.
 pub(crate) const KNOWN: Only = (Some(Point::Two), 40, 35);

@@ -8,6 +8,10 @@ use Rattle.std.proofs.lemmas.List.{length-map, map-append, get_or_default, get_o
 use Rattle.std.proofs.lemmas.List.Elements.{filter-append}
 use Rattle.beet_field.specs.Field.{p, IsElement}
 use Rattle.beet_words.specs.Words.{IsWord, accepted, ones, ones_in}
+use Rattle.std.specs.Prelude.{All}
+use Rattle.std.proofs.lemmas.List.{take_all}
+use Rattle.std.proofs.lemmas.List.Elements.{All-head, All-tail}
+use Rattle.std.proofs.Common.{map}
 
 abbrev pub is_ones : ℕ → Bool
 is_ones w = w == ones
@@ -126,3 +130,11 @@ words_all ws i le few k = ⊎_elim
     (λ (before : k < i). few k before)
     (λ (past : i ≤ k). subst (λ x. IsWord x) (sym (get_or_past ws k 0 (omega arith))) (omega arith))
     (cases_lt k i)
+
+-- lists that are short enough are not cut
+pub lists-uncut : (n : ℕ) (lists : List (List ℕ)) → All (λ (list : List ℕ). length list ≤ n) lists → map (take n) lists ≡ lists
+lists-uncut n [] all = refl
+lists-uncut n (l ∷ ls) all =
+    let here = take_all n l (All-head (λ (list : List ℕ). length list ≤ n) l ls all) in
+    let rest = lists-uncut n ls (All-tail (λ (list : List ℕ). length list ≤ n) l ls all) in
+    λ i. here i ∷ rest i

@@ -7,7 +7,7 @@ use Rattle.beet_words.specs.declared.bundle.TheConstants.{MOST_WORDS, MOST_BIDDE
 use Rattle.beet_words.specs.declared.bundle.TheConstants.{TRAILING}
 use Rattle.beet_words.specs.declared.fields.Allowed.{Allowed}
 use Rattle.beet_words.specs.Words.{IsWord, ones}
-use Rattle.beet_words.specs.Fields.{◌>>=◌, Part, number_bytes, number_at, times, counted_at, after_magic, ended}
+use Rattle.beet_words.specs.Fields.{Part, number_bytes, number_at, times, counted_at, after_magic, ended, ◌>>=◌}
 
 -- the lists of words of the three servers and of each bidder
 pub record Words : Type 0 where

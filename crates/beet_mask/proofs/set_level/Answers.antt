@@ -1,4 +1,4 @@
-use Rattle.std.proofs.Common.{ℕ, ap, ◌+◌, ◌∙◌}
+use Rattle.std.proofs.Common.{ℕ, ap, ◌+◌}
 use Rattle.beet_gates.specs.Batches.{mul_batch}
 use Rattle.beet_gates.specs.Levels.{wire_of}
 use Rattle.beet_gates.specs.declared.levels.LevelItems.{LevelItems}

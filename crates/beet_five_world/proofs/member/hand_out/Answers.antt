@@ -20,3 +20,10 @@ returns-in-Some-clause-me g c =
     let old = c.args.core.now in
     let quiet : is_quiet next old.work ≡ false = false_from_ne_true _ (λ e. absurd (true≢false (c.in-Some.ensures.quiet.1 e))) in
     (steps-out next old c.out.new.self quiet c.in-Some.ensures.leaves).me
+
+pub returns-in-Some-clause-script : goal.returns-in-Some-clause-script
+returns-in-Some-clause-script g c =
+    let next = g.S.ScriptOfFive.batch_of in
+    let old = c.args.core.now in
+    let quiet : is_quiet next old.work ≡ false = false_from_ne_true _ (λ e. absurd (true≢false (c.in-Some.ensures.quiet.1 e))) in
+    (steps-out next old c.out.new.self quiet c.in-Some.ensures.leaves).script

@@ -24,6 +24,7 @@ returns-clause-gives g c =
       is = get-set ms c.args.k c.give.new.self c.requires.place;
       gives = c.give.ensures.gives;
       me = c.give.ensures.me;
+      script = c.give.ensures.script;
       others = λ i other. get-other ms c.args.k i c.give.new.self other;
       count = length-set ms c.args.k c.give.new.self;
     }

@@ -1,12 +1,11 @@
-use Rattle.std.proofs.Common.{◌≡◌, List, ap, subst, sym}
+use Rattle.std.proofs.Common.{List, ap, subst, sym}
 use Rattle.std.proofs.lemmas.Result.{err_from_is_err_and}
 use Rattle.beet_gates.specs.declared.Gates.{Gates}
 use Rattle.beet_sale_file.specs.Sales.{bids_of}
 use Rattle.beet_sale_file.specs.declared.rows.SaleBid.{SaleBid}
 use Rattle.beet_sale_map.specs.Bids.{Agree}
-use Rattle.beet_sale_map.specs.Disagreement.{RefusesMap}
 use Rattle.beet_sale_map.specs.MappedSales.{Ends, SalesMapped}
-use Rattle.beet_highbid.specs.SaleViews.{sale_bytes, view_of_sale}
+use Rattle.beet_highbid.specs.SaleViews.{sale_bytes}
 use Rattle.beet_highbid.proofs.CutWords.{mapped-kept}
 use Rattle.beet_highbid.proofs.SaleMaps.{of-sales}
 use Rattle.beet_highbid.proofs.SaleRows.{are-sale-bids}

@@ -1,4 +1,4 @@
-use Rattle.std.proofs.Common.{◌≡◌, arith, length, subst, sym}
+use Rattle.std.proofs.Common.{subst, sym}
 use Rattle.beet_field.specs.declared.trio.Trio.{Trio}
 use Rattle.beet_load.specs.Loading.{IsKeptOf, rest_errand}
 use Rattle.beet_load.specs.Servers.{ServerWords}

@@ -1,4 +1,4 @@
-use Rattle.std.proofs.Common.{◌≡◌, None, ap, arith, length}
+use Rattle.std.proofs.Common.{None}
 use Rattle.beet_load.proofs.SettingSteps.{for_setting}
 use Rattle.beet_errand.proofs.Frame.{bind, exits, passed, stopped, tested}
 use Rattle.beet_load.specs.Loading.{rest_errand}

@@ -1,4 +1,4 @@
-use Rattle.std.proofs.Common.{◌≡◌, ◌∙◌, ap, arith, length, sym}
+use Rattle.std.proofs.Common.{◌∙◌, ap, arith, sym}
 use Rattle.beet_errand.proofs.Frame.{bind, bound, exits, given, handed, stopped}
 use Rattle.beet_load.specs.Loading.{rest_errand}
 use Rattle.beet_load.proofs.whole_loading.load_whole_rest.Goals as goal

@@ -1,5 +1,4 @@
 use Rattle.std.proofs.Common.{◌≡◌, ◌+◌, ◌++◌, ℕ, List, sym, ap, subst, ◌∙◌, arith}
-use Rattle.beet_gates.specs.declared.Batch.{Batch}
 use Rattle.beet_sharing.specs.Runs.{opened_by, with_batch_lets}
 use Rattle.beet_map.specs.declared.walk.World.{World}
 use Rattle.beet_map.proofs.Turning.{Turned, turned}

@@ -1,6 +1,6 @@
-use Rattle.std.proofs.Common.{refl, sym}
+use Rattle.std.proofs.Common.{refl}
 use Rattle.beet_errand.proofs.Frame.{bind, exits, given, handed, stopped}
-use Rattle.beet_sale_load.specs.SaleLoading.{sale_errand, words_errand}
+use Rattle.beet_sale_load.specs.SaleLoading.{sale_errand}
 use Rattle.beet_sale_load.proofs.loading.load_sale.Goals as goal
 
 pub returns-in_err-sale : goal.returns-in_err-sale

@@ -1,8 +1,9 @@
 use Rattle.std.proofs.Common.{sym, ap, ◌∙◌}
 use Rattle.beet_gates.specs.Plans.{plan_finish}
 use Rattle.beet_sale_plan.specs.Sale.{Sale, sale_plan}
-use Rattle.beet_sale_run.proofs.Held.{held-named, held-opened, held-rounds, no-end, some-same}
+use Rattle.beet_sale_run.proofs.Held.{held-named, held-opened, held-rounds, no-end}
 use Rattle.beet_sale_run.proofs.running.end_of_sale.Goals as goal
+use Rattle.beet_gates.proofs.Lists.{from-some}
 
 pub finish-requires : goal.finish-requires
 finish-requires c =
@@ -18,7 +19,7 @@ unreachable-requires c =
 
 pub returns : goal.returns
 returns c read cores h e = (
-  some-same (sym c.in-Some.is
+  from-some (sym c.in-Some.is
       ∙ held-named read cores h c.args.core.now e c.finish.result
       (c.finish.ensures.value ∙ ap (λ (s : Sale). plan_finish (sale_plan s) c.opened.result.now) c.script.ensures
       ∙ ap (plan_finish (sale_plan c.args.core.now.script)) c.opened.ensures)),

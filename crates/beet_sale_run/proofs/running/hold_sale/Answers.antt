@@ -1,4 +1,4 @@
-use Rattle.std.proofs.Common.{◌≡◌, ap, subst, ◌∙◌}
+use Rattle.std.proofs.Common.{ap, subst, ◌∙◌}
 use Rattle.std.proofs.lemmas.Result.{IfOk-weaker}
 use Rattle.beet_sale_file.specs.Sales.{IsSaleRecord, bids_of}
 use Rattle.beet_sale_map.specs.Bids.{sale_over}

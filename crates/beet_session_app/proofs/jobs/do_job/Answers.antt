@@ -6,3 +6,6 @@ returns-in-Session g c = rw c.in-Session.is (answers_task _ _ c.session.ensures.
 
 pub returns-in-Replay : goal.returns-in-Replay
 returns-in-Replay g c = rw c.in-Replay.is (answers_task _ _ c.replay.ensures.done c.replay.ensures.reads)
+
+pub returns-in-Pair : goal.returns-in-Pair
+returns-in-Pair g c = rw c.in-Pair.is c.pair.ensures

@@ -12,4 +12,6 @@ invariant_of-self g c =
       hands-sound 5 2 _ _ _ _ _ _ _ _ _ _ _ _ c.self.invariant.0 handed _ _ c.put_numbers.ensures.dealt
           (ap left_of c.put_numbers.ensures.drawn ∙ left-drawn c.self.inside.tapes.coefficients (draws_in c.self.inside.batch.act)),
       c.self.invariant.1,
+      c.self.invariant.2,
+      c.self.invariant.3,
     )

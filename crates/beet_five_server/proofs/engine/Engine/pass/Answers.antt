@@ -4,6 +4,7 @@ use Rattle.beet_gates.specs.Scripts.{revealed}
 use Rattle.beet_gates.specs.declared.Batch.{Batch}
 use Rattle.beet_five_server.specs.Cores.{Work, batch_of}
 use Rattle.beet_five_server.specs.Parts.{by_sender, numbers_opened}
+use Rattle.beet_five_server.proofs.Going.{comes-further}
 use Rattle.beet_server.proofs.Soundness.{next-lets, next-room, passes-sound}
 use Rattle.beet_five_server.proofs.engine.Engine.pass.Given.{Over}
 use Rattle.beet_five_server.proofs.engine.Engine.pass.Goals.{After-absorb}
@@ -69,4 +70,8 @@ invariant_of-self g c =
           c.absorb.ensures.opened (count g after)
           _ _ batch_is (c.append_lets.ensures.wires ∙ ap (λ l. with_lets c.absorb.new.wires.items l) c.as_slice-2.ensures.value)),
       rw c.as_slice.ensures.value at c.refill.ensures.place,
+      comes-further (g.S.ScriptOfFive.batch_of c.self.inside.script) c.self.inside.round c.self.inside.opened.items (new_numbers g after)
+          c.absorb.new.opened.items c.self.inside.batch c.self.invariant.2 c.self.invariant.0.coming (goes-on g after) (count g after)
+          c.absorb.ensures.opened,
+      c.self.invariant.3,
     )

@@ -44,6 +44,8 @@ invariant_of-result g c =
           ∙ ap (λ l. with_lets l c.next-batch.result.lets.items)
           (c.append_all.ensures.items ∙ ap (λ l. l ++ c.args.inputs.now) c.requires.wires.0))
           c.requires.opened.0 c.requires.masks_start c.requires.words
-          c.requires.numbers wires_fit c.requires.opened.1 c.requires.counted,
+          c.requires.numbers wires_fit c.requires.opened.1 (omega (arith, c.requires.counted)),
       rw c.requires.opened.0 c.begin-place.ensures,
+      c.requires.opened.0,
+      c.requires.counted,
     )

@@ -3,8 +3,8 @@ use Rattle.beet_five_server.specs.Answers.{Answers, Core, MovesOn}
 use Rattle.beet_five_server.specs.Cores.{has_ended, is_quiet}
 use Rattle.beet_five_server.specs.Mails.{left_by}
 use Rattle.beet_five_server.proofs.Delivering.{FitsAfter, after-late, after-ready, after-waits}
-use Rattle.beet_five_server.proofs.Standing.{handed-first}
 use Rattle.beet_five_server.proofs.server.FiveCore.deliver.Goals as goal
+use Rattle.beet_server.proofs.Delivering.{handed-first}
 
 pub returns-then-ended-clause-fits : goal.returns-then-ended-clause-fits
 returns-then-ended-clause-fits g c =

@@ -1,7 +1,8 @@
 use Rattle.std.proofs.Common.{arith, sym, ◌∙◌}
 use Rattle.beet_five_server.specs.Cores.{has_ended}
-use Rattle.beet_five_server.proofs.Standing.{after-out, almost, messages-are, not-handed}
+use Rattle.beet_five_server.proofs.Standing.{after-out, almost, messages-are}
 use Rattle.beet_five_server.proofs.server.FiveCore.out.Goals as goal
+use Rattle.beet_server.proofs.Delivering.{not-handed}
 
 pub returns-clause-fits : goal.returns-clause-fits
 returns-clause-fits g c = λ o x fits.

@@ -13,6 +13,7 @@ returns g c =
     let none : handed_rounds core ≡ 0 = λ i. taken (c.requires.round i) (c.requires.handed i) in
     record {
       me = c.hand_out-2.ensures.me ∙ c.hand_out.ensures.me;
+      script = c.hand_out-2.ensures.script ∙ c.hand_out.ensures.script;
       begins = λ o x fits.
           let start : IsMember next o x core c.in_ok-sent.sent.items = record {
             fits = fits;

@@ -49,6 +49,8 @@ returns g c =
                 (λ q. (c.hand_out-2.ensures.same q).0) c.hand_out-2.ensures.moved,
           ));
       me = c.hand_out-2.ensures.me ∙ c.hand_out.ensures.me ∙ same.0 ∙ ap (λ (v : Seen g.row.S.Denot). v.core.work.me) c.self.view_is;
+      script = c.hand_out-2.ensures.script ∙ c.hand_out.ensures.script ∙ same.1
+          ∙ ap (λ (v : Seen g.row.S.Denot). v.core.work.script) c.self.view_is;
       verdict =
           verdict-told next old c.args.m c.deliver-verdict.result (λ e. (c.deliver-verdict.ensures.ended e).1)
           (λ goes. (c.deliver-verdict.ensures.verdict goes).verdict)

@@ -9,7 +9,7 @@ use Rattle.beet_five_world.specs.Members.{AllFit, IsAt, Seen, rank, triple, verd
 use Rattle.beet_five_world.specs.declared.world.FiveEvent.TheVariants.{Delivered as DeliveredBy}
 use Rattle.beet_five_world.proofs.WorldFacts.{event-none, event-some, nothing-changes}
 use Rattle.beet_five_world.proofs.world.FiveWorld.event.Given.{Over}
-use Rattle.beet_five_world.proofs.world.FiveWorld.event.Goals.{After-copy_of, In-None, In-Some, After-give_at}
+use Rattle.beet_five_world.proofs.world.FiveWorld.event.Goals.{After-copy_of}
 use Rattle.beet_five_world.proofs.world.FiveWorld.event.Goals as goal
 
 -- the sender is at its place, and is not the receiver
@@ -29,25 +29,27 @@ module _ (g : Over) (c : After-copy_of g) where
   apart e = c.if-from-to.false e
 
   -- the servers stand in the run before the event
-  stand : (o : Setup) (rounds : ℕ) (x : Delivered ℕ) → AllFit g.S.ScriptOfFive.batch_of o rounds x c.args.self.now →
-      AllFit g.S.ScriptOfFive.batch_of o rounds x c.self.inside.members.items
-  stand o rounds x f = subst (λ (v : List (Seen g.row.S.Denot)). AllFit g.S.ScriptOfFive.batch_of o rounds x v) (sym c.self.view_is) f
+  stand : (script : g.row.S.Denot) (o : Setup) (rounds : ℕ) (x : Delivered ℕ) →
+      AllFit g.S.ScriptOfFive.batch_of script o rounds x c.args.self.now →
+      AllFit g.S.ScriptOfFive.batch_of script o rounds x c.self.inside.members.items
+  stand script o rounds x f =
+      subst (λ (v : List (Seen g.row.S.Denot)). AllFit g.S.ScriptOfFive.batch_of script o rounds x v) (sym c.self.view_is) f
 
 pub returns-in-None-clause-fits : goal.returns-in-None-clause-fits
-returns-in-None-clause-fits g c = λ o rounds x f.
+returns-in-None-clause-fits g c = λ script o rounds x f.
     let next = g.S.ScriptOfFive.batch_of in
     let at = (goal.at.returns-in-None-clause-fits g c).After-copy_of in
-    nothing-changes next o rounds x c.args.self.now (triple c.args.from c.args.to c.args.round) f
-    (event-none next o rounds x c.self.inside.members.items c.args.from c.args.to c.args.round c.requires.from c.requires.to (apart g at)
-    (stand g at o rounds x f)
+    nothing-changes next script o rounds x c.args.self.now (triple c.args.from c.args.to c.args.round) f
+    (event-none next script o rounds x c.self.inside.members.items c.args.from c.args.to c.args.round c.requires.from c.requires.to
+    (apart g at) (stand g at script o rounds x f)
     c.index.result.now (sender-at g at) c.in-None.ensures)
 
 pub returns-in-None-clause-sent : goal.returns-in-None-clause-sent
-returns-in-None-clause-sent g c = λ o rounds x f.
+returns-in-None-clause-sent g c = λ script o rounds x f.
     let next = g.S.ScriptOfFive.batch_of in
     let at = (goal.at.returns-in-None-clause-sent g c).After-copy_of in
-    let none = event-none next o rounds x c.self.inside.members.items c.args.from c.args.to c.args.round c.requires.from c.requires.to
-    (apart g at) (stand g at o rounds x f)
+    let none = event-none next script o rounds x c.self.inside.members.items c.args.from c.args.to c.args.round
+    c.requires.from c.requires.to (apart g at) (stand g at script o rounds x f)
     c.index.result.now (sender-at g at) c.in-None.ensures in
     (λ _. none, λ _. refl)
 
@@ -58,31 +60,32 @@ invariant_of-self g c =
     let w = c.self.invariant in
     let sent = c.in-Some.ensures in
     record {
+      script = w.script;
       o = w.o;
       rounds = w.rounds;
       x = deliver five w.rounds w.x (triple c.args.from c.args.to c.args.round);
-      fit = (event-some next w.o w.rounds w.x c.self.inside.members.items c.give_at.new.members.items c.args.from c.args.to c.args.round
-          c.requires.from c.requires.to (apart g at) w.fit
+      fit = (event-some next w.script w.o w.rounds w.x c.self.inside.members.items c.give_at.new.members.items
+          c.args.from c.args.to c.args.round c.requires.from c.requires.to (apart g at) w.fit
           c.index.result.now (sender-at g at) sent.0 c.in-Some.m sent.1 sent.2 c.give_at.ensures.gives).0;
     }
 
 pub returns-in-Some-clause-fits : goal.returns-in-Some-clause-fits
-returns-in-Some-clause-fits g c = λ o rounds x f.
+returns-in-Some-clause-fits g c = λ script o rounds x f.
     let next = g.S.ScriptOfFive.batch_of in
     let at = (goal.at.returns-in-Some-clause-fits g c).After-copy_of in
     let sent = c.in-Some.ensures in
-    (event-some next o rounds x c.self.inside.members.items c.give_at.new.members.items c.args.from c.args.to c.args.round
+    (event-some next script o rounds x c.self.inside.members.items c.give_at.new.members.items c.args.from c.args.to c.args.round
     c.requires.from c.requires.to (apart g at)
-    (stand g at o rounds x f) c.index.result.now (sender-at g at) sent.0 c.in-Some.m sent.1 sent.2 c.give_at.ensures.gives).0
+    (stand g at script o rounds x f) c.index.result.now (sender-at g at) sent.0 c.in-Some.m sent.1 sent.2 c.give_at.ensures.gives).0
 
 pub returns-in-Some-clause-sent : goal.returns-in-Some-clause-sent
-returns-in-Some-clause-sent g c = λ o rounds x f.
+returns-in-Some-clause-sent g c = λ script o rounds x f.
     let next = g.S.ScriptOfFive.batch_of in
     let at = (goal.at.returns-in-Some-clause-sent g c).After-copy_of in
     let sent = c.in-Some.ensures in
-    let was = (event-some next o rounds x c.self.inside.members.items c.give_at.new.members.items c.args.from c.args.to c.args.round
+    let was = (event-some next script o rounds x c.self.inside.members.items c.give_at.new.members.items c.args.from c.args.to c.args.round
     c.requires.from c.requires.to (apart g at)
-    (stand g at o rounds x f) c.index.result.now (sender-at g at) sent.0 c.in-Some.m sent.1 sent.2 c.give_at.ensures.gives).1 in
+    (stand g at script o rounds x f) c.index.result.now (sender-at g at) sent.0 c.in-Some.m sent.1 sent.2 c.give_at.ensures.gives).1 in
     (λ e. cc e, λ none. absurd (both_ways _ none was))
 
 pub returns-in-None-clause-verdict : goal.returns-in-None-clause-verdict

@@ -55,25 +55,26 @@ module _ (g : Over) (c : After-drop-core-iterator-2 g) where
 
 pub invariant_of-result : goal.invariant_of-result
 invariant_of-result g c =
-    let script = g.S.ScriptOfFive in
+    let of_script = g.S.ScriptOfFive in
     let at = (goal.at.invariant_of-result g c).After-drop-core-iterator-2 in
     let cores = c.args.cores.items in
     let fresh = c.requires in
     let first = fresh.script in
-    let most = script.rounds_of first in
-    let o = their_setup script.batch_of script.rounds_of cores fresh in
-    let bounds = bounds_of (script.wires_of first) (script.masks_of first) (script.secrets_of first) in
-    let has = (lawful-rounds five_servers o bounds 5 (script.inputs_of first) most (g.met.S.ScriptOfFive.lawful first)).0 in
+    let most = of_script.rounds_of first in
+    let o = their_setup of_script.batch_of of_script.rounds_of cores fresh in
+    let bounds = bounds_of (of_script.wires_of first) (of_script.masks_of first) (of_script.secrets_of first) in
+    let has = (lawful-rounds five_servers o bounds 5 (of_script.inputs_of first) most (g.met.S.ScriptOfFive.lawful first)).0 in
     record {
+      script = first;
       o = o;
       rounds = rounds_among o most;
       x = nothing;
-      fit = begun-fit script.batch_of o (rounds_among o most) nothing cores c.loop-core.members.items has fresh.count (all-begun g at)
-          (all-begin script.batch_of script.rounds_of cores fresh);
+      fit = begun-fit of_script.batch_of first o (rounds_among o most) nothing cores c.loop-core.members.items has fresh.count
+          (all-begun g at) (all-begin of_script.batch_of of_script.rounds_of cores fresh);
     }
 
 pub returns : goal.returns
-returns g c = λ o rounds has all.
+returns g c = λ script o rounds has all.
     let at = (goal.at.returns g c).After-drop-core-iterator-2 in
-    begun-fit g.S.ScriptOfFive.batch_of o rounds nothing c.args.cores.items c.loop-core.members.items has c.requires.count
+    begun-fit g.S.ScriptOfFive.batch_of script o rounds nothing c.args.cores.items c.loop-core.members.items has c.requires.count
     (all-begun g at) all

@@ -1,5 +1,4 @@
-use Rattle.std.proofs.Common.{◌≡◌, sym, subst, ◌∙◌}
-use Rattle.beet_field.specs.Trio.{member}
+use Rattle.std.proofs.Common.{sym, subst, ◌∙◌}
 use Rattle.beet_threads.specs.Words.{HasServed, HasTold}
 use Rattle.beet_threads.proofs.Ending.{by-worker, err-then, ok-then}
 use Rattle.beet_threads.proofs.running.fn.in_threads.scope.Goals as goal

@@ -1,0 +1,4 @@
+pub mod Fives
+pub mod Acting
+pub mod Moves
+pub mod Turning

@@ -1,0 +1,57 @@
+//! Two servers that put together what they see.
+
+ghost use Rattle.std.specs.Prelude.{◌≡◌};
+ghost use Rattle.beet_weights.specs.Quadratics.{IsServer};
+ghost use Rattle.beet_coalition.specs.Watchers.{inverse_of, two_watch};
+
+use beet_field::{Fe, Point};
+
+/// The inverse of 4, which is `2^59`.
+const QUARTER: u64 = 576_460_752_303_423_488;
+
+/// The inverse of 5, which is `(2^63 - 3) / 5`.
+const FIFTH: u64 = 1_844_674_407_370_955_161;
+
+/// The number whose product with that of a server is 1.
+fn inverse(server: u32) -> Fe
+    requires { IsServer server }
+    ensures { result ≡ inverse_of server }
+{
+    let one = Fe::reduce_u64(1);
+    match server {
+        1 => one,
+        2 => one.over(Point::Two),
+        3 => one.over(Point::Three),
+        4 => Fe::reduce_u64(QUARTER),
+        _ => Fe::reduce_u64(FIFTH),
+    }
+}
+
+/// Two servers of five that put together what they see: `a` below `b`.
+#[derive(Clone, Copy)]
+pub struct Watchers {
+    pub a: u32,
+    pub b: u32,
+}
+
+impl Watchers {
+    /// Whether a server is one of the two.
+    pub fn watches(self, server: u32) -> bool
+        ensures { result ≡ (two_watch self.a self.b).watches server }
+    {
+        server == self.a || server == self.b
+    }
+
+    /// By how much the two numbers that hide a secret move if the secret is one less: by `(a + b) / (a * b)` and by
+    /// `-1 / (a * b)`.
+    pub fn factors(self) -> (Fe, Fe)
+        requires a { IsServer self.a }
+        requires b { IsServer self.b }
+        ensures rho { result.0 ≡ (two_watch self.a self.b).factor 0 }
+        ensures sigma { result.1 ≡ (two_watch self.a self.b).factor 1 }
+    {
+        let inverse = inverse(self.a).mul(inverse(self.b));
+        let sum = Fe::reduce_u64((self.a + self.b) as u64);
+        (sum.mul(inverse), inverse.neg())
+    }
+}

@@ -1,0 +1,4 @@
+pub mod Lists
+pub mod Shares
+pub mod Zeros
+pub mod FiveSums

@@ -1,0 +1,3 @@
+pub mod FiveWords
+pub mod FiveInputs
+pub mod FiveTotals

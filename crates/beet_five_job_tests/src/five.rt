@@ -1,0 +1,279 @@
+use beet_errand::{Refusal, Status, Stop};
+use beet_five_load::load_five_whole;
+use beet_job_five::five;
+use beet_store::{Held, MemoryShelf};
+use beet_words::WordList;
+use std::alloc::Global;
+use std::process::Abort;
+
+/// An auction of four prices, the seeds of five servers, and a book of three bidders; and files that differ from these
+/// in one thing.
+const FILES: [(&str, &str); 19] = [
+    (
+        "g.auc",
+        "beet-auction,1\nbase,100\ntick,5\nprices,4\ngates,chain\n",
+    ),
+    (
+        "v.srv",
+        "beet-servers,5\n1,seed,0101010101010101010101010101010101010101010101010101010101010101\n\
+        2,seed,0202020202020202020202020202020202020202020202020202020202020202\n\
+        3,seed,0303030303030303030303030303030303030303030303030303030303030303\n\
+        4,seed,0404040404040404040404040404040404040404040404040404040404040404\n\
+        5,seed,0505050505050505050505050505050505050505050505050505050505050505\n",
+    ),
+    (
+        "b.book",
+        "beet-book,1\nanna,0,anna.bid,seed,0a0a0a0a0a0a0a0a0a0a0a0a0a0a0a0a0a0a0a0a0a0a0a0a0a0a0a0a0a0a0a0a\n\
+        bo,0,bo.bid,seed,0b0b0b0b0b0b0b0b0b0b0b0b0b0b0b0b0b0b0b0b0b0b0b0b0b0b0b0b0b0b0b0b\n\
+        carl,2,carl.bid,seed,0c0c0c0c0c0c0c0c0c0c0c0c0c0c0c0c0c0c0c0c0c0c0c0c0c0c0c0c0c0c0c0c\n",
+    ),
+    ("anna.bid", "beet-bid,1\n100,45,0\n110,30,0\n115,10,0\n"),
+    (
+        "bo.bid",
+        "beet-bid,1\n100,0,0\n105,0,20\n110,0,40\n115,0,60\n",
+    ),
+    ("carl.bid", "beet-bid,1\n100,5,0\n115,0,0\n"),
+    (
+        "tree.auc",
+        "beet-auction,1\nbase,100\ntick,5\nprices,4\ngates,tree\n",
+    ),
+    (
+        "longer.auc",
+        "beet-auction,1\nbase,100\ntick,5\nprices,4\ngates,tree\nopens,price\n",
+    ),
+    (
+        "opens.auc",
+        "beet-auction,2\nbase,100\ntick,5\nprices,4\ngates,tree\nopens,price\n",
+    ),
+    (
+        "supply.auc",
+        "beet-auction,2\nbase,100\ntick,5\nprices,4\ngates,chain\nopens,full\n",
+    ),
+    (
+        "many.auc",
+        "beet-auction,1\nbase,100\ntick,5\nprices,4096\ngates,chain\n",
+    ),
+    (
+        "three.srv",
+        "beet-servers,1\n1,seed,0101010101010101010101010101010101010101010101010101010101010101\n",
+    ),
+    (
+        "four.srv",
+        "beet-servers,5\n1,seed,0101010101010101010101010101010101010101010101010101010101010101\n\
+        2,seed,0202020202020202020202020202020202020202020202020202020202020202\n\
+        3,seed,0303030303030303030303030303030303030303030303030303030303030303\n\
+        4,seed,0404040404040404040404040404040404040404040404040404040404040404\n",
+    ),
+    ("bundle.srv", "beet-servers,5\nbundle,words\n"),
+    ("marks.book", "beet-book,1\nanna,5,anna.bid,tape,short\n"),
+    (
+        "short.book",
+        "beet-book,1\ncarl,0,carl.bid,tape,enough\nanna,0,anna.bid,tape,short\n",
+    ),
+    ("enough.book", "beet-book,1\nanna,0,anna.bid,tape,enough\n"),
+    (
+        "short",
+        "0000000000000001\n0000000000000002\n0000000000000003\n0000000000000004\n0000000000000005\n\
+        0000000000000006\n0000000000000007\n0000000000000008\n0000000000000009\n000000000000000a\n\
+        000000000000000b\n000000000000000c\n000000000000000d\n000000000000000e\n000000000000000f\n\
+        1fffffffffffffff\n",
+    ),
+    (
+        "enough",
+        "0000000000000001\n0000000000000002\n0000000000000003\n0000000000000004\n0000000000000005\n\
+        0000000000000006\n0000000000000007\n0000000000000008\n0000000000000009\n000000000000000a\n\
+        000000000000000b\n000000000000000c\n000000000000000d\n000000000000000e\n000000000000000f\n\
+        1fffffffffffffff\n0000000000000010\n",
+    ),
+];
+
+/// The words of a command: the names of an auction, of servers and of a book.
+type Names = (&'static str, &'static str, &'static str);
+
+/// The auction that is run.
+const AUCTION: Names = ("g.auc", "v.srv", "b.book");
+
+/// The files that it fetches, in order.
+const FETCHED: [&str; 6] = ["g.auc", "v.srv", "b.book", "anna.bid", "bo.bid", "carl.bid"];
+
+/// The files, in memory of their own.
+fn files(rt: &impl Abort, alloc: Global) -> Vec<Held> {
+    let mut files = Vec::new(alloc);
+    for (name, text) in &FILES {
+        let file = Held {
+            name: String::from_str(alloc, name).expect(rt, "memory"),
+            bytes: Vec::from_slice(alloc, text.as_bytes()).expect(rt, "memory"),
+        };
+        files.push(file).expect(rt, "memory");
+    }
+    files
+}
+
+/// Does the job over the files, where this fetch fails, or none if it is 0: its status and its text.
+fn done(rt: &impl Abort, alloc: Global, names: Names, fetch: u64) -> (Status, Vec<u8>) {
+    let refused = vec![in alloc; fetch].expect(rt, "memory");
+    let mut shelf = MemoryShelf::new(files(rt, alloc), refused);
+    let (auction, servers, book) = names;
+    match five(alloc, &mut shelf, auction, servers, book) {
+        Ok(reply) => (reply.status, reply.text),
+        Err(Stop::Refused(refusal, line)) => (Status::Refused(refusal), line),
+        Err(Stop::OutOfMemory) => (Status::OutOfMemory, Vec::new(alloc)),
+    }
+}
+
+/// Does the job, where this fetch fails, and compares its status and its text.
+fn expect_end(
+    rt: &impl Abort,
+    alloc: Global,
+    names: Names,
+    fetch: u64,
+    status: Status,
+    text: &str,
+) {
+    let (found, said) = done(rt, alloc, names, fetch);
+    assert!(rt; found == status, "of {text}");
+    assert!(rt; said.as_slice() == text.as_bytes(), "not {text}");
+}
+
+/// What is said of the auction.
+const OUTCOME: &str = "price 110\nvolume 35\nrounds 259\n";
+
+#[test]
+fn each_fetch_is_refused_once(rt: HostRuntime) {
+    for (i, name) in FETCHED.iter().enumerate() {
+        let text = format!(in rt.alloc(); "read fault: {name}\n").expect(&rt, "memory");
+        let status = Status::Refused(Refusal::ReadFault);
+        let fetch = i as u64 + 1;
+        expect_end(&rt, rt.alloc(), AUCTION, fetch, status, text.as_str());
+    }
+    let beyond = FETCHED.len() as u64 + 1;
+    expect_end(&rt, rt.alloc(), AUCTION, beyond, Status::Done, OUTCOME);
+}
+
+/// Auctions that are run, and what is said of them.
+const RUN: [(Names, &str); 3] = [
+    (AUCTION, OUTCOME),
+    (
+        ("supply.auc", "v.srv", "b.book"),
+        "price 110\nvolume 35\nsupply 40\nrounds 259\n",
+    ),
+    (("g.auc", "v.srv", "enough.book"), "no price\nrounds 258\n"),
+];
+
+#[test]
+fn five_servers_find_the_outcome(rt: HostRuntime) {
+    for (names, text) in &RUN {
+        expect_end(&rt, rt.alloc(), *names, 0, Status::Done, text);
+    }
+}
+
+/// Files that are refused, and the line of each.
+const BAD: [(Names, &str); 8] = [
+    (
+        ("tree.auc", "none", "none"),
+        "bad file: tree.auc row 5 reason 7\n",
+    ),
+    (
+        ("longer.auc", "none", "none"),
+        "bad file: longer.auc row 6 reason 2\n",
+    ),
+    (
+        ("opens.auc", "none", "none"),
+        "bad file: opens.auc row 5 reason 7\n",
+    ),
+    (
+        ("g.auc", "three.srv", "none"),
+        "bad file: three.srv row 1 reason 1\n",
+    ),
+    (
+        ("g.auc", "four.srv", "none"),
+        "bad file: four.srv row 6 reason 2\n",
+    ),
+    (
+        ("g.auc", "bundle.srv", "none"),
+        "bad file: bundle.srv row 2 reason 3\n",
+    ),
+    (
+        ("g.auc", "v.srv", "v.srv"),
+        "bad file: v.srv row 1 reason 1\n",
+    ),
+    (
+        ("g.auc", "v.srv", "marks.book"),
+        "bad file: marks.book row 2 reason 2\n",
+    ),
+];
+
+#[test]
+fn files_are_refused(rt: HostRuntime) {
+    for (names, text) in &BAD {
+        let status = Status::Refused(Refusal::BadFile);
+        expect_end(&rt, rt.alloc(), *names, 0, status, text);
+    }
+}
+
+#[test]
+fn a_bidder_wants_four_words_for_a_price(rt: HostRuntime) {
+    let names = ("g.auc", "v.srv", "short.book");
+    let status = Status::Refused(Refusal::TooFewWords);
+    let text = "too few words: bidder 2 15 of 16\n";
+    expect_end(&rt, rt.alloc(), names, 0, status, text);
+}
+
+/// How many words are wanted of a server and of a bidder: masks, numbers, and numbers of a bidder, with those that are
+/// kept besides.
+const KEPT: (usize, usize, usize) = (5, 5_128, 24);
+
+/// Compares how many words are kept of each.
+fn expect_kept(rt: &impl Abort, lists: &[WordList], count: usize, length: usize) {
+    assert!(rt; lists.len() == count);
+    for list in lists {
+        assert!(rt; list.as_slice().len() == length);
+    }
+}
+
+#[test]
+fn the_whole_book_is_kept(rt: HostRuntime) {
+    let mut shelf = MemoryShelf::new(files(&rt, rt.alloc()), Vec::new(rt.alloc()));
+    let (auction, servers, book) = AUCTION;
+    let whole = load_five_whole(rt.alloc(), &mut shelf, auction, servers, book);
+    let whole = whole.expect(&rt, "an auction");
+    let (masks, numbers, words) = KEPT;
+    expect_kept(&rt, whole.words.masks.as_slice(), 5, masks);
+    expect_kept(&rt, whole.words.coefficients.as_slice(), 5, numbers);
+    expect_kept(&rt, whole.words.bidders.as_slice(), 3, words);
+    assert!(&rt; whole.book.bidders().len() == 3);
+}
+
+/// A book of so many bidders.
+fn long_book(rt: &impl Abort, alloc: Global, bidders: u32) -> Held {
+    let mut text = String::from_str(alloc, "beet-book,1\n").expect(rt, "memory");
+    for bidder in 0..bidders {
+        let row = format!(in alloc; "{bidder},0,none,tape,none\n").expect(rt, "memory");
+        text.push_str(row.as_str()).expect(rt, "memory");
+    }
+    Held {
+        name: String::from_str(alloc, "long.book").expect(rt, "memory"),
+        bytes: text.into_bytes(),
+    }
+}
+
+/// The line by which a book of so many bidders at 4,096 prices is refused, if it is kept whole.
+fn line_of(rt: &impl Abort, alloc: Global, bidders: u32) -> Vec<u8> {
+    let mut files = files(rt, alloc);
+    files
+        .push(long_book(rt, alloc, bidders))
+        .expect(rt, "memory");
+    let mut shelf = MemoryShelf::new(files, Vec::new(alloc));
+    match load_five_whole(alloc, &mut shelf, "many.auc", "v.srv", "long.book") {
+        Err(Stop::Refused(_, line)) => line,
+        _ => Vec::new(alloc),
+    }
+}
+
+#[test]
+fn a_whole_book_has_its_limit(rt: HostRuntime) {
+    let within = line_of(&rt, rt.alloc(), 122);
+    assert!(&rt; within.as_slice() == b"read fault: none\n".as_slice());
+    let over = line_of(&rt, rt.alloc(), 123);
+    assert!(&rt; over.as_slice() == b"bad file: long.book row 0 reason 6\n".as_slice());
+}

@@ -1,0 +1,22 @@
+//! An auction among five servers that is read, with its whole book.
+
+ghost use Rattle.std.specs.Prelude.{◌≡◌, ◌≤◌, ◌*◌, length};
+ghost use Rattle.beet_gates.specs.declared.Gates.TheVariants.{Chain};
+ghost use Rattle.beet_bids.specs.Books.{IsBook};
+ghost use Rattle.beet_book.specs.declared.book_file.TheConstants.{MOST_PRODUCT};
+ghost use Rattle.beet_five_dealing.specs.FiveWords.{CanRun};
+
+use beet_bids::Book;
+use beet_five_dealing::FiveWords;
+
+/// An auction among five servers that is read: its book, whose gates are chains and which is within the limit, and the
+/// words of the servers and of the bidders, with which five servers can run it.
+#[derive(Drop)]
+pub struct FiveWhole {
+    pub book: Book,
+    pub words: FiveWords,
+    ghost chains: { book.grid.gates ≡ Chain },
+    ghost is_book: { IsBook book },
+    ghost runs: { CanRun book words },
+    ghost within: { length book.bidders * book.grid.prices ≤ MOST_PRODUCT },
+}

@@ -1,0 +1,211 @@
+use beet_bids::{Bidder, Book, Curve, Grid, outcome};
+use beet_coalition_map::Watchers;
+use beet_field::Point;
+use beet_five_dealing::FiveWords;
+use beet_five_map::{FiveMapFault, enough, five_map};
+use beet_gates::Gates;
+use beet_plan::{most_coefficients, most_masks};
+use beet_words::{Tape, WordList};
+use std::alloc::Global;
+use std::process::Abort;
+
+/// How many prices there are.
+const PRICES: u32 = 3;
+
+/// How many pairs of books are drawn for each pair of servers.
+const DRAWN: u64 = 6;
+
+/// The marks of the bidders.
+const MARKS: [Option<Point>; 6] = [
+    None,
+    Some(Point::One),
+    Some(Point::Two),
+    Some(Point::Three),
+    None,
+    Some(Point::One),
+];
+
+/// The same, but for the third bidder.
+const OTHER_MARKS: [Option<Point>; 6] = [
+    None,
+    Some(Point::One),
+    None,
+    Some(Point::Three),
+    None,
+    Some(Point::One),
+];
+
+/// The next number of a sequence that looks like chance, below 2^31.
+fn next(number: u64) -> u64 {
+    ((number % (1 << 31)) * 1_103_515_245 + 12_345) % (1 << 31)
+}
+
+/// A curve that is drawn from a seed: steps of one height, down and up.
+fn curve(rt: &impl Abort, alloc: Global, grid: &Grid, seed: u64) -> Curve {
+    let one = next(next(seed));
+    let two = next(one);
+    let mut buy = Vec::new(alloc);
+    let mut sell = Vec::new(alloc);
+    for place in 0..PRICES as u64 {
+        let down = PRICES as u64 - place;
+        buy.push((one >> 8) % 40 + (one >> 16) % 9 * down)
+            .expect(rt, "memory");
+        sell.push((two >> 8) % 40 + (two >> 16) % 9 * place)
+            .expect(rt, "memory");
+    }
+    Curve::of(grid, buy, sell).expect(rt, "a curve")
+}
+
+/// Whether a bidder with this mark is known to one of the two.
+fn is_own(two: Watchers, known: Option<Point>) -> bool {
+    match known {
+        Some(server) => server.number() == two.a as u64 || server.number() == two.b as u64,
+        None => false,
+    }
+}
+
+/// A book whose bidders are drawn from a seed, and those that one of the two knows from another.
+fn book(
+    rt: &impl Abort,
+    alloc: Global,
+    marks: &[Option<Point>],
+    two: Watchers,
+    own: u64,
+    seed: u64,
+) -> Book {
+    let grid = Grid::new(100, 5, PRICES, Gates::Chain).expect(rt, "a grid");
+    let mut bidders = Vec::new(alloc);
+    for (i, known) in marks.iter().enumerate() {
+        let drawn = if is_own(two, *known) { own } else { seed };
+        let curve = curve(rt, alloc, &grid, drawn % 1_000 * 8 + i as u64 % 8);
+        let known = *known;
+        bidders.push(Bidder { known, curve }).expect(rt, "memory");
+    }
+    Book::new(grid, bidders).expect(rt, "a book")
+}
+
+/// So many lists of words, drawn from a seed.
+fn lists(rt: &impl Abort, alloc: Global, count: u64, stream: u64, length: u32) -> Vec<WordList> {
+    let mut lists = Vec::new(alloc);
+    for k in 0..count {
+        let tape = Tape::of_seed(alloc, &[7; 32], stream % 8 * 8 + k % 8, length).expect(
+            rt, "memory",
+        );
+        lists.push(tape.into_words()).expect(rt, "memory");
+    }
+    lists
+}
+
+/// Words for a book.
+fn words(rt: &impl Abort, alloc: Global) -> FiveWords {
+    FiveWords {
+        masks: lists(rt, alloc, 5, 1, most_masks(PRICES)),
+        coefficients: lists(rt, alloc, 5, 2, 2 * most_coefficients(PRICES)),
+        bidders: lists(rt, alloc, 6, 3, 4 * PRICES),
+    }
+}
+
+/// Whether two lists hold the same words.
+fn same(one: &[WordList], other: &[WordList]) -> bool {
+    one.len() == other.len()
+        && one
+            .iter()
+            .zip(other.iter())
+            .all(|(one, other)| one.as_slice() == other.as_slice())
+}
+
+/// The words for the two in the world of the second book.
+fn mapped(
+    rt: &impl Abort,
+    alloc: Global,
+    two: Watchers,
+    first: &Book,
+    second: &Book,
+    words: &FiveWords,
+) -> Result<FiveWords, FiveMapFault> {
+    assert!(rt; 1 <= two.a && two.a < two.b && two.b <= 5);
+    assert!(rt; first.grid() == second.grid());
+    assert!(rt; first.grid().gates() == Gates::Chain);
+    assert!(rt; enough(first, words));
+    five_map(alloc, two, first, second, words)
+}
+
+/// Maps the words, and back. The answer is whether the books have the same outcome.
+fn there_and_back(
+    rt: &impl Abort,
+    alloc: Global,
+    two: Watchers,
+    first: &Book,
+    second: &Book,
+) -> bool {
+    let words = words(rt, alloc);
+    match mapped(rt, alloc, two, first, second, &words) {
+        Ok(there) => {
+            let back = mapped(rt, alloc, two, second, first, &there).expect(rt, "a map");
+            assert!(rt; same(&back.masks, &words.masks));
+            assert!(rt; same(&back.coefficients, &words.coefficients));
+            assert!(rt; same(&back.bidders, &words.bidders));
+            assert!(rt; !same(&there.bidders, &words.bidders));
+            drop((there, back, words));
+            true
+        }
+        Err(fault) => {
+            drop(words);
+            assert!(rt; fault == FiveMapFault::OutcomesDiffer(outcome(first), outcome(second)));
+            false
+        }
+    }
+}
+
+/// Whether some of the pairs of books that are drawn for two servers have the same outcome.
+fn some_agree(rt: &impl Abort, alloc: Global, two: Watchers) -> bool {
+    let mut agree = false;
+    for seed in 0..DRAWN {
+        let first = book(rt, alloc, &MARKS, two, seed, seed);
+        let second = book(rt, alloc, &MARKS, two, seed, seed + 100);
+        if there_and_back(rt, alloc, two, &first, &second) {
+            agree = true;
+        }
+        drop((first, second));
+    }
+    agree
+}
+
+#[test]
+fn words_go_there_and_back(rt: HostRuntime) {
+    for a in 1..5 {
+        for b in a + 1..6 {
+            assert!(rt; some_agree(&rt, rt.alloc(), Watchers { a, b }));
+        }
+    }
+}
+
+/// Why words are not mapped between two books, of which the second has these marks, and its own bidders from this seed.
+fn fault(
+    rt: &impl Abort,
+    alloc: Global,
+    two: Watchers,
+    marks: &[Option<Point>],
+    own: u64,
+) -> Option<FiveMapFault> {
+    let first = book(rt, alloc, &MARKS, two, 0, 0);
+    let second = book(rt, alloc, marks, two, own, 0);
+    let words = words(rt, alloc);
+    let fault = mapped(rt, alloc, two, &first, &second, &words).err();
+    drop((first, second, words));
+    fault
+}
+
+#[test]
+fn books_that_differ(rt: HostRuntime) {
+    let alloc = rt.alloc();
+    let two = Watchers { a: 2, b: 4 };
+    let shape = fault(&rt, alloc, two, &OTHER_MARKS, 0);
+    assert!(rt; shape == Some(FiveMapFault::ShapeDiffers(3)));
+    let own = fault(&rt, alloc, two, &MARKS, 1);
+    assert!(rt; own == Some(FiveMapFault::OwnBidsDiffer(3)));
+    let own = fault(&rt, alloc, Watchers { a: 1, b: 2 }, &MARKS, 1);
+    assert!(rt; own == Some(FiveMapFault::OwnBidsDiffer(2)));
+    let none = fault(&rt, alloc, Watchers { a: 4, b: 5 }, &MARKS, 1);
+    assert!(rt; none.is_none());
+}

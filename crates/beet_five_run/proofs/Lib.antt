@@ -1,0 +1,2 @@
+pub mod FiveStarts
+pub mod FiveEnding

@@ -1,0 +1,4 @@
+pub mod Peers
+pub mod More
+pub mod SameViews
+pub mod CoreSees

@@ -1,0 +1,5 @@
+pub mod JointViews
+pub mod JointBooks
+pub mod CoreViews
+pub mod WordsFiles
+pub mod Statements
