@@ -1,3 +1,3 @@
 pub mod Running
 pub mod Showing
-pub mod Words
+mod Tables

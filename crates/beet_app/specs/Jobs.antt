@@ -1,9 +1,11 @@
 -- The table of commands: a row for each, with its words and the job that they name.
-use Rattle.std.specs.Prelude.{ℕ, List, [], ◌∷◌, Option, Some, None, option_map, ◌&&◌, if◌then◌else◌, codes}
+use Rattle.std.specs.Prelude.{ℕ, List, [], ◌∷◌, Bool, false, Option, Some, None, option_map, ◌&&◌, ◌||◌, codes}
+use Rattle.std.specs.Prelude.{if◌then◌else◌}
 use Rattle.beet_field.specs.Point.{server_of}
 use Rattle.beet_field.specs.declared.point.Point.{Point}
 use Rattle.beet_forms.specs.Names.{is_name_of}
 use Rattle.beet_errand.specs.Errands.{Errand}
+use Rattle.beet_command.specs.Lines.{Words, WithTwo, WithThree, WithFour, WithSix, words_in}
 use Rattle.beet_command.specs.Words.{are_names, is_word}
 use Rattle.beet_job_tally.specs.Tally.{tally_errand}
 use Rattle.beet_job_clear.specs.Clear.{clear_errand}
@@ -16,6 +18,7 @@ use Rattle.beet_job_envelopes.specs.Seal.{seal_errand}
 use Rattle.beet_job_envelopes.specs.Open.{open_errand}
 use Rattle.beet_job_trial.specs.Sizes.{sizes_of}
 use Rattle.beet_job_trial.specs.Trial.{trial_errand}
+use Rattle.beet_job_five.specs.Five.{five_errand}
 
 -- a job: it has an errand, which ends with its answer; or it compares two worlds, with the words of the second as they
 -- are mapped; or it tells what is found in an auction and three transcripts
@@ -68,10 +71,34 @@ job_of_six command auction servers first second server out =
     then option_map (λ s. Comparing auction servers first second s out) (server_of server)
     else None
 
--- the job that the words name: a command, and exactly its words
+-- the job that the words of a command among three servers name: a command, and exactly its words
+abbrev pub job_in : Words → Option Job
+job_in (WithTwo command a b) = job_of_two command a b
+job_in (WithThree command a b c) = job_of_three command a b c
+job_in (WithFour command a b c d) = job_of_four command a b c d
+job_in (WithSix command a b c d e f) = job_of_six command a b c d e f
+job_in words = None
+
+-- the job of a command among five servers with three files
+abbrev pub five_job_of_three : List ℕ → List ℕ → List ℕ → List ℕ → Option Job
+five_job_of_three command auction servers book =
+    if is_word command (codes "five") && are_names (auction ∷ servers ∷ book ∷ [])
+    then Some (Answering (five_errand auction servers book))
+    else None
+
+-- the job that the words of a command among five servers name
+abbrev pub five_job_in : Words → Option Job
+five_job_in (WithThree command a b c) = five_job_of_three command a b c
+five_job_in words = None
+
+abbrev pub five_job_of : List (List ℕ) → Option Job
+five_job_of words = five_job_in (words_in words)
+
+-- whether the first of the words is a command among five servers
+abbrev pub is_of_five : List (List ℕ) → Bool
+is_of_five [] = false
+is_of_five (command ∷ words) = is_word command (codes "five") || is_word command (codes "five_worlds")
+
+-- the job that the words name
 abbrev pub job_of : List (List ℕ) → Option Job
-job_of (command ∷ a ∷ b ∷ []) = job_of_two command a b
-job_of (command ∷ a ∷ b ∷ c ∷ []) = job_of_three command a b c
-job_of (command ∷ a ∷ b ∷ c ∷ d ∷ []) = job_of_four command a b c d
-job_of (command ∷ a ∷ b ∷ c ∷ d ∷ e ∷ f ∷ []) = job_of_six command a b c d e f
-job_of words = None
+job_of words = if is_of_five words then five_job_of words else job_in (words_in words)

@@ -5,7 +5,7 @@ use Rattle.beet_store.specs.Files.{Told, bytes_of}
 use Rattle.beet_store.specs.Desks.{Given}
 use Rattle.beet_words.specs.Bundles.{Words, bundle_bytes}
 use Rattle.beet_bids.specs.Books.{Book}
-use Rattle.beet_auction_map.specs.Agreement.{Agree}
+use Rattle.beet_two_books.specs.Agreement.{Agree}
 use Rattle.beet_auction_map.specs.MappedWords.{IsOnlyFirst, IsOnlySecond, Mapped}
 use Rattle.beet_job_worlds.specs.Answering.{worlds_text}
 use Rattle.beet_view.specs.BookViews.{transcript_for}

@@ -2,33 +2,31 @@
 
 ghost use Rattle.std.specs.Prelude.{◌≡◌, IfSome, map, option_map, string_bytes};
 ghost use Rattle.beet_app.specs.Commands.{HasSizes, job_for};
-ghost use Rattle.beet_app.specs.Jobs.{job_of, job_of_four, job_of_six, job_of_three, job_of_two};
+ghost use Rattle.beet_app.specs.Jobs.{job_in, job_of_four, job_of_six, job_of_three, job_of_two};
+ghost use Rattle.beet_command.specs.Lines.{words_in};
 
-use beet_command::is_file;
+use beet_command::{Line, is_file, read_line};
 use beet_field::Point;
+use beet_gathering::ListFiles;
 use beet_job_audit::AuditFiles;
-use beet_job_clear::ClearFiles;
-use beet_job_envelopes::{OpenFiles, SealFiles, SourceWord, read_source_word};
-use beet_job_record::RecordFiles;
-use beet_job_rehearse::RehearseFiles;
+use beet_job_envelopes::{SealFiles, SourceWord, read_source_word};
 use beet_job_trial::numbers_of_words;
-use beet_job_watch::WatchFiles;
-use beet_job_witness::WitnessFiles;
 use beet_job_worlds::WorldsFiles;
+use beet_load::AuctionFiles;
 
 /// A command with its words. Those that stand for files are names.
 #[derive(Clone, Copy)]
 pub(crate) enum Command<'a> {
     Tally { auction: &'a str, book: &'a str },
-    Clear(ClearFiles<'a>),
-    Watch(WatchFiles<'a>),
-    Rehearse(RehearseFiles<'a>),
-    Record(RecordFiles<'a>),
+    Clear(AuctionFiles<'a>),
+    Watch(AuctionFiles<'a>),
+    Rehearse(AuctionFiles<'a>, &'a str),
+    Record(AuctionFiles<'a>, &'a str),
     Audit(AuditFiles<'a>),
     Worlds(WorldsFiles<'a>, Point),
     Seal(SealFiles<'a>, SourceWord<'a>),
-    Open(OpenFiles<'a>),
-    Witness(WitnessFiles<'a>),
+    Open(ListFiles<'a>),
+    Witness(ListFiles<'a>, &'a str),
     Trial { bidders: u32, prices: u32 },
 }
 
@@ -63,19 +61,19 @@ fn with_three<'a>(
     if !(is_file(auction) && is_file(servers) && is_file(third)) {
         None
     } else if name == "clear" {
-        Some(Command::Clear(ClearFiles {
+        Some(Command::Clear(AuctionFiles {
             auction,
             servers,
             book: third,
         }))
     } else if name == "watch" {
-        Some(Command::Watch(WatchFiles {
+        Some(Command::Watch(AuctionFiles {
             auction,
             servers,
             book: third,
         }))
     } else if name == "open" {
-        Some(Command::Open(OpenFiles {
+        Some(Command::Open(ListFiles {
             auction,
             servers,
             list: third,
@@ -109,26 +107,26 @@ fn with_four<'a>(
     } else if !is_file(third) {
         None
     } else if name == "rehearse" {
-        Some(Command::Rehearse(RehearseFiles {
+        let files = AuctionFiles {
             auction: first,
             servers: second,
             book: third,
-            schedule: fourth,
-        }))
+        };
+        Some(Command::Rehearse(files, fourth))
     } else if name == "record" {
-        Some(Command::Record(RecordFiles {
+        let files = AuctionFiles {
             auction: first,
             servers: second,
             book: third,
-            out: fourth,
-        }))
+        };
+        Some(Command::Record(files, fourth))
     } else if name == "witness" {
-        Some(Command::Witness(WitnessFiles {
+        let files = ListFiles {
             auction: first,
             servers: second,
             list: third,
-            out: fourth,
-        }))
+        };
+        Some(Command::Witness(files, fourth))
     } else if name == "audit" {
         Some(Command::Audit(AuditFiles {
             auction: first,
@@ -176,28 +174,14 @@ fn with_six<'a>(
 
 /// The command that the words name, if they name one.
 pub(crate) fn read_command(words: &[String]) -> Option<Command<'_>>
-    ensures job { option_map job_for result ≡ job_of (map string_bytes words.now) }
+    ensures job { option_map job_for result ≡ job_in (words_in (map string_bytes words.now)) }
     ensures sizes { IfSome result HasSizes }
 {
-    match words {
-        [name, a, b] => with_two(name.as_str(), a.as_str(), b.as_str()),
-        [name, a, b, c] => with_three(name.as_str(), a.as_str(), b.as_str(), c.as_str()),
-        [name, a, b, c, d] => with_four(
-            name.as_str(),
-            a.as_str(),
-            b.as_str(),
-            c.as_str(),
-            d.as_str(),
-        ),
-        [name, a, b, c, d, e, f] => with_six(
-            name.as_str(),
-            a.as_str(),
-            b.as_str(),
-            c.as_str(),
-            d.as_str(),
-            e.as_str(),
-            f.as_str(),
-        ),
+    match read_line(words) {
+        Line::Two(name, a, b) => with_two(name, a, b),
+        Line::Three(name, a, b, c) => with_three(name, a, b, c),
+        Line::Four(name, a, b, c, d) => with_four(name, a, b, c, d),
+        Line::Six(name, a, b, c, d, e, f) => with_six(name, a, b, c, d, e, f),
         _ => None,
     }
 }

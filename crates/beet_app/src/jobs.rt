@@ -1,10 +1,10 @@
 //! Doing the job that the words name.
 
-ghost use Rattle.std.specs.Prelude.{Some, map, string_bytes};
+ghost use Rattle.std.specs.Prelude.{◌≡◌, Some, false, map, string_bytes};
 ghost use Rattle.beet_errand.specs.Tasks.{DoesNamed, DoesTask};
 ghost use Rattle.beet_app.specs.Commands.{HasSizes, job_for};
 ghost use Rattle.beet_app.specs.Doing.{task_of};
-ghost use Rattle.beet_app.specs.Jobs.{job_of};
+ghost use Rattle.beet_app.specs.Jobs.{is_of_five, job_of};
 
 use crate::commands::{Command, read_command};
 use beet_errand::{Reply, Stop};
@@ -40,18 +40,18 @@ fn do_job<S: Shelf, R: Threads + Wait + Clock + Sync, G: Gate>(
         Command::Tally { auction, book } => tally(alloc, shelf, auction, book),
         Command::Clear(files) => clear(rt, alloc, shelf, &files, gate),
         Command::Watch(files) => watch(rt, alloc, shelf, &files),
-        Command::Rehearse(files) => rehearse(alloc, shelf, &files),
-        Command::Record(files) => record(rt, alloc, shelf, &files, gate),
+        Command::Rehearse(files, schedule) => rehearse(alloc, shelf, &files, schedule),
+        Command::Record(files, out) => record(rt, alloc, shelf, &files, out, gate),
         Command::Audit(files) => audit_files(alloc, shelf, &files),
         Command::Worlds(files, server) => worlds(rt, alloc, shelf, &files, server),
         Command::Seal(files, source) => seal_bid(alloc, shelf, &files, source),
         Command::Open(files) => open_envelopes(rt, alloc, shelf, &files, gate),
-        Command::Witness(files) => witness(rt, alloc, shelf, &files, gate),
+        Command::Witness(files, out) => witness(rt, alloc, shelf, &files, out, gate),
         Command::Trial { bidders, prices } => trial(rt, alloc, bidders, prices, gate),
     }
 }
 
-/// Does the job that the words name, if they name one.
+/// Does the job that the words of a command among three servers name, if they name one.
 pub(crate) fn do_named<S: Shelf, R: Threads + Wait + Clock + Sync, G: Gate>(
     rt: &R,
     alloc: Global,
@@ -59,6 +59,7 @@ pub(crate) fn do_named<S: Shelf, R: Threads + Wait + Clock + Sync, G: Gate>(
     words: &[String],
     gate: &G,
 ) -> Option<Result<Reply, Stop>>
+    requires { is_of_five (map string_bytes words.now) ≡ false }
     ensures { DoesNamed (task_of (job_of (map string_bytes words.now))) (S.seen shelf.old) (S.seen shelf.new) result }
 {
     match read_command(words) {

@@ -8,11 +8,13 @@ ghost use Rattle.beet_app.specs.Jobs.{job_of};
 ghost use Rattle.beet_app.specs.Showing.{Shows};
 
 mod commands;
+mod five;
 mod jobs;
 
 use beet_errand::end_run;
 use beet_link::Gate;
 use beet_store::{Desk, Shelf};
+pub use five::{names_five, run_five};
 use std::alloc::Global;
 use std::sync::Wait;
 use std::thread::Threads;
@@ -33,6 +35,7 @@ use std::time::Clock;
 ///   words is `seed:` and 64 hexadecimal digits, or `tape:` and a name.
 /// - `open AUCTION SERVERS LIST` runs the auction of the envelopes that a list names.
 /// - `witness AUCTION SERVERS LIST OUT` does the same, and writes what each server has seen of it as `record` does.
+/// - `five AUCTION SERVERS BOOK` runs the auction of a book among five servers.
 /// - `trial BIDDERS PRICES` runs the auction of a book that is made by a rule, of 0 to 2,000 bidders and 1 to 4,096
 ///   prices.
 ///
@@ -64,5 +67,8 @@ pub fn run<S: Shelf, K: Desk, R: Threads + Wait + Clock + Sync, G: Gate>(
     ensures shows { (result ≡ 0) ⊎ (result ≡ 6) → Shows (job_of (map string_bytes words.now))
         (S.seen shelf.old).told (S.seen shelf.new).told (K.seen desk.old).told.given (K.seen desk.new).told.given }
 {
+    if names_five(words) {
+        return run_five(alloc, words, shelf, desk);
+    }
     end_run(alloc, desk, jobs::do_named(rt, alloc, shelf, words, gate))
 }

@@ -29,12 +29,14 @@ use Rattle.beet_words.specs.TapeFiles.{tape_of}
 use Rattle.beet_words.specs.Seeds.{seed_words}
 use Rattle.beet_words.specs.declared.tape_file.TheConstants.{TAPE_LIMIT}
 use Rattle.beet_forms.specs.declared.faults.TheConstants.{LONGEST_FILE}
-use Rattle.beet_plan.specs.Kept.{coefficients_kept, words_kept}
+use Rattle.beet_gates.specs.declared.Gates.{Gates}
+use Rattle.beet_gates.specs.declared.Gates.TheVariants.{Chain, Tree}
 use Rattle.beet_errand.specs.Errands.{Answer, Errand, Ends, Wants, Step, after_answer, bad_file, judged, reads, refuses}
 use Rattle.beet_errand.specs.Errands.{too_long}
 use Rattle.beet_errand.specs.Fetches.{IsDone, Leads, Went}
-use Rattle.beet_load.specs.Counts.{coefficients_wanted, counts_of, masks_wanted, words_wanted}
-use Rattle.beet_load.specs.Wanted.{wanted_of}
+use Rattle.beet_masking.specs.Masks.{with_spare}
+use Rattle.beet_load.specs.Counts.{Counts, counts_of}
+use Rattle.beet_load.specs.declared.wanted.Wanted.{Wanted}
 use Rattle.beet_load.specs.Farmers.{enough_words, farmer_errand, farmers_errand, list_at, words_errand}
 use Rattle.beet_load.specs.Limits.{within_product}
 use Rattle.beet_load.specs.Loading.{loaded_errand, rest_errand}
@@ -47,6 +49,11 @@ use Rattle.beet_errand.specs.declared.answer.Refusal.{Refusal}
 use Rattle.beet_errand.specs.declared.answer.Refusal.TheVariants.{ReadFault, BadFile, TooFewWords}
 use Rattle.beet_errand.specs.declared.answer.Status.TheVariants.{Refused}
 use Rattle.beet_load.specs.Limits.{over_product}
+use Rattle.beet_five_load.specs.FiveLoading.{five_loaded_errand, five_rest_errand, read_with}
+use Rattle.beet_five_load.specs.FiveServerFiles.{five_seeds_of}
+use Rattle.beet_five_load.specs.FiveServers.{lists_of, servers_errand as five_servers_errand}
+use Rattle.beet_five_load.specs.FiveSettings.{FiveSetting, five_setting_errand, tree_gates, with_chains}
+use Rattle.beet_five_load.specs.FiveWants.{counts_of_five}
 use Rattle.beet_app_laws.specs.Leavings.{AreOutputs}
 use Rattle.beet_app_laws.specs.Refusals.{IsLineOf}
 
@@ -117,29 +124,34 @@ module _ (out : List ℕ) where
   words-well None (Seed seed) kept next h = h (seed_words seed 0 kept)
   words-well None (Tape name) kept next h = reads-well name TAPE_LIMIT (λ bytes. tape_of bytes kept) next h
 
-  farmer-well : (grid : Grid) (given : Option (List ℕ)) (number : ℕ) (entry : Entry) → StepsWell
-      (farmer_errand (wanted_of None grid) grid given number entry)
-  farmer-well grid given number entry next h =
+  -- so many words are wanted, and it is no lot
+  abbrev alone : Counts → Wanted
+  alone counts = record { counts = counts; lot = None }
+
+  farmer-well : (counts : Counts) (grid : Grid) (given : Option (List ℕ)) (number : ℕ) (entry : Entry) → StepsWell
+      (farmer_errand (alone counts) grid given number entry)
+  farmer-well counts grid given number entry next h =
       reads-well entry.bid BID_LIMIT (bid_of grid) _ (λ curve.
-      words-well given entry.source (words_kept grid.prices) _ (λ words.
-      enough-well number (words_wanted grid) words _ (h _)))
+      words-well given entry.source (with_spare counts.words) _ (λ words.
+      enough-well number counts.words words _ (h _)))
 
-  farmers-well : (grid : Grid) (lists : Option (List (List ℕ))) (read : List BidderWithWords) (entries : List Entry) → StepsWell
-      (farmers_errand (wanted_of None grid) grid lists read entries)
-  farmers-well grid lists read [] next h = h read
-  farmers-well grid lists read (entry ∷ entries) next h =
-      farmer-well grid (list_at lists (length read)) (length read + 1) entry _
-      (λ farmer. farmers-well grid lists (read ++ farmer ∷ []) entries next h)
+  farmers-well : (counts : Counts) (grid : Grid) (lists : Option (List (List ℕ))) (read : List BidderWithWords)
+      (entries : List Entry) → StepsWell
+      (farmers_errand (alone counts) grid lists read entries)
+  farmers-well counts grid lists read [] next h = h read
+  farmers-well counts grid lists read (entry ∷ entries) next h =
+      farmer-well counts grid (list_at lists (length read)) (length read + 1) entry _
+      (λ farmer. farmers-well counts grid lists (read ++ farmer ∷ []) entries next h)
 
-  pub bidders-well : (grid : Grid) (lists : Option (List (List ℕ))) (entries : List Entry) → StepsWell
-      (farmers_errand (wanted_of None grid) grid lists [] entries)
-  bidders-well grid lists entries = farmers-well grid lists [] entries
+  pub bidders-well : (counts : Counts) (grid : Grid) (lists : Option (List (List ℕ))) (entries : List Entry) → StepsWell
+      (farmers_errand (alone counts) grid lists [] entries)
+  bidders-well counts grid lists entries = farmers-well counts grid lists [] entries
 
-  source-well : (grid : Grid) (source : ServerSource) → StepsWell (source_errand (wanted_of None grid) source)
-  source-well grid (ServerSeed seed) next h = h _
-  source-well grid (Tapes coefficients masks) next h =
-      reads-well coefficients TAPE_LIMIT (λ bytes. tape_of bytes (coefficients_kept grid)) _ (λ numbers.
-      reads-well masks TAPE_LIMIT (λ bytes. tape_of bytes (masks_wanted grid)) _ (λ words. h _))
+  source-well : (counts : Counts) (source : ServerSource) → StepsWell (source_errand (alone counts) source)
+  source-well counts (ServerSeed seed) next h = h _
+  source-well counts (Tapes coefficients masks) next h =
+      reads-well coefficients TAPE_LIMIT (λ bytes. tape_of bytes (with_spare counts.coefficients)) _ (λ numbers.
+      reads-well masks TAPE_LIMIT (λ bytes. tape_of bytes counts.masks) _ (λ words. h _))
 
   held-enough : (server : ℕ) (kind : List ℕ) (held wanted : ℕ) (next : Errand) → EndsWell next →
       EndsWell (enough_held None server kind held wanted next)
@@ -148,38 +160,46 @@ module _ (out : List ℕ) where
       (refused-well TooFewWords _
       (inr (record { server = server; kind = kind; held = held; wanted = wanted; is = refl }))) h
 
-  one-enough : (grid : Grid) (server : ℕ) (words : ServerWords) (next : Errand) → EndsWell next → EndsWell
-      (enough_of (wanted_of None grid) server words next)
-  one-enough grid server words next h =
-      held-enough server (codes "coefficients") (length (accepted words.coefficients)) (coefficients_wanted grid)
-      (enough_held None server (codes "masks") (length words.masks) (masks_wanted grid) next)
-      (held-enough server (codes "masks") (length words.masks) (masks_wanted grid) next h)
+  one-enough : (counts : Counts) (server : ℕ) (words : ServerWords) (next : Errand) → EndsWell next → EndsWell
+      (enough_of (alone counts) server words next)
+  one-enough counts server words next h =
+      held-enough server (codes "coefficients") (length (accepted words.coefficients)) counts.coefficients
+      (enough_held None server (codes "masks") (length words.masks) counts.masks next)
+      (held-enough server (codes "masks") (length words.masks) counts.masks next h)
 
-  pub servers-enough : (grid : Grid) (servers : Trio ServerWords) (next : Errand) → EndsWell next → EndsWell
-      (enough_of_all (wanted_of None grid) servers next)
-  servers-enough grid servers next h =
-      one-enough grid 1 servers.one
-      (enough_of (wanted_of None grid) 2 servers.two (enough_of (wanted_of None grid) 3 servers.three next))
-      (one-enough grid 2 servers.two (enough_of (wanted_of None grid) 3 servers.three next)
-      (one-enough grid 3 servers.three next h))
+  pub servers-enough : (counts : Counts) (servers : Trio ServerWords) (next : Errand) → EndsWell next → EndsWell
+      (enough_of_all (alone counts) servers next)
+  servers-enough counts servers next h =
+      one-enough counts 1 servers.one
+      (enough_of (alone counts) 2 servers.two (enough_of (alone counts) 3 servers.three next))
+      (one-enough counts 2 servers.two (enough_of (alone counts) 3 servers.three next)
+      (one-enough counts 3 servers.three next h))
 
-  server-well : (grid : Grid) (server : ℕ) (source : ServerSource) →
-      StepsWell (server_errand (wanted_of None grid) server source)
-  server-well grid server source next h =
-      source-well grid source _ (λ words. one-enough grid server words (next words) (h words))
+  server-well : (counts : Counts) (server : ℕ) (source : ServerSource) →
+      StepsWell (server_errand (alone counts) server source)
+  server-well counts server source next h =
+      source-well counts source _ (λ words. one-enough counts server words (next words) (h words))
 
-  three-well : (grid : Grid) (sources : Trio ServerSource) → StepsWell (three_errand (wanted_of None grid) sources)
-  three-well grid sources next h =
-      server-well grid 1 sources.one _
-      (λ one. server-well grid 2 sources.two _ (λ two. server-well grid 3 sources.three _ (λ three. h _)))
+  three-well : (counts : Counts) (sources : Trio ServerSource) → StepsWell (three_errand (alone counts) sources)
+  three-well counts sources next h =
+      server-well counts 1 sources.one _
+      (λ one. server-well counts 2 sources.two _ (λ two. server-well counts 3 sources.three _ (λ three. h _)))
 
-  pub all-words-well : (grid : Grid) (count : Option ℕ) (sources : Servers) → StepsWell
-      (all_words_errand (wanted_of None grid) count sources)
-  all-words-well grid count (Three sources) next h =
-      three-well grid sources _ (λ servers. h (record { servers = servers; bidders = None }))
-  all-words-well grid count (Bundle name) next h =
+  pub all-words-well : (counts : Counts) (count : Option ℕ) (sources : Servers) → StepsWell
+      (all_words_errand (alone counts) count sources)
+  all-words-well counts count (Three sources) next h =
+      three-well counts sources _ (λ servers. h (record { servers = servers; bidders = None }))
+  all-words-well counts count (Bundle name) next h =
       reads-well name LONGEST_FILE (λ bytes. counted count (bundle_of bytes)) _
-      (λ words. servers-enough grid (cut_servers (counts_of grid) words) _ (h _))
+      (λ words. servers-enough counts (cut_servers counts words) _ (h _))
+
+  -- the servers whose seeds are given, one after another
+  seeded-well : (counts : Counts) (read : List ServerWords) (seeds : List (List ℕ)) → StepsWell
+      (five_servers_errand (alone counts) read seeds)
+  seeded-well counts read [] next h = h read
+  seeded-well counts read (seed ∷ seeds) next h =
+      server-well counts (length read + 1) (ServerSeed seed) _
+      (λ words. seeded-well counts (read ++ words ∷ []) seeds next h)
 
   pub product-well : (book : List ℕ) (grid : Grid) (count : ℕ) (next : Errand) → EndsWell next →
       EndsWell (within_product 0 book grid count next)
@@ -193,8 +213,8 @@ module _ (out : List ℕ) where
       reads-well auction AUCTION_LIMIT auction_of _ (λ grid.
       reads-well servers SERVERS_LIMIT servers_of _ (λ sources.
       reads-well book BOOK_LIMIT book_of _ (λ entries.
-      all-words-well grid (Some (length entries)) sources _ (λ words.
-      bidders-well grid words.bidders entries _
+      all-words-well (counts_of grid) (Some (length entries)) sources _ (λ words.
+      bidders-well (counts_of grid) grid words.bidders entries _
       (λ farmers. h (record { grid = grid; servers = words.servers; farmers = farmers }))))))
 
   pub limited-well : (auction servers book : List ℕ) → StepsWell (limited_errand auction servers book)
@@ -204,9 +224,37 @@ module _ (out : List ℕ) where
       reads-well servers SERVERS_LIMIT servers_of _ (λ sources.
       reads-well book BOOK_LIMIT book_of _ (λ entries.
       product-well book grid (length entries) _ (
-      all-words-well grid (Some (length entries)) sources _ (λ words.
-      bidders-well grid words.bidders entries _
+      all-words-well (counts_of grid) (Some (length entries)) sources _ (λ words.
+      bidders-well (counts_of grid) grid words.bidders entries _
       (λ farmers. h (record { grid = grid; servers = words.servers; farmers = farmers })))))))
+
+  chains-well : (auction : List ℕ) (gates : Gates) (next : Errand) → EndsWell next → EndsWell (with_chains auction gates next)
+  chains-well auction Chain next h = h
+  chains-well auction Tree next h =
+      refused-well BadFile _ (record { name = auction; fault = tree_gates; is = refl })
+
+  -- an auction among five servers
+  five-rest-well : (setting : FiveSetting) → StepsWell (five_rest_errand setting)
+  unfolding five_rest_errand
+  five-rest-well setting next h =
+      let counts = counts_of_five setting.grid in
+      seeded-well counts [] setting.seeds _ (λ servers.
+      bidders-well counts setting.grid None setting.entries _
+      (λ farmers. h (read_with setting.grid (lists_of servers) farmers)))
+
+  five-setting-well : (auction servers book : List ℕ) → StepsWell (five_setting_errand auction servers book)
+  unfolding five_setting_errand
+  five-setting-well auction servers book next h =
+      reads-well auction AUCTION_LIMIT auction_of _ (λ grid.
+      chains-well auction grid.gates _ (
+      reads-well servers SERVERS_LIMIT five_seeds_of _ (λ seeds.
+      reads-well book BOOK_LIMIT book_of _
+      (λ entries. h (record { grid = grid; seeds = seeds; entries = entries })))))
+
+  pub five-well : (auction servers book : List ℕ) → StepsWell (five_loaded_errand auction servers book)
+  unfolding five_loaded_errand
+  five-well auction servers book next h =
+      five-setting-well auction servers book _ (λ setting. five-rest-well setting next h)
 
   bids-well : (grid : Grid) (read : List Bidder) (entries : List Entry) → StepsWell (bids_errand grid read entries)
   bids-well grid read [] next h = h read

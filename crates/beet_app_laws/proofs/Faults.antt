@@ -1,6 +1,5 @@
 -- What two books differ in, and what an audit finds, is no want of memory.
-use Rattle.std.proofs.Common.{◌≡◌, inl, inr, ℕ, Bool, true, false, Option, Some, None, IfSome, option_map}
-use Rattle.std.proofs.Common.{if◌then◌else◌, refl}
+use Rattle.std.proofs.Common.{◌≡◌, inl, inr, ℕ, Option, Some, IfSome, refl}
 use Rattle.std.specs.Prelude.{◌+◌, List, length, slice_index}
 use Rattle.beet_field.specs.Trio.{member}
 use Rattle.beet_field.specs.declared.point.Point.{Point}
@@ -9,15 +8,14 @@ use Rattle.beet_field.specs.declared.trio.Trio.{Trio}
 use Rattle.beet_bids.specs.Books.{Book}
 use Rattle.beet_bids.specs.Grids.{Grid}
 use Rattle.beet_bids.specs.Outcomes.{outcome_of}
-use Rattle.beet_bids.specs.declared.outcomes.Outcome.{Outcome}
 use Rattle.beet_round.specs.Sides.{peer}
 use Rattle.beet_round.specs.declared.sides.Side.TheVariants.{Low, High}
 use Rattle.beet_sharing.specs.Runs.{Setup, message}
 use Rattle.beet_view.specs.Views.{Viewed}
-use Rattle.beet_auction_map.specs.declared.agreeing.MapFault.{MapFault}
-use Rattle.beet_auction_map.specs.declared.agreeing.MapFault.TheVariants.{ShapeDiffers, OwnBidsDiffer, OutcomesDiffer}
-use Rattle.beet_job_worlds.specs.Differences.{difference_between, or_then, outcomes_between, own_between, refused_text}
-use Rattle.beet_job_worlds.specs.Differences.{same_outcome, shape_between}
+use Rattle.beet_two_books.specs.declared.agreeing.MapFault.{MapFault}
+use Rattle.beet_two_books.specs.declared.agreeing.MapFault.TheVariants.{ShapeDiffers, OwnBidsDiffer, OutcomesDiffer}
+use Rattle.beet_differences.proofs.Told.{ends-have, first-has}
+use Rattle.beet_job_worlds.specs.Differences.{difference_between, refused_text, same_outcome}
 use Rattle.beet_job_worlds.specs.Ending.{IsLineOf}
 use Rattle.beet_audit.specs.Audits.{Finds, Header, Known, Lines, Message, MessageFrom, Monotone, OneBidder}
 use Rattle.beet_audit.specs.Audits.{RoundMessages, Rounds, Tapes, held_from, points_of_bidder, rounds_of, run_of}
@@ -33,30 +31,10 @@ use Rattle.beet_audit.specs.declared.fault.Side.TheVariants.{Buy, Sell}
 abbrev pub HasLine : MapFault → Type 0
 HasLine fault = IsLineOf fault (refused_text fault)
 
-first-line : (one other : Option MapFault) → IfSome one HasLine → IfSome other HasLine →
-    IfSome (or_then one other) HasLine
-first-line None other h i = i
-first-line (Some one) other h i = h
-
-shape-line : (place : Option ℕ) → IfSome (option_map (λ n. ShapeDiffers (n + 1)) place) HasLine
-shape-line None = tt
-shape-line (Some n) = refl
-
-own-line : (place : Option ℕ) → IfSome (option_map (λ n. OwnBidsDiffer (n + 1)) place) HasLine
-own-line None = tt
-own-line (Some n) = refl
-
-outcomes-line : (same : Bool) (one other : Outcome) →
-    IfSome (if same then None else Some (OutcomesDiffer one other)) HasLine
-outcomes-line true one other = tt
-outcomes-line false one other = refl
-
 pub difference-line : (s : Point) (first second : Book) → IfSome (difference_between s first second) HasLine
 difference-line s first second =
-    first-line (shape_between first second)
-    (or_then (own_between s first second) (outcomes_between first second)) (shape-line _)
-    (first-line (own_between s first second) (outcomes_between first second) (own-line _)
-    (outcomes-line (same_outcome (outcome_of first) (outcome_of second)) (outcome_of first) (outcome_of second)))
+    first-has ShapeDiffers OwnBidsDiffer HasLine _ _ _ (λ n. refl) (λ n. refl)
+    (ends-have HasLine same_outcome OutcomesDiffer (outcome_of first) (outcome_of second) refl)
 
 -- want of memory is not found
 abbrev Never : (Option AuditFault → Type 0) → Type 0

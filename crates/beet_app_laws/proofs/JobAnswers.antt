@@ -33,13 +33,13 @@ use Rattle.beet_plan.specs.Kept.{words_kept}
 use Rattle.beet_view.specs.Transcripts.{view_in}
 use Rattle.beet_world.specs.Schedules.{schedule_of}
 use Rattle.beet_world.specs.declared.schedule.TheConstants.{SCHEDULE_LIMIT}
-use Rattle.beet_auction_map.specs.declared.agreeing.MapFault.{MapFault}
+use Rattle.beet_two_books.specs.declared.agreeing.MapFault.{MapFault}
 use Rattle.beet_errand.specs.Errands.{Answer, Errand, Ends, bad_file, reads}
 use Rattle.beet_errand.specs.Fetches.{IsDone}
 use Rattle.beet_errand.specs.declared.answer.OwnRefusal.TheVariants.{OfWorlds, OfAudit}
 use Rattle.beet_errand.specs.declared.answer.Refusal.TheVariants.{BadFile, Own}
 use Rattle.beet_errand.specs.declared.answer.Status.TheVariants.{Done, MasksSpent as Spent}
-use Rattle.beet_load.specs.Counts.{words_wanted}
+use Rattle.beet_load.specs.Counts.{counts_of, words_wanted}
 use Rattle.beet_load.specs.Wanted.{wanted_of}
 use Rattle.beet_load.specs.Farmers.{farmers_errand}
 use Rattle.beet_load.specs.Servers.{masks_of}
@@ -68,14 +68,19 @@ use Rattle.beet_audit.specs.declared.fault.AuditFault.{AuditFault}
 use Rattle.beet_job_audit.specs.Ending.{TellsFinding, audit_answer}
 use Rattle.beet_job_audit.specs.Reading.{read_errand}
 use Rattle.beet_job_audit.specs.declared.reading.ReadViews.{ReadViews}
+use Rattle.beet_coalition.specs.Lists.{at_server}
+use Rattle.beet_five_auction.specs.FiveEndings.{book_finish as five_finish}
+use Rattle.beet_job_five.specs.Five.{five_errand}
+use Rattle.beet_command.specs.Lines.{words_in}
 use Rattle.beet_command.specs.Words.{are_names, is_word}
 use Rattle.beet_app.specs.Jobs.{Job, Answering, Comparing, Auditing, job_of, job_of_two}
-use Rattle.beet_app.specs.Jobs.{job_of_three, job_of_four, job_of_six, seal_of}
+use Rattle.beet_app.specs.Jobs.{five_job_of, five_job_of_three, is_of_five, job_in, job_of_three, job_of_four, job_of_six}
+use Rattle.beet_app.specs.Jobs.{seal_of}
 use Rattle.beet_forms.specs.Names.{is_name_of}
 use Rattle.beet_app_laws.specs.Leavings.{last_word}
 use Rattle.beet_app_laws.proofs.Faults.{HasLine, difference-line, finds-never}
 use Rattle.beet_app_laws.proofs.Answers.{EndsWell, IsAnswer, StepsWell, all-words-well, bidders-well, curves-well}
-use Rattle.beet_app_laws.proofs.Answers.{either, enough-well, limited-well, loaded-well, product-well, reads-well}
+use Rattle.beet_app_laws.proofs.Answers.{either, enough-well, five-well, limited-well, loaded-well, product-well, reads-well}
 use Rattle.beet_app_laws.proofs.Answers.{refused-well}
 use Rattle.beet_app_laws.proofs.Answers.{servers-enough, words-well}
 
@@ -94,7 +99,7 @@ module _ (out : List ℕ) where
       (λ farmers. Ends (tallied farmers))))
       (bad_file auction not_one_price) (
       reads-well out book BOOK_LIMIT book_of _ (λ entries.
-      bidders-well out grid None entries _ (λ farmers. inl (inl refl, inl refl))))
+      bidders-well out (counts_of grid) grid None entries _ (λ farmers. inl (inl refl, inl refl))))
       (refused-well out BadFile _ (record { name = auction; fault = not_one_price; is = refl })))
 
   clear-well : (auction servers book : List ℕ) → EndsWell out (clear_errand auction servers book)
@@ -104,6 +109,10 @@ module _ (out : List ℕ) where
   watch-well : (auction servers book : List ℕ) → EndsWell out (watch_errand auction servers book)
   watch-well auction servers book = loaded-well out auction servers book _ (λ loaded.
       inl (status-done (book_finish (book_with loaded.grid loaded.farmers) (masks_of loaded.servers)), inl refl))
+
+  five-ends-well : (auction servers book : List ℕ) → EndsWell out (five_errand auction servers book)
+  five-ends-well auction servers book = five-well out auction servers book _ (λ read.
+      inl (status-done (five_finish read.book (at_server read.words.masks)), inl refl))
 
   rehearse-well : (auction servers book schedule : List ℕ) →
       EndsWell out (rehearse_errand auction servers book schedule)
@@ -138,7 +147,7 @@ module _ (out : List ℕ) where
       EndsWell out (entries_job grid sources entries Ends)
   unfolding entries_job
   entries-well grid sources entries =
-      all-words-well out grid None sources _ (λ words. sealed-well grid [] entries _ (λ bidders.
+      all-words-well out (counts_of grid) None sources _ (λ words. sealed-well grid [] entries _ (λ bidders.
       inl (
         status-done (points_finish (auction_over grid) (inputs_at grid.prices bidders) (masks_of words.servers)),
         inl refl,
@@ -155,7 +164,7 @@ module _ (out : List ℕ) where
       EndsWell out (kept_job out grid sources entries Ends)
   unfolding kept_job
   kept-well grid sources entries =
-      all-words-well out grid None sources _ (λ words. sealed-well grid [] entries _ (λ bidders.
+      all-words-well out (counts_of grid) None sources _ (λ words. sealed-well grid [] entries _ (λ bidders.
       inl (
         status-done (points_finish (auction_over grid) (inputs_at grid.prices bidders) (masks_of words.servers)),
         inr (inl refl),
@@ -182,7 +191,7 @@ module _ (out : List ℕ) where
   trial-well : (bidders prices : ℕ) → EndsWell out (trial_errand bidders prices)
   trial-well bidders prices =
       let grid = trial_grid prices in
-      servers-enough out grid (trial_servers grid) _ (each-enough grid 1 (trial_farmers grid bidders) _
+      servers-enough out (counts_of grid) (trial_servers grid) _ (each-enough grid 1 (trial_farmers grid bidders) _
       (inl (status-done (book_finish (trial_book grid bidders) (masks_of (trial_servers grid))), inl refl)))
 
   differing-well : (difference : Option MapFault) → IfSome difference HasLine → (next : Errand) → EndsWell out next →
@@ -351,6 +360,12 @@ module _ (out : List ℕ) where
       (option_map (λ s. Comparing auction servers first second s out) (server_of server)) None
       (server-named auction servers first second (server_of server)) tt
 
+  five-three-well : (command auction servers book : List ℕ) → JobEndsWell (five_job_of_three command auction servers book)
+  five-three-well command auction servers book =
+      choice (is_word command (codes "five") && are_names (auction ∷ servers ∷ book ∷ []))
+      (Some (Answering (five_errand auction servers book))) None
+      (five-ends-well auction servers book) tt
+
   -- the answer that shows two worlds is done
   pub shown-well : (s : Point) (both : Both) (answer : Answer) →
       ShowsTheSame s out (first_book both) (words_read both) (second_book both) answer → IsAnswer out answer
@@ -382,10 +397,28 @@ module _ (out : List ℕ) where
   pub audited-well : (read : ReadViews) (answer : Answer) → TellsFinding read answer → IsAnswer out answer
   audited-well read answer w = subst (IsAnswer out) (sym w.is) (found-well read w.found w.finds)
 
+-- the job that the words of a command among three servers name ends so
+three-servers : (words : List (List ℕ)) → JobEndsWell (last_word words) (job_in (words_in words))
+three-servers (command ∷ a ∷ b ∷ []) = two-well b command a b
+three-servers (command ∷ a ∷ b ∷ c ∷ []) = three-words-well c command a b c
+three-servers (command ∷ a ∷ b ∷ c ∷ d ∷ []) = four-well d command a b c
+three-servers (command ∷ a ∷ b ∷ c ∷ d ∷ e ∷ []) = tt
+three-servers (command ∷ a ∷ b ∷ c ∷ d ∷ e ∷ f ∷ []) = six-well f command a b c d e
+three-servers (command ∷ a ∷ b ∷ c ∷ d ∷ e ∷ f ∷ g ∷ []) = tt
+three-servers words = tt
+
+-- and so does that of a command among five
+five-servers : (words : List (List ℕ)) → JobEndsWell (last_word words) (five_job_of words)
+five-servers (command ∷ a ∷ b ∷ []) = tt
+five-servers (command ∷ a ∷ b ∷ c ∷ []) = five-three-well c command a b c
+five-servers (command ∷ a ∷ b ∷ c ∷ d ∷ []) = tt
+five-servers (command ∷ a ∷ b ∷ c ∷ d ∷ e ∷ []) = tt
+five-servers (command ∷ a ∷ b ∷ c ∷ d ∷ e ∷ f ∷ []) = tt
+five-servers (command ∷ a ∷ b ∷ c ∷ d ∷ e ∷ f ∷ g ∷ []) = tt
+five-servers words = tt
+
 -- the job that words name ends so
 pub job-well : (words : List (List ℕ)) → JobEndsWell (last_word words) (job_of words)
-job-well (command ∷ a ∷ b ∷ []) = two-well b command a b
-job-well (command ∷ a ∷ b ∷ c ∷ []) = three-words-well c command a b c
-job-well (command ∷ a ∷ b ∷ c ∷ d ∷ []) = four-well d command a b c
-job-well (command ∷ a ∷ b ∷ c ∷ d ∷ e ∷ f ∷ []) = six-well f command a b c d e
-job-well words = tt
+job-well words =
+    choice (last_word words) (is_of_five words) (five_job_of words) (job_in (words_in words)) (five-servers words)
+    (three-servers words)

@@ -30,7 +30,7 @@ use Rattle.beet_audit.specs.declared.fault.AuditFault.{AuditFault}
 use Rattle.beet_job_audit.specs.Ending.{ShowsAudit, TellsFinding, audit_answer}
 use Rattle.beet_job_audit.specs.Reading.{read_errand}
 use Rattle.beet_job_audit.specs.declared.reading.ReadViews.{ReadViews}
-use Rattle.beet_auction_map.specs.declared.agreeing.MapFault.{MapFault}
+use Rattle.beet_two_books.specs.declared.agreeing.MapFault.{MapFault}
 use Rattle.beet_job_worlds.specs.Answering.{ShowsTheSame}
 use Rattle.beet_job_worlds.specs.Differences.{difference_between}
 use Rattle.beet_job_worlds.specs.Ending.{ShowsWorlds, compared_errand, unless_differing}

@@ -10,9 +10,9 @@ use std::sync::Wait;
 use std::thread::Threads;
 use std::time::Clock;
 
-/// A book and two sales whose bidders have tapes, a second session, two schedules of no message, and the tape of a bid
-/// that is sealed.
-const FILES: [(&str, &str); 10] = [
+/// A book and two sales whose bidders have tapes, a second session, two schedules of no message, the seeds of five
+/// servers, and the tape of a bid that is sealed.
+const FILES: [(&str, &str); 11] = [
     (
         "tapes.book",
         "beet-book,1\ndan,0,dan.bid,tape,two\neva,0,eva.bid,tape,pair\n",
@@ -29,6 +29,14 @@ const FILES: [(&str, &str); 10] = [
     (
         "moved.ses",
         "beet-session,1\nnorth,g.auc,c.book\nsouth,g1.auc,b1.book\n",
+    ),
+    (
+        "v.srv",
+        "beet-servers,5\n1,seed,0101010101010101010101010101010101010101010101010101010101010101\n\
+        2,seed,0202020202020202020202020202020202020202020202020202020202020202\n\
+        3,seed,0303030303030303030303030303030303030303030303030303030303030303\n\
+        4,seed,0404040404040404040404040404040404040404040404040404040404040404\n\
+        5,seed,0505050505050505050505050505050505050505050505050505050505050505\n",
     ),
     ("two", "0000000000000001\n0000000000000002\n"),
     ("pair", "0000000000000003\n0000000000000004\n"),
@@ -69,12 +77,14 @@ const ENVELOPES: [Put; 3] = [("e.1", 104), ("e.2", 104), ("e.3", 104)];
 
 const SEEN: [Put; 3] = [("w.1", 34_800), ("w.2", 34_800), ("w.3", 34_800)];
 
-/// What is said of a tally, of a watched auction, of a schedule of no message, of two worlds, of a sealed bid, of two
-/// lots that are run or replayed, of a sale, and of two sales and two sessions.
+/// What is said of a tally, of a watched auction, of an auction among five servers, of a schedule of no message, of two
+/// worlds, of a sealed bid, of two lots that are run or replayed, of a sale, and of two sales and two sessions.
 const SUMS: &str = "supply 80\ndemand 35\n";
 
 const COUNTS: &str = "price 110\nvolume 35\nrounds 255\nserver 1 notes 255 opened 7\n\
     server 2 notes 255 opened 7\nserver 3 notes 255 opened 7\n";
+
+const AMONG_FIVE: &str = "price 110\nvolume 35\nrounds 259\n";
 
 const WAITING: &str =
     "server 1 round 0 waiting\nserver 2 round 0 waiting\nserver 3 round 0 waiting\nundelivered 6\n";
@@ -101,155 +111,117 @@ const REPLAYED: &str =
 /// A file that is put, and its length.
 type Put = (&'static str, usize);
 
+/// A book with its bids, the book that looks the same, a book of one bidder, and a list with its envelopes.
+const BOOK: [&str; 4] = ["b.book", "anna.bid", "bo.bid", "carl.bid"];
+
+const OTHER: [&str; 4] = ["c.book", "anna2.bid", "bo2.bid", "carl.bid"];
+
+const ONE: [&str; 3] = ["g1.auc", "b1.book", "dan.bid"];
+
+const LIST: [&str; 10] = [
+    "made", "a.1", "a.2", "a.3", "b.1", "b.2", "b.3", "c.1", "c.2", "c.3",
+];
+
 /// A job, the files that it fetches, in order, those that it puts, and its text.
 type Job = (
     &'static str,
-    &'static [&'static str],
+    &'static [&'static [&'static str]],
     &'static [Put],
     &'static str,
 );
 
 /// A case of each job.
-const JOBS: [Job; 16] = [
+const JOBS: [Job; 17] = [
     (
         "tally g1.auc tapes.book",
-        &["g1.auc", "tapes.book", "dan.bid", "two", "eva.bid", "pair"],
+        &[&["g1.auc", "tapes.book", "dan.bid", "two", "eva.bid", "pair"]],
         &[],
         SUMS,
     ),
-    (
-        CLEAR,
-        &["g.auc", "s.srv", "b.book", "anna.bid", "bo.bid", "carl.bid"],
-        &[],
-        OUTCOME,
-    ),
+    (CLEAR, &[&["g.auc", "s.srv"], &BOOK], &[], OUTCOME),
     (
         "watch g.auc s.srv b.book",
-        &["g.auc", "s.srv", "b.book", "anna.bid", "bo.bid", "carl.bid"],
+        &[&["g.auc", "s.srv"], &BOOK],
         &[],
         COUNTS,
     ),
     (
+        "five g.auc v.srv b.book",
+        &[&["g.auc", "v.srv"], &BOOK],
+        &[],
+        AMONG_FIVE,
+    ),
+    (
         "rehearse g.auc s.srv b.book none.sch",
-        &[
-            "g.auc", "s.srv", "b.book", "anna.bid", "bo.bid", "carl.bid", "none.sch",
-        ],
+        &[&["g.auc", "s.srv"], &BOOK, &["none.sch"]],
         &[],
         WAITING,
     ),
-    (
-        RECORD,
-        &["g.auc", "s.srv", "b.book", "anna.bid", "bo.bid", "carl.bid"],
-        &TRANSCRIPTS,
-        OUTCOME,
-    ),
+    (RECORD, &[&["g.auc", "s.srv"], &BOOK], &TRANSCRIPTS, OUTCOME),
     (
         "audit g.auc o.1 o.2 o.3",
-        &["g.auc", "o.1", "o.2", "o.3"],
+        &[&["g.auc", "o.1", "o.2", "o.3"]],
         &[],
         OUTCOME,
     ),
     (
         WORLDS,
-        &[
-            "g.auc",
-            "s.srv",
-            "b.book",
-            "anna.bid",
-            "bo.bid",
-            "carl.bid",
-            "c.book",
-            "anna2.bid",
-            "bo2.bid",
-            "carl.bid",
-        ],
+        &[&["g.auc", "s.srv"], &BOOK, &OTHER],
         &BOTH_WORLDS,
         EQUAL,
     ),
     (
         "seal g.auc anna.bid tape:eight e",
-        &["g.auc", "anna.bid", "eight"],
+        &[&["g.auc", "anna.bid", "eight"]],
         &ENVELOPES,
         SEALED,
     ),
     (
         "open g.auc s.srv made",
-        &[
-            "g.auc", "s.srv", "made", "a.1", "a.2", "a.3", "b.1", "b.2", "b.3", "c.1", "c.2", "c.3",
-        ],
+        &[&["g.auc", "s.srv"], &LIST],
         &[],
         OUTCOME,
     ),
     (
         "witness g.auc s.srv made w",
-        &[
-            "g.auc", "s.srv", "made", "a.1", "a.2", "a.3", "b.1", "b.2", "b.3", "c.1", "c.2", "c.3",
-        ],
+        &[&["g.auc", "s.srv"], &LIST],
         &SEEN,
         OUTCOME,
     ),
     ("trial 0 1", &[], &[], TRIAL),
     (
         "beet_session session day.ses s.srv",
-        &[
-            "day.ses", "s.srv", "g.auc", "b.book", "anna.bid", "bo.bid", "carl.bid", "g1.auc",
-            "b1.book", "dan.bid",
-        ],
+        &[&["day.ses", "s.srv", "g.auc"], &BOOK, &ONE],
         &[],
         LOTS,
     ),
     (
         "beet_sale sale c.sal s.srv",
-        &["c.sal", "s.srv", "two", "pair"],
+        &[&["c.sal", "s.srv", "two", "pair"]],
         &[],
         SOLD,
     ),
     (
         "beet_sale pair c.sal d.sal s.srv 2 w",
-        &["c.sal", "s.srv", "two", "pair", "d.sal"],
+        &[&["c.sal", "s.srv", "two", "pair", "d.sal"]],
         &BOTH_SALES,
         SOLD_ALIKE,
     ),
     (
         "beet_session replay day.ses s.srv none.lots",
-        &[
-            "day.ses",
-            "s.srv",
-            "g.auc",
-            "b.book",
-            "anna.bid",
-            "bo.bid",
-            "carl.bid",
-            "g1.auc",
-            "b1.book",
-            "dan.bid",
-            "none.lots",
-        ],
+        &[&["day.ses", "s.srv", "g.auc"], &BOOK, &ONE, &["none.lots"]],
         &[],
         REPLAYED,
     ),
     (
         "beet_session pair day.ses moved.ses s.srv 2 w",
         &[
-            "day.ses",
-            "s.srv",
-            "g.auc",
-            "b.book",
-            "anna.bid",
-            "bo.bid",
-            "carl.bid",
-            "g1.auc",
-            "b1.book",
-            "dan.bid",
-            "moved.ses",
-            "g.auc",
-            "c.book",
-            "anna2.bid",
-            "bo2.bid",
-            "carl.bid",
-            "g1.auc",
-            "b1.book",
-            "dan.bid",
+            &["day.ses", "s.srv", "g.auc"],
+            &BOOK,
+            &ONE,
+            &["moved.ses", "g.auc"],
+            &OTHER,
+            &ONE,
         ],
         &BOTH_SESSIONS,
         LOTS_ALIKE,
@@ -291,18 +263,22 @@ fn expect_end(
     expect_said(rt, &desk, text);
 }
 
-/// Each fetch of a job fails once, and the line names its file.
+/// Each fetch of a job fails once, and the line names its file: how many it makes.
 fn expect_read_faults(
     rt: &(impl Abort + Threads + Wait + Clock + Sync),
     alloc: Global,
     job: Job,
-    fetched: &[&str],
-) {
-    for (i, name) in fetched.iter().enumerate() {
-        let text = format!(in alloc; "read fault: {name}\n").expect(rt, "memory");
-        let calls = (i.saturating_add(1), 0);
-        expect_end(rt, alloc, job, calls, (3, 0), text.as_str());
+    fetched: &[&[&str]],
+) -> usize {
+    let mut fetch = 0_usize;
+    for names in fetched {
+        for name in *names {
+            fetch = fetch.saturating_add(1);
+            let text = format!(in alloc; "read fault: {name}\n").expect(rt, "memory");
+            expect_end(rt, alloc, job, (fetch, 0), (3, 0), text.as_str());
+        }
     }
+    fetch
 }
 
 /// Each call of the desk of a job fails once, of which so many put files: those before it stand, and nothing is said.
@@ -322,9 +298,9 @@ fn expect_write_faults(
 /// done.
 fn expect_each_refused(rt: &(impl Abort + Threads + Wait + Clock + Sync), alloc: Global, job: Job) {
     let (_, fetched, put, text) = job;
-    expect_read_faults(rt, alloc, job, fetched);
+    let fetches = expect_read_faults(rt, alloc, job, fetched);
     expect_write_faults(rt, alloc, job, put.len());
-    let beyond = (fetched.len().saturating_add(1), put.len().saturating_add(2));
+    let beyond = (fetches.saturating_add(1), put.len().saturating_add(2));
     expect_end(rt, alloc, job, beyond, (0, put.len()), text);
 }
 

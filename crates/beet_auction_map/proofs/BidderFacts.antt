@@ -1,11 +1,10 @@
 -- Bidders as parties that deal: with mapped words the server has the same sums.
-use Rattle.std.proofs.Common.{◌≡◌, ℕ, zero, suc, ◌+◌, ◌*◌, ◌%◌, ◌<◌, ◌≤◌, List, [], ◌∷◌, map, length, get_or, slice_get}
-use Rattle.std.proofs.Common.{Some, refl, sym, ap, ◌∙◌, arith}
+use Rattle.std.proofs.Common.{◌≡◌, ℕ, suc, ◌+◌, ◌*◌, ◌%◌, ◌<◌, List, [], ◌∷◌, map, length}
+use Rattle.std.proofs.Common.{refl, sym, ap, ◌∙◌, arith}
 use Rattle.std.specs.Prelude.{All, sum_by}
 use Rattle.std.proofs.lemmas.List.{length-map}
-use Rattle.std.proofs.lemmas.List.Elements.{All-append, All-cons, All-head, All-map, All-tail}
+use Rattle.std.proofs.lemmas.List.Elements.{All-head, All-map, All-tail}
 use Rattle.std.proofs.lemmas.List.Sums.{sum_by-cons}
-use Rattle.std.proofs.lemmas.Option.{same_Some}
 use Rattle.beet_field.specs.Field.{p}
 use Rattle.beet_field.specs.Trio.{member}
 use Rattle.beet_field.specs.declared.point.Point.{Point}
@@ -13,8 +12,7 @@ use Rattle.beet_words.specs.Words.{IsWord}
 use Rattle.beet_gates.specs.Each.{each}
 use Rattle.beet_gates.proofs.EachFacts.{each-same}
 use Rattle.beet_bids.specs.Books.{Book, IsBook}
-use Rattle.beet_bids.specs.Curves.{Curve, IsCurve}
-use Rattle.beet_bids.specs.declared.curve.TheConstants.{LARGEST_QUANTITY}
+use Rattle.beet_bids.specs.Curves.{IsCurve}
 use Rattle.beet_bids.specs.declared.book.Bidder.{Bidder}
 use Rattle.beet_book.specs.Dealing.{quantities}
 use Rattle.beet_book.specs.Farmers.{BidderWithWords, book_inputs, farmers_of, point_for, summed_point}
@@ -24,23 +22,11 @@ use Rattle.beet_sharing.proofs.Lined.{member-trio}
 use Rattle.beet_mapped.specs.Dealers.{Party, Dealer, DealersMapped, dealers_of}
 use Rattle.beet_mapped.proofs.DealerFacts.{AreElements, dealers-back, dealers-elements, dealers-only, dealers-words}
 use Rattle.beet_mapped.proofs.DealerFacts.{first-mapped, point-same, rest-mapped, told-parties, words-told}
-use Rattle.beet_auction_map.specs.Agreement.{SameKnown}
+use Rattle.beet_two_books.specs.Agreement.{SameKnown}
+use Rattle.beet_two_books.proofs.BidderFacts.{SameOwn, bidders-have, curve-elements, same-own}
 use Rattle.beet_auction_map.specs.MappedBidders.{BiddersMapped, party_of}
-use Rattle.beet_mapped.proofs.DealerFacts.{element-at}
-use Rattle.beet_field.specs.Field.{IsElement}
-use Rattle.beet_bids.specs.Curves.{quantity}
 
 -- quantities are numbers of the field
-pub curve-elements : (curve : Curve) → IsCurve curve → AreElements (quantities curve)
-curve-elements curve c k d lt =
-    let few : get_or (quantities curve) k d ≤ LARGEST_QUANTITY =
-    All-append (λ (q : ℕ). q ≤ LARGEST_QUANTITY) curve.buy curve.sell c.buy_limit c.sell_limit k d lt in
-    omega (arith, few)
-
--- past the end too
-pub quantity-element : (curve : Curve) → IsCurve curve → (n : ℕ) → IsElement (quantity curve n)
-quantity-element curve c n = element-at (quantities curve) (curve-elements curve c) n
-
 pub parties-elements : (bidders : List Bidder) → All (λ (b : Bidder). IsCurve b.curve) bidders →
     All (λ (b : Party). AreElements b.quantities) (map party_of bidders)
 parties-elements bidders all =
@@ -84,34 +70,6 @@ pub farmers-mapped : (s : Point) (bidders others : List Bidder) (words words' : 
     BiddersMapped s bidders words others words' →
     DealersMapped s (map dealer_of (farmers_of bidders words)) (map dealer_of (farmers_of others words'))
 farmers-mapped s bidders others words words' m = rw (farmers-dealers bidders words, farmers-dealers others words') at m
-
--- what is true of each bidder is true of each that stands with its words
-pub bidders-have : (P : Bidder → Type 0) (bidders : List Bidder) (words : List (List ℕ)) → All P bidders →
-    All (λ (f : BidderWithWords). P f.bidder) (farmers_of bidders words)
-bidders-have P [] words all = λ k d lt. absurd (omega arith)
-bidders-have P (b ∷ bs) [] all = λ k d lt. absurd (omega arith)
-bidders-have P (b ∷ bs) (w ∷ ws) all =
-    All-cons (λ (f : BidderWithWords). P f.bidder) (record { bidder = b; words = w }) (farmers_of bs ws)
-    (All-head P b bs all) (bidders-have P bs ws (All-tail P b bs all))
-
--- the curves of those known to the server are the same
-abbrev pub SameOwn : Point → List BidderWithWords → List BidderWithWords → Type 0
-SameOwn s farmers farmers' =
-    (k : ℕ) (one other : BidderWithWords) → slice_get farmers k ≡ Some one → slice_get farmers' k ≡ Some other → one.bidder.known ≡ Some s →
-    other.bidder.curve ≡ one.bidder.curve
-
-farmer-at : (bidders : List Bidder) (words : List (List ℕ)) (k : ℕ) (one : BidderWithWords) →
-    slice_get (farmers_of bidders words) k ≡ Some one →
-    slice_get bidders k ≡ Some one.bidder
-farmer-at [] words k one e = cc e
-farmer-at (b ∷ bs) [] k one e = cc e
-farmer-at (b ∷ bs) (w ∷ ws) zero one e = ap (λ (f : BidderWithWords). Some f.bidder) (same_Some (record { bidder = b; words = w }) one e)
-farmer-at (b ∷ bs) (w ∷ ws) (suc k) one e = farmer-at bs ws k one e
-
-pub same-own : (s : Point) (first second : Book) (words words' : List (List ℕ)) → SameKnown s first second →
-    SameOwn s (farmers_of first.bidders words) (farmers_of second.bidders words')
-same-own s first second words words' own k one other e f =
-    own k one.bidder other.bidder (farmer-at first.bidders words k one e) (farmer-at second.bidders words' k other f)
 
 -- what the server adds up
 points-summed : (s : Point) (farmers farmers' : List BidderWithWords) (n : ℕ) →

@@ -1,21 +1,32 @@
--- Curves that are the same, and books that are refused.
-use Rattle.std.proofs.Common.{◌≡◌, ◌<◌, ℕ, length, slice_index, sym, ◌∙◌, arith}
-use Rattle.std.proofs.lemmas.List.{ext_get_or}
+-- What servers can tell two books apart by, if one server alone watches.
+use Rattle.std.proofs.Common.{◌≡◌, Bool, true, subst}
 use Rattle.beet_field.specs.declared.point.Point.{Point}
 use Rattle.beet_bids.specs.Books.{Book}
-use Rattle.beet_bids.specs.Curves.{Curve}
+use Rattle.beet_two_books.specs.Agreement.{Agree, AgreeFor}
+use Rattle.beet_two_books.specs.Disagreement.{KnownDiffersAt, RefusesFor}
 use Rattle.beet_auction_map.specs.Disagreement.{Refuses, RefusesMap}
-use Rattle.beet_auction_map.specs.declared.agreeing.MapFault.{MapFault}
-use Rattle.beet_auction_map.specs.declared.agreeing.MapFault.TheVariants.{ShapeDiffers, OwnBidsDiffer, OutcomesDiffer, OutOfMemory}
+use Rattle.beet_two_books.specs.declared.agreeing.MapFault.{MapFault}
+use Rattle.beet_two_books.specs.declared.agreeing.MapFault.TheVariants.{ShapeDiffers, OwnBidsDiffer, OutcomesDiffer, OutOfMemory}
 
--- curves by their quantities
-pub curves-same : (one other : Curve) (n : ℕ) → length one.buy ≡ n → length one.sell ≡ n → length other.buy ≡ n → length other.sell ≡ n →
-    ((k : ℕ) → k < n → slice_index other.buy k ≡ slice_index one.buy k) →
-    ((k : ℕ) → k < n → slice_index other.sell k ≡ slice_index one.sell k) → other ≡ one
-curves-same one other n a b c d buy sell =
-    let e = ext_get_or 0 other.buy one.buy (c ∙ sym a) (λ k lt. buy k (omega arith)) in
-    let f = ext_get_or 0 other.sell one.sell (d ∙ sym b) (λ k lt. sell k (omega arith)) in
-    λ j. record { buy = e j; sell = f j }
+module _ (knows : Point → Bool) (me : Point) (alone : (s : Point) → knows s ≡ true → s ≡ me) (here : knows me ≡ true)
+    (first second : Book) where
+  pub agree-one : AgreeFor knows first second → Agree me first second
+  agree-one a = record { grids = a.grids; marks = a.marks; own = a.own me here; outcomes = a.outcomes }
+
+  pub agree-alone : Agree me first second → AgreeFor knows first second
+  agree-alone a = record {
+    grids = a.grids;
+    marks = a.marks;
+    own = λ s k. rw (alone s k) a.own;
+    outcomes = a.outcomes;
+  }
+
+  pub refuses-one : (fault : MapFault) → RefusesFor knows first second fault → Refuses me first second fault
+  refuses-one (ShapeDiffers bidder) r = r
+  refuses-one (OwnBidsDiffer bidder) (marks, (n, e, d)) =
+      (marks, (n, e, subst (λ s. KnownDiffersAt s first.bidders second.bidders n) (alone d.server d.is_known) d.here))
+  refuses-one (OutcomesDiffer one other) (marks, own, r) = (marks, own me here, r)
+  refuses-one OutOfMemory r = absurd r
 
 -- books that are refused are not mapped
 pub refused-map : (s : Point) (first second : Book) (fault : MapFault) → Refuses s first second fault → RefusesMap s first second fault

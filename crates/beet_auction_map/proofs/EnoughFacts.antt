@@ -9,11 +9,11 @@ use Rattle.beet_bids.specs.Books.{Book}
 use Rattle.beet_bids.specs.declared.book.Bidder.{Bidder}
 use Rattle.beet_turned.specs.MappedMasks.{MasksMapped}
 use Rattle.beet_trades.specs.Enough.{HasEnough}
-use Rattle.beet_trades.proofs.Disagreeing.{as-many}
+use Rattle.beet_map.proofs.Disagreeing.{as-many}
 use Rattle.beet_trades.proofs.EnoughFacts.{parts-enough}
-use Rattle.beet_auction_map.specs.Agreement.{Agree}
+use Rattle.beet_two_books.specs.Agreement.{Agree}
 use Rattle.beet_auction_map.specs.Enough.{AreEnough, wants_over}
-use Rattle.beet_auction_map.specs.Losses.{losses_of}
+use Rattle.beet_two_books.specs.Losses.{losses_of}
 use Rattle.beet_auction_map.specs.MappedBidders.{BiddersMapped, party_of}
 
 pub mapped-enough : (s : Point) (first second : Book) (words words' : Words) → Agree s first second →

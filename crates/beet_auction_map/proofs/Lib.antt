@@ -1,10 +1,4 @@
-pub mod BothRuns
-pub mod Agreed
-pub mod BookWorlds
-pub mod MasksBack
 pub mod BidderFacts
-pub mod Paths
-pub mod Marks
 pub mod Disagreeing
 pub mod InputFacts
 pub mod EnoughFacts

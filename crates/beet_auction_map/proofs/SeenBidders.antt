@@ -17,7 +17,8 @@ use Rattle.beet_view.specs.BookViews.{kept_if, names, seen_at}
 use Rattle.beet_trades.specs.Enough.{HasAccepted}
 use Rattle.beet_mapped.specs.Dealers.{DealerMapped, DealersMapped}
 use Rattle.beet_mapped.proofs.DealerFacts.{first-mapped, known-or, point-same, rest-mapped}
-use Rattle.beet_auction_map.proofs.BidderFacts.{SameOwn, curve-elements, dealer_of}
+use Rattle.beet_two_books.proofs.BidderFacts.{SameOwn, curve-elements}
+use Rattle.beet_auction_map.proofs.BidderFacts.{dealer_of}
 use Rattle.beet_auction_map.proofs.CutRuns.{cut, point-cut}
 
 names-not : (known : Option Point) (s : Point) → known ≢ Some s → names known s ≡ false

@@ -32,23 +32,24 @@ use Rattle.beet_mapped.proofs.WorldFacts.{Stands as Trades, are-masks, back, loo
 use Rattle.beet_mapped.proofs.WorldFacts.{rounds-same as trades-rounds, seen-same, trades-mapped}
 use Rattle.beet_trades.specs.Enough.{HasAccepted}
 use Rattle.beet_trades.specs.Servers.{CanMap, LookSameMapped, world_with}
-use Rattle.beet_trades.proofs.Disagreeing.{as-many}
+use Rattle.beet_map.proofs.Disagreeing.{as-many}
 use Rattle.beet_trades.proofs.Drawn.{numbers-enough}
 use Rattle.beet_trades.proofs.ReadRuns.{seen-read-same}
-use Rattle.beet_auction_map.specs.Agreement.{Agree}
+use Rattle.beet_two_books.specs.Agreement.{Agree}
 use Rattle.beet_auction_map.specs.Enough.{AreEnough, wants_over}
 use Rattle.beet_auction_map.specs.InputLines.{AreInputLines}
-use Rattle.beet_auction_map.specs.Losses.{losses_of}
+use Rattle.beet_two_books.specs.Losses.{losses_of}
 use Rattle.beet_auction_map.specs.MappedBidders.{BiddersMapped, party_of}
 use Rattle.beet_auction_map.specs.MappedWords.{Mapped, trade_of}
 use Rattle.beet_auction_map.specs.Moments.{SameAfter}
 use Rattle.beet_auction_map.specs.ViewsWith.{view_with}
 use Rattle.beet_auction_map.specs.Worlds.{WorldsMapped}
-use Rattle.beet_auction_map.proofs.BidderFacts.{bidders-have, farmers-mapped, inputs-same, parties-elements, same-own}
-use Rattle.beet_auction_map.proofs.BookWorlds.{opens-alike}
+use Rattle.beet_two_books.proofs.BidderFacts.{bidders-have, same-own}
+use Rattle.beet_auction_map.proofs.BidderFacts.{farmers-mapped, inputs-same, parties-elements}
+use Rattle.beet_two_books.proofs.BookWorlds.{opens-alike}
 use Rattle.beet_auction_map.proofs.CutRuns.{farmers-cut, farmers-have, reads}
 use Rattle.beet_auction_map.proofs.EnoughFacts.{mapped-enough}
-use Rattle.beet_auction_map.proofs.MasksBack.{losses-small}
+use Rattle.beet_two_books.proofs.MasksBack.{losses-small}
 use Rattle.beet_auction_map.proofs.SeenBidders.{seen-all}
 
 -- what holds once both books agree, and the bidders' words are mapped

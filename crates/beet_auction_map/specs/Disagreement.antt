@@ -1,19 +1,14 @@
 -- Where two books do not agree for one server.
-use Rattle.std.specs.Prelude.{◌≡◌, ◌≢◌, ◌+◌, ℕ, List}
+use Rattle.std.specs.Prelude.{◌≡◌, ◌≢◌, ◌+◌, ℕ}
 use Rattle.beet_field.specs.declared.point.Point.{Point}
 use Rattle.beet_bids.specs.Books.{Book}
 use Rattle.beet_bids.specs.Outcomes.{outcome_of}
-use Rattle.beet_bids.specs.declared.book.Bidder.{Bidder}
 use Rattle.beet_map.specs.Refused.{DifferFirst}
-use Rattle.beet_trades.specs.Agreement.{KnownDiffersAt as DiffersAt}
-use Rattle.beet_auction_map.specs.Agreement.{Agree, SameKnown, marks_of}
-use Rattle.beet_auction_map.specs.declared.agreeing.MapFault.{MapFault}
-use Rattle.beet_auction_map.specs.declared.agreeing.MapFault.TheVariants.{ShapeDiffers, OwnBidsDiffer, OutcomesDiffer}
-use Rattle.beet_auction_map.specs.declared.agreeing.MapFault.TheVariants.{OutOfMemory}
-
--- the bidder at this place is known to the server and has another curve in the second book, and none before it
-abbrev pub KnownDiffersAt : Point → List Bidder → List Bidder → ℕ → Type 0
-KnownDiffersAt s bidders others n = DiffersAt (λ bidder. bidder.known) (λ bidder. bidder.curve) s bidders others n
+use Rattle.beet_two_books.specs.Agreement.{Agree, SameKnown, marks_of}
+use Rattle.beet_two_books.specs.Disagreement.{KnownDiffersAt}
+use Rattle.beet_two_books.specs.declared.agreeing.MapFault.{MapFault}
+use Rattle.beet_two_books.specs.declared.agreeing.MapFault.TheVariants.{ShapeDiffers, OwnBidsDiffer, OutcomesDiffer}
+use Rattle.beet_two_books.specs.declared.agreeing.MapFault.TheVariants.{OutOfMemory}
 
 -- what the refusal of two books over one grid says of them: bidders are counted from 1
 abbrev pub Refuses : Point → Book → Book → MapFault → Type 0

@@ -1,5 +1,3 @@
-pub mod Agreement
-pub mod Losses
 pub mod MappedBidders
 pub mod Enough
 pub mod Disagreement

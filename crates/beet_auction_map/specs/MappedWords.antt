@@ -6,7 +6,7 @@ use Rattle.beet_bids.specs.Books.{Book}
 use Rattle.beet_plan.specs.Auction.{auction_batch, auction_over, most_rounds}
 use Rattle.beet_book.specs.Farmers.{book_inputs, farmers_of}
 use Rattle.beet_mapped.specs.Trades.{IsOnly, Trade, TradesMapped}
-use Rattle.beet_auction_map.specs.Losses.{losses_of}
+use Rattle.beet_two_books.specs.Losses.{losses_of}
 use Rattle.beet_auction_map.specs.MappedBidders.{party_of}
 
 -- the auction of a book: its inputs are the sums of the points that the bidders deal by their words

@@ -6,7 +6,7 @@ use Rattle.beet_words.specs.Words.{IsWord}
 use Rattle.beet_bids.specs.Books.{Book}
 use Rattle.beet_delivery.specs.Events.{Triple}
 use Rattle.beet_sharing.specs.Runs.{HasRounds}
-use Rattle.beet_auction_map.specs.Agreement.{Agree}
+use Rattle.beet_two_books.specs.Agreement.{Agree}
 use Rattle.beet_auction_map.specs.Enough.{AreEnough}
 use Rattle.beet_auction_map.specs.MappedBidders.{BiddersMapped}
 use Rattle.beet_auction_map.specs.MappedWords.{IsOnlyFirst, IsOnlySecond, Mapped}

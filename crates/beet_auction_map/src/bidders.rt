@@ -2,45 +2,17 @@
 
 ghost use Rattle.std.specs.Prelude.{◌≡◌, ◌<◌, ◌≤◌, ◌*◌, length, IfOk, OnOk, All};
 ghost use Rattle.beet_words.specs.Words.{IsWord, accepted};
-ghost use Rattle.beet_bids.specs.Curves.{IsOfGrid, quantity};
-ghost use Rattle.beet_book.specs.Dealing.{quantities};
+ghost use Rattle.beet_bids.specs.Curves.{IsOfGrid};
 ghost use Rattle.beet_mapped.specs.Dealers.{DealerMapped};
-ghost use Rattle.beet_auction_map.specs.Agreement.{marks_of};
+ghost use Rattle.beet_two_books.specs.Agreement.{marks_of};
 ghost use Rattle.beet_auction_map.specs.MappedBidders.{BiddersMapped, party_of};
 
-use beet_bids::{Bidder, Book, Curve, Grid};
-use beet_field::{Fe, Point};
+use beet_bids::{Bidder, Book, Grid};
+use beet_field::Point;
 use beet_mapped::move_dealer;
+use beet_two_books::{pair_at, quantities_of};
 use beet_words::WordList;
 use std::alloc::{AllocError, Global};
-
-/// The n-th quantity of a curve: what is bought at each place, and then what is sold.
-fn quantity_of(grid: &Grid, curve: &Curve, n: u32) -> Fe
-    requires of_grid { IsOfGrid grid.now curve.now }
-    requires place { n < 2 * grid.now.prices }
-    ensures { result ≡ quantity curve.now n }
-{
-    let prices = grid.prices();
-    let amount = if n < prices {
-        curve.buy(n)
-    } else {
-        curve.sell(n - prices)
-    };
-    Fe::reduce(amount as u128)
-}
-
-/// The quantities of a curve: what is bought at each place, and then what is sold.
-pub fn quantities_of(alloc: Global, grid: &Grid, curve: &Curve) -> Result<Vec<Fe>, AllocError>
-    requires { IsOfGrid grid.now curve.now }
-    ensures { IfOk result (λ numbers. numbers.items ≡ quantities curve.now) }
-{
-    let count = 2 * grid.prices();
-    let mut numbers = Vec::with_capacity(alloc, count as usize)?;
-    for n in 0..count {
-        numbers.push(quantity_of(grid, curve, n))?;
-    }
-    Ok(numbers)
-}
 
 /// The words of a bidder in the second world.
 fn words_in_second(
@@ -92,11 +64,10 @@ pub fn map_bidders(
     ensures words { IfOk result (λ mapped. All (λ list. All IsWord list) mapped.items) }
 {
     let grid = first.grid();
-    let bidders = first.bidders();
-    let others = second.bidders();
     let mut mapped = Vec::with_capacity(alloc, words.len())?;
     for i in 0..words.len() {
-        mapped.push(words_in_second(alloc, me, grid, &bidders[i], &others[i], &words[i])?)?;
+        let (one, other) = pair_at(grid, first, second, i);
+        mapped.push(words_in_second(alloc, me, grid, one, other, &words[i])?)?;
     }
     Ok(mapped)
 }

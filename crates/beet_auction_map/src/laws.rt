@@ -1,52 +1,25 @@
 //! Laws of two worlds: contracts of functions that do nothing.
 
-ghost use Rattle.beet_masking.specs.Blocks.{five_blocks};
-ghost use Rattle.beet_gates.specs.Plans.{plan_batch};
-ghost use Rattle.beet_bids.specs.Outcomes.{clearing_place, outcome_of};
-ghost use Rattle.std.specs.Prelude.{◌≡◌, ◌<◌, ◌≤◌, ◌*◌, ◌==◌, ℕ, List, length, All, ◌^◌, [], Some, slice_index};
-ghost use Rattle.std.specs.Prelude.{slice_index_or};
+ghost use Rattle.std.specs.Prelude.{◌≡◌, ◌<◌, ◌≤◌, ◌*◌, ℕ, List, length, All};
 ghost use Rattle.beet_field.specs.Trio.{member};
 ghost use Rattle.beet_field.specs.declared.point.Point.{Point};
 ghost use Rattle.beet_field.specs.declared.trio.Trio.{Trio};
 ghost use Rattle.beet_words.specs.Bundles.{Words};
-ghost use Rattle.beet_words.specs.Words.{IsWord, accepted, ones, ones_in};
-ghost use Rattle.beet_gates.specs.Scripts.{HasWords};
+ghost use Rattle.beet_words.specs.Words.{IsWord, accepted, ones_in};
 ghost use Rattle.beet_bids.specs.Books.{Book, IsBook};
 ghost use Rattle.beet_bids.specs.declared.book.Bidder.{Bidder};
-ghost use Rattle.beet_plan.specs.Auction.{Auction, auction_batch, most_rounds, most_masks, most_coefficients};
-ghost use Rattle.beet_plan.specs.Auction.{auction_over, plan_with, most_rounds_with};
-ghost use Rattle.beet_masking.specs.Masks.{AreMasks, mask_at, dealt_at, mask_among};
-ghost use Rattle.beet_plan.specs.Runs.{run_rounds};
-ghost use Rattle.beet_bids.specs.Sums.{sums_of};
-ghost use Rattle.beet_plan.specs.Search.{path};
+ghost use Rattle.beet_plan.specs.Auction.{most_coefficients};
+ghost use Rattle.beet_plan.specs.Auction.{auction_over};
+ghost use Rattle.beet_masking.specs.Masks.{AreMasks};
 ghost use Rattle.beet_sharing.specs.Runs.{HasRounds, message, shared_at};
 ghost use Rattle.beet_book.specs.Farmers.{book_inputs, book_with, farmers_of};
-ghost use Rattle.beet_auction_map.specs.Agreement.{Agree, SameKnown};
+ghost use Rattle.beet_two_books.specs.Agreement.{Agree, SameKnown};
 ghost use Rattle.beet_auction_map.specs.Enough.{AreEnough};
 ghost use Rattle.beet_auction_map.specs.MappedBidders.{BiddersMapped};
 ghost use Rattle.beet_turned.specs.MappedMasks.{MasksMapped};
-ghost use Rattle.beet_auction_map.specs.Losses.{losses_of, lost_at};
-ghost use Rattle.beet_masking.specs.Compared.{item_compared};
+ghost use Rattle.beet_two_books.specs.Losses.{losses_of};
 ghost use Rattle.beet_auction.specs.Setups.{setup_for, rounds_for};
-ghost use Rattle.beet_gates.specs.Opened.{OpensAlike, OpenAlike};
-ghost use Rattle.beet_turned.specs.Turn.{turned};
 ghost use Rattle.beet_auction_map.specs.ViewsWith.{cut_words};
-
-/// Mapped mask words leave the rounds of an auction as they are.
-pub fn mapped_masks_leave_the_rounds()
-    ensures { (s : Point) (losses : List ℕ) (words words' : Trio (List ℕ)) →
-        MasksMapped s losses words words' → (auction : Auction) (z : ℕ) →
-        run_rounds auction (mask_at words') z ≡ run_rounds auction (mask_at words) z }
-{}
-
-/// The runs of two books that agree, the second with mapped mask words, open the same numbers all along.
-pub fn agreeing_books_open_alike()
-    ensures { (s : Point) (first second : Book) (words words' : Trio (List ℕ)) →
-        IsBook first → IsBook second → Agree s first second → AreMasks words →
-        HasWords (most_masks (auction_over first.grid)) words → MasksMapped s (losses_of first second) words words' →
-        OpensAlike (auction_batch (auction_over first.grid)) (most_rounds (auction_over first.grid))
-        (sums_of first) words (sums_of second) words' }
-{}
 
 /// With mapped words the bidders of a second book, in which those known to the server have the same curves, give that
 /// server the same summed points.
@@ -123,21 +96,4 @@ pub fn unread_words_change_nothing()
     ensures messages { (book : Book) (words : Words) (rounds t : ℕ) (from to : Point) → AreEnough book words →
         HasRounds (setup_for book words) rounds → t < rounds →
         message (setup_for book (cut_words book.grid words)) from to t ≡ message (setup_for book words) from to t }
-{}
-
-/// Where five servers deal words, the runs of two books over one grid that clear alike open the same numbers all along,
-/// if the same masks are all ones, and each that is compared at a place is turned by what twice the difference there is
-/// more in the first book.
-pub fn books_open_alike_among_five()
-    ensures { (first second : Book) (words words' : List (List ℕ)) → IsBook first → IsBook second →
-        second.grid ≡ first.grid → outcome_of second ≡ outcome_of first → length words ≡ 5 → length words' ≡ 5 →
-        ((k i : ℕ) → slice_index (slice_index_or words k []) i < 2 ^ 61) →
-        ((k i : ℕ) → slice_index (slice_index_or words' k []) i < 2 ^ 61) →
-        ((i : ℕ) → (mask_among words' i == ones) ≡ (mask_among words i == ones)) →
-        ((i place : ℕ) →
-        item_compared (path first.grid.prices (clearing_place first)) (mask_among words) i ≡ Some place →
-        mask_among words' i ≡ turned (mask_among words i) (lost_at first second place)) →
-        OpenAlike (plan_batch (plan_with five_blocks first.grid.policy first.grid.prices))
-        (most_rounds_with five_blocks first.grid.prices) (sums_of first) (dealt_at words) (sums_of second)
-        (dealt_at words') }
 {}

@@ -1,21 +1,21 @@
 //! The words of the second world.
 
 ghost use Rattle.std.specs.Prelude.{◌≡◌, IfErr, IfOk};
-ghost use Rattle.beet_auction_map.specs.Agreement.{Agree};
+ghost use Rattle.beet_two_books.specs.Agreement.{Agree};
 ghost use Rattle.beet_auction_map.specs.Disagreement.{RefusesMap};
 ghost use Rattle.beet_auction_map.specs.Enough.{AreEnough};
 ghost use Rattle.beet_auction_map.specs.MappedWords.{IsOnlyFirst, IsOnlySecond, Mapped};
 ghost use Rattle.beet_auction_map.specs.ViewsWith.{transcript_with, view_with};
 ghost use Rattle.beet_auction_map.specs.Worlds.{AlwaysSame, Ends, HasBidders, WorldsMapped};
 
-use crate::agreeing::{MapFault, agreement};
+use crate::agreeing::agreement;
 use crate::bidders::map_bidders;
 use crate::inputs::input_lines;
-use crate::masks::losses;
 use beet_bids::Book;
 use beet_field::{Point, Trio};
 use beet_search::AuctionScript;
 use beet_trades::{all_words, look_at, map_servers};
+use beet_two_books::{MapFault, losses};
 use beet_words::{WordList, Words};
 use std::alloc::{AllocError, Global};
 

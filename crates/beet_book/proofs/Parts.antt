@@ -1,13 +1,17 @@
--- Two parts that are dealt, joined.
-use Rattle.std.proofs.Common.{◌≡◌, ℕ, ◌*◌, ◌-◌, List, ◌++◌, Result, Ok, Err, length, arith, inl, inr, refl, sym, ◌∙◌, length-append}
+-- Curves that are dealt in two parts.
+use Rattle.std.proofs.Common.{◌≡◌, ℕ, ◌+◌, ◌*◌, ◌-◌, List, ◌++◌, Result, Ok, Err, length, arith, inl, inr, refl, sym, subst}
+use Rattle.std.proofs.Common.{◌∙◌, length-append}
 use Rattle.std.specs.Prelude.{IfOk, IsOkAnd}
+use Rattle.std.specs.List.{slice_range}
+use Rattle.std.proofs.Math.ListN.{drop}
 use Rattle.std.proofs.lemmas.Bool.{cases_lt}
-use Rattle.std.proofs.lemmas.List.Elements.{All-append}
+use Rattle.std.proofs.lemmas.List.Elements.{All-append, All-take, All-drop}
+use Rattle.beet_parts.proofs.Ranges.{range-all, range-joined, range-length}
 use Rattle.beet_field.specs.declared.trio.Trio.{Trio}
 use Rattle.beet_words.specs.Tapes.{Tape}
-use Rattle.beet_bids.specs.Curves.{Curve}
+use Rattle.beet_bids.specs.Curves.{Curve, IsOfGrid}
 use Rattle.beet_bids.specs.Grids.{Grid}
-use Rattle.beet_book.specs.Dealing.{DealsEach, DealsOver, HasLengths}
+use Rattle.beet_book.specs.Dealing.{CanDealEach, CanDealPart, DealsEach, DealsOver, HasLengths}
 use Rattle.beet_book.proofs.Items.{get-append_left, get-append_right}
 
 module _ {few rest : List Curve} {front front_left back back_left : List Tape} {first second : List (Trio (List ℕ))} where
@@ -41,14 +45,31 @@ module _ {few rest : List Curve} {front front_left back back_left : List Tape} {
     lengths = All-append (λ points. HasLengths points (2 * grid.prices)) first second a.lengths b.lengths;
   }
 
+-- the curves of a part, with what is lent to them
+pub part-of : (grid : Grid) (curves : List Curve) (from count : ℕ) (tapes : List Tape) →
+    CanDealPart grid curves from count tapes → CanDealEach grid (slice_range curves from (from + count)) tapes
+part-of grid curves from count tapes can = record {
+  paired = can.paired ∙ sym (range-length curves from count can.within);
+  of_grid = All-take (IsOfGrid grid) (from + count - from) (drop from curves) (All-drop (IsOfGrid grid) from curves can.of_grid);
+  words = can.words;
+}
+
 -- the list of both parts, where both are dealt
-pub over-both : {V E : Type 0} (items : V → List (Trio (List ℕ))) (grid : Grid) (few rest : List Curve)
+pub over-parts : {V E : Type 0} (items : V → List (Trio (List ℕ))) (grid : Grid) (curves : List Curve) (from count more : ℕ)
     (front front_left back back_left : List Tape) (a b r : Result V E) →
-    length front ≡ length few → IfOk a (λ v. DealsOver grid few front front_left (items v)) →
-    IfOk b (λ v. DealsOver grid rest back back_left (items v)) →
+    CanDealPart grid curves from count front →
+    IfOk a (λ v. DealsOver grid (slice_range curves from (from + count)) front front_left (items v)) →
+    IfOk b (λ v. DealsOver grid (slice_range curves (from + count) (from + count + more)) back back_left (items v)) →
     IfOk r (λ v. IsOkAnd a (λ x. IsOkAnd b (λ y. items v ≡ items x ++ items y))) →
-    IfOk r (λ v. DealsOver grid (few ++ rest) (front ++ back) (front_left ++ back_left) (items v))
-over-both items grid few rest front front_left back back_left (Ok x) (Ok y) (Ok v) paired f g is = rw is (over-joined grid paired f g)
-over-both items grid few rest front front_left back back_left (Ok x) (Err e) (Ok v) paired f g is = absurd is
-over-both items grid few rest front front_left back back_left (Err e) b (Ok v) paired f g is = absurd is
-over-both items grid few rest front front_left back back_left a b (Err e) paired f g is = tt
+    IfOk r (λ v. DealsOver grid (slice_range curves from (from + (count + more))) (front ++ back) (front_left ++ back_left) (items v))
+over-parts items grid curves from count more front front_left back back_left (Ok x) (Ok y) (Ok v) can f g is =
+    rw (is, range-joined curves from count more) (over-joined grid (part-of grid curves from count front can).paired f g)
+over-parts items grid curves from count more front front_left back back_left (Ok x) (Err e) (Ok v) can f g is = absurd is
+over-parts items grid curves from count more front front_left back back_left (Err e) b (Ok v) can f g is = absurd is
+over-parts items grid curves from count more front front_left back back_left a b (Err e) can f g is = tt
+
+-- all curves as one part
+pub over-all : {V E : Type 0} (items : V → List (Trio (List ℕ))) (grid : Grid) (curves : List Curve) (old new : List Tape)
+    (r : Result V E) → IfOk r (λ v. DealsOver grid (slice_range curves 0 (0 + length curves)) old new (items v)) →
+    IfOk r (λ v. DealsOver grid curves old new (items v))
+over-all items grid curves old new r f = subst (λ cs. IfOk r (λ v. DealsOver grid cs old new (items v))) (range-all curves) f

@@ -1,5 +1,5 @@
 -- Dealing: each quantity of a bidder becomes the value of a line, whose slope is the next number of the bidder's tape.
-use Rattle.std.specs.Prelude.{◌≡◌, ◌≤◌, ℕ, ◌*◌, List, ◌++◌, length, map, zip, Some, All}
+use Rattle.std.specs.Prelude.{◌≡◌, ◌≤◌, ℕ, ◌+◌, ◌*◌, List, ◌++◌, length, map, zip, Some, All}
 use Rattle.std.specs.List.{slice_get}
 use Rattle.beet_field.specs.Field.{add_of, mul_of}
 use Rattle.beet_field.specs.declared.point.Point.{Point}
@@ -60,6 +60,13 @@ pub record HasLengths (points : Trio (List ℕ)) (count : ℕ) : Type 0 where
 -- each curve is of the grid, and has a tape of its own with a number for each of its quantities
 pub record CanDealEach (grid : Grid) (curves : List Curve) (tapes : List Tape) : Type 0 where
   pub paired : length tapes ≡ length curves
+  pub of_grid : All (IsOfGrid grid) curves
+  pub words : All (λ tape. 2 * grid.prices ≤ length (left_of tape)) tapes
+
+-- so many curves from one on can be dealt, each by a tape of its own
+pub record CanDealPart (grid : Grid) (curves : List Curve) (from count : ℕ) (tapes : List Tape) : Type 0 where
+  pub within : from + count ≤ length curves
+  pub paired : length tapes ≡ count
   pub of_grid : All (IsOfGrid grid) curves
   pub words : All (λ tape. 2 * grid.prices ≤ length (left_of tape)) tapes
 

@@ -3,6 +3,7 @@ pub mod NamedRows
 pub mod BookFiles
 pub mod ServerFiles
 pub mod Dealing
+pub mod Splits
 pub mod Columns
 pub mod Totals
 pub mod Farmers

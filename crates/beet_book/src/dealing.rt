@@ -1,7 +1,6 @@
 //! Dealing the quantities of bidders.
 
 ghost use Rattle.std.specs.Prelude.{◌≡◌, ◌≤◌, ◌<◌, ◌*◌, ◌++◌, slice_index, length, All, IfOk, IsOkAnd, OnErr};
-ghost use Rattle.std.specs.Thread.{IsSync};
 ghost use Rattle.beet_field.specs.Trio.{member};
 ghost use Rattle.beet_words.specs.Tapes.{drawn_from, left_of};
 ghost use Rattle.beet_bids.specs.Curves.{IsOfGrid};
@@ -11,15 +10,15 @@ ghost use Rattle.beet_book.specs.Dealing.{AreShares, CanDealEach, DealsBidder, D
 ghost use Rattle.beet_book.specs.Dealing.{quantities};
 
 use crate::columns::Columns;
-use crate::threads::{FEWEST_FOR_TWO, workers};
 use beet_bids::{Curve, Grid};
 use beet_field::{Fe, Point, Trio};
 use beet_forms::beside;
+use beet_parts::{Parts, in_parts};
 use beet_shamir::deal;
 use beet_words::{FeList, Tape};
 use std::alloc::{AllocError, Global};
 use std::marker::{Model, Sync};
-use std::thread::{Threads, join_mut};
+use std::thread::Threads;
 
 /// The points of one bidder at the three servers: buy at each place of the grid, and then sell at each place.
 #[derive(Drop)]
@@ -131,59 +130,43 @@ fn joined(
     Ok(dealt)
 }
 
-/// Deals the curves by so many threads, or one after another where they are few.
-#[cycle(halves)]
-fn deal_by<R: Threads + Sync>(
-    rt: &R,
-    alloc: Global,
-    grid: &Grid,
-    threads: usize,
-    curves: &[Curve],
-    tapes: &mut [Tape],
-) -> Result<Vec<Dealt>, AllocError>
-    requires { CanDealEach grid.now curves.now tapes.old }
-    ensures { IfOk result (λ dealt. DealsOver grid.now curves.now tapes.old tapes.new dealt.items) }
-{
-    if threads < 2 || curves.len() < FEWEST_FOR_TWO as usize {
-        return deal_in_order(alloc, grid, curves, tapes);
-    }
-    let middle = curves.len() / 2;
-    let curves = curves.split_at(middle);
-    let (front, back) = tapes.split_at_mut(middle);
-    deal_both(rt, alloc, grid, threads, curves, front, back)
+/// The curves of a grid, each of which is dealt by a tape that is lent to it.
+#[derive(Drop)]
+struct Curves<'a> {
+    grid: &'a Grid,
+    curves: &'a [Curve],
 }
 
-/// Deals two parts at the same time, each by half of the threads, and joins their points.
-#[cycle(halves)]
-fn deal_both<R: Threads + Sync>(
-    rt: &R,
-    alloc: Global,
-    grid: &Grid,
-    threads: usize,
-    curves: (&[Curve], &[Curve]),
-    front: &mut [Tape],
-    back: &mut [Tape],
-) -> Result<Vec<Dealt>, AllocError>
-    requires threads { 2 ≤ threads }
-    requires front { CanDealEach grid.now curves.0.now front.old }
-    requires back { CanDealEach grid.now curves.1.now back.old }
-    ensures { IfOk result (λ dealt. DealsOver grid.now (curves.entry.0.now ++ curves.entry.1.now)
-        (front.old ++ back.old) (front.new ++ back.new) dealt.items) }
-{
-    let half = threads.div_ceil(2);
-    let (few, rest) = curves;
-    let mut first = || -> Result<Vec<Dealt>, AllocError>
-        requires { IsSync R.row × CanDealEach grid.now few.now front.now }
-        ensures { IfOk result
-            (λ dealt. DealsOver grid.entry.now few.entry.now front.entry.now front.exit.now dealt.items) }
-    { deal_by(rt, alloc, grid, half, few, front) };
-    let mut second = || -> Result<Vec<Dealt>, AllocError>
-        requires { IsSync R.row × CanDealEach grid.now rest.now back.now }
-        ensures { IfOk result
-            (λ dealt. DealsOver grid.entry.now rest.entry.now back.entry.now back.exit.now dealt.items) }
-    { deal_by(rt, alloc, grid, half, rest, back) };
-    let (few_dealt, rest_dealt) = join_mut(rt, &mut first, &mut second);
-    joined(few_dealt, rest_dealt)
+impl Parts<Tape, Result<Vec<Dealt>, AllocError>> for Curves<'_> {
+    ghost use Rattle.std.specs.Prelude.{◌+◌};
+    ghost use Rattle.std.specs.List.{slice_range};
+    ghost use Rattle.beet_book.specs.Dealing.{CanDealPart};
+    ghost use Rattle.beet_book.specs.Splits.{deal-splits};
+
+    ghost can = { λ s from count tapes. CanDealPart s.grid.now s.curves.now from count tapes };
+
+    ghost does = { λ s from count old new result. IfOk result
+        (λ dealt. DealsOver s.grid.now (slice_range s.curves.now from (from + count)) old new dealt.items) };
+
+    ghost splits = { λ s from few rest front back. deal-splits s.grid.now s.curves.now from few rest front back };
+
+    fn in_order(
+        &self,
+        alloc: Global,
+        from: usize,
+        count: usize,
+        own: &mut [Tape],
+    ) -> Result<Vec<Dealt>, AllocError> {
+        deal_in_order(alloc, self.grid, &self.curves[from..from + count], own)
+    }
+
+    fn join(
+        &self,
+        few: Result<Vec<Dealt>, AllocError>,
+        rest: Result<Vec<Dealt>, AllocError>,
+    ) -> Result<Vec<Dealt>, AllocError> {
+        joined(few, rest)
+    }
 }
 
 /// Deals each curve by its own tape, as `deal_bidder` does, by a thread for each processor. Where memory runs out,
@@ -203,5 +186,5 @@ pub fn deal_many<R: Threads + Sync>(
     ensures lengths { IfOk result
         (λ dealt. All (λ points. HasLengths points (2 * grid.now.prices)) dealt.items) }
 {
-    deal_by(rt, alloc, grid, workers(rt), curves, tapes)
+    in_parts(rt, alloc, &Curves { grid, curves }, curves.len(), tapes)
 }

@@ -3,10 +3,7 @@ ghost use Rattle.beet_bids.specs.Curves.{IsOfGrid};
 ghost use Rattle.beet_book.specs.Dealing.{HasLengths};
 
 use crate::parts::deal_all;
-use crate::samples::{
-    Kind, POINTS, Refusal, are, expect_refusal, expect_refusals, grid_of, numbered_rows,
-    tape_of_eight,
-};
+use crate::samples::{Kind, POINTS, Refusal, are, expect_refusals, grid_of, tape_of_eight};
 use beet_bids::{Curve, Grid, read_bid};
 use beet_book::{
     BidderSource, Dealt, Entry, Servers, Totals, deal_bidder, read_book, read_servers,
@@ -107,26 +104,6 @@ fn books(rt: HostRuntime) {
     expect_refusals(&rt, rt.alloc(), Kind::Book, &BOOKS);
     let entries = entries_of(&rt, rt.alloc(), ANNA_AND_BO).expect(&rt, "a book");
     expect_two(&rt, &entries);
-}
-
-/// Reads a book of the most bidders.
-fn expect_most(rt: &impl Abort, alloc: Global, text: &str) {
-    let entries = entries_of(rt, alloc, text).expect(rt, "a book");
-    assert!(rt; entries.len() == 2_000);
-}
-
-/// Reads a book of a row more.
-fn expect_too_many(rt: &impl Abort, alloc: Global, text: &str) {
-    let found = entries_of(rt, alloc, text).err();
-    expect_refusal(rt, found, Some((2_002, 5)), "the longer book");
-}
-
-#[test]
-fn one_bidder_too_many(rt: HostRuntime) {
-    let mut text = numbered_rows(&rt, rt.alloc(), "beet-book,1\n", 2_000, ",0,b,tape,t");
-    expect_most(&rt, rt.alloc(), text.as_str());
-    text.push_str("x\n").expect(&rt, "memory");
-    expect_too_many(&rt, rt.alloc(), text.as_str());
 }
 
 /// What is bought at four prices, or sold.

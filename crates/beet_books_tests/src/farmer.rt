@@ -4,8 +4,7 @@ ghost use Rattle.beet_book.specs.Dealing.{HasLengths};
 ghost use Rattle.beet_farmer.specs.Sealing.{points_in};
 
 use crate::samples::{
-    Kind, POINTS, Refusal, are, expect_offset, expect_refusal, expect_refusals, grid_of,
-    numbered_rows, tape_of_eight,
+    Kind, POINTS, Refusal, are, expect_offset, expect_refusals, grid_of, tape_of_eight,
 };
 use beet_bids::{Curve, Grid, read_bid};
 use beet_farmer::{Envelope, ListEntry, read_envelope, read_list, seal, write_envelope};
@@ -199,18 +198,4 @@ fn lists(rt: HostRuntime) {
     let text = "beet-list,1\nanna,a.1,a.2,a.3\nbo,b.1,b.2,b.3\n";
     let entries = entries_of(&rt, rt.alloc(), text).expect(&rt, "a list");
     expect_two(&rt, &entries);
-}
-
-/// Reads a list of a row too many.
-fn expect_too_many(rt: &impl Abort, alloc: Global, text: &str) {
-    let found = entries_of(rt, alloc, text).err();
-    expect_refusal(rt, found, Some((2_002, 5)), "the longer list");
-}
-
-#[test]
-fn one_bidder_too_many(rt: HostRuntime) {
-    let mut text = numbered_rows(&rt, rt.alloc(), "beet-list,1\n", 2_000, ",a,b,c");
-    expect_count(&rt, rt.alloc(), text.as_str(), 2_000);
-    text.push_str("x\n").expect(&rt, "memory");
-    expect_too_many(&rt, rt.alloc(), text.as_str());
 }

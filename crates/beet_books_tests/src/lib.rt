@@ -1,5 +1,5 @@
 //! The tests of files, words and books: of beet_field, beet_shamir, beet_store, beet_forms, beet_words, beet_bids,
-//! beet_book and beet_farmer, which are proved over their contracts alone.
+//! beet_book, beet_farmer, beet_sale_file and beet_notice, which are proved over their contracts alone.
 #![tactic(auto)]
 
 #[cfg(test)]
@@ -13,9 +13,15 @@ mod field;
 #[cfg(test)]
 mod forms;
 #[cfg(test)]
+mod longest;
+#[cfg(test)]
+mod notice;
+#[cfg(test)]
 mod parts;
 #[cfg(test)]
 mod printing;
+#[cfg(test)]
+mod sale;
 #[cfg(test)]
 mod samples;
 #[cfg(test)]

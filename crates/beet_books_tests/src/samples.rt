@@ -6,6 +6,7 @@ use beet_farmer::read_list;
 use beet_field::{Fe, Trio};
 use beet_forms::ReadFault;
 use beet_gates::Gates;
+use beet_sale_file::read_sale;
 use beet_words::{Tape, read_tape};
 use std::alloc::Global;
 use std::process::Abort;
@@ -28,11 +29,12 @@ pub enum Kind {
     Book,
     List,
     Tape,
+    Sale,
 }
 
-/// Why a short text is refused.
-fn fault_of(rt: &impl Abort, alloc: Global, kind: Kind, text: &str) -> Option<ReadFault> {
-    assert!(rt; text.len() <= 1_000);
+/// Why a text is refused.
+pub fn fault_of(rt: &impl Abort, alloc: Global, kind: Kind, text: &str) -> Option<ReadFault> {
+    assert!(rt; text.len() <= 65_536);
     let bytes = text.as_bytes();
     match kind {
         Kind::Auction => read_auction(alloc, bytes).err(),
@@ -41,6 +43,7 @@ fn fault_of(rt: &impl Abort, alloc: Global, kind: Kind, text: &str) -> Option<Re
         Kind::Book => read_book(alloc, bytes).err(),
         Kind::List => read_list(alloc, bytes).err(),
         Kind::Tape => read_tape(alloc, bytes, 9).err(),
+        Kind::Sale => read_sale(alloc, bytes).err(),
     }
 }
 

@@ -10,7 +10,7 @@ use std::process::Abort;
 use std::rt::Files;
 
 /// A file of this name and these bytes.
-fn held(rt: &impl Abort, alloc: Global, name: &str, bytes: &[u8]) -> Held {
+pub fn held(rt: &impl Abort, alloc: Global, name: &str, bytes: &[u8]) -> Held {
     Held {
         name: String::from_str(alloc, name).expect(rt, "memory"),
         bytes: Vec::from_slice(alloc, bytes).expect(rt, "memory"),

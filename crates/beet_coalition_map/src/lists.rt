@@ -1,6 +1,6 @@
 //! Five lists of numbers, one for each server, and the words that they are drawn from.
 
-ghost use Rattle.std.specs.Prelude.{◌≡◌, ◌≤◌, IfOk, OnOk, All, length, map};
+ghost use Rattle.std.specs.Prelude.{◌≡◌, ◌≤◌, IfOk, All, length, map};
 ghost use Rattle.beet_weights.specs.Quadratics.{IsServer, of_five};
 ghost use Rattle.beet_words.specs.Words.{IsWord, accepted, ones_in};
 ghost use Rattle.beet_coalition.specs.Lists.{at_server};

@@ -12,7 +12,7 @@ use crate::begins::FiveSecrets;
 use crate::lists::{FiveLists, all_back};
 use crate::walk::map_numbers;
 use crate::watchers::Watchers;
-use beet_five_gates::ScriptOfFive;
+use beet_gates::Script;
 use beet_words::WordList;
 use std::alloc::{AllocError, Global};
 
@@ -21,7 +21,7 @@ use std::alloc::{AllocError, Global};
 ///
 /// The words of the two servers stay as they are, and so do words that are all ones, and words past those that the run
 /// draws. The only error is want of memory: it is taken before the first round and after the last.
-pub fn map_coefficients<S: ScriptOfFive>(
+pub fn map_coefficients<S: Script<5>>(
     alloc: Global,
     two: Watchers,
     script: &S,
@@ -29,9 +29,6 @@ pub fn map_coefficients<S: ScriptOfFive>(
     second: &FiveSecrets,
     coefficients: &[WordList],
 ) -> Result<Vec<WordList>, AllocError>
-    requires first { 1 ≤ two.a }
-    requires order { two.a < two.b }
-    requires last { two.b ≤ 5 }
     requires five { length coefficients.now ≡ 5 }
     requires numbers { (j : ℕ) → IsAmong five_servers.servers j →
         2 * S.secrets_of script.now ≤ length (accepted (at_server coefficients.now j)) }

@@ -47,8 +47,6 @@ fn move_numbers(
     server: u32,
     numbers: &mut [Fe],
 )
-    requires a { IsServer two.a }
-    requires b { IsServer two.b }
     requires server { IsServer server }
     requires enough { 2 * (here.stage.now.hidden + draws_in act.now) ≤ length numbers.old }
     ensures { MovesList (two_watch two.a two.b) (draws_in act.now)
@@ -68,8 +66,6 @@ fn move_numbers(
 
 /// Moves the numbers that a server draws for an act, in its list. Those of a server that watches stay.
 fn move_list(two: Watchers, act: &Act, here: At<'_>, there: At<'_>, server: u32, list: &mut [Fe])
-    requires a { IsServer two.a }
-    requires b { IsServer two.b }
     requires server { IsServer server }
     requires enough { 2 * (here.stage.now.hidden + draws_in act.now) ≤ length list.old }
     ensures same_length { length list.new ≡ length list.old }
@@ -93,8 +89,6 @@ pub(crate) fn move_batch(
     there: At<'_>,
     numbers: &mut FiveLists,
 )
-    requires a { IsServer two.a }
-    requires b { IsServer two.b }
     requires enough { HasEnough act.now numbers.old here.stage.now }
     ensures { MovesBatch (two_watch two.a two.b) act.now here.entry.masks.now here.entry.stage.now
         there.entry.masks.now there.entry.stage.now numbers.old numbers.new }

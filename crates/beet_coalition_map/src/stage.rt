@@ -1,9 +1,8 @@
 //! A run on the points of all five servers, batch by batch.
 
-ghost use Rattle.std.specs.Prelude.{◌≡◌, ◌≤◌, ◌<◌, ◌+◌, ◌*◌, ◌++◌, [], IfOk, OnOk, length, map, slice_index};
+ghost use Rattle.std.specs.Prelude.{◌≡◌, ◌≤◌, ◌<◌, ◌+◌, ◌*◌, ◌++◌, IfOk, OnOk, length, map, slice_index};
 ghost use Rattle.beet_gates.specs.Draws.{draws_in};
 ghost use Rattle.beet_gates.specs.Each.{each};
-ghost use Rattle.beet_gates.specs.Scripts.{deals_in};
 ghost use Rattle.beet_weights.specs.Quadratics.{IsServer, of_five, recombined};
 ghost use Rattle.beet_linear_sharing.specs.Runs.{opened_by};
 ghost use Rattle.beet_linear_sharing.specs.Schemes.{five_servers};
@@ -14,9 +13,8 @@ ghost use Rattle.beet_coalition_map.specs.Steps.{polynomials, product_by, run_of
 use crate::begins::words_at;
 use crate::lists::FiveLists;
 use beet_field::{Fe, MOST_NUMBERS};
-use beet_five_gates::ScriptOfFive;
-use beet_gates::{Act, Batch};
-use beet_map::{append_lets, draws, number_at, secret, word_at};
+use beet_gates::{Act, Batch, Script};
+use beet_map::{append_lets, deals, draws, number_at, secret, word_at};
 use beet_weights::{Quadratic, recombine, reshare};
 use beet_words::{FeList, WordList};
 use std::alloc::{AllocError, Global};
@@ -43,16 +41,6 @@ impl Model for Stage {
       hidden = a.hidden;
       dealt = a.dealt;
     } };
-}
-
-/// How many words each server deals for an act.
-fn deals(act: &Act) -> usize
-    ensures { result ≡ deals_in act.now }
-{
-    match act {
-        Act::Deal => 1,
-        Act::Mul(_) | Act::Reveal(_) | Act::End => 0,
-    }
 }
 
 /// Appends the points of polynomials at a server.
@@ -84,7 +72,7 @@ fn append_opened(opened: &mut Vec<Fe>, wires: &FiveLists, shown: &[u32]) -> Resu
 impl Stage {
     /// A run of a script on these points of the inputs that has done no batch, with room for all its wires and for all
     /// that it may open.
-    pub(crate) fn start<S: ScriptOfFive>(
+    pub(crate) fn start<S: Script<5>>(
         alloc: Global,
         script: &S,
         inputs: &[FeList],

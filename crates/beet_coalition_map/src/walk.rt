@@ -1,7 +1,6 @@
 //! The walk through both worlds, batch by batch.
 
 ghost use Rattle.std.specs.Prelude.{◌≡◌, ◌≤◌, ◌<◌, ◌*◌, ℕ, IfOk, OnOk, length};
-ghost use Rattle.beet_weights.specs.Quadratics.{IsServer};
 ghost use Rattle.beet_linear_sharing.specs.Schemes.{five_servers};
 ghost use Rattle.beet_linear_sharing.specs.Sharings.{IsAmong};
 ghost use Rattle.beet_coalition.specs.Lists.{at_server};
@@ -14,8 +13,7 @@ use crate::lists::FiveLists;
 use crate::moving::{At, move_batch};
 use crate::stage::Stage;
 use crate::watchers::Watchers;
-use beet_five_gates::ScriptOfFive;
-use beet_gates::Batch;
+use beet_gates::{Batch, Script};
 use beet_weights::Quadratic;
 use std::alloc::{AllocError, Global};
 
@@ -32,7 +30,7 @@ struct World<'a> {
 
 impl<'a> World<'a> {
     /// A world whose run of a script has done no batch, with room for all its rounds.
-    fn start<S: ScriptOfFive>(
+    fn start<S: Script<5>>(
         alloc: Global,
         script: &S,
         secrets: &'a FiveSecrets,
@@ -60,8 +58,6 @@ fn step(
     there: &mut World<'_>,
     given: &mut Vec<Quadratic>,
 ) -> Result<(), AllocError>
-    requires a { IsServer two.a }
-    requires b { IsServer two.b }
     requires first { HasEnough batch.now.act here.old.numbers (lets_added batch.now here.old.stage) }
     requires moving { HasEnough batch.now.act there.old.numbers (lets_added batch.now here.old.stage) }
     requires second { (moved : _) → MovesBatch (two_watch two.a two.b) batch.now.act here.old.secrets.now.masks
@@ -98,16 +94,13 @@ fn step(
 
 /// Takes the runs of both worlds to the end of the first, and moves the numbers of the second. Both begin with the same
 /// numbers.
-fn walk<S: ScriptOfFive>(
+fn walk<S: Script<5>>(
     two: Watchers,
     script: &S,
     here: &mut World<'_>,
     there: &mut World<'_>,
     given: &mut Vec<Quadratic>,
 ) -> Result<(), AllocError>
-    requires first { 1 ≤ two.a }
-    requires order { two.a < two.b }
-    requires last { two.b ≤ 5 }
     requires here { here.old.stage ≡ start_on here.old.secrets.now.inputs }
     requires there { there.old.stage ≡ start_on there.old.secrets.now.inputs }
     requires numbers { there.old.numbers ≡ here.old.numbers }
@@ -131,7 +124,7 @@ fn walk<S: ScriptOfFive>(
 }
 
 /// The numbers of the second world that show the two servers the same as these do in the first.
-pub(crate) fn map_numbers<S: ScriptOfFive>(
+pub(crate) fn map_numbers<S: Script<5>>(
     alloc: Global,
     two: Watchers,
     script: &S,
@@ -139,10 +132,7 @@ pub(crate) fn map_numbers<S: ScriptOfFive>(
     second: &FiveSecrets,
     numbers: FiveLists,
 ) -> Result<FiveLists, AllocError>
-    requires first { 1 ≤ two.a }
-    requires order { two.a < two.b }
-    requires last { two.b ≤ 5 }
-    requires enough { (j : ℕ) → IsAmong five_servers.servers j →
+    requires { (j : ℕ) → IsAmong five_servers.servers j →
         2 * S.secrets_of script.now ≤ length (at_server numbers j) }
     ensures mapped { IfOk result (λ mapped. NumbersMapped two.a two.b (S.batch_of script.now) first.now
         second.now numbers mapped) }

@@ -1,10 +1,13 @@
 //! Two servers that put together what they see.
 
-ghost use Rattle.std.specs.Prelude.{◌≡◌};
+ghost use Rattle.std.specs.Prelude.{◌≡◌, ◌<◌, ◌≤◌, MatchOption};
 ghost use Rattle.beet_weights.specs.Quadratics.{IsServer};
 ghost use Rattle.beet_coalition.specs.Watchers.{inverse_of, two_watch};
 
 use beet_field::{Fe, Point};
+
+/// How many servers there are.
+const SERVERS: u32 = 5;
 
 /// The inverse of 4, which is `2^59`.
 const QUARTER: u64 = 576_460_752_303_423_488;
@@ -32,9 +35,23 @@ fn inverse(server: u32) -> Fe
 pub struct Watchers {
     pub a: u32,
     pub b: u32,
+    pub ghost lowest: { 1 ≤ a },
+    pub ghost order: { a < b },
+    pub ghost highest: { b ≤ 5 },
 }
 
 impl Watchers {
+    /// Two servers, or none unless both are from 1 to 5 and the first is below the second.
+    pub fn of(a: u32, b: u32) -> Option<Watchers>
+        ensures { MatchOption result (1 ≤ a → a < b → b ≤ 5 → ⊥) (λ two. (two.a ≡ a) × (two.b ≡ b)) }
+    {
+        if a >= 1 && a < b && b <= SERVERS {
+            Some(Watchers { a, b })
+        } else {
+            None
+        }
+    }
+
     /// Whether a server is one of the two.
     pub fn watches(self, server: u32) -> bool
         ensures { result ≡ (two_watch self.a self.b).watches server }
@@ -45,8 +62,6 @@ impl Watchers {
     /// By how much the two numbers that hide a secret move if the secret is one less: by `(a + b) / (a * b)` and by
     /// `-1 / (a * b)`.
     pub fn factors(self) -> (Fe, Fe)
-        requires a { IsServer self.a }
-        requires b { IsServer self.b }
         ensures rho { result.0 ≡ (two_watch self.a self.b).factor 0 }
         ensures sigma { result.1 ≡ (two_watch self.a self.b).factor 1 }
     {

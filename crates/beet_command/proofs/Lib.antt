@@ -1,2 +1,4 @@
-pub mod Standing
+mod Standing
+mod Counts
 pub mod Named
+pub mod Reading

@@ -1,6 +1,7 @@
 -- The words of a command that stand in a list.
-use Rattle.std.proofs.Common.{◌≡◌, ◌+◌, ◌∙◌, ℕ, List, [], ◌∷◌, length, map, drop, get_or, Option, sym, ap, subst, arith}
+use Rattle.std.proofs.Common.{◌≡◌, ◌+◌, ◌∙◌, ℕ, List, [], ◌∷◌, length, map, drop, get_or, sym, ap, arith}
 use Rattle.std.proofs.lemmas.List.{drop_all, drop_more}
+use Rattle.beet_command.specs.Lines.{Words, words_in}
 
 -- these stand in a list from a place on
 abbrev pub Stand : {A : Type 0} → List A → ℕ → List A → Type 0
@@ -14,8 +15,8 @@ all_left list i (x ∷ rest) h (e, s) =
     drop_more list i x (omega (arith, h)) ∙ ap (λ y. y ∷ drop (i + 1) list) (sym e)
     ∙ ap (λ ys. x ∷ ys) (all_left list (i + 1) rest (omega (arith, h)) s)
 
--- what holds of the job of the words that stand there holds of the job of all words
-pub by_words : {A J : Type 0} (job_of : List (List ℕ) → Option J) (shown : A → List ℕ) (P : Option J → Type 0) (words known : List A) →
-    length words ≡ length known → Stand words 0 known → P (job_of (map shown known)) → P (job_of (map shown words))
-by_words job_of shown P words known h s p =
-    subst (λ list. P (job_of (map shown list))) (sym (all_left words 0 known (omega (arith, h)) s)) p
+-- the words of a list are those that stand there
+pub by_words : {A : Type 0} (shown : A → List ℕ) (line : Words) (words known : List A) → length words ≡ length known →
+    Stand words 0 known → line ≡ words_in (map shown known) → line ≡ words_in (map shown words)
+by_words shown line words known h s e =
+    e ∙ ap (λ list. words_in (map shown list)) (sym (all_left words 0 known (omega (arith, h)) s))

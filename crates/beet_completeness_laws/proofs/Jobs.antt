@@ -38,7 +38,7 @@ use Rattle.beet_world.specs.Schedules.{schedule_of}
 use Rattle.beet_world.specs.Worlds.{named_in}
 use Rattle.beet_world.specs.declared.schedule.Delivery.{Delivery}
 use Rattle.beet_world.specs.declared.schedule.TheConstants.{SCHEDULE_LIMIT}
-use Rattle.beet_auction_map.specs.declared.agreeing.MapFault.{MapFault}
+use Rattle.beet_two_books.specs.declared.agreeing.MapFault.{MapFault}
 use Rattle.beet_errand.specs.Errands.{Errand, answers, bad_file, reads}
 use Rattle.beet_errand.specs.declared.answer.Status.TheVariants.{Done, MasksSpent as Spent}
 use Rattle.beet_load.specs.Counts.{counts_of, words_wanted}
@@ -65,6 +65,11 @@ use Rattle.beet_job_envelopes.specs.SealedBooks.{HaveWords}
 use Rattle.beet_job_trial.specs.Adding.{enough_of_each}
 use Rattle.beet_job_trial.specs.Rules.{trial_book, trial_farmers, trial_grid, trial_servers}
 use Rattle.beet_job_trial.specs.Trial.{trial_errand}
+use Rattle.beet_masking.specs.Masks.{mask_among}
+use Rattle.beet_weights.specs.Quadratics.{of_five}
+use Rattle.beet_coalition.specs.Lists.{at_server}
+use Rattle.beet_five_load.specs.FiveLoading.{five_loaded_errand}
+use Rattle.beet_job_five.specs.Five.{five_errand}
 use Rattle.beet_job_worlds.specs.Differences.{difference_between}
 use Rattle.beet_job_worlds.specs.Ending.{compared_errand, unless_differing}
 use Rattle.beet_job_worlds.specs.Reading.{Both, both_errand, first_book, second_book, words_read}
@@ -75,11 +80,11 @@ use Rattle.beet_app_laws.specs.Calls.{Call}
 use Rattle.beet_app_laws.specs.Dues.{IsDue}
 use Rattle.beet_app_laws.specs.Dues.{status_of_first}
 use Rattle.beet_completeness_laws.specs.Complete.{CanAudit, CanCompare, CanOpen, CanRehearse, CanClear, CanSeal, CanTally}
-use Rattle.beet_completeness_laws.specs.Complete.{CanRunTrial, CanWitness, MasksSufficeFor}
+use Rattle.beet_completeness_laws.specs.Complete.{CanRunFive, CanRunTrial, CanWitness, MasksSufficeFor}
 use Rattle.beet_completeness_laws.specs.WithoutFault.{IsDoneOrShort, RunsWithoutFault}
 use Rattle.beet_completeness_laws.proofs.Audits.{audit-done}
 use Rattle.beet_completeness_laws.proofs.Leading.{IsDoneOver, book-done, book-ends, done-or-short, passes, passes-both}
-use Rattle.beet_completeness_laws.proofs.Leading.{passes-done, points-done, then-done}
+use Rattle.beet_completeness_laws.proofs.Leading.{passes-done, points-done, search-done, then-done}
 
 -- ---- errands
 
@@ -105,6 +110,12 @@ module _ (files : List File) where
   watch-done auction servers list can =
       then-done files (loaded_errand auction servers list) can.loaded _ can.loaded_read
       (book-done (book_with can.loaded.grid can.loaded.farmers) (masks_of can.loaded.servers) can.masks)
+
+  pub five-done : (auction servers list : List ℕ) → CanRunFive files auction servers list →
+      IsDoneOver files (five_errand auction servers list)
+  five-done auction servers list can =
+      then-done files (five_loaded_errand auction servers list) can.read _ can.is_read
+      (search-done can.read.book (mask_among (of_five (at_server can.read.words.masks))) can.masks)
 
   pub record-done : (auction servers list out : List ℕ) → CanClear files (limited_errand auction servers list) →
       IsDoneOver files (record_errand auction servers list out)
@@ -269,6 +280,13 @@ module _ (files : List File) (call : Call) where
   watch auction servers list w can =
       by-test w (are_names (auction ∷ servers ∷ list ∷ [])) (Answering (watch_errand auction servers list)) refl
       (watch-done files auction servers list can)
+
+  pub five : (auction servers list : List ℕ) →
+      RunsWithoutFault files (codes "five" ∷ auction ∷ servers ∷ list ∷ []) call →
+      CanRunFive files auction servers list → IsDoneOrShort call
+  five auction servers list w can =
+      by-test w (are_names (auction ∷ servers ∷ list ∷ [])) (Answering (five_errand auction servers list)) refl
+      (five-done files auction servers list can)
 
   pub opened : (auction servers list : List ℕ) →
       RunsWithoutFault files (codes "open" ∷ auction ∷ servers ∷ list ∷ []) call →

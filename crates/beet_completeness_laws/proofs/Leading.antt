@@ -27,7 +27,7 @@ use Rattle.beet_errand.specs.Overs.{ReadsTo, answer_over}
 use Rattle.beet_app_laws.specs.Calls.{Call}
 use Rattle.beet_app_laws.specs.Dues.{EndsAsDue, IsDue}
 use Rattle.beet_app_laws.proofs.Led.{led}
-use Rattle.beet_completeness_laws.specs.Complete.{MasksSuffice, MasksSufficeFor}
+use Rattle.beet_completeness_laws.specs.Complete.{MasksSuffice, MasksSufficeFor, Suffice}
 use Rattle.beet_completeness_laws.specs.WithoutFault.{IsDoneOrShort, RunsTableWithoutFault, RunsWithoutFault}
 
 -- ---- runs
@@ -98,13 +98,21 @@ outcome-done (Price place price volume supply) = refl
 outcome-done No = refl
 
 -- in the auction of a book that is the outcome
+pub ends-with : (book : Book) (mask : ℕ → ℕ) → Suffice book.grid.prices (clearing_place book) mask →
+    run_finish book.grid.prices mask (clearing_place book) (finish_of (outcome_of book)) ≡ finish_of (outcome_of book)
+ends-with book mask h = run-ends book.grid.prices mask (clearing_place book) (finish_of (outcome_of book)) h
+
+pub search-done : (book : Book) (mask : ℕ → ℕ) → Suffice book.grid.prices (clearing_place book) mask →
+    Done ≡ status_of (run_finish book.grid.prices mask (clearing_place book) (finish_of (outcome_of book)))
+search-done book mask h = sym (ap status_of (ends-with book mask h) ∙ outcome-done (outcome_of book))
+
 pub book-ends : (book : Book) (masks : Trio (List ℕ)) → MasksSufficeFor book masks →
     book_finish book masks ≡ finish_of (outcome_of book)
-book-ends book masks h = run-ends book.grid.prices (mask_at masks) (clearing_place book) (finish_of (outcome_of book)) h
+book-ends book masks h = ends-with book (mask_at masks) h
 
 pub book-done : (book : Book) (masks : Trio (List ℕ)) → MasksSufficeFor book masks →
     Done ≡ status_of (book_finish book masks)
-book-done book masks h = sym (ap status_of (book-ends book masks h) ∙ outcome-done (outcome_of book))
+book-done book masks h = search-done book (mask_at masks) h
 
 priced-done : (there : Bool) (place : ℕ) (shown : List ℕ) →
     status_of (if there then price_with place shown else NoPrice) ≡ Done

@@ -12,10 +12,10 @@ use Rattle.beet_book.specs.Farmers.{book_with}
 use Rattle.beet_book.specs.PointSums.{inputs_at}
 use Rattle.beet_book.specs.declared.book_file.TheConstants.{MOST_PRODUCT}
 use Rattle.beet_plan.specs.Auction.{auction_over}
-use Rattle.beet_masking.specs.Masks.{is_spent, mask_at}
+use Rattle.beet_masking.specs.Masks.{is_spent, mask_among, mask_at}
 use Rattle.beet_plan.specs.Search.{path}
 use Rattle.beet_auction.specs.AnyPoints.{points_place}
-use Rattle.beet_auction_map.specs.Agreement.{Agree}
+use Rattle.beet_two_books.specs.Agreement.{Agree}
 use Rattle.beet_world.specs.Schedules.{schedule_of}
 use Rattle.beet_world.specs.declared.schedule.Delivery.{Delivery}
 use Rattle.beet_world.specs.declared.schedule.TheConstants.{SCHEDULE_LIMIT}
@@ -26,6 +26,9 @@ use Rattle.beet_load.specs.Servers.{HaveEnough, masks_of}
 use Rattle.beet_job_envelopes.specs.SealedBooks.{HaveWords}
 use Rattle.beet_job_trial.specs.Rules.{trial_book, trial_farmers, trial_grid, trial_servers}
 use Rattle.beet_job_trial.specs.Sizes.{sizes_of}
+use Rattle.beet_weights.specs.Quadratics.{of_five}
+use Rattle.beet_coalition.specs.Lists.{at_server}
+use Rattle.beet_five_load.specs.FiveLoading.{FiveRead, five_loaded_errand}
 use Rattle.beet_audit.specs.Audits.{recombined_book}
 use Rattle.beet_audit.specs.OneRuns.{OneRun}
 use Rattle.beet_job_audit.specs.Reading.{read_errand}
@@ -34,10 +37,14 @@ use Rattle.beet_job_worlds.specs.Reading.{Both, both_errand, first_book, second_
 use Rattle.beet_errand.specs.Overs.{ReadsTo}
 use Rattle.beet_app_laws.specs.Readings.{OpenRead, SealRead, TallyRead}
 
--- the masks suffice for a search among so many prices that ends at a place: of as many as it makes comparisons, and the
+-- masks suffice for a search among so many prices that ends at a place: of as many as it makes comparisons, and the
 -- spare ones, no more are rejected than are spare
+abbrev pub Suffice : ℕ → ℕ → (ℕ → ℕ) → Type 0
+Suffice prices place mask = is_spent mask (length (path prices place)) ≡ false
+
+-- so do the masks of three servers
 abbrev pub MasksSuffice : ℕ → ℕ → Trio (List ℕ) → Type 0
-MasksSuffice prices place masks = is_spent (mask_at masks) (length (path prices place)) ≡ false
+MasksSuffice prices place masks = Suffice prices place (mask_at masks)
 
 -- so it is for the auction of a book
 abbrev pub MasksSufficeFor : Book → Trio (List ℕ) → Type 0
@@ -54,7 +61,14 @@ pub record CanClear (files : List File) (step : Step AuctionWithBidders) : Type 
   pub loaded_read : ReadsTo files step loaded
   pub masks : MasksSufficeFor (book_with loaded.grid loaded.farmers) (masks_of loaded.servers)
 
--- `rehearse`: so it is, and a schedule is read
+-- `five`: an auction among five servers is read with their words and its book, and their masks suffice
+pub record CanRunFive (files : List File) (auction servers book : List ℕ) : Type 0 where
+  pub read : FiveRead
+  pub is_read : ReadsTo files (five_loaded_errand auction servers book) read
+  pub masks : Suffice read.book.grid.prices (clearing_place read.book)
+      (mask_among (of_five (at_server read.words.masks)))
+
+-- `rehearse`: an auction is read as for `clear`, its masks suffice, and a schedule is read
 pub record CanRehearse (files : List File) (auction servers book name : List ℕ) (loaded : AuctionWithBidders)
     (schedule : List Delivery) : Type 0 where
   pub loaded_read : ReadsTo files (loaded_errand auction servers book) loaded

@@ -22,7 +22,7 @@ ghost use Rattle.beet_job_rehearse.specs.StandingTexts.{rehearsal_text};
 ghost use Rattle.beet_app_laws.specs.Calls.{Call, Says};
 ghost use Rattle.beet_app_laws.specs.Held.{IsHeld};
 ghost use Rattle.beet_completeness_laws.specs.Complete.{CanAudit, CanCompare, CanOpen, CanRehearse, CanClear, CanSeal};
-ghost use Rattle.beet_completeness_laws.specs.Complete.{CanTally, CanRunTrial, CanWitness};
+ghost use Rattle.beet_completeness_laws.specs.Complete.{CanRunFive, CanRunTrial, CanTally, CanWitness};
 ghost use Rattle.beet_completeness_laws.specs.Kinds.{FileKind, ValueOf};
 ghost use Rattle.beet_completeness_laws.specs.WithoutFault.{IsDoneOrShort, RunsWithoutFault};
 
@@ -39,6 +39,9 @@ pub fn what_is_right_is_done()
     ensures watch { (files : List File) (auction servers book : List ℕ) (call : Call) →
         RunsWithoutFault files (codes "watch" ∷ auction ∷ servers ∷ book ∷ []) call →
         CanClear files (loaded_errand auction servers book) → IsDoneOrShort call }
+    ensures five { (files : List File) (auction servers book : List ℕ) (call : Call) →
+        RunsWithoutFault files (codes "five" ∷ auction ∷ servers ∷ book ∷ []) call →
+        CanRunFive files auction servers book → IsDoneOrShort call }
     ensures rehearse { (files : List File) (auction servers book name : List ℕ) (loaded : AuctionWithBidders)
         (schedule : List Delivery) (call : Call) →
         RunsWithoutFault files (codes "rehearse" ∷ auction ∷ servers ∷ book ∷ name ∷ []) call →

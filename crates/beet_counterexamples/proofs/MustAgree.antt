@@ -19,9 +19,9 @@ use Rattle.beet_view.specs.Transcripts.{view_bytes, view_in}
 use Rattle.beet_view.specs.Views.{Viewed}
 use Rattle.beet_view.specs.declared.view.Seen.{Seen}
 use Rattle.beet_view.proofs.ViewAgain.{view_in-view}
-use Rattle.beet_auction_map.specs.Agreement.{Agree}
+use Rattle.beet_two_books.specs.Agreement.{Agree}
 use Rattle.beet_auction_map.specs.ViewsWith.{transcript_with, view_with}
-use Rattle.beet_trades.proofs.Disagreeing.{get-map}
+use Rattle.beet_map.proofs.Disagreeing.{get-map}
 use Rattle.beet_headline.specs.Statements.{CanRun, are_spent}
 use Rattle.beet_headline.proofs.Sealed.{same-read}
 use Rattle.beet_headline.proofs.Telling.{equal-ends}

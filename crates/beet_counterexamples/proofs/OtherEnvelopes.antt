@@ -17,10 +17,10 @@ use Rattle.beet_farmer.specs.Sealing.{envelope_for}
 use Rattle.beet_farmer.proofs.SealedAgain.{item, long, member-dealt}
 use Rattle.beet_headline.specs.Envelopes.{AreTwoBids, CanSeal}
 use Rattle.beet_headline.proofs.Sealed.{points-told}
-use Rattle.beet_headline.proofs.TwoServers.{curves-told}
+use Rattle.beet_headline.proofs.Told.{curves-told}
 use Rattle.beet_counterexamples.proofs.OtherWords.{longer, longer-accepted, longer-other, longer-words}
 use Rattle.beet_counterexamples.proofs.SameWords.{cancelled}
-use Rattle.beet_auction_map.proofs.BidderFacts.{quantity-element}
+use Rattle.beet_two_books.proofs.BidderFacts.{quantity-element}
 
 -- words of which the same numbers are drawn give the same envelope
 envelope-same : (grid : Grid) (s : Point) (curve : Curve) (one other : List ℕ) →

@@ -15,12 +15,14 @@ use Rattle.beet_book.specs.Farmers.{BidderWithWords, farmers_of}
 use Rattle.beet_book.proofs.Quantities.{quantities-many}
 use Rattle.beet_map.specs.Mapped.{moved_of}
 use Rattle.beet_map.proofs.Moves.{moved_same}
-use Rattle.beet_auction_map.specs.Agreement.{Agree}
+use Rattle.beet_two_books.specs.Agreement.{Agree}
 use Rattle.beet_auction_map.specs.MappedWords.{Mapped}
-use Rattle.beet_mapped.proofs.DealerFacts.{element-at, known-or}
+use Rattle.beet_map.proofs.Places.{element-at}
+use Rattle.beet_mapped.proofs.DealerFacts.{known-or}
 use Rattle.beet_turned.proofs.MasksBack.{all-at}
-use Rattle.beet_auction_map.proofs.BidderFacts.{curve-elements, dealer_of, farmers-dealers}
-use Rattle.beet_trades.proofs.Disagreeing.{as-many, get-map}
+use Rattle.beet_two_books.proofs.BidderFacts.{curve-elements}
+use Rattle.beet_auction_map.proofs.BidderFacts.{dealer_of, farmers-dealers}
+use Rattle.beet_map.proofs.Disagreeing.{as-many, get-map}
 use Rattle.beet_auction_map.specs.MappedBidders.{party_of}
 use Rattle.beet_mapped.specs.Dealers.{dealers_of}
 use Rattle.beet_headline.specs.Statements.{CanRun}

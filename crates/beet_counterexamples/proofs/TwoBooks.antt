@@ -11,7 +11,7 @@ use Rattle.beet_bids.specs.Curves.{IsCurve, IsOfGrid}
 use Rattle.beet_bids.specs.declared.book.Bidder.{Bidder}
 use Rattle.beet_bids.specs.declared.curve.TheConstants.{LARGEST_QUANTITY}
 use Rattle.beet_bids.specs.declared.outcomes.Outcome.TheVariants.{No, Price}
-use Rattle.beet_auction_map.specs.Agreement.{SameKnown}
+use Rattle.beet_two_books.specs.Agreement.{SameKnown}
 use Rattle.beet_counterexamples.specs.Examples.{book_selling, buyer, seller_of, two_prices}
 use Rattle.beet_headline.specs.Statements.{AreTwoBooks}
 

@@ -8,7 +8,7 @@ use Rattle.beet_auction.specs.Setups.{rounds_for, setup_for}
 use Rattle.beet_map.specs.Mapped.{GateMapped}
 use Rattle.beet_auction_map.specs.MappedBidders.{BiddersMapped}
 use Rattle.beet_turned.specs.MappedMasks.{MasksMapped}
-use Rattle.beet_auction_map.specs.Losses.{losses_of}
+use Rattle.beet_two_books.specs.Losses.{losses_of}
 
 -- words that are mapped, but that there may be any number of coefficient words that are all ones, anywhere
 pub record MappedWithoutPlaces (s : Point) (first : Book) (words : Words) (second : Book)

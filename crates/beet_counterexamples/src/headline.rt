@@ -22,7 +22,7 @@ ghost use Rattle.beet_server.specs.Endings.{Ends, Waits, ending_of};
 ghost use Rattle.beet_auction.specs.Endings.{book_rounds};
 ghost use Rattle.beet_auction.specs.Setups.{setup_for};
 ghost use Rattle.beet_sharing.specs.Runs.{HasRounds, Setup};
-ghost use Rattle.beet_auction_map.specs.Agreement.{Agree};
+ghost use Rattle.beet_two_books.specs.Agreement.{Agree};
 ghost use Rattle.beet_auction_map.specs.MappedWords.{Mapped};
 ghost use Rattle.beet_auction_map.specs.ViewsWith.{transcript_with, view_with};
 ghost use Rattle.beet_farmer.specs.Sealing.{envelope_for, sealed_envelope};

@@ -5,7 +5,8 @@ use Rattle.std.proofs.lemmas.Bool.{cases_lt, eq-eqb, ne_eqb}
 use Rattle.std.proofs.lemmas.List.Sums.{length-filter, sum_by-append, sum_by-cons}
 use Rattle.std.specs.List.{range_with_len, flat_map, sum_by}
 use Rattle.std.specs.Prelude.{count_by}
-use Rattle.beet_delivery.specs.Networks.{Network, Triple, Delivered, has, with_triple, is_sent, triples_of, all_triples, undelivered}
+use Rattle.beet_delivery.specs.Networks.{Network, Triple, Delivered, has, with_triple, is_missing, is_sent, of_round, triples_of}
+use Rattle.beet_delivery.specs.Networks.{all_triples, undelivered}
 use Rattle.beet_delivery.proofs.NetworkFacts.{IsNetwork, WasSent, is_at, sent_grows, sent_parts, triple_is, within_with}
 
 -- terms of which two together are as the other two
@@ -25,29 +26,34 @@ count_none p none (x ∷ xs) =
     let out : cond {A = ℕ} (p x) 1 0 ≡ 0 = ap (λ b. cond b 1 0) (none x) in
     omega (arith, sum_by-cons (λ y. cond (p y) 1 0) x xs, rest, out)
 
-module _ {P : Type 0} {net : Network P} (law : IsNetwork net) where
-  -- the messages of so many rounds, from one on
-  abbrev from_round : ℕ → ℕ → List (Triple P)
-  from_round a n = flat_map (triples_of net) (range_with_len a n)
+-- how many messages of so many rounds, from one on, pass a test
+abbrev pub from_round : {P : Type 0} → Network P → (Triple P → Bool) → ℕ → ℕ → ℕ
+from_round net p a n = count_by p (flat_map (triples_of net) (range_with_len a n))
 
+-- a round more
+pub round_more : {P : Type 0} (net : Network P) (p : Triple P → Bool) (n a : ℕ) →
+    from_round net p a (suc n) ≡ of_round net p a + from_round net p (a + 1) n
+round_more net p n a = sum_by-append (λ d. cond (p d) 1 0) (triples_of net a) (flat_map (triples_of net) (range_with_len (a + 1) n))
+
+module _ {P : Type 0} {net : Network P} (law : IsNetwork net) where
   -- a message stands once among those of all rounds
   module _ (e : Triple P) (may : net.sends e.from e.to ≡ true) where
-    one_more : (n a : ℕ)
-        → count_by (is_at net e) (from_round a (suc n)) ≡ cond (a == e.round) 1 0 + count_by (is_at net e) (from_round (a + 1) n)
-    one_more n a =
-        sum_by-append (λ d. cond (is_at net e d) 1 0) (triples_of net a) (from_round (a + 1) n)
-        ∙ ap (λ m. m + count_by (is_at net e) (from_round (a + 1) n)) (law.once e a may)
+    abbrev it_from : ℕ → ℕ → ℕ
+    it_from a n = from_round net (is_at net e) a n
 
-    one_less : (n a : ℕ) → a ≢ e.round → count_by (is_at net e) (from_round a (suc n)) ≡ count_by (is_at net e) (from_round (a + 1) n)
+    one_more : (n a : ℕ) → it_from a (suc n) ≡ cond (a == e.round) 1 0 + it_from (a + 1) n
+    one_more n a = round_more net (is_at net e) n a ∙ ap (λ m. m + it_from (a + 1) n) (law.once e a may)
+
+    one_less : (n a : ℕ) → a ≢ e.round → it_from a (suc n) ≡ it_from (a + 1) n
     one_less n a other =
         let out : cond {A = ℕ} (a == e.round) 1 0 ≡ 0 = ap (λ b. cond b 1 0) (ne_eqb a e.round other) in
         omega (arith, one_more n a, out)
 
-    none_later : (n a : ℕ) → e.round < a → count_by (is_at net e) (from_round a n) ≡ 0
+    none_later : (n a : ℕ) → e.round < a → it_from a n ≡ 0
     none_later zero a lt = refl
     none_later (suc n) a lt = one_less n a (λ k. omega (arith, k, lt)) ∙ none_later n (a + 1) (omega (arith, lt))
 
-    once_from : (n a : ℕ) → a ≤ e.round → e.round < a + n → count_by (is_at net e) (from_round a n) ≡ 1
+    once_from : (n a : ℕ) → a ≤ e.round → e.round < a + n → it_from a n ≡ 1
     once_from zero a low high = absurd (omega (arith, low, high))
     once_from (suc n) a low high = elim (cases_lt a e.round) [
       | inl lt ↦ one_less n a (λ k. omega (arith, k, lt)) ∙ once_from n (a + 1) (omega (arith, lt)) (omega (arith, high))
@@ -62,8 +68,8 @@ module _ {P : Type 0} {net : Network P} (law : IsNetwork net) where
   -- the tests at a message, before and after one more is delivered
   same_counts : (rounds : ℕ) (x : Delivered P) (e : Triple P) → WasSent net rounds x → is_sent net rounds x e ≡ true
       → has x e ≡ false → (d : Triple P)
-      → cond (is_sent net rounds (with_triple net x e) d && not (has (with_triple net x e) d)) 1 0 + cond (is_at net e d) 1 0
-      ≡ cond (is_sent net rounds x d && not (has x d)) 1 0
+      → cond (is_missing net rounds (with_triple net x e) d) 1 0 + cond (is_at net e d) 1 0
+      ≡ cond (is_missing net rounds x d) 1 0
       + cond (is_sent net rounds (with_triple net x e) d && not (is_sent net rounds x d)) 1 0
   same_counts rounds x e was sent new d =
       by_cases (is_sent net rounds x d) (is_sent net rounds (with_triple net x e) d) (has x d) (is_at net e d)
@@ -94,12 +100,12 @@ module _ {P : Type 0} {net : Network P} (law : IsNetwork net) where
       let p = sent_parts law rounds x e sent in
       let y : Delivered P = with_triple net x e in
       let all = all_triples net rounds in
-      let sum = sums_same (λ d. cond (is_sent net rounds y d && not (has y d)) 1 0) (λ d. cond (is_at net e d) 1 0)
-      (λ d. cond (is_sent net rounds x d && not (has x d)) 1 0) (λ d. cond (is_sent net rounds y d && not (is_sent net rounds x d)) 1 0)
+      let sum = sums_same (λ d. cond (is_missing net rounds y d) 1 0) (λ d. cond (is_at net e d) 1 0)
+      (λ d. cond (is_missing net rounds x d) 1 0) (λ d. cond (is_sent net rounds y d && not (is_sent net rounds x d)) 1 0)
       (same_counts rounds x e was sent new) all in
-      (λ i. length-filter (λ d. is_sent net rounds y d && not (has y d)) all i + sym (one_there e p.0 rounds p.1.0) i) ∙ sum
+      (λ i. length-filter (is_missing net rounds y) all i + sym (one_there e p.0 rounds p.1.0) i) ∙ sum
       ∙ ap (λ m. m + count_by (λ d. is_sent net rounds y d && not (is_sent net rounds x d)) all)
-      (sym (length-filter (λ d. is_sent net rounds x d && not (has x d)) all))
+      (sym (length-filter (is_missing net rounds x) all))
 
   -- one fewer where nothing is sent by it
   pub one_fewer : (rounds : ℕ) (x : Delivered P) (e : Triple P) → WasSent net rounds x → is_sent net rounds x e ≡ true → has x e ≡ false

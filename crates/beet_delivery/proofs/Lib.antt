@@ -4,3 +4,4 @@ pub mod Counting
 mod Listing
 pub mod Undelivered
 pub mod ThreeServers
+pub mod TwoRounds

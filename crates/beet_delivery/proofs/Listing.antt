@@ -4,7 +4,7 @@ use Rattle.std.proofs.lemmas.List.Elements.{filter_passes}
 use Rattle.std.proofs.lemmas.List.Sums.{length-filter}
 use Rattle.std.specs.Prelude.{All, filter, count_by}
 use Rattle.beet_delivery.specs.Networks.{Network, Triple, Delivered, has, all_triples, listed}
-use Rattle.beet_delivery.proofs.NetworkFacts.{IsNetwork, WasSent, is_at, sent_parts, triple_is}
+use Rattle.beet_delivery.proofs.NetworkFacts.{IsNetwork, WasSent, bool_same, is_at, sent_parts, triple_is}
 use Rattle.beet_delivery.proofs.Counting.{count_none, one_there}
 
 -- what passes one test and then another
@@ -61,10 +61,5 @@ module _ {P : Type 0} {net : Network P} (law : IsNetwork net) (rounds : ℕ) whe
   -- equal lists are of equal sets
   pub listed_tells : (x y : Delivered P) → WasSent net rounds x → WasSent net rounds y → listed net rounds x ≡ listed net rounds y → x ≡ y
   listed_tells x y was_x was_y h = λ i from to t. at (record { from = from; to = to; round = t }) i where
-    by : (a b : Bool) → (a ≡ true → b ≡ true) → (b ≡ true → a ≡ true) → a ≡ b
-    by true b to back = sym (to refl)
-    by false true to back = back refl
-    by false false to back = refl
-
     at : (e : Triple P) → has x e ≡ has y e
-    at e = by (has x e) (has y e) (listed_within x y was_x h e) (listed_within y x was_y (sym h) e)
+    at e = bool_same (has x e) (has y e) (listed_within x y was_x h e) (listed_within y x was_y (sym h) e)

@@ -29,6 +29,12 @@ pub record IsNetwork {P : Type 0} (net : Network P) : Type 0 where
   pub heard : (x : Delivered P) (s : P) (t : ℕ) → all_in net x s t ≡ true → (j : P) → net.sends j s ≡ true → x j s t ≡ true
   pub once : (e : Triple P) (t : ℕ) → net.sends e.from e.to ≡ true → count_by (is_at net e) (triples_of net t) ≡ cond (t == e.round) 1 0
 
+-- truths that follow from each other are the same
+pub bool_same : (a b : Bool) → (a ≡ true → b ≡ true) → (b ≡ true → a ≡ true) → a ≡ b
+bool_same true b to back = sym (to refl)
+bool_same false true to back = back refl
+bool_same false false to back = refl
+
 -- the first rounds
 
 at_most : (test : ℕ → Bool) (n : ℕ) → first_rounds n test ≤ n

@@ -1,11 +1,12 @@
 -- Where nothing that is sent is undelivered, each server has passed all rounds.
-use Rattle.std.proofs.Common.{◌≡◌, ◌≢◌, ◌≤◌, ◌<◌, ◌&&◌, not, nat_lt, ℕ, zero, suc, Bool, true, false, length, cond, sym}
+use Rattle.std.proofs.Common.{◌≡◌, ◌≢◌, ◌≤◌, ◌<◌, not, nat_lt, ℕ, zero, suc, Bool, true, false, length, cond, sym}
 use Rattle.std.proofs.Common.{ap, ◌∙◌, inl, inr, arith}
 use Rattle.std.proofs.lemmas.Bool.{and_parts, and_from, and_left, and_right, both_ways, not_from_false, not_from_true}
 use Rattle.std.proofs.lemmas.Bool.{cond_both, cases_Bool, cases_lt, false_from_ne_true, lt-ltb, ltb-true}
 use Rattle.std.proofs.lemmas.List.Sums.{length-filter, sum_by-le-sum_by}
 use Rattle.std.specs.Prelude.{filter}
-use Rattle.beet_delivery.specs.Networks.{Network, Triple, Delivered, has, passed, is_sent, all_triples, undelivered, all_delivered}
+use Rattle.beet_delivery.specs.Networks.{Network, Triple, Delivered, has, passed, is_missing, is_sent, all_triples, undelivered}
+use Rattle.beet_delivery.specs.Networks.{all_delivered}
 use Rattle.beet_delivery.proofs.NetworkFacts.{IsNetwork, WasSent, is_at, passed_in, passed_largest, passed_most}
 use Rattle.beet_delivery.proofs.NetworkFacts.{sent_from, sent_parts, triple_is}
 use Rattle.beet_delivery.proofs.Counting.{count_none, one_there}
@@ -33,8 +34,8 @@ module _ {P : Type 0} {net : Network P} (law : IsNetwork net) (rounds : ℕ) whe
       let p = sent_parts law rounds x e sent in
       elim (cases_Bool (has x e)) [
         | inl w ↦ w
-        | inr w ↦ absurd (both_ways (is_sent net rounds x e && not (has x e))
-            (none_at (λ d. is_sent net rounds x d && not (has x d)) h e p.0 p.1.0)
+        | inr w ↦ absurd (both_ways (is_missing net rounds x e)
+            (none_at (is_missing net rounds x) h e p.0 p.1.0)
             (and_from (is_sent net rounds x e) (not (has x e)) sent (not_from_false (has x e) w)))
       ]
 
@@ -68,8 +69,8 @@ module _ {P : Type 0} {net : Network P} (law : IsNetwork net) (rounds : ℕ) whe
 
   pub none_undelivered : (x : Delivered P) → ((s : P) → passed net rounds x s ≡ rounds) → undelivered net rounds x ≡ 0
   none_undelivered x every =
-      length-filter (λ e. is_sent net rounds x e && not (has x e)) (all_triples net rounds)
-      ∙ count_none (λ e. is_sent net rounds x e && not (has x e))
+      length-filter (is_missing net rounds x) (all_triples net rounds)
+      ∙ count_none (is_missing net rounds x)
       (λ e. elim (cases_Bool (is_sent net rounds x e)) [
         | inl sent ↦
             let p = sent_parts law rounds x e sent in

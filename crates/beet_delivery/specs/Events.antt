@@ -54,6 +54,10 @@ passed = among.passed three
 abbrev pub is_sent : ℕ → Delivered → Triple → Bool
 is_sent = among.is_sent three
 
+-- whether a message is sent and not in the set
+abbrev pub is_missing : ℕ → Delivered → Triple → Bool
+is_missing = among.is_missing three
+
 -- an event: a message is delivered, if it is sent
 abbrev pub deliver : ℕ → Delivered → Triple → Delivered
 deliver = among.deliver three

@@ -1,6 +1,6 @@
 -- Which messages are delivered after a list of events, and what follows from it, among servers of any number and name.
 use Rattle.std.specs.Prelude.{ℕ, zero, suc, ◌==◌, ◌&&◌, ◌||◌, not, nat_lt, nat_le, if◌then◌else◌, List, [], ◌∷◌, length}
-use Rattle.std.specs.Prelude.{map, filter, Bool, true, false}
+use Rattle.std.specs.Prelude.{map, filter, count_by, Bool, true, false}
 use Rattle.std.specs.List.{range_with_len, flat_map}
 
 -- the servers of a run by name, whom each hears, in order, whether two names are the same, and whether one server sends
@@ -57,6 +57,10 @@ module _ {P : Type 0} (n : Network P) where
   abbrev pub is_sent : ℕ → Delivered P → Triple P → Bool
   is_sent rounds x e = n.sends e.from e.to && nat_lt e.round rounds && nat_le e.round (passed rounds x e.from)
 
+  -- whether a message is sent and not in the set
+  abbrev pub is_missing : ℕ → Delivered P → Triple P → Bool
+  is_missing rounds x e = is_sent rounds x e && not (has x e)
+
   -- an event: a message is delivered, if it is sent
   abbrev pub deliver : ℕ → Delivered P → Triple P → Delivered P
   deliver rounds x e = if is_sent rounds x e then with_triple x e else x
@@ -74,11 +78,15 @@ module _ {P : Type 0} (n : Network P) where
   abbrev pub adding : ℕ → Delivered P → List (Triple P) → List (Triple P)
   adding rounds x [] = []
   adding rounds x (e ∷ es) =
-      if is_sent rounds x e && not (has x e) then e ∷ adding rounds (with_triple x e) es else adding rounds x es
+      if is_missing rounds x e then e ∷ adding rounds (with_triple x e) es else adding rounds x es
 
   -- the messages of a round, by sender and receiver
   abbrev pub triples_of : ℕ → List (Triple P)
   triples_of t = flat_map (λ from. map (λ to. record { from = from; to = to; round = t }) (n.peers from)) n.servers
+
+  -- how many messages of a round pass a test
+  abbrev pub of_round : (Triple P → Bool) → ℕ → ℕ
+  of_round p t = count_by p (triples_of t)
 
   -- all messages of a run of so many rounds, by round, sender and receiver
   abbrev pub all_triples : ℕ → List (Triple P)
@@ -90,7 +98,7 @@ module _ {P : Type 0} (n : Network P) where
 
   -- how many messages are sent and not in the set
   abbrev pub undelivered : ℕ → Delivered P → ℕ
-  undelivered rounds x = length (filter (λ e. is_sent rounds x e && not (has x e)) (all_triples rounds))
+  undelivered rounds x = length (filter (is_missing rounds x) (all_triples rounds))
 
   -- the set of all messages of a run of so many rounds
   abbrev pub all_delivered : ℕ → Delivered P

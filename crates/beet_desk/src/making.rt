@@ -21,7 +21,7 @@ use std::sync::Arc;
 /// The queue for the notes of the run of three fresh servers: an end for each of them, and that of the desk. It has
 /// room for a note of each server on each round that the script may have, and at least for three. That is for all of
 /// them, so that no push is refused; no other call takes memory. The only error is want of memory.
-pub fn note_queue<S: Script>(
+pub fn note_queue<S: Script<3>>(
     alloc: Global,
     cores: &Trio<ServerCore<S>>,
 ) -> Result<(Trio<NoteTx>, NoteRx), AllocError>
@@ -39,7 +39,7 @@ pub fn note_queue<S: Script>(
 }
 
 /// A queue with room for so many notes.
-fn open<K: Named<DeskNote>, S: Script>(
+fn open<K: Named<DeskNote>, S: Script<3>>(
     alloc: Global,
     _cores: &Trio<ServerCore<S>>,
     capacity: usize,

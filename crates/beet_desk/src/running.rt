@@ -29,13 +29,13 @@ use std::time::Clock;
 
 /// Three servers that have ended, and the counts of their notes.
 #[derive(Drop)]
-pub struct Watched<S: Script> {
+pub struct Watched<S: Script<3>> {
     pub cores: Trio<ServerCore<S>>,
     pub counts: Trio<NoteCount>,
 }
 
 /// The count of the notes of a server that has ended.
-fn count_at<S: Script>(core: &ServerCore<S>) -> NoteCount
+fn count_at<S: Script<3>>(core: &ServerCore<S>) -> NoteCount
     ensures notes { result.notes ≡ core.now.round }
     ensures opened { result.opened ≡ length core.now.opened }
 {
@@ -46,7 +46,7 @@ fn count_at<S: Script>(core: &ServerCore<S>) -> NoteCount
 }
 
 /// Runs three fresh servers in lockstep, and counts the notes from their rounds and opened numbers.
-fn unwatched<S: Script>(fresh: Trio<ServerCore<S>>) -> Watched<S>
+fn unwatched<S: Script<3>>(fresh: Trio<ServerCore<S>>) -> Watched<S>
     requires { AreFresh S.batch_of S.inputs_of fresh }
     ensures cores { HaveEnded S.batch_of S.inputs_of S.rounds_of fresh result.cores }
     ensures counts { (s : Server) → member result.counts s
@@ -68,7 +68,7 @@ type Told<S> = Result<Trio<Telling<S, NoteTx>>, Trio<ServerCore<S>>>;
 /// Runs three fresh servers to the end, each in a thread of its own, and counts in a fourth what they tell of their
 /// rounds. If a link finds no memory or a worker cannot be started, no server has begun, and all three run in lockstep
 /// instead. The only error is want of memory for the queue of notes. It may wait.
-pub fn run_watched<S: Script + Send, R: Threads + Wait + Clock + Sync>(
+pub fn run_watched<S: Script<3> + Send, R: Threads + Wait + Clock + Sync>(
     rt: &R,
     alloc: Global,
     cores: Trio<ServerCore<S>>,

@@ -147,6 +147,13 @@ pub computed : {B U : Type 0} {view : U → B} {seen : Seen} {b : B} (result : R
 computed (Ok value) is memory = given (sym is)
 computed (Err stop) is memory = rw memory no_memory
 
+-- what was read is answered, unless memory runs out
+pub answered : {A B T U : Type 0} {shows : T → A → Type 0} {view : U → B} {answer : A → B} {old now : Seen} {step : Step A}
+    {value : T} (result : Result U Stop) → ReadsFor shows old now step (Ok value) → IfErr result (λ stop. stop ≡ OutOfMemory) →
+    ((a : A) → shows value a → IfOk result (λ made. view made ≡ answer a)) →
+    Reads view old now (step >>= (λ a. gives (answer a))) result
+answered result r memory made = bound r (λ a is. computed result (made a is) memory)
+
 -- a whole job does what its errand says and no more: it has gone to its end, or it stops with a cause
 pub record Does (old now : Seen) (errand : Errand) (result : Result Answer Stop) : Type 0 where
   pub finishes : Finishes old.told now.told errand result

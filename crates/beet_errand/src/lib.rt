@@ -13,4 +13,3 @@ pub use answer::{NewFile, OwnRefusal, Refusal, Reply, Status, Stop};
 pub use fetching::{TOO_LONG, fetch_file, judge, refuse};
 pub use giving::give_answer;
 pub use running::end_run;
-pub use worlds::worlds_files;

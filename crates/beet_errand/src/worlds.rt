@@ -16,8 +16,8 @@ fn file_of(alloc: Global, stem: &str, ending: &str, bytes: Vec<u8>) -> Result<Ne
 }
 
 /// The files of two worlds, in the order in which they are put: the transcripts `OUT.first` and `OUT.second`, and the
-/// words of the second world, `OUT.words`. Want of memory is the only error.
-pub fn worlds_files(
+/// words of the second world, `OUT.words`.
+fn worlds_files(
     alloc: Global,
     out: &str,
     first: Vec<u8>,
@@ -45,5 +45,22 @@ impl Reply {
         reply.text.extend_from_slice(b"transcripts equal\n")?;
         reply.files = files;
         Ok(reply)
+    }
+    /// The reply with what a server has seen in two worlds and with the words of the second. It tells besides that the
+    /// transcripts are equal. The files are `OUT.first`, `OUT.second` and `OUT.words`, in this order. Want of memory
+    /// is the only error.
+    pub fn telling_worlds(
+        self,
+        alloc: Global,
+        out: &str,
+        first: Vec<u8>,
+        second: Vec<u8>,
+        words: Vec<u8>,
+    ) -> Result<Reply, AllocError>
+        ensures { IfOk result (λ reply. reply
+            ≡ telling_equal self (files_of_worlds out.now first.items second.items words.items)) }
+    {
+        let files = worlds_files(alloc, out, first, second, words)?;
+        self.telling_equal(files)
     }
 }

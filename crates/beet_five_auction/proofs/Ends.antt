@@ -1,7 +1,7 @@
 -- How the auction of a book ends among five servers, with the words that are dealt.
 use Rattle.std.proofs.Common.{refl}
 use Rattle.beet_bids.specs.Books.{Book, IsBook}
-use Rattle.beet_five_plan.specs.FivePlan.{five_over}
+use Rattle.beet_plan.specs.FivePlan.{five_over}
 use Rattle.beet_five_auction.specs.FiveEndings.{FiveAuctionEnds, book_finish, book_rounds}
 use Rattle.beet_five_auction.proofs.FiveEnds.{book-ends-among}
 use Rattle.beet_coalition.specs.Lists.{at_server}

@@ -14,7 +14,7 @@ use Rattle.beet_weights.specs.Quadratics.{IsServer, of_five}
 use Rattle.beet_linear_sharing.specs.Polynomials.{AreShared}
 use Rattle.beet_linear_sharing.specs.Runs.{Setup, shared_at}
 use Rattle.beet_linear_sharing.specs.Schemes.{five_servers}
-use Rattle.beet_five_plan.specs.FivePlan.{FiveAuction, five_batch, five_over, five_plan}
+use Rattle.beet_plan.specs.FivePlan.{FiveAuction, five_batch, five_over, five_plan}
 use Rattle.beet_five_server.specs.Cores.{Work, has_ended}
 use Rattle.beet_five_server.specs.Fits.{Fits}
 use Rattle.beet_five_server.specs.Mails.{Mailbag}

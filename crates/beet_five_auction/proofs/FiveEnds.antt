@@ -20,8 +20,8 @@ use Rattle.beet_linear_sharing.specs.Runs.{HasRounds, Setup, shared_at}
 use Rattle.beet_linear_sharing.specs.Schemes.{five_servers}
 use Rattle.beet_linear_sharing.proofs.Arithmetic.{five-laws}
 use Rattle.beet_linear_sharing.proofs.AtOne.{at-one, same-rounds}
-use Rattle.beet_five_plan.specs.FivePlan.{FiveAuction, five_batch, five_over, five_plan, most_masks, most_rounds, most_secrets, most_wires}
-use Rattle.beet_five_plan.proofs.FiveFacts.{book-ends, five-law}
+use Rattle.beet_plan.specs.FivePlan.{FiveAuction, five_batch, five_over, five_plan, most_masks, most_rounds, most_secrets, most_wires}
+use Rattle.beet_plan.proofs.FiveFacts.{book-ends, five-law}
 use Rattle.beet_five_auction.specs.FiveEndings.{FiveAuctionEnds, book_finish, book_rounds}
 
 by-five : (o : Setup) → DealtBy 5 (dealt_at (of_five o.masks))

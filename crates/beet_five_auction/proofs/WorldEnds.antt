@@ -8,7 +8,7 @@ use Rattle.beet_weights.specs.Quadratics.{IsServer, of_five}
 use Rattle.beet_linear_sharing.specs.Polynomials.{AreShared}
 use Rattle.beet_linear_sharing.specs.Runs.{Setup}
 use Rattle.beet_linear_sharing.specs.Schemes.{five_servers}
-use Rattle.beet_five_plan.specs.FivePlan.{FiveAuction, five_batch, five_over}
+use Rattle.beet_plan.specs.FivePlan.{FiveAuction, five_batch, five_over}
 use Rattle.beet_five_server.specs.Cores.{has_ended}
 use Rattle.beet_five_server.specs.Network.{five}
 use Rattle.beet_five_server.proofs.Networking.{five-is}

@@ -10,7 +10,7 @@ use Rattle.beet_plan.specs.declared.Finish.{Finish}
 use Rattle.beet_weights.specs.Quadratics.{of_five}
 use Rattle.beet_linear_sharing.specs.Runs.{HasRounds, Setup, shared_at}
 use Rattle.beet_linear_sharing.specs.Schemes.{five_servers}
-use Rattle.beet_five_plan.specs.FivePlan.{FiveAuction, five_plan}
+use Rattle.beet_plan.specs.FivePlan.{FiveAuction, five_plan}
 
 -- how it ends with the mask words of each server: with the book's outcome, or spent if the third rejected mask comes
 -- first

@@ -1,7 +1,7 @@
 -- How the servers of a world of five have ended an auction.
 use Rattle.std.specs.Prelude.{◌≡◌, ◌≤◌, ◌+◌, ◌-◌, ℕ, List, Some, true}
 use Rattle.beet_delivery.specs.Networks.{Delivered, undelivered}
-use Rattle.beet_five_plan.specs.FivePlan.{FiveAuction, five_batch, five_plan}
+use Rattle.beet_plan.specs.FivePlan.{FiveAuction, five_batch, five_plan}
 use Rattle.beet_five_server.specs.Cores.{Work, has_ended}
 use Rattle.beet_five_server.specs.Network.{five}
 use Rattle.beet_five_world.specs.Members.{IsAt, Seen}

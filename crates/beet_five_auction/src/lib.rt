@@ -9,7 +9,7 @@ ghost use Rattle.beet_bids.specs.Sums.{sums_of};
 ghost use Rattle.beet_five_auction.specs.FiveEndings.{FiveAuctionEnds, book_finish, book_rounds};
 ghost use Rattle.beet_five_auction.specs.WorldEndings.{WorldEnds};
 ghost use Rattle.beet_delivery.specs.Networks.{Delivered, Triple, after, nothing};
-ghost use Rattle.beet_five_plan.specs.FivePlan.{FiveAuction, five_batch, five_over, five_plan};
+ghost use Rattle.beet_plan.specs.FivePlan.{FiveAuction, five_batch, five_over, five_plan};
 ghost use Rattle.beet_five_server.specs.Cores.{has_ended};
 ghost use Rattle.beet_five_server.specs.Fits.{Fits};
 ghost use Rattle.beet_five_server.specs.Network.{five};
@@ -23,9 +23,9 @@ ghost use Rattle.beet_five_dealing.specs.FiveInputs.{setup_of};
 ghost use Rattle.beet_five_dealing.specs.FiveWords.{CanRun, FiveWords};
 ghost use Rattle.beet_weights.specs.Quadratics.{IsServer, of_five, point_of};
 
-use beet_five_script::FiveScript;
 use beet_five_server::FiveCore;
 use beet_plan::Finish;
+use beet_search::FiveScript;
 
 /// If the points of the inputs are those of polynomials of degree at most two with the sums of a book, the run among
 /// five servers ends with the book's outcome, or spent exactly if the mask words say so. Its rounds are those that the

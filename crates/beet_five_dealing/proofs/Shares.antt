@@ -4,7 +4,7 @@ use Rattle.std.proofs.Common.{sym, ◌∙◌, ap, inl, inr, subst}
 use Rattle.std.specs.Prelude.{sum_by, All}
 use Rattle.std.proofs.lemmas.Bool.{cases_lt}
 use Rattle.std.proofs.lemmas.List.{get_or-append-add, get_or_append_left, get_or_past}
-use Rattle.std.proofs.lemmas.List.Elements.{All-head, All-tail}
+use Rattle.std.proofs.lemmas.List.Elements.{All-get_or, All-head, All-tail}
 use Rattle.std.proofs.lemmas.List.Sums.{sum_by-cons}
 use Rattle.beet_field.specs.Field.{p, IsElement}
 use Rattle.beet_gates.specs.Each.{each}
@@ -14,10 +14,9 @@ use Rattle.beet_bids.specs.Curves.{Curve, IsOfGrid, quantity}
 use Rattle.beet_bids.specs.Grids.{Grid}
 use Rattle.beet_bids.specs.Sums.{demand_at, sums_of, supply_at}
 use Rattle.beet_bids.specs.declared.book.Bidder.{Bidder}
-use Rattle.beet_bids.proofs.BookSums.{length-sums, sums-demand, sums-supply}
+use Rattle.beet_bids.proofs.BookSums.{length-sums, sums-demand, sums-elements, sums-supply}
 use Rattle.beet_book.specs.Farmers.{BidderWithWords, book_with, farmers_of}
 use Rattle.beet_book.proofs.Sums.{item-demand, item-supply, length-first}
-use Rattle.beet_auction.proofs.BookLines.{book-lines}
 use Rattle.beet_linear_sharing.specs.Polynomials.{AreShared, IsShared}
 use Rattle.beet_linear_sharing.specs.Schemes.{five_servers}
 use Rattle.beet_linear_sharing.proofs.Arithmetic.{five-laws}
@@ -76,7 +75,10 @@ module _ (grid : Grid) where
         (λ (f : BidderWithWords). hiding five_servers f.words n) farmers
 
     element : (w : ℕ) → IsElement (slice_index sums w)
-    element w = (book-lines grid farmers b).elements w
+    element w = elim (cases_lt w (length sums)) [
+      | inl lt ↦ All-get_or IsElement sums w 0 lt (sums-elements (book_with grid farmers) b)
+      | inr past ↦ rw (get_or_past sums w 0 past) (omega arith)
+    ]
 
     -- a wire whose points are those of a total
     wire-as : (w n : ℕ) → slice_index sums w ≡ total n →

@@ -5,7 +5,7 @@ use Rattle.beet_words.specs.Words.{IsWord, accepted}
 use Rattle.beet_bids.specs.Books.{Book}
 use Rattle.beet_linear_sharing.specs.Schemes.{five_servers}
 use Rattle.beet_linear_sharing.specs.Sharings.{IsAmong}
-use Rattle.beet_five_plan.specs.FivePlan.{five_over, most_masks, most_secrets}
+use Rattle.beet_plan.specs.FivePlan.{five_over, most_masks, most_secrets}
 use Rattle.beet_coalition.specs.Lists.{at_server}
 use Rattle.beet_five_dealing.specs.FiveWords.{AllAccepted, AreFive, AreWordLists, CanRun, FiveWords}
 use Rattle.beet_five_dealing.proofs.Lists.{lists-cons}

@@ -15,7 +15,7 @@ use Rattle.beet_coalition.specs.Lists.{at_server}
 use Rattle.beet_coalition.specs.Moved.{hiding}
 use Rattle.beet_coalition.specs.Premise.{Secrets}
 use Rattle.beet_coalition.specs.Words.{run_with}
-use Rattle.beet_five_plan.specs.FivePlan.{five_batch, five_over, most_rounds}
+use Rattle.beet_plan.specs.FivePlan.{five_batch, five_over, most_rounds}
 use Rattle.beet_five_dealing.specs.FiveWords.{FiveWords}
 
 -- the share of server i of the n-th quantity of a bidder, which two numbers drawn from its words hide

@@ -6,7 +6,7 @@ use Rattle.beet_bids.specs.Grids.{Grid}
 use Rattle.beet_linear_sharing.specs.Schemes.{five_servers}
 use Rattle.beet_linear_sharing.specs.Sharings.{IsAmong}
 use Rattle.beet_coalition.specs.Lists.{at_server}
-use Rattle.beet_five_plan.specs.FivePlan.{five_over, most_masks, most_secrets}
+use Rattle.beet_plan.specs.FivePlan.{five_over, most_masks, most_secrets}
 
 -- the mask words and the coefficient words of each server, and the words of each bidder
 pub record FiveWords : Type 0 where

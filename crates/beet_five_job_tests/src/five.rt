@@ -1,6 +1,7 @@
-use beet_errand::{Refusal, Status, Stop};
+use beet_errand::{Refusal, Reply, Status, Stop};
 use beet_five_load::load_five_whole;
 use beet_job_five::five;
+use beet_load::AuctionFiles;
 use beet_store::{Held, MemoryShelf};
 use beet_words::WordList;
 use std::alloc::Global;
@@ -8,7 +9,7 @@ use std::process::Abort;
 
 /// An auction of four prices, the seeds of five servers, and a book of three bidders; and files that differ from these
 /// in one thing.
-const FILES: [(&str, &str); 19] = [
+const FILES: [(&str, &str); 16] = [
     (
         "g.auc",
         "beet-auction,1\nbase,100\ntick,5\nprices,4\ngates,chain\n",
@@ -53,18 +54,6 @@ const FILES: [(&str, &str); 19] = [
         "many.auc",
         "beet-auction,1\nbase,100\ntick,5\nprices,4096\ngates,chain\n",
     ),
-    (
-        "three.srv",
-        "beet-servers,1\n1,seed,0101010101010101010101010101010101010101010101010101010101010101\n",
-    ),
-    (
-        "four.srv",
-        "beet-servers,5\n1,seed,0101010101010101010101010101010101010101010101010101010101010101\n\
-        2,seed,0202020202020202020202020202020202020202020202020202020202020202\n\
-        3,seed,0303030303030303030303030303030303030303030303030303030303030303\n\
-        4,seed,0404040404040404040404040404040404040404040404040404040404040404\n",
-    ),
-    ("bundle.srv", "beet-servers,5\nbundle,words\n"),
     ("marks.book", "beet-book,1\nanna,5,anna.bid,tape,short\n"),
     (
         "short.book",
@@ -88,7 +77,7 @@ const FILES: [(&str, &str); 19] = [
 ];
 
 /// The words of a command: the names of an auction, of servers and of a book.
-type Names = (&'static str, &'static str, &'static str);
+pub(crate) type Names = (&'static str, &'static str, &'static str);
 
 /// The auction that is run.
 const AUCTION: Names = ("g.auc", "v.srv", "b.book");
@@ -97,7 +86,7 @@ const AUCTION: Names = ("g.auc", "v.srv", "b.book");
 const FETCHED: [&str; 6] = ["g.auc", "v.srv", "b.book", "anna.bid", "bo.bid", "carl.bid"];
 
 /// The files, in memory of their own.
-fn files(rt: &impl Abort, alloc: Global) -> Vec<Held> {
+pub(crate) fn files(rt: &impl Abort, alloc: Global) -> Vec<Held> {
     let mut files = Vec::new(alloc);
     for (name, text) in &FILES {
         let file = Held {
@@ -109,16 +98,30 @@ fn files(rt: &impl Abort, alloc: Global) -> Vec<Held> {
     files
 }
 
-/// Does the job over the files, where this fetch fails, or none if it is 0: its status and its text.
-fn done(rt: &impl Abort, alloc: Global, names: Names, fetch: u64) -> (Status, Vec<u8>) {
-    let refused = vec![in alloc; fetch].expect(rt, "memory");
-    let mut shelf = MemoryShelf::new(files(rt, alloc), refused);
+/// The names of the files of an auction.
+pub(crate) fn files_of(names: Names) -> AuctionFiles<'static> {
     let (auction, servers, book) = names;
-    match five(alloc, &mut shelf, auction, servers, book) {
+    AuctionFiles {
+        auction,
+        servers,
+        book,
+    }
+}
+
+/// The status and the text of a job.
+pub(crate) fn ended(alloc: Global, end: Result<Reply, Stop>) -> (Status, Vec<u8>) {
+    match end {
         Ok(reply) => (reply.status, reply.text),
         Err(Stop::Refused(refusal, line)) => (Status::Refused(refusal), line),
         Err(Stop::OutOfMemory) => (Status::OutOfMemory, Vec::new(alloc)),
     }
+}
+
+/// Does the job over the files, where this fetch fails, or none if it is 0: its status and its text.
+fn done(rt: &impl Abort, alloc: Global, names: Names, fetch: u64) -> (Status, Vec<u8>) {
+    let refused = vec![in alloc; fetch].expect(rt, "memory");
+    let mut shelf = MemoryShelf::new(files(rt, alloc), refused);
+    ended(alloc, five(alloc, &mut shelf, &files_of(names)))
 }
 
 /// Does the job, where this fetch fails, and compares its status and its text.
@@ -136,7 +139,7 @@ fn expect_end(
 }
 
 /// What is said of the auction.
-const OUTCOME: &str = "price 110\nvolume 35\nrounds 259\n";
+pub(crate) const OUTCOME: &str = "price 110\nvolume 35\nrounds 259\n";
 
 #[test]
 fn each_fetch_is_refused_once(rt: HostRuntime) {
@@ -168,7 +171,7 @@ fn five_servers_find_the_outcome(rt: HostRuntime) {
 }
 
 /// Files that are refused, and the line of each.
-const BAD: [(Names, &str); 8] = [
+const BAD: [(Names, &str); 5] = [
     (
         ("tree.auc", "none", "none"),
         "bad file: tree.auc row 5 reason 7\n",
@@ -180,18 +183,6 @@ const BAD: [(Names, &str); 8] = [
     (
         ("opens.auc", "none", "none"),
         "bad file: opens.auc row 5 reason 7\n",
-    ),
-    (
-        ("g.auc", "three.srv", "none"),
-        "bad file: three.srv row 1 reason 1\n",
-    ),
-    (
-        ("g.auc", "four.srv", "none"),
-        "bad file: four.srv row 6 reason 2\n",
-    ),
-    (
-        ("g.auc", "bundle.srv", "none"),
-        "bad file: bundle.srv row 2 reason 3\n",
     ),
     (
         ("g.auc", "v.srv", "v.srv"),
@@ -234,8 +225,7 @@ fn expect_kept(rt: &impl Abort, lists: &[WordList], count: usize, length: usize)
 #[test]
 fn the_whole_book_is_kept(rt: HostRuntime) {
     let mut shelf = MemoryShelf::new(files(&rt, rt.alloc()), Vec::new(rt.alloc()));
-    let (auction, servers, book) = AUCTION;
-    let whole = load_five_whole(rt.alloc(), &mut shelf, auction, servers, book);
+    let whole = load_five_whole(rt.alloc(), &mut shelf, &files_of(AUCTION));
     let whole = whole.expect(&rt, "an auction");
     let (masks, numbers, words) = KEPT;
     expect_kept(&rt, whole.words.masks.as_slice(), 5, masks);
@@ -245,7 +235,7 @@ fn the_whole_book_is_kept(rt: HostRuntime) {
 }
 
 /// A book of so many bidders.
-fn long_book(rt: &impl Abort, alloc: Global, bidders: u32) -> Held {
+pub(crate) fn long_book(rt: &impl Abort, alloc: Global, bidders: u32) -> Held {
     let mut text = String::from_str(alloc, "beet-book,1\n").expect(rt, "memory");
     for bidder in 0..bidders {
         let row = format!(in alloc; "{bidder},0,none,tape,none\n").expect(rt, "memory");
@@ -264,7 +254,8 @@ fn line_of(rt: &impl Abort, alloc: Global, bidders: u32) -> Vec<u8> {
         .push(long_book(rt, alloc, bidders))
         .expect(rt, "memory");
     let mut shelf = MemoryShelf::new(files, Vec::new(alloc));
-    match load_five_whole(alloc, &mut shelf, "many.auc", "v.srv", "long.book") {
+    let names = files_of(("many.auc", "v.srv", "long.book"));
+    match load_five_whole(alloc, &mut shelf, &names) {
         Err(Stop::Refused(_, line)) => line,
         _ => Vec::new(alloc),
     }

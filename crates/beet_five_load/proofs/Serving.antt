@@ -6,7 +6,7 @@ use Rattle.std.proofs.lemmas.List.Elements.{All-map}
 use Rattle.beet_words.specs.Words.{IsWord, accepted}
 use Rattle.beet_bids.specs.Grids.{Grid}
 use Rattle.beet_linear_sharing.proofs.Arithmetic.{bounds-among}
-use Rattle.beet_five_plan.specs.FivePlan.{five_over, most_masks, most_secrets}
+use Rattle.beet_plan.specs.FivePlan.{five_over, most_masks, most_secrets}
 use Rattle.beet_five_dealing.specs.FiveWords.{AreWordLists}
 use Rattle.beet_load.specs.Servers.{ServerWords}
 use Rattle.beet_five_load.specs.FiveServers.{AreServing, CanServe, CanServeAll, ServerLists, lists_of}

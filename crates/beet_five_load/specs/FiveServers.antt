@@ -11,7 +11,7 @@ use Rattle.beet_bids.specs.Grids.{Grid}
 use Rattle.beet_linear_sharing.specs.Schemes.{five_servers}
 use Rattle.beet_linear_sharing.specs.Sharings.{IsAmong}
 use Rattle.beet_coalition.specs.Lists.{at_server}
-use Rattle.beet_five_plan.specs.FivePlan.{five_over, most_masks}
+use Rattle.beet_plan.specs.FivePlan.{five_over, most_masks}
 use Rattle.beet_five_dealing.specs.FiveWords.{AreFive, CanDraw}
 
 -- the words of the servers with these seeds in order, after those that are read; the servers are numbered from 1

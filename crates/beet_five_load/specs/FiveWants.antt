@@ -1,7 +1,7 @@
 -- How many words an auction among five servers wants.
 use Rattle.std.specs.Prelude.{◌*◌, None}
 use Rattle.beet_bids.specs.Grids.{Grid}
-use Rattle.beet_five_plan.specs.FivePlan.{five_over, most_masks, most_secrets}
+use Rattle.beet_plan.specs.FivePlan.{five_over, most_masks, most_secrets}
 use Rattle.beet_load.specs.Counts.{Counts}
 use Rattle.beet_load.specs.declared.wanted.Wanted.{Wanted}
 

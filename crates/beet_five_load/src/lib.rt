@@ -7,8 +7,6 @@ mod loading;
 mod server_file;
 mod servers;
 mod setting;
-#[cfg(test)]
-mod tests;
 mod wanted;
 mod whole;
 mod whole_loading;

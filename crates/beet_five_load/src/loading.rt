@@ -2,6 +2,7 @@
 
 ghost use Rattle.std.specs.Prelude.{◌≤◌, [], None, length};
 ghost use Rattle.beet_errand.specs.Fetches.{ReadsFor};
+ghost use Rattle.beet_load.specs.Files.{of_files};
 ghost use Rattle.beet_load.specs.Farmers.{farmers_errand};
 ghost use Rattle.beet_words.specs.declared.bundle.TheConstants.{MOST_BIDDERS};
 ghost use Rattle.beet_five_load.specs.FiveDealing.{AreDealt};
@@ -15,9 +16,9 @@ use beet_bids::Grid;
 use beet_book::Entry;
 use beet_errand::Stop;
 use beet_five_dealing::FiveTotals;
-use beet_five_script::FiveScript;
 use beet_forms::beside;
-use beet_load::read_farmer;
+use beet_load::{AuctionFiles, read_farmer};
+use beet_search::FiveScript;
 use beet_store::Shelf;
 use beet_words::{FeList, WordList};
 use std::alloc::Global;
@@ -37,7 +38,7 @@ pub struct FiveLoaded {
 
 impl Model for FiveLoaded {
     ghost use Rattle.std.specs.Prelude.{◌≡◌};
-    ghost use Rattle.beet_five_plan.specs.FivePlan.{five_over};
+    ghost use Rattle.beet_plan.specs.FivePlan.{five_over};
     ghost use Rattle.beet_five_load.specs.FiveLoading.{FiveWithInputs};
 
     ghost Value = { FiveWithInputs };
@@ -101,14 +102,12 @@ fn load_rest<S: Shelf>(
 pub fn load_five<S: Shelf>(
     alloc: Global,
     shelf: &mut S,
-    auction: &str,
-    servers: &str,
-    book: &str,
+    files: &AuctionFiles<'_>,
 ) -> Result<FiveLoaded, Stop>
     ensures { ReadsFor IsFiveKeptOf (S.seen shelf.old) (S.seen shelf.new)
-        (five_loaded_errand auction.now servers.now book.now) result }
+        (of_files five_loaded_errand files.now) result }
 {
-    let setting = read_five_setting(alloc, shelf, auction, servers, book)?;
+    let setting = read_five_setting(alloc, shelf, files)?;
     let loaded = load_rest(alloc, shelf, &setting);
     drop(setting);
     loaded

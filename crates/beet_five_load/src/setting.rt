@@ -5,7 +5,8 @@ ghost use Rattle.beet_gates.specs.declared.Gates.TheVariants.{Chain};
 ghost use Rattle.beet_errand.specs.Errands.{reads};
 ghost use Rattle.beet_errand.specs.Fetches.{Reads, Tests};
 ghost use Rattle.beet_book.specs.declared.server_file.TheConstants.{SERVERS_LIMIT};
-ghost use Rattle.beet_five_plan.specs.FivePlan.{five_over};
+ghost use Rattle.beet_plan.specs.FivePlan.{five_over};
+ghost use Rattle.beet_load.specs.Files.{of_files};
 ghost use Rattle.beet_five_load.specs.FiveServerFiles.{five_seeds_of};
 ghost use Rattle.beet_five_load.specs.FiveSettings.{five_setting_errand, with_chains};
 
@@ -13,9 +14,9 @@ use crate::server_file::{Seeds, read_five_seeds};
 use beet_bids::Grid;
 use beet_book::{Entry, SERVERS_LIMIT};
 use beet_errand::{Stop, fetch_file, judge, refuse};
-use beet_five_script::FiveScript;
 use beet_forms::FaultPlace;
-use beet_load::{read_entries, read_grid};
+use beet_load::{AuctionFiles, read_entries, read_grid};
+use beet_search::FiveScript;
 use beet_store::Shelf;
 use std::alloc::Global;
 use std::marker::Model;
@@ -38,7 +39,7 @@ pub(crate) struct FiveSetting {
 impl Model for FiveSetting {
     ghost use Rattle.std.specs.Prelude.{◌≡◌, ◌≤◌, length};
     ghost use Rattle.beet_gates.specs.declared.Gates.TheVariants.{Chain};
-    ghost use Rattle.beet_five_plan.specs.FivePlan.{five_over};
+    ghost use Rattle.beet_plan.specs.FivePlan.{five_over};
     ghost use Rattle.beet_five_load.specs.FiveSettings.{FiveSetting as Seen};
     ghost use Rattle.beet_words.specs.declared.bundle.TheConstants.{MOST_BIDDERS};
 
@@ -48,6 +49,15 @@ impl Model for FiveSetting {
 
     ghost invariant = { λ a. (length a.entries.items ≤ MOST_BIDDERS) × (length a.seeds ≡ 5)
         × (a.grid.gates ≡ Chain) × (a.script ≡ five_over a.grid) };
+}
+
+/// The seeds of a servers file of five servers.
+fn read_seeds<S: Shelf>(alloc: Global, shelf: &mut S, name: &str) -> Result<Seeds, Stop>
+    ensures { Reads (λ seeds. seeds) (S.seen shelf.old) (S.seen shelf.new)
+        (reads name.now SERVERS_LIMIT five_seeds_of) result }
+{
+    let bytes = fetch_file(alloc, shelf, name, SERVERS_LIMIT)?;
+    judge(alloc, name, read_five_seeds(alloc, bytes.as_slice()))
 }
 
 /// The script of an auction, or its refusal if its gates are trees.
@@ -63,31 +73,20 @@ fn script_over(alloc: Global, auction: &str, grid: &Grid) -> Result<FiveScript, 
     }
 }
 
-/// The seeds of a servers file of five servers.
-fn read_seeds<S: Shelf>(alloc: Global, shelf: &mut S, name: &str) -> Result<Seeds, Stop>
-    ensures { Reads (λ seeds. seeds) (S.seen shelf.old) (S.seen shelf.new)
-        (reads name.now SERVERS_LIMIT five_seeds_of) result }
-{
-    let bytes = fetch_file(alloc, shelf, name, SERVERS_LIMIT)?;
-    judge(alloc, name, read_five_seeds(alloc, bytes.as_slice()))
-}
-
 /// Reads the files of an auction among five servers, of its servers and of its book. Once the auction is read, gates
 /// that are trees are refused at row 5 for the reason 7.
 pub(crate) fn read_five_setting<S: Shelf>(
     alloc: Global,
     shelf: &mut S,
-    auction: &str,
-    servers: &str,
-    book: &str,
+    files: &AuctionFiles<'_>,
 ) -> Result<FiveSetting, Stop>
     ensures { Reads (λ setting. setting) (S.seen shelf.old) (S.seen shelf.new)
-        (five_setting_errand auction.now servers.now book.now) result }
+        (of_files five_setting_errand files.now) result }
 {
-    let grid = read_grid(alloc, shelf, auction)?;
-    let script = script_over(alloc, auction, &grid)?;
-    let seeds = read_seeds(alloc, shelf, servers)?;
-    let entries = read_entries(alloc, shelf, book)?;
+    let grid = read_grid(alloc, shelf, files.auction)?;
+    let script = script_over(alloc, files.auction, &grid)?;
+    let seeds = read_seeds(alloc, shelf, files.servers)?;
+    let entries = read_entries(alloc, shelf, files.book)?;
     Ok(FiveSetting {
         grid,
         script,

@@ -6,6 +6,7 @@ ghost use Rattle.beet_words.specs.Words.{IsWord};
 ghost use Rattle.beet_words.specs.declared.bundle.TheConstants.{MOST_BIDDERS};
 ghost use Rattle.beet_gates.specs.declared.Gates.TheVariants.{Chain};
 ghost use Rattle.beet_book.specs.declared.book_file.TheConstants.{MOST_PRODUCT};
+ghost use Rattle.beet_load.specs.Files.{of_files};
 ghost use Rattle.beet_load.specs.Wholes.{IsFarmer};
 ghost use Rattle.beet_five_load.specs.FiveLoading.{five_limited_errand, five_rest_errand, read_with};
 ghost use Rattle.beet_five_load.specs.FiveServers.{CanServeAll};
@@ -20,7 +21,7 @@ use beet_bids::{Book, Grid};
 use beet_errand::Stop;
 use beet_five_dealing::FiveWords;
 use beet_forms::beside;
-use beet_load::{Farmers, check_product, read_farmers};
+use beet_load::{AuctionFiles, Farmers, check_product, read_farmers};
 use beet_store::Shelf;
 use beet_words::WordList;
 use std::alloc::Global;
@@ -80,16 +81,13 @@ fn load_whole_rest<S: Shelf>(
 pub fn load_five_whole<S: Shelf>(
     alloc: Global,
     shelf: &mut S,
-    auction: &str,
-    servers: &str,
-    book: &str,
+    files: &AuctionFiles<'_>,
 ) -> Result<FiveWhole, Stop>
-    ensures { Reads read_of (S.seen shelf.old) (S.seen shelf.new)
-        (five_limited_errand auction.now servers.now book.now) result }
+    ensures { Reads read_of (S.seen shelf.old) (S.seen shelf.new) (of_files five_limited_errand files.now) result }
 {
-    let setting = read_five_setting(alloc, shelf, auction, servers, book)?;
+    let setting = read_five_setting(alloc, shelf, files)?;
     let entries = setting.entries.as_slice();
-    check_product(alloc, 0, book, &setting.grid, entries.len())?;
+    check_product(alloc, 0, files.book, &setting.grid, entries.len())?;
     let whole = load_whole_rest(alloc, shelf, &setting);
     drop(setting);
     whole

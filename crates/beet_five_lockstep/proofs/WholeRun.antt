@@ -1,9 +1,6 @@
 -- Five servers that have passed some rounds of a run, or all.
-use Rattle.std.proofs.Common.{◌≡◌, ◌<◌, ◌-◌, ◌∷◌, [], ℕ, true, false, List}
+use Rattle.std.proofs.Common.{◌≡◌, ◌-◌, ◌∷◌, [], ℕ, true, false, List}
 use Rattle.std.proofs.Common.{length, Some, slice_get, sym, refl, ap, subst, ◌∙◌, inl, inr, arith}
-use Rattle.std.specs.List.{remove}
-use Rattle.std.specs.Prelude.{slice_index_or}
-use Rattle.std.proofs.lemmas.List.{nil_from_length}
 use Rattle.std.proofs.lemmas.Bool.{cases_eq}
 use Rattle.beet_gates.specs.Clear.{is_end}
 use Rattle.beet_gates.specs.Scripts.{LawFrom, Standing, start_among}
@@ -19,7 +16,7 @@ use Rattle.beet_five_server.specs.Fits.{IsRound}
 use Rattle.beet_five_server.specs.Network.{five}
 use Rattle.beet_five_server.specs.Runs.{HasRounds, coming, rounds_among}
 use Rattle.beet_five_server.proofs.Passing.{ended-at, round-most}
-use Rattle.beet_five_server.proofs.Standing.{almost, coming-is}
+use Rattle.beet_five_server.proofs.Standing.{coming-is}
 use Rattle.beet_five_lockstep.specs.FiveLockstep.{AreAtRound, HaveEnded, IsAtRound}
 
 -- the first of five
@@ -41,8 +38,7 @@ module _ {S : Type 0} (next : S → ℕ → List ℕ → Batch) (o : Setup) (scr
       let a = first-stands c at in
       ap (λ r. is_end (coming o r).act) (sym a.round)
       ∙ ap (λ (b : Batch). is_end b.act)
-      (sym (coming-is next o (all_delivered five t) c.work c.mail (subst IsServer (sym a.name) one-is)
-      (almost next o (all_delivered five t) c.work c.mail a.fits)))
+      (sym (coming-is next o (all_delivered five t) c.work c.mail (subst IsServer (sym a.name) one-is) a.fits.stands))
 
   -- if the first has not ended, the round is one of the run
   pub goes-on : (c : Core S) → slice_get cores 0 ≡ Some c → has_ended next c.work ≡ false → IsRound o t
@@ -83,31 +79,3 @@ module _ {S : Type 0} (next : S → ℕ → List ℕ → Batch) (o : Setup) (scr
       (subst IsServer (sym a.name) one-is) a.fits in
       let last : rounds_among o most ≡ t = omega (arith, within, l.1, all, a.round) in
       have-ended (subst (HasRounds o) last l.0)
-
--- the first item, taken from the front
-taken-first : {A : Type 0} → (xs ys : List A) (a : A) → 0 < length xs → a ≡ slice_index_or xs 0 a → ys ≡ remove xs 0 → xs ≡ a ∷ ys
-taken-first [] ys a some is rest = absurd (omega (arith, some))
-taken-first (x ∷ xs) ys a some is rest = λ i. sym is i ∷ sym rest i
-
--- five items are taken, one after another, of five
-pub taken-five : {A : Type 0} → (xs x1 x2 x3 x4 x5 : List A) (a b c d e : A) → length xs ≡ 5 →
-    a ≡ slice_index_or xs 0 a → x1 ≡ remove xs 0 →
-    b ≡ slice_index_or x1 0 b → x2 ≡ remove x1 0 → c ≡ slice_index_or x2 0 c → x3 ≡ remove x2 0 →
-    d ≡ slice_index_or x3 0 d → x4 ≡ remove x3 0 → e ≡ slice_index_or x4 0 e → x5 ≡ remove x4 0 →
-    (xs ≡ a ∷ b ∷ c ∷ d ∷ e ∷ []) × (x5 ≡ [])
-taken-five xs x1 x2 x3 x4 x5 a b c d e count p1 q1 p2 q2 p3 q3 p4 q4 p5 q5 =
-    let r1 = taken-first xs x1 a (omega (arith, count)) p1 q1 in
-    let n1 = ap length r1 in
-    let r2 = taken-first x1 x2 b (omega (arith, count, n1)) p2 q2 in
-    let n2 = ap length r2 in
-    let r3 = taken-first x2 x3 c (omega (arith, count, n1, n2)) p3 q3 in
-    let n3 = ap length r3 in
-    let r4 = taken-first x3 x4 d (omega (arith, count, n1, n2, n3)) p4 q4 in
-    let n4 = ap length r4 in
-    let r5 = taken-first x4 x5 e (omega (arith, count, n1, n2, n3, n4)) p5 q5 in
-    let n5 = ap length r5 in
-    let none : x5 ≡ [] = nil_from_length x5 (omega (arith, count, n1, n2, n3, n4, n5)) in (
-      r1 ∙ ap (λ l. a ∷ l) r2 ∙ ap (λ l. a ∷ b ∷ l) r3 ∙ ap (λ l. a ∷ b ∷ c ∷ l) r4 ∙ ap (λ l. a ∷ b ∷ c ∷ d ∷ l) r5
-          ∙ ap (λ l. a ∷ b ∷ c ∷ d ∷ e ∷ l) none,
-      none,
-    )

@@ -1,23 +1,28 @@
 -- Five servers that go round by round.
-use Rattle.std.specs.Prelude.{◌≡◌, ℕ, ◌-◌, List, length, map, slice_get, Some, true, false}
+use Rattle.std.specs.Prelude.{◌≡◌, ℕ, ◌+◌, ◌-◌, ◌==◌, ◌&&◌, ◌||◌, ◌⊎◌, nat_lt, List, length, slice_get, Option}
+use Rattle.std.specs.Prelude.{Some, true, false}
 use Rattle.beet_gates.specs.declared.Batch.{Batch}
 use Rattle.beet_delivery.specs.Networks.{Delivered, all_delivered}
 use Rattle.beet_weights.specs.Quadratics.{IsServer}
 use Rattle.beet_linear_sharing.specs.Runs.{Setup}
 use Rattle.beet_five_server.specs.Answers.{Core}
 use Rattle.beet_five_server.specs.Cores.{has_ended}
-use Rattle.beet_five_server.specs.Fits.{Fits, IsRound, message_of}
-use Rattle.beet_five_server.specs.Network.{five, peers}
+use Rattle.beet_five_server.specs.Fits.{Fits, IsRound, messages_from}
+use Rattle.beet_five_server.specs.Network.{five, sends_to}
 use Rattle.beet_five_server.specs.Runs.{HasRounds}
 use Rattle.beet_five_server.specs.declared.mail.FiveMessage.{FiveMessage}
 
--- something of each server's core, of the list of all five in order
-abbrev pub OfEach : {S : Type 0} → List (Core S) → (ℕ → Core S → Type 0) → Type 0
-OfEach {S} cores P = (j : ℕ) → IsServer j → (c : Core S) → slice_get cores (j - 1) ≡ Some c → P j c
+-- something of what each server has, of the list of all five in order
+abbrev pub OfEach : {A : Type 0} → List A → (ℕ → A → Type 0) → Type 0
+OfEach {A} xs P = (j : ℕ) → IsServer j → (x : A) → slice_get xs (j - 1) ≡ Some x → P j x
 
--- the four messages to a server in a round, in rising order of the senders
-abbrev pub messages_to : Setup → ℕ → ℕ → List FiveMessage
-messages_to o me t = map (λ from. message_of o from me t) (peers me)
+-- what all servers hand out in a round of a run: each its four messages, in rising order of the peers
+abbrev pub AreSent : Setup → ℕ → List (Option (List FiveMessage)) → Type 0
+AreSent o t sent = OfEach sent (λ j messages. messages ≡ Some (messages_from o j t))
+
+-- all messages of the rounds before t, and those of round t from the servers below k
+abbrev pub until : ℕ → ℕ → Delivered ℕ
+until t k = λ from to r. sends_to from to && (nat_lt r t || ((r == t) && nat_lt from k))
 
 module _ {S : Type 0} (next : S → ℕ → List ℕ → Batch) where
   -- the core of a server that has passed t rounds of a run of this script, with all messages of these rounds delivered
@@ -34,35 +39,26 @@ module _ {S : Type 0} (next : S → ℕ → List ℕ → Batch) where
     pub count : length cores ≡ 5
     pub stand : OfEach cores (IsAtRound o script t)
 
-  -- the core of a server in round t, whose messages are handed out, with these messages delivered
-  pub record HasHanded (o : Setup) (script : S) (t : ℕ) (x : Delivered ℕ) (s : ℕ) (c : Core S) : Type 0 where
+  -- the core of a server that has handed out its messages of round t, with the round's messages from the servers below
+  -- k delivered: it waits for another, or has passed the round
+  pub record HasHanded (o : Setup) (script : S) (t : ℕ) (k : ℕ) (s : ℕ) (c : Core S) : Type 0 where
     pub name : c.work.me ≡ s
     pub has_script : c.work.script ≡ script
-    pub fits : Fits next o x c.work c.mail
-    pub round : c.work.round ≡ t
-    pub handed : c.work.handed ≡ true
+    pub fits : Fits next o (until t k) c.work c.mail
+    pub stage : ((c.work.round ≡ t) × (c.work.handed ≡ true)) ⊎ ((c.work.round ≡ t + 1) × (c.work.handed ≡ false))
 
-  -- these are the messages of a round of some run to a core that has handed out its own, with nothing of the round
-  -- delivered
-  pub record MayTake (c : Core S) (messages : List FiveMessage) : Type 0 where
+  -- these are the messages of a round of some run, and a core has handed out its own and taken those of the servers
+  -- below k
+  pub record MayTake (k : ℕ) (c : Core S) (sent : List (Option (List FiveMessage))) : Type 0 where
     pub o : Setup
     pub script : S
     pub t : ℕ
     pub s : ℕ
     pub server : IsServer s
     pub is_round : IsRound o t
-    pub waits : HasHanded o script t (all_delivered five t) s c
-    pub are : messages ≡ messages_to o s t
-
-  -- a core is at a round of some run
-  pub record MayHand (c : Core S) : Type 0 where
-    pub o : Setup
-    pub script : S
-    pub t : ℕ
-    pub s : ℕ
-    pub server : IsServer s
-    pub is_round : IsRound o t
-    pub stands : IsAtRound o script t s c
+    pub has_handed : HasHanded o script t k s c
+    pub room : length sent ≡ 5
+    pub are_sent : AreSent o t sent
 
   -- five cores are at a round of some run
   pub record MayPass (cores : List (Core S)) : Type 0 where

@@ -17,7 +17,7 @@ use Rattle.beet_coalition.specs.Watchers.{two_watch}
 use Rattle.beet_coalition.proofs.ListMoves.{accepted-long, moved-image, moved-only, moved-there}
 use Rattle.beet_five_dealing.specs.FiveWords.{AllAccepted, AreWordLists}
 use Rattle.beet_five_map.specs.FiveWorlds.{BidderMapped, BiddersMapped, is_own, known_by}
-use Rattle.beet_auction_map.proofs.BidderFacts.{quantity-element}
+use Rattle.beet_two_books.proofs.BidderFacts.{quantity-element}
 use Rattle.beet_five_dealing.proofs.Lists.{lists-cons}
 
 abbrev pub AreCurves : List Bidder → Type 0

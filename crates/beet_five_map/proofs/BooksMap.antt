@@ -20,15 +20,15 @@ use Rattle.beet_masking.proofs.BlockLaws.{are-five_blocks}
 use Rattle.beet_masking.proofs.Words.{among-five}
 use Rattle.beet_plan.specs.Search.{path}
 use Rattle.beet_turned.specs.Turn.{turned}
-use Rattle.beet_auction_map.specs.Losses.{lost_at}
-use Rattle.beet_auction_map.proofs.BookWorlds.{open-alike}
+use Rattle.beet_two_books.specs.Losses.{lost_at}
+use Rattle.beet_two_books.proofs.BookWorlds.{open-alike}
 use Rattle.beet_linear_sharing.specs.Polynomials.{AreShared}
 use Rattle.beet_linear_sharing.specs.Runs.{deals_among}
 use Rattle.beet_linear_sharing.specs.Schemes.{five_servers}
 use Rattle.beet_linear_sharing.specs.Sharings.{IsAmong}
 use Rattle.beet_linear_sharing.proofs.Arithmetic.{five-laws}
-use Rattle.beet_five_plan.specs.FivePlan.{five_batch, five_over, most_masks, most_rounds, most_secrets, most_wires}
-use Rattle.beet_five_plan.proofs.FiveFacts.{five-law}
+use Rattle.beet_plan.specs.FivePlan.{five_batch, five_over, most_masks, most_rounds, most_secrets, most_wires}
+use Rattle.beet_plan.proofs.FiveFacts.{five-law}
 use Rattle.beet_coalition.specs.Lists.{at_server}
 use Rattle.beet_coalition.specs.Pairs.{HasNumbers}
 use Rattle.beet_coalition.specs.Premise.{MayMap, Secrets, clear_of}

@@ -10,9 +10,9 @@ use Rattle.beet_bids.specs.Grids.{Grid}
 use Rattle.beet_bids.specs.declared.book.Bidder.{Bidder}
 use Rattle.beet_book.specs.Farmers.{farmers_of}
 use Rattle.beet_masking.proofs.Words.{word-small}
-use Rattle.beet_auction_map.specs.Losses.{losses_of}
+use Rattle.beet_two_books.specs.Losses.{losses_of}
 use Rattle.beet_linear_sharing.specs.Schemes.{five_servers}
-use Rattle.beet_five_plan.specs.FivePlan.{five_batch, five_over}
+use Rattle.beet_plan.specs.FivePlan.{five_batch, five_over}
 use Rattle.beet_coalition.specs.Lists.{at_server}
 use Rattle.beet_coalition.specs.Words.{AreWords}
 use Rattle.beet_coalition_map.specs.Begins.{AreHeld, AreMapped, Begins}

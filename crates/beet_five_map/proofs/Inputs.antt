@@ -10,7 +10,6 @@ use Rattle.std.proofs.lemmas.Option.{same_Some}
 use Rattle.beet_field.specs.Field.{p}
 use Rattle.beet_field.specs.Point.{number_of}
 use Rattle.beet_field.specs.declared.point.Point.{Point}
-use Rattle.beet_gates.specs.Each.{each}
 use Rattle.beet_gates.proofs.EachFacts.{each-same}
 use Rattle.beet_bids.specs.Curves.{IsCurve, quantity}
 use Rattle.beet_book.specs.Farmers.{BidderWithWords}
@@ -24,7 +23,7 @@ use Rattle.beet_coalition.proofs.Arithmetic.{two-of-five}
 use Rattle.beet_coalition.proofs.ListMoves.{points-same}
 use Rattle.beet_five_dealing.specs.FiveInputs.{inputs_at, share_for, summed_share}
 use Rattle.beet_five_map.specs.FiveWorlds.{BidderMapped, BiddersMapped, SameShares, is_own, known_by}
-use Rattle.beet_auction_map.proofs.BidderFacts.{quantity-element}
+use Rattle.beet_two_books.proofs.BidderFacts.{quantity-element}
 
 -- a bidder that a or b knows is marked by a server
 pub own-mark : (a b : ℕ) → 1 ≤ a → a < b → (mark : Option Point) → (two_watch a b).watches (known_by mark) ≡ true →

@@ -17,15 +17,15 @@ use Rattle.beet_masking.proofs.Places.{compared-early}
 use Rattle.beet_plan.specs.Search.{path}
 use Rattle.beet_turned.specs.MappedMasks.{mask_mapped}
 use Rattle.beet_turned.proofs.MasksBack.{compared-map}
-use Rattle.beet_auction_map.specs.Losses.{losses_of, lost_at}
-use Rattle.beet_auction_map.proofs.Agreed.{clearing-alike, prices-alike}
-use Rattle.beet_auction_map.proofs.BidderFacts.{bidders-have, same-own}
-use Rattle.beet_auction_map.proofs.BookWorlds.{tested-length}
-use Rattle.beet_auction_map.proofs.MasksBack.{agree-back, losses-small, lost-back}
+use Rattle.beet_two_books.specs.Losses.{losses_of, lost_at}
+use Rattle.beet_two_books.proofs.Agreed.{clearing-alike, prices-alike}
+use Rattle.beet_two_books.proofs.BidderFacts.{bidders-have, same-own}
+use Rattle.beet_two_books.proofs.BookWorlds.{tested-length}
+use Rattle.beet_two_books.proofs.MasksBack.{agree-back, losses-small, lost-back}
 use Rattle.beet_weights.specs.Quadratics.{of_five}
 use Rattle.beet_linear_sharing.specs.Schemes.{five_servers}
 use Rattle.beet_linear_sharing.proofs.Arithmetic.{among-bounds, five-laws}
-use Rattle.beet_five_plan.specs.FivePlan.{five_batch, five_over}
+use Rattle.beet_plan.specs.FivePlan.{five_batch, five_over}
 use Rattle.beet_coalition.specs.Lists.{at_server}
 use Rattle.beet_coalition.specs.Watchers.{two_watch}
 use Rattle.beet_coalition.specs.Words.{WordsMapped, WordsTogether, run_with}

@@ -1,9 +1,10 @@
 -- The loop that maps the words of each bidder.
 use Rattle.std.proofs.Common.{◌≡◌, ◌<◌, ◌≤◌, ◌+◌, ◌*◌, ℕ, List, [], ◌∷◌, ◌++◌, take, length, get_or, refl, sym, subst, ◌∙◌, arith}
-use Rattle.std.proofs.Common.{length-append}
+use Rattle.std.proofs.Common.{slice_get, Some, length-append}
 use Rattle.std.specs.Prelude.{All}
 use Rattle.std.proofs.lemmas.List.{get_or_read, length-take-le, take_all, take_more}
 use Rattle.std.proofs.lemmas.List.Elements.{All-nil, All-push}
+use Rattle.std.proofs.lemmas.Option.{same_Some, slice_get-get_or}
 use Rattle.beet_words.specs.Words.{IsWord, accepted}
 use Rattle.beet_bids.specs.declared.book.Bidder.{Bidder}
 use Rattle.beet_book.specs.Farmers.{BidderWithWords, farmers_of}
@@ -38,10 +39,14 @@ module _ (a b prices : ℕ) where
 
     module _ (long : length bidders ≡ length words) (long' : length others ≡ length words) where
       pub lists-more : (mapped : List (List ℕ)) (i : ℕ) (one other : Bidder) (list moved : List ℕ) → ListsTo mapped i → i < length words →
-          one ≡ get_or bidders i one → other ≡ get_or others i other → list ≡ get_or words i list →
+          slice_get bidders i ≡ Some one → slice_get others i ≡ Some other → list ≡ get_or words i list →
           BidderMapped a b prices (record { bidder = one; words = list }) (record { bidder = other; words = moved }) →
           All IsWord moved → ListsTo (mapped ++ moved ∷ []) (i + 1)
-      lists-more mapped i one other list moved to lt is_one is_other is_list here are =
+      lists-more mapped i one other list moved to lt at at' is_list here are =
+          let is_one : one ≡ get_or bidders i one =
+          same_Some one (get_or bidders i one) (sym at ∙ slice_get-get_or bidders i one (omega arith)) in
+          let is_other : other ≡ get_or others i other =
+          same_Some other (get_or others i other) (sym at' ∙ slice_get-get_or others i other (omega arith)) in
           let front : take (i + 1) bidders ≡ take i bidders ++ one ∷ [] =
           take_more bidders i one (omega arith) ∙ (λ j. take i bidders ++ sym is_one j ∷ []) in
           let front' : take (i + 1) others ≡ take i others ++ other ∷ [] =

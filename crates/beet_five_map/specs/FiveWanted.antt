@@ -2,7 +2,7 @@
 use Rattle.std.specs.Prelude.{◌≡◌, ◌≤◌, ◌*◌, All, length}
 use Rattle.beet_words.specs.Words.{accepted}
 use Rattle.beet_bids.specs.Books.{Book}
-use Rattle.beet_five_plan.specs.FivePlan.{five_over, most_masks, most_secrets}
+use Rattle.beet_plan.specs.FivePlan.{five_over, most_masks, most_secrets}
 use Rattle.beet_five_dealing.specs.FiveWords.{FiveWords}
 
 -- five lists of enough mask words, five from which two numbers can be drawn for each secret, and one for each bidder

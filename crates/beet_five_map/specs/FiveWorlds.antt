@@ -5,11 +5,10 @@ use Rattle.beet_field.specs.Point.{number_of}
 use Rattle.beet_field.specs.declared.point.Point.{Point}
 use Rattle.beet_bids.specs.Books.{Book, IsBook}
 use Rattle.beet_bids.specs.Curves.{quantity}
-use Rattle.beet_bids.specs.Outcomes.{outcome_of}
 use Rattle.beet_bids.specs.declared.book.Bidder.{Bidder}
 use Rattle.beet_book.specs.Farmers.{BidderWithWords, farmers_of}
-use Rattle.beet_auction_map.specs.Agreement.{SameKnown, marks_of}
-use Rattle.beet_auction_map.specs.Losses.{losses_of}
+use Rattle.beet_two_books.specs.Agreement.{AgreeFor}
+use Rattle.beet_two_books.specs.Losses.{losses_of}
 use Rattle.beet_linear_sharing.specs.Schemes.{five_servers}
 use Rattle.beet_linear_sharing.specs.Sharings.{IsAmong}
 use Rattle.beet_coalition.specs.Coalitions.{LooksAlike}
@@ -17,7 +16,7 @@ use Rattle.beet_coalition.specs.Lists.{at_server}
 use Rattle.beet_coalition.specs.Moved.{WordsMoved}
 use Rattle.beet_coalition.specs.Watchers.{two_watch}
 use Rattle.beet_coalition.specs.Words.{WordsMapped}
-use Rattle.beet_five_plan.specs.FivePlan.{five_batch, five_over}
+use Rattle.beet_plan.specs.FivePlan.{five_batch, five_over}
 use Rattle.beet_five_dealing.specs.FiveInputs.{rounds_of, setup_of, share_for, world_of}
 use Rattle.beet_five_map.specs.FiveMasks.{MasksMappedFor}
 use Rattle.beet_five_dealing.specs.FiveWords.{AreAllWords, CanRun, FiveWords}
@@ -31,13 +30,14 @@ known_by (Some s) = number_of s
 abbrev pub is_own : ℕ → ℕ → Bidder → Bool
 is_own a b bidder = (two_watch a b).watches (known_by bidder.known)
 
+-- whether a server that marks bidders is a or b
+abbrev pub watching : ℕ → ℕ → Point → Bool
+watching a b s = (two_watch a b).watches (number_of s)
+
 -- two books over one grid, with as many bidders with the same marks, the same curves of those known to a or b, and the
 -- same outcome
-pub record Agree (a b : ℕ) (first second : Book) : Type 0 where
-  pub grids : second.grid ≡ first.grid
-  pub marks : marks_of second ≡ marks_of first
-  pub own : (s : Point) → (two_watch a b).watches (number_of s) ≡ true → SameKnown s first second
-  pub outcomes : outcome_of second ≡ outcome_of first
+abbrev pub Agree : ℕ → ℕ → Book → Book → Type 0
+Agree a b first second = AgreeFor (watching a b) first second
 
 -- two books of accepted bids that agree for servers a and b
 pub record AreTwoBooks (a b : ℕ) (first second : Book) : Type 0 where

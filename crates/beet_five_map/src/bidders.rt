@@ -2,10 +2,9 @@
 
 ghost use Rattle.std.specs.Prelude.{◌≡◌, ◌≤◌, ◌*◌, All, IfOk, length, slice_index};
 ghost use Rattle.beet_words.specs.Words.{IsWord, accepted};
-ghost use Rattle.beet_weights.specs.Quadratics.{IsServer};
 ghost use Rattle.beet_bids.specs.Curves.{IsOfGrid, quantity};
 ghost use Rattle.beet_book.specs.Farmers.{farmers_of};
-ghost use Rattle.beet_auction_map.specs.Agreement.{marks_of};
+ghost use Rattle.beet_two_books.specs.Agreement.{marks_of};
 ghost use Rattle.beet_linear_sharing.specs.Schemes.{five_servers};
 ghost use Rattle.beet_coalition.specs.Moved.{WordsMoved};
 ghost use Rattle.beet_coalition.specs.Watchers.{two_watch};
@@ -13,10 +12,10 @@ ghost use Rattle.beet_five_dealing.specs.FiveWords.{AllAccepted};
 ghost use Rattle.beet_five_map.specs.PairsMoved.{PairsMoved};
 ghost use Rattle.beet_five_map.specs.FiveWorlds.{BidderMapped, BiddersMapped, is_own as is_known};
 
-use beet_auction_map::quantities_of;
 use beet_bids::{Bidder, Book, Curve, Grid};
 use beet_coalition_map::{Watchers, move_pair};
 use beet_field::Fe;
+use beet_two_books::{pair_at, quantities_of};
 use beet_words::{WordList, numbers_in, put_back};
 use std::alloc::{AllocError, Global};
 
@@ -33,8 +32,6 @@ fn is_own(two: Watchers, bidder: &Bidder) -> bool
 
 /// Moves the two numbers that hide each quantity, so that they hide the second ones.
 fn move_numbers(two: Watchers, first: &[Fe], second: &[Fe], numbers: &mut [Fe])
-    requires a { IsServer two.a }
-    requires b { IsServer two.b }
     requires count { length second.now ≡ length first.now }
     requires enough { 2 * length first.now ≤ length numbers.old }
     ensures { PairsMoved (two_watch two.a two.b) (length first.now) (slice_index first.now) (slice_index second.now)
@@ -56,8 +53,6 @@ fn move_words(
     second: &[Fe],
     words: &WordList,
 ) -> Result<WordList, AllocError>
-    requires a { IsServer two.a }
-    requires b { IsServer two.b }
     requires count { length second.now ≡ length first.now }
     requires enough { 2 * length first.now ≤ length (accepted words.now) }
     ensures { IfOk result (WordsMoved five_servers (two_watch two.a two.b) (length first.now) (slice_index first.now)
@@ -78,8 +73,6 @@ fn move_curve(
     second: &Curve,
     words: &WordList,
 ) -> Result<WordList, AllocError>
-    requires a { IsServer two.a }
-    requires b { IsServer two.b }
     requires first { IsOfGrid grid.now first.now }
     requires second { IsOfGrid grid.now second.now }
     requires enough { 2 * (2 * grid.now.prices) ≤ length (accepted words.now) }
@@ -100,8 +93,6 @@ fn words_in_second(
     second: &Bidder,
     words: &WordList,
 ) -> Result<WordList, AllocError>
-    requires a { IsServer two.a }
-    requires b { IsServer two.b }
     requires mark { second.now.known ≡ first.now.known }
     requires first { IsOfGrid grid.now first.now.curve }
     requires second { IsOfGrid grid.now second.now.curve }
@@ -125,8 +116,6 @@ pub(crate) fn map_bidders(
     second: &Book,
     words: &[WordList],
 ) -> Result<Vec<WordList>, AllocError>
-    requires a { IsServer two.a }
-    requires b { IsServer two.b }
     requires grids { second.now.grid ≡ first.now.grid }
     requires marks { marks_of second.now ≡ marks_of first.now }
     requires count { length words.now ≡ length first.now.bidders }
@@ -137,11 +126,10 @@ pub(crate) fn map_bidders(
     ensures below { IfOk result (λ mapped. All (λ list. All IsWord list) mapped.items) }
 {
     let grid = first.grid();
-    let bidders = first.bidders();
-    let others = second.bidders();
     let mut mapped = Vec::with_capacity(alloc, words.len())?;
     for i in 0..words.len() {
-        let list = words_in_second(alloc, two, grid, &bidders[i], &others[i], &words[i])?;
+        let (one, other) = pair_at(grid, first, second, i);
+        let list = words_in_second(alloc, two, grid, one, other, &words[i])?;
         // A list holds words.
         let _below = list.as_slice();
         mapped.push(list)?;

@@ -9,7 +9,7 @@ mod mapping;
 mod masks;
 mod wanted;
 
-pub use agreeing::FiveMapFault;
+pub use beet_two_books::MapFault as FiveMapFault;
 pub use laws::{masks_are_mapped_one_to_one, two_of_five_cannot_tell_books_apart_that_clear_alike};
-pub use mapping::five_map;
+pub use mapping::{copy_lists, five_map, script_over};
 pub use wanted::enough;

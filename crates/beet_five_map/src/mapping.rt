@@ -1,26 +1,27 @@
 //! The words of the second world.
 
-ghost use Rattle.std.specs.Prelude.{◌≡◌, ◌<◌, ◌≤◌, ◌*◌, IfErr, IfOk, length};
+ghost use Rattle.std.specs.Prelude.{◌≡◌, ◌<◌, ◌*◌, IfErr, IfOk, length};
 ghost use Rattle.beet_gates.specs.declared.Gates.TheVariants.{Chain};
 ghost use Rattle.beet_book.specs.Farmers.{farmers_of};
-ghost use Rattle.beet_five_plan.specs.FivePlan.{five_over};
+ghost use Rattle.beet_plan.specs.FivePlan.{five_over};
 ghost use Rattle.beet_five_dealing.specs.FiveTotals.{five_inputs_of};
 ghost use Rattle.beet_five_dealing.specs.FiveWords.{AllAccepted, CanRun};
 ghost use Rattle.beet_five_map.specs.FiveDisagreement.{Refuses};
 ghost use Rattle.beet_five_map.specs.FiveWorlds.{Agree, AreOnePair};
 
-use crate::agreeing::{FiveMapFault, agreement};
+use crate::agreeing::agreement;
 use crate::bidders::map_bidders;
 use crate::masks::map_masks;
 use beet_bids::{Book, Grid};
 use beet_coalition_map::{FiveSecrets, Watchers, map_coefficients};
 use beet_five_dealing::{FiveWords, five_inputs};
-use beet_five_script::FiveScript;
+use beet_search::FiveScript;
+use beet_two_books::MapFault;
 use beet_words::WordList;
 use std::alloc::{AllocError, Global};
 
-/// Lists of words, in memory of their own.
-fn copy_of(alloc: Global, lists: &[WordList]) -> Result<Vec<WordList>, AllocError>
+/// Lists of words, in memory of their own. Want of memory is the only error.
+pub fn copy_lists(alloc: Global, lists: &[WordList]) -> Result<Vec<WordList>, AllocError>
     ensures { IfOk result (λ copy. copy.items ≡ lists.now) }
 {
     let mut copy = Vec::with_capacity(alloc, lists.len())?;
@@ -31,7 +32,7 @@ fn copy_of(alloc: Global, lists: &[WordList]) -> Result<Vec<WordList>, AllocErro
 }
 
 /// The script of the auction over a grid, which has chain gates.
-fn script_of(grid: &Grid) -> FiveScript
+pub fn script_over(grid: &Grid) -> FiveScript
     requires { grid.now.gates ≡ Chain }
     ensures { result ≡ five_over grid.now }
 {
@@ -67,9 +68,6 @@ fn map_words(
     second: &Book,
     words: &FiveWords,
 ) -> Result<FiveWords, AllocError>
-    requires lowest { 1 ≤ two.a }
-    requires order { two.a < two.b }
-    requires highest { two.b ≤ 5 }
     requires chain { first.now.grid.gates ≡ Chain }
     requires runs { CanRun first.now words.now }
     requires agree { Agree two.a two.b first.now second.now }
@@ -77,14 +75,14 @@ fn map_words(
 {
     // Books are within their limits.
     let _grid = second.grid();
-    let script = script_of(first.grid());
+    let script = script_over(first.grid());
     let masks = map_masks(alloc, two, first, second, words.masks.as_slice())?;
     let bidders = map_bidders(alloc, two, first, second, words.bidders.as_slice())?;
     let here = secrets(
         alloc,
         first,
         words.bidders.as_slice(),
-        copy_of(alloc, words.masks.as_slice())?,
+        copy_lists(alloc, words.masks.as_slice())?,
     )?;
     let there = secrets(alloc, second, bidders.as_slice(), masks)?;
     let coefficients = map_coefficients(
@@ -116,10 +114,7 @@ pub fn five_map(
     first: &Book,
     second: &Book,
     words: &FiveWords,
-) -> Result<FiveWords, FiveMapFault>
-    requires lowest { 1 ≤ two.a }
-    requires order { two.a < two.b }
-    requires highest { two.b ≤ 5 }
+) -> Result<FiveWords, MapFault>
     requires grids { second.now.grid ≡ first.now.grid }
     requires chain { first.now.grid.gates ≡ Chain }
     requires runs { CanRun first.now words.now }

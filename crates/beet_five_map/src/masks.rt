@@ -4,7 +4,7 @@ ghost use Rattle.std.specs.Prelude.{◌≡◌, ◌≢◌, ◌<◌, ◌-◌, ℕ,
 ghost use Rattle.std.specs.Int.Bits.{bit_xor};
 ghost use Rattle.beet_masking.specs.Masks.{mask_among, mask_at};
 ghost use Rattle.beet_turned.specs.MappedMasks.{word_mapped};
-ghost use Rattle.beet_auction_map.specs.Losses.{losses_of};
+ghost use Rattle.beet_two_books.specs.Losses.{losses_of};
 ghost use Rattle.beet_five_map.specs.FiveMasks.{MasksMappedFor, loss_among, lowest_other};
 
 use beet_bids::Book;
@@ -72,7 +72,7 @@ fn turning_words(
         (loss_among (losses_of first.now second.now) masks.now i)) }
 {
     let three = as_three(alloc, masks, turner)?;
-    let mapped = beet_auction_map::map_masks(alloc, Point::Two, first, second, &three)?;
+    let mapped = beet_two_books::map_masks(alloc, Point::Two, first, second, &three)?;
     Ok(mapped.one)
 }
 

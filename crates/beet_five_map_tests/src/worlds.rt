@@ -123,7 +123,6 @@ fn mapped(
     second: &Book,
     words: &FiveWords,
 ) -> Result<FiveWords, FiveMapFault> {
-    assert!(rt; 1 <= two.a && two.a < two.b && two.b <= 5);
     assert!(rt; first.grid() == second.grid());
     assert!(rt; first.grid().gates() == Gates::Chain);
     assert!(rt; enough(first, words));
@@ -175,7 +174,8 @@ fn some_agree(rt: &impl Abort, alloc: Global, two: Watchers) -> bool {
 fn words_go_there_and_back(rt: HostRuntime) {
     for a in 1..5 {
         for b in a + 1..6 {
-            assert!(rt; some_agree(&rt, rt.alloc(), Watchers { a, b }));
+            let two = Watchers::of(a, b).expect(&rt, "two servers");
+            assert!(rt; some_agree(&rt, rt.alloc(), two));
         }
     }
 }
@@ -199,13 +199,15 @@ fn fault(
 #[test]
 fn books_that_differ(rt: HostRuntime) {
     let alloc = rt.alloc();
-    let two = Watchers { a: 2, b: 4 };
+    let two = Watchers::of(2, 4).expect(&rt, "two servers");
     let shape = fault(&rt, alloc, two, &OTHER_MARKS, 0);
     assert!(rt; shape == Some(FiveMapFault::ShapeDiffers(3)));
     let own = fault(&rt, alloc, two, &MARKS, 1);
     assert!(rt; own == Some(FiveMapFault::OwnBidsDiffer(3)));
-    let own = fault(&rt, alloc, Watchers { a: 1, b: 2 }, &MARKS, 1);
+    let lowest = Watchers::of(1, 2).expect(&rt, "two servers");
+    let own = fault(&rt, alloc, lowest, &MARKS, 1);
     assert!(rt; own == Some(FiveMapFault::OwnBidsDiffer(2)));
-    let none = fault(&rt, alloc, Watchers { a: 4, b: 5 }, &MARKS, 1);
+    let highest = Watchers::of(4, 5).expect(&rt, "two servers");
+    let none = fault(&rt, alloc, highest, &MARKS, 1);
     assert!(rt; none.is_none());
 }

@@ -1,5 +1,5 @@
 -- Five servers that have run the auction of a book to its end.
-use Rattle.std.proofs.Common.{◌≡◌, ◌<◌, ◌^◌, ℕ, true, List, length, [], Option}
+use Rattle.std.proofs.Common.{◌≡◌, ◌<◌, ◌^◌, ◌-◌, ℕ, true, List, length, [], Option}
 use Rattle.std.proofs.Common.{Some, slice_get, slice_index, sym, ap, subst, ◌∙◌, arith}
 use Rattle.std.specs.Prelude.{slice_index_or}
 use Rattle.std.proofs.lemmas.Option.{same_Some}
@@ -13,7 +13,7 @@ use Rattle.beet_linear_sharing.specs.Runs.{Setup}
 use Rattle.beet_linear_sharing.specs.Schemes.{five_servers}
 use Rattle.beet_linear_sharing.specs.Sharings.{IsAmong}
 use Rattle.beet_coalition.specs.Lists.{at_server}
-use Rattle.beet_five_plan.specs.FivePlan.{FiveAuction, five_batch, five_over}
+use Rattle.beet_plan.specs.FivePlan.{FiveAuction, five_batch, five_over}
 use Rattle.beet_five_server.specs.Answers.{Core}
 use Rattle.beet_five_server.specs.Cores.{has_ended}
 use Rattle.beet_five_server.specs.Fits.{Fits}
@@ -43,25 +43,30 @@ same-shared values a b same are = record {
   elements = are.elements;
 }
 
--- what the first server that has ended knows
-pub record FirstEnds (o : Setup) (script : FiveAuction) (c : Core FiveAuction) : Type 0 where
+-- what is known of a server that has ended
+pub record EndsAt (o : Setup) (script : FiveAuction) (s : ℕ) (c : Core FiveAuction) : Type 0 where
   pub x : Delivered ℕ
-  pub name : c.work.me ≡ 1
+  pub name : c.work.me ≡ s
   pub has_script : c.work.script ≡ script
   pub fits : Fits five_batch o x c.work c.mail
   pub ended : has_ended five_batch c.work ≡ true
 
-pub first-ends : (o : Setup) (script : FiveAuction) (cores : List (Core FiveAuction)) (c : Core FiveAuction) →
-    HaveEnded five_batch o script cores → slice_get cores 0 ≡ Some c → FirstEnds o script c
-first-ends o script cores c h at =
-    let a = h.stand.stand 1 one-is c at in
+pub ends-at : (o : Setup) (script : FiveAuction) (cores : List (Core FiveAuction)) (s : ℕ) (c : Core FiveAuction) → IsServer s →
+    HaveEnded five_batch o script cores → slice_get cores (s - 1) ≡ Some c → EndsAt o script s c
+ends-at o script cores s c server h at =
+    let a = h.stand.stand s server c at in
     record {
       x = all_delivered five h.rounds;
       name = a.name;
       has_script = a.has_script;
       fits = a.fits;
-      ended = h.ended 1 one-is c at;
+      ended = h.ended s server c at;
     }
+
+-- the first of them
+pub first-ends : (o : Setup) (script : FiveAuction) (cores : List (Core FiveAuction)) (c : Core FiveAuction) →
+    HaveEnded five_batch o script cores → slice_get cores 0 ≡ Some c → EndsAt o script 1 c
+first-ends o script cores c h at = ends-at o script cores 1 c one-is h at
 
 -- the premises of the outcome, from a book and its words
 module _ (book : Book) (words : FiveWords) (is : IsBook book) (can : CanRun book words) where
@@ -85,7 +90,7 @@ Outcome c answer =
     (answer ≡ Some (book_finish book o.masks)) × (c.work.round ≡ book_rounds book o.masks)
 
 pub ends-book : (script : FiveAuction) (inputs masks coefficients : List (List ℕ)) (c : Core FiveAuction) (answer : Option Finish)
-    (finish : Finish) (rounds : ℕ) → FirstEnds (setup_with five_batch script inputs masks coefficients) script c → Outcome c answer →
+    (finish : Finish) (rounds : ℕ) → EndsAt (setup_with five_batch script inputs masks coefficients) script 1 c → Outcome c answer →
     answer ≡ Some finish → rounds ≡ c.work.round → EndsBook script inputs masks coefficients finish rounds
 ends-book script inputs masks coefficients c answer finish rounds first outcome named counted book words is can of_book dealt
     mask_words numbers =

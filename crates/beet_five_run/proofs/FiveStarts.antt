@@ -1,8 +1,8 @@
 -- Five servers begin a script with their shares and words.
 use Rattle.std.proofs.Common.{◌≡◌, ◌≤◌, ◌<◌, ◌+◌, ◌-◌, ◌∷◌, ◌++◌, [], ℕ}
-use Rattle.std.proofs.Common.{suc, false, List, length, Some, slice_get, drop, get_or}
+use Rattle.std.proofs.Common.{suc, false, List, length, Some, slice_get, drop, get_or, Result, Ok, Err, IfErr}
 use Rattle.std.proofs.Common.{sym, refl, ap, subst, ◌∙◌, inl, inr, arith, nat_lt}
-use Rattle.std.specs.Prelude.{slice_index_or}
+use Rattle.std.specs.Prelude.{IsErrOf, slice_index_or}
 use Rattle.std.specs.List.{remove}
 use Rattle.std.proofs.Math.Seq.{drop-cons}
 use Rattle.std.proofs.lemmas.Bool.{and_right, cases_eq}
@@ -12,14 +12,17 @@ use Rattle.std.proofs.lemmas.Option.{same_Some}
 use Rattle.beet_gates.specs.declared.Batch.{Batch}
 use Rattle.beet_gates.proofs.EachFacts.{get-append, get-append_right}
 use Rattle.beet_delivery.specs.Networks.{all_delivered, nothing}
+use Rattle.beet_linear_sharing.specs.Runs.{Setup}
 use Rattle.beet_weights.specs.Quadratics.{IsServer}
 use Rattle.beet_coalition.specs.Lists.{at_server}
+use Rattle.beet_server.specs.declared.server.StartFault.{StartFault}
+use Rattle.beet_server.specs.declared.server.StartFault.TheVariants.{OutOfMemory, TooFewMasks, TooFewWords}
 use Rattle.beet_five_server.specs.Answers.{Core, fresh_core}
 use Rattle.beet_five_server.specs.Network.{five, sends_to}
 use Rattle.beet_five_server.proofs.Beginning.{begins}
 use Rattle.beet_five_lockstep.specs.FiveLockstep.{AreAtRound, IsAtRound}
-use Rattle.beet_five_lockstep.proofs.OneRound.{same-to}
-use Rattle.beet_five_run.specs.FiveRuns.{Starts, setup_with, unpassed}
+use Rattle.beet_five_server.proofs.Passing.{same-to}
+use Rattle.beet_five_run.specs.FiveRuns.{OpensWith, Starts, setup_with, unpassed}
 
 -- the list of the next server is taken from the front of those that are left
 pub taken-first : (lists now : List (List ℕ)) (k : ℕ) (r : List ℕ) → now ≡ drop k lists → k < length lists →
@@ -32,6 +35,14 @@ taken-first lists now k r left lt is =
           ∙ ap (λ n. slice_index_or lists n []) (sym back),
       ap (λ (l : List (List ℕ)). remove l 0) front ∙ ap (λ n. drop n lists) next,
     )
+
+-- a server that has words enough starts, if there is memory
+pub only-memory : {A : Type 0} → (r : Result A StartFault) → ((have : ℕ) → IsErrOf r (TooFewWords have) → ⊥) →
+    ((have : ℕ) → IsErrOf r (TooFewMasks have) → ⊥) → IfErr r (λ fault. fault ≡ OutOfMemory)
+only-memory (Ok core) words masks = tt
+only-memory (Err (TooFewWords have)) words masks = absurd (words have refl)
+only-memory (Err (TooFewMasks have)) words masks = absurd (masks have refl)
+only-memory (Err OutOfMemory) words masks = refl
 
 module _ {S : Type 0} (next : S → ℕ → List ℕ → Batch) (most : S → ℕ) (script : S) (inputs masks coefficients : List (List ℕ)) where
   -- a server that begins
@@ -73,13 +84,16 @@ module _ {S : Type 0} (next : S → ℕ → List ℕ → Batch) (most : S → �
   none-before : (r : ℕ) → nat_lt r 0 ≡ false
   none-before r = grind (arith, nat_tests)
 
-  -- they are at round 0 of their run
-  pub at-start : (cores : List (Core S)) → Starts next most script inputs masks coefficients cores →
-      AreAtRound next (setup_with next script inputs masks coefficients) script 0 cores
-  at-start cores starts = record {
+  -- the run of these inputs and words opens so
+  pub opens-itself : OpensWith next (setup_with next script inputs masks coefficients) script inputs masks coefficients
+  opens-itself j server = record { has_script = refl; has_inputs = refl; has_words = refl; has_numbers = refl }
+
+  -- they are at round 0 of every run that opens so
+  pub at-start : (o : Setup) → OpensWith next o script inputs masks coefficients → (cores : List (Core S)) →
+      Starts next most script inputs masks coefficients cores → AreAtRound next o script 0 cores
+  at-start o opens cores starts = record {
     count = starts.count;
     stand = λ j server c at.
-        let o = setup_with next script inputs masks coefficients in
         let is : beginner j ≡ c = same_Some (beginner j) c (sym (starts.are j server) ∙ at) in
         let b = beginner j in
         subst (IsAtRound next o script 0 j) is (record {
@@ -88,7 +102,7 @@ module _ {S : Type 0} (next : S → ℕ → List ℕ → Batch) (most : S → �
           fits = same-to next o nothing (all_delivered five 0) b.work b.mail
               (λ i t may. and_right (sends_to i j) (nat_lt t 0) (none-before t))
               (begins next j script (at_server inputs j) (unpassed (at_server masks j)) (unpassed (at_server coefficients j)) (most script)
-              refl refl o (record { has_script = refl; has_inputs = refl; has_words = refl; has_numbers = refl }));
+              refl refl o (opens j server));
           round = refl;
           handed = refl;
         });

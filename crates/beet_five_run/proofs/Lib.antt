@@ -1,2 +1,3 @@
 pub mod FiveStarts
 pub mod FiveEnding
+pub mod BookStarts

@@ -10,7 +10,8 @@ use Rattle.beet_weights.specs.Quadratics.{IsServer}
 use Rattle.beet_linear_sharing.specs.Runs.{Setup}
 use Rattle.beet_coalition.specs.Lists.{at_server}
 use Rattle.beet_five_server.specs.Answers.{Core, fresh_core}
-use Rattle.beet_five_plan.specs.FivePlan.{FiveAuction, five_over}
+use Rattle.beet_five_server.specs.Fits.{OpensAt}
+use Rattle.beet_plan.specs.FivePlan.{FiveAuction, five_over}
 use Rattle.beet_five_dealing.specs.FiveTotals.{five_inputs_of}
 use Rattle.beet_five_dealing.specs.FiveWords.{CanRun, FiveWords}
 use Rattle.beet_five_auction.specs.FiveEndings.{book_finish, book_rounds}
@@ -39,6 +40,11 @@ pub record CanStart {S : Type 0} (inputs_of secrets_of masks_of : S → ℕ) (sc
   pub has_coefficients : EachOfFive (λ list. IsEnough (2 * secrets_of script) (length (accepted list)) list)
       coefficients
 
+-- no server has 2^32 mask words or more, or as many words for numbers
+pub record HasFewWords (words : FiveWords) : Type 0 where
+  pub masks : (j : ℕ) → IsServer j → length (at_server words.masks j) < 2 ^ 32
+  pub coefficients : (j : ℕ) → IsServer j → length (at_server words.coefficients j) < 2 ^ 32
+
 module _ {S : Type 0} (next : S → ℕ → List ℕ → Batch) where
   -- the run of a script with these inputs and words of five servers
   abbrev pub setup_with : S → List (List ℕ) → List (List ℕ) → List (List ℕ) → Setup
@@ -57,10 +63,24 @@ module _ {S : Type 0} (next : S → ℕ → List ℕ → Batch) where
         ≡ Some (fresh_core next j script (at_server inputs j) (unpassed (at_server masks j))
         (unpassed (at_server coefficients j)) (most script))
 
-  -- five servers have run a script with these inputs and words from its start to its end
+  -- five servers begin a script with some inputs and words
+  pub record HaveStarted (most : S → ℕ) (cores : List (Core S)) : Type 0 where
+    pub script : S
+    pub inputs : List (List ℕ)
+    pub masks : List (List ℕ)
+    pub coefficients : List (List ℕ)
+    pub starts : Starts most script inputs masks coefficients cores
+
+  -- a run opens with this script, and at each of five servers with these inputs and words
+  abbrev pub OpensWith : Setup → S → List (List ℕ) → List (List ℕ) → List (List ℕ) → Type 0
+  OpensWith o script inputs masks coefficients =
+      (j : ℕ) → IsServer j →
+      OpensAt next o j script (at_server inputs j) (at_server masks j) (at_server coefficients j)
+
+  -- five servers have gone from the start to the end of every run that opens so
   abbrev pub HaveRun : S → List (List ℕ) → List (List ℕ) → List (List ℕ) → List (Core S) → Type 0
   HaveRun script inputs masks coefficients cores =
-      HaveEnded next (setup_with script inputs masks coefficients) script cores
+      (o : Setup) → OpensWith o script inputs masks coefficients → HaveEnded next o script cores
 
 -- if these are the inputs and words of the auction of a book, it ends so, after so many rounds
 abbrev pub EndsBook : FiveAuction → List (List ℕ) → List (List ℕ) → List (List ℕ) → Finish → ℕ → Type 0

@@ -28,18 +28,22 @@ module _ {S : Type 0} (next : S → ℕ → List ℕ → Batch) (me : ℕ) (scri
       Fits next o nothing (fresh_core next me script inputs masks coefficients rounds).work
       (fresh_core next me script inputs masks coefficients rounds).mail
   begins o opens = record {
-    script = opens.has_script;
-    words = sym opens.has_words;
-    numbers = sym opens.has_numbers;
-    rounds = λ t h. absurd (omega (arith, h));
-    wires = rw (← opens.has_inputs, ← opens.has_script) refl;
-    opened = refl;
-    dealt = no_mask;
-    drawn = no_number ∙ sym (none-passed coefficients.words);
-    mail = λ j may t. none-there (5 * (rounds + 2)) t j;
-    own = λ t lt. absurd (omega (arith, lt));
-    none = λ t le. none-there (5 * (rounds + 2)) t me;
-    before = λ j may t h. absurd (omega (arith, h));
-    soon = λ j may t e. absurd (true≢false (sym e));
+    stands = record {
+      work = record {
+        script = opens.has_script;
+        words = sym opens.has_words;
+        numbers = sym opens.has_numbers;
+        rounds = λ t h. absurd (omega (arith, h));
+        wires = rw (← opens.has_inputs, ← opens.has_script) refl;
+        opened = refl;
+        dealt = no_mask;
+        drawn = no_number ∙ sym (none-passed coefficients.words);
+      };
+      mail = λ j may t. none-there (5 * (rounds + 2)) t j;
+      own = λ t lt. absurd (omega (arith, lt));
+      none = λ t le. none-there (5 * (rounds + 2)) t me;
+      before = λ j may t h. absurd (omega (arith, h));
+      soon = λ j may t e. absurd (true≢false (sym e));
+    };
     waits = λ e. absurd (true≢false (sym e));
   }

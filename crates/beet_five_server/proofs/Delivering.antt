@@ -15,14 +15,13 @@ use Rattle.beet_linear_sharing.specs.Runs.{Setup}
 use Rattle.beet_five_server.specs.Runs.{coming, standing_at}
 use Rattle.beet_five_server.specs.Answers.{Core, MovesOn}
 use Rattle.beet_five_server.specs.Cores.{Work, batch_of, has_ended}
-use Rattle.beet_five_server.specs.Fits.{Fits, IsRound, message_of, some_if}
+use Rattle.beet_five_server.specs.Fits.{Fits, IsRound, Stands, message_of, some_if}
 use Rattle.beet_five_server.specs.Mails.{Mailbag, all_there, cell, is_stranger, left_by, put, verdict_of}
 use Rattle.beet_five_server.specs.Network.{five, sends_to}
 use Rattle.beet_five_server.specs.declared.mail.FiveMessage.{FiveMessage}
 use Rattle.beet_five_server.proofs.Peers.{IsPeer, five-heard, five-hears, peer-is, server-true}
 use Rattle.beet_five_server.proofs.RunSteps.{length-sent_for}
-use Rattle.beet_five_server.proofs.Standing.{Almost, after-moving, almost, coming-is, place-delivered, put-here, put-there, still-waits}
-use Rattle.beet_five_server.proofs.Standing.{wholly, within-bag}
+use Rattle.beet_five_server.proofs.Standing.{after-moving, coming-is, place-delivered, put-here, put-there, still-waits, within-bag}
 use Rattle.beet_server.proofs.Delivering.{or-same}
 
 or-false : (a b : Bool) → b ≡ false → (a || b) ≡ a
@@ -63,28 +62,18 @@ module _ {S : Type 0} (next : S → ℕ → List ℕ → Batch) (o : Setup) (x :
   pub unchanged : x j w.me t ≡ true → Fits next o the_set w bag
   unchanged old = subst (λ (y : Delivered ℕ). Fits next o y w bag) (sym (new-again x w.me j t old)) fits
 
-  whole : Almost next o x w bag
-  whole = almost next o x w bag fits
-
   -- an ended core has all that may come
   pub late : has_ended next w ≡ true → Fits next o the_set w bag
   late ended = unchanged (fits.before j may t (below (is_end (coming o w.round).act) refl))
     where
       below : (b : Bool) → is_end (coming o w.round).act ≡ b → t < w.round
       below true e = elim (cases_lt t w.round) [ inl h ↦ h | inr h ↦ absurd (true≢false (sym e ∙ is_round w.round h)) ]
-      below false e = absurd (true≢false (sym ended ∙ ap (λ (b : Batch). is_end b.act) (coming-is next o x w bag server whole) ∙ e))
+      below false e = absurd (true≢false (sym ended ∙ ap (λ (b : Batch). is_end b.act) (coming-is next o x w bag server fits.stands) ∙ e))
 
   -- the message is put in its place
-  pub puts : w.handed ≡ true → 5 * (w.round + 2) ≤ length bag.places → Almost next o the_set w (put bag the_message)
+  pub puts : w.handed ≡ true → 5 * (w.round + 2) ≤ length bag.places → Stands next o the_set w (put bag the_message)
   puts handed room = record {
-    script = fits.script;
-    words = fits.words;
-    numbers = fits.numbers;
-    rounds = fits.rounds;
-    wires = fits.wires;
-    opened = fits.opened;
-    dealt = fits.dealt;
-    drawn = fits.drawn;
+    work = fits.work;
     mail = λ i can r. by_place i can r (cases_eq i j) (cases_eq r t);
     own = λ r lt. put-there bag the_message r w.me server peer.server (λ e. peer.other (sym e.1)) ∙ fits.own r lt;
     none = λ r le. put-there bag the_message r w.me server peer.server (λ e. peer.other (sym e.1)) ∙ fits.none r le;
@@ -118,19 +107,21 @@ module _ {S : Type 0} (next : S → ℕ → List ℕ → Batch) (o : Setup) (x :
         rw (me, eq-eqb w.me w.me refl, ne_eqb j w.me peer.other, server-true j peer.server) refl
 
     long : t ≡ w.round → array_vec_len the_message.numbers ≡ bag.want
-    long e = rw (e, want, coming-is next o x w bag server whole) (length-sent_for o (standing_at o w.round) (coming o w.round).act j w.me)
+    long e =
+        rw (e, want, coming-is next o x w bag server fits.stands)
+        (length-sent_for o (standing_at o w.round) (coming o w.round).act j w.me)
 
     is-old : t < w.round → verdict_of bag the_message ≡ Old
     is-old lt = rw (no-stranger, at, lt-ltb t w.round lt) refl
 
     is-repeat : w.round ≤ t → x j w.me t ≡ true → verdict_of bag the_message ≡ Repeat
     is-repeat le there =
-        let filled : is_some (cell bag.places t j) ≡ true = place-delivered next o x w bag server whole j t may ∙ there in
+        let filled : is_some (cell bag.places t j) ≡ true = place-delivered next o x w bag server fits.stands j t may ∙ there in
         rw (no-stranger, at, le-ltb t w.round le, le-ltb (w.round + 1) t near, filled) refl
 
     is-early : t ≡ w.round + 1 → x j w.me t ≡ false → verdict_of bag the_message ≡ Stored
     is-early e out =
-        let empty : is_some (cell bag.places t j) ≡ false = place-delivered next o x w bag server whole j t may ∙ out in
+        let empty : is_some (cell bag.places t j) ≡ false = place-delivered next o x w bag server fits.stands j t may ∙ out in
         rw (
           no-stranger,
           at,
@@ -144,7 +135,7 @@ module _ {S : Type 0} (next : S → ℕ → List ℕ → Batch) (o : Setup) (x :
     is-due : t ≡ w.round → x j w.me t ≡ false → (b : Bool) → all_there (put bag the_message).places w.round ≡ b →
         verdict_of bag the_message ≡ (if b then Ready else Stored)
     is-due e out b all =
-        let empty : is_some (cell bag.places t j) ≡ false = place-delivered next o x w bag server whole j t may ∙ out in
+        let empty : is_some (cell bag.places t j) ≡ false = place-delivered next o x w bag server fits.stands j t may ∙ out in
         rw (
           no-stranger,
           at,
@@ -179,7 +170,7 @@ module _ {S : Type 0} (next : S → ℕ → List ℕ → Batch) (c : Core S) (se
       abbrev y : Delivered ℕ
       y = new_set x c.work.me j t
 
-      put-fits : Almost next o y c.work (put c.mail m)
+      put-fits : Stands next o y c.work (put c.mail m)
       put-fits = puts next o x c.work c.mail server fits j t may is_round near handed room
 
       -- a message of the next round leaves the round waiting
@@ -217,9 +208,11 @@ module _ {S : Type 0} (next : S → ℕ → List ℕ → Batch) (c : Core S) (se
       stays : verdict_of c.mail m ≢ Ready → Fits next o y c.work (left_by (verdict_of c.mail m) c.mail m)
       stays other = elim found [
         | There v is left unready there ↦ rw (is, left) (unchanged next o x c.work c.mail server fits j t may is_round near there)
-        | Early is later ↦ rw is (wholly next o y c.work (put c.mail m) put-fits (λ h. waits-on later))
-        | Waits is some ↦ rw is
-            (wholly next o y c.work (put c.mail m) put-fits (λ h. still-waits next o y c.work (put c.mail m) server put-fits h some))
+        | Early is later ↦ rw is (record { stands = put-fits; waits = λ h. waits-on later })
+        | Waits is some ↦ rw is (record {
+          stands = put-fits;
+          waits = λ h. still-waits next o y c.work (put c.mail m) server put-fits h some;
+        })
         | Passes is all ↦ absurd (other is)
       ]
 

@@ -1,4 +1,6 @@
 pub mod MailFacts
+pub mod Places
+pub mod Ranks
 pub mod Handing
 pub mod RunSteps
 pub mod Peers
@@ -7,6 +9,5 @@ pub mod Beginning
 pub mod Delivering
 pub mod Networking
 pub mod Passing
-pub mod Going
-pub mod TwoRounds
 pub mod PassedRounds
+pub mod Givings

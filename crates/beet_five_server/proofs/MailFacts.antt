@@ -1,5 +1,5 @@
 -- Places of messages.
-use Rattle.std.proofs.Common.{◌≡◌, ℕ, zero, suc, List, Option, None, arith, ap, subst, ◌∙◌}
+use Rattle.std.proofs.Common.{◌≡◌, ℕ, zero, suc, List, Option, None, arith, ap, refl, subst, ◌∙◌}
 use Rattle.std.specs.Prelude.{slice_index_or}
 use Rattle.beet_weights.specs.Quadratics.{IsServer}
 use Rattle.beet_five_server.specs.Mails.{cell, kept, place_of}
@@ -14,6 +14,18 @@ by-server P a b c d e (suc (suc (suc zero))) h = c
 by-server P a b c d e (suc (suc (suc (suc zero)))) h = d
 by-server P a b c d e (suc (suc (suc (suc (suc zero))))) h = e
 by-server P a b c d e (suc (suc (suc (suc (suc (suc j)))))) h = absurd (omega (arith, h.1))
+
+-- a statement of each two of them
+pub by-peers : (P : ℕ → ℕ → Type 0) → P 1 2 → P 1 3 → P 1 4 → P 1 5 → P 2 1 → P 2 3 → P 2 4 → P 2 5 → P 3 1 → P 3 2 → P 3 4 → P 3 5 →
+    P 4 1 → P 4 2 → P 4 3 → P 4 5 → P 5 1 → P 5 2 → P 5 3 → P 5 4 → (i j : ℕ) → IsServer i → IsServer j → (i ≡ j → ⊥) → P i j
+by-peers P a b c d e f g h k l m n p q r s t u v w i j is to other =
+    by-server (λ x. (y : ℕ) → IsServer y → (x ≡ y → ⊥) → P x y)
+    (by-server (λ y. (1 ≡ y → ⊥) → P 1 y) (λ o. absurd (o refl)) (λ _. a) (λ _. b) (λ _. c) (λ _. d))
+    (by-server (λ y. (2 ≡ y → ⊥) → P 2 y) (λ _. e) (λ o. absurd (o refl)) (λ _. f) (λ _. g) (λ _. h))
+    (by-server (λ y. (3 ≡ y → ⊥) → P 3 y) (λ _. k) (λ _. l) (λ o. absurd (o refl)) (λ _. m) (λ _. n))
+    (by-server (λ y. (4 ≡ y → ⊥) → P 4 y) (λ _. p) (λ _. q) (λ _. r) (λ o. absurd (o refl)) (λ _. s))
+    (by-server (λ y. (5 ≡ y → ⊥) → P 5 y) (λ _. t) (λ _. u) (λ _. v) (λ _. w) (λ o. absurd (o refl)))
+    i is j to other
 
 -- the place of a message tells its round and sender
 pub one-place : (t u i j : ℕ) → IsServer i → IsServer j → place_of t i ≡ place_of u j → (t ≡ u) × (i ≡ j)

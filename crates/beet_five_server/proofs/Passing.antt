@@ -13,7 +13,7 @@ use Rattle.beet_five_server.specs.Runs.{HasRounds, coming, shared_at}
 use Rattle.beet_five_server.specs.Cores.{Work, has_ended, is_quiet}
 use Rattle.beet_five_server.specs.Fits.{Fits, IsRound, message_of, some_if}
 use Rattle.beet_five_server.specs.Mails.{Mailbag}
-use Rattle.beet_five_server.specs.Network.{five}
+use Rattle.beet_five_server.specs.Network.{five, sends_to}
 use Rattle.beet_five_server.proofs.Networking.{five-is}
 use Rattle.beet_five_server.proofs.Peers.{five-heard, five-hears, peer-or}
 
@@ -66,29 +66,28 @@ or-nothing : (a b : Bool) → b ≡ false → (a || b) ≡ a
 or-nothing true b none = refl
 or-nothing false b none = none
 
+-- of a set a core sees what is to its server
+pub same-to : {S : Type 0} (next : S → ℕ → List ℕ → Batch) (o : Setup) (x y : Delivered ℕ) (w : Work S) (bag : Mailbag) →
+    ((j t : ℕ) → sends_to j w.me ≡ true → y j w.me t ≡ x j w.me t) → Fits next o x w bag → Fits next o y w bag
+same-to next o x y w bag same f = record {
+  stands = record {
+    work = f.work;
+    mail = λ j may t. f.mail j may t ∙ ap (λ b. some_if b (message_of o j w.me t)) (sym (same j t may));
+    own = f.own;
+    none = f.none;
+    before = λ j may t lt. same j t may ∙ f.before j may t lt;
+    soon = λ j may t there. f.soon j may t (sym (same j t may) ∙ there);
+  };
+  waits = λ handed. false_from_ne_true _ (λ all. true≢false (sym (five-hears x w.me w.round
+      (λ j may. sym (same j w.round may) ∙ five-heard y w.me w.round all j may)) ∙ f.waits handed));
+}
+
 -- a message to another server changes nothing at a core
 pub away : {S : Type 0} (next : S → ℕ → List ℕ → Batch) (o : Setup) (x : Delivered ℕ) (w : Work S) (bag : Mailbag) (e : Triple ℕ) →
     (e.to ≡ w.me → ⊥) → Fits next o x w bag → Fits next o (with_triple five x e) w bag
-away next o x w bag e other f =
-    let same : (j t : ℕ) → with_triple five x e j w.me t ≡ x j w.me t =
-    λ j t. or-nothing _ _ (and_left _ _ (and_right _ _ (ne_eqb w.me e.to (λ k. other (sym k))))) in
-    record {
-      script = f.script;
-      words = f.words;
-      numbers = f.numbers;
-      rounds = f.rounds;
-      wires = f.wires;
-      opened = f.opened;
-      dealt = f.dealt;
-      drawn = f.drawn;
-      mail = λ j may t. f.mail j may t ∙ ap (λ b. some_if b (message_of o j w.me t)) (sym (same j t));
-      own = f.own;
-      none = f.none;
-      before = λ j may t lt. same j t ∙ f.before j may t lt;
-      soon = λ j may t there. f.soon j may t (sym (same j t) ∙ there);
-      waits = λ handed. false_from_ne_true _ (λ all. true≢false (sym (five-hears x w.me w.round
-          (λ j may. sym (same j w.round) ∙ five-heard (with_triple five x e) w.me w.round all j may)) ∙ f.waits handed));
-    }
+away next o x w bag e other =
+    same-to next o x (with_triple five x e) w bag
+    (λ j t may. or-nothing _ _ (and_left _ _ (and_right _ _ (ne_eqb w.me e.to (λ k. other (sym k))))))
 
 -- no two servers are more than one round apart
 pub five-apart : (rounds : ℕ) (x : Delivered ℕ) → WasSent five rounds x → (s other : ℕ) → IsServer s → IsServer other →

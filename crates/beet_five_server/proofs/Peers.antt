@@ -37,6 +37,10 @@ peer-sends j me a b other =
     and_from (is_server j && is_server me) (not (j == me)) (and_from (is_server j) (is_server me) (server-true j a) (server-true me b))
     (not_from_false (j == me) (ne_eqb j me other))
 
+-- each server has one
+pub some-peer : (me : ℕ) → IsServer me → (j : ℕ) × (sends_to j me ≡ true)
+some-peer = by-server (λ me. (j : ℕ) × (sends_to j me ≡ true)) (2, refl) (1, refl) (1, refl) (1, refl) (1, refl)
+
 -- a server is the one itself or a peer
 pub peer-or : (j me : ℕ) → IsServer j → IsServer me → (j ≡ me) ⊎ (sends_to j me ≡ true)
 peer-or j me a b = elim (cases_eq j me) [

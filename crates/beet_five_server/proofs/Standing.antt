@@ -20,7 +20,7 @@ use Rattle.beet_linear_sharing.specs.Runs.{Setup, Shared}
 use Rattle.beet_five_server.specs.Runs.{coming, drawn as drawn_in, draws_in, message, sent_for, shared_at, standing_at}
 use Rattle.beet_five_server.specs.Answers.{HandsOut, MovesOn, handed_out, message_out, messages_out, Core}
 use Rattle.beet_five_server.specs.Cores.{Work, batch_of, handing, has_ended, passing, sends}
-use Rattle.beet_five_server.specs.Fits.{Fits, IsRound, message_of, messages_from, some_if, taken}
+use Rattle.beet_five_server.specs.Fits.{Fits, Stands, message_of, messages_from, some_if, taken}
 use Rattle.beet_five_server.specs.Mails.{Mailbag, Turned, all_there, cell, kept, numbers_at, numbers_of, place_of, put}
 use Rattle.beet_five_server.specs.Network.{five, peers, sends_to}
 use Rattle.beet_five_server.specs.Parts.{numbers_opened, points_given}
@@ -29,60 +29,6 @@ use Rattle.beet_five_server.proofs.MailFacts.{one-place}
 use Rattle.beet_five_server.proofs.Peers.{five-heard, five-hears, peer-is, peer-or, there-all, there-each}
 use Rattle.beet_five_server.proofs.RunSteps.{drawn-more, gains-run, given-by, length-sent_for, opened-by-same, opens-run, sends-run}
 use Rattle.beet_server.proofs.Delivering.{below-cases}
-
--- all that fits but for the wait
-pub record Almost {S : Type 0} (next : S → ℕ → List ℕ → Batch) (o : Setup) (x : Delivered ℕ) (w : Work S) (bag : Mailbag) : Type 0 where
-  pub script : o.next ≡ next w.script
-  pub words : w.masks.words ≡ o.masks w.me
-  pub numbers : accepted w.coefficients.words ≡ o.numbers w.me
-  pub rounds : (t : ℕ) → t < w.round → is_end (coming o t).act ≡ false
-  pub wires : w.wires ≡ (standing_at o w.round).wires w.me
-  pub opened : w.opened ≡ (shared_at o w.round).opened
-  pub dealt : w.masks.passed ≡ (shared_at o (taken w.round w.handed)).dealt
-  pub drawn : w.coefficients.passed ≡ words_passed w.coefficients.words (drawn_in (shared_at o (taken w.round w.handed)))
-  pub mail : (j : ℕ) → sends_to j w.me ≡ true → (t : ℕ) → cell bag.places t j ≡ some_if (x j w.me t) (message_of o j w.me t)
-  pub own : (t : ℕ) → t < taken w.round w.handed → cell bag.places t w.me ≡ Some (message_of o w.me w.me t)
-  pub none : (t : ℕ) → taken w.round w.handed ≤ t → cell bag.places t w.me ≡ None
-  pub before : (j : ℕ) → sends_to j w.me ≡ true → (t : ℕ) → t < w.round → x j w.me t ≡ true
-  pub soon : (j : ℕ) → sends_to j w.me ≡ true → (t : ℕ) → x j w.me t ≡ true → (t ≤ taken w.round w.handed) × IsRound o t
-
-pub almost : {S : Type 0} (next : S → ℕ → List ℕ → Batch) (o : Setup) (x : Delivered ℕ) (w : Work S) (bag : Mailbag) →
-    Fits next o x w bag → Almost next o x w bag
-almost next o x w bag f = record {
-  script = f.script;
-  words = f.words;
-  numbers = f.numbers;
-  rounds = f.rounds;
-  wires = f.wires;
-  opened = f.opened;
-  dealt = f.dealt;
-  drawn = f.drawn;
-  mail = f.mail;
-  own = f.own;
-  none = f.none;
-  before = f.before;
-  soon = f.soon;
-}
-
-pub wholly : {S : Type 0} (next : S → ℕ → List ℕ → Batch) (o : Setup) (x : Delivered ℕ) (w : Work S) (bag : Mailbag) →
-    Almost next o x w bag →
-    (w.handed ≡ true → all_in five x w.me w.round ≡ false) → Fits next o x w bag
-wholly next o x w bag f waits = record {
-  script = f.script;
-  words = f.words;
-  numbers = f.numbers;
-  rounds = f.rounds;
-  wires = f.wires;
-  opened = f.opened;
-  dealt = f.dealt;
-  drawn = f.drawn;
-  mail = f.mail;
-  own = f.own;
-  none = f.none;
-  before = f.before;
-  soon = f.soon;
-  waits = waits;
-}
 
 pub some-place : (b : Bool) (m : FiveMessage) → is_some (some_if b m) ≡ b
 some-place true m = refl
@@ -102,7 +48,7 @@ pub within-bag : (t j n : ℕ) (bag : Mailbag) → IsServer j → t ≤ n + 1 �
 within-bag t j n bag h le room = omega (arith, h.0, h.1, le, room)
 
 module _ {S : Type 0} (next : S → ℕ → List ℕ → Batch) (o : Setup) (x : Delivered ℕ) (w : Work S) (bag : Mailbag) (server : IsServer w.me)
-    (fits : Almost next o x w bag) where
+    (fits : Stands next o x w bag) where
   pub place-delivered : (j t : ℕ) → sends_to j w.me ≡ true → is_some (cell bag.places t j) ≡ x j w.me t
   place-delivered j t may = ap is_some (fits.mail j may t) ∙ some-place _ _
 
@@ -143,7 +89,7 @@ module _ {S : Type 0} (next : S → ℕ → List ℕ → Batch) (o : Setup) (x :
 
   -- the messages of the round are handed out, and the server's own is put in its place
   pub hands-out : w.handed ≡ false → 5 * (w.round + 2) ≤ length bag.places →
-      Almost next o x (handing next w) (put bag (message_out next w w.me))
+      Stands next o x (handing next w) (put bag (message_out next w w.me))
   hands-out h room =
       let dealt = rw h at fits.dealt in
       let drawn = rw h at fits.drawn in
@@ -151,16 +97,18 @@ module _ {S : Type 0} (next : S → ℕ → List ℕ → Batch) (o : Setup) (x :
       let is : m ≡ message_of o w.me w.me w.round =
       λ i. record { from = w.me; to = w.me; round = w.round; numbers = record { items = sends-is h w.me i } } in
       record {
-        script = fits.script;
-        words = fits.words;
-        numbers = fits.numbers;
-        rounds = fits.rounds;
-        wires = fits.wires;
-        opened = fits.opened;
-        dealt = rw (coming-is, dealt) refl;
-        drawn = rw (coming-is, drawn)
-            (sym (passed-again w.coefficients.words (drawn_in (shared_at o w.round)) (draws_in (coming o w.round).act))
-            ∙ ap (words_passed w.coefficients.words) (sym (drawn-more (shared_at o w.round) (coming o w.round).act)));
+        work = record {
+          script = fits.script;
+          words = fits.words;
+          numbers = fits.numbers;
+          rounds = fits.rounds;
+          wires = fits.wires;
+          opened = fits.opened;
+          dealt = rw (coming-is, dealt) refl;
+          drawn = rw (coming-is, drawn)
+              (sym (passed-again w.coefficients.words (drawn_in (shared_at o w.round)) (draws_in (coming o w.round).act))
+              ∙ ap (words_passed w.coefficients.words) (sym (drawn-more (shared_at o w.round) (coming o w.round).act)));
+        };
         mail = λ j may t. let peer = peer-is j w.me may in put-there bag m t j peer.server server (λ e. peer.other e.1) ∙ fits.mail j may t;
         own = λ t lt. elim (below-cases t w.round (omega (arith, lt))) [
           | inl less ↦ put-there bag m t w.me server server (λ e. absurd (omega (arith, less, e.0))) ∙ fits.own t (rw h less)
@@ -242,30 +190,34 @@ module _ {S : Type 0} (next : S → ℕ → List ℕ → Batch) (o : Setup) (x :
 
     pub moves-on : Fits next o x after new
     moves-on = record {
-      script = fits.script;
-      words = fits.words;
-      numbers = fits.numbers;
-      rounds = λ t h. elim (below-cases t w.round h) [
-        | inl less ↦ fits.rounds t less
-        | inr e ↦ rw e (ap (λ (b : Batch). is_end b.act) (sym coming-is) ∙ goes)
-      ];
-      wires = wires_are ∙ ap (λ n. (standing_at o n).wires w.me) next_round;
-      opened = opened_is ∙ ap (λ n. (shared_at o n).opened) next_round;
-      dealt = rw add-one (rw handed at fits.dealt);
-      drawn = rw add-one (rw handed at fits.drawn);
-      mail = λ j may t.
-          stays t j (peer-is j w.me may).server
-          (ap (kept want) (fits.mail j may (w.round + 1))
-          ∙ kept_place want (x j w.me (w.round + 1)) (message_of o j w.me (w.round + 1)) (size_is j)
-          ∙ sym (fits.mail j may (w.round + 1)))
-          ∙ fits.mail j may t;
-      own = λ t lt. stays t w.me server own_stays ∙ fits.own t (rw handed (omega (arith, lt)));
-      none = λ t le. stays t w.me server own_stays ∙ fits.none t (rw handed (omega (arith, le)));
-      before = λ j may t h. elim (below-cases t w.round h) [
-        | inl less ↦ fits.before j may t less
-        | inr e ↦ rw e (delivered j may)
-      ];
-      soon = λ j may t e. let h = fits.soon j may t e in let low = rw handed at h.0 in (omega (arith, low), h.1);
+      stands = record {
+        work = record {
+          script = fits.script;
+          words = fits.words;
+          numbers = fits.numbers;
+          rounds = λ t h. elim (below-cases t w.round h) [
+            | inl less ↦ fits.rounds t less
+            | inr e ↦ rw e (ap (λ (b : Batch). is_end b.act) (sym coming-is) ∙ goes)
+          ];
+          wires = wires_are ∙ ap (λ n. (standing_at o n).wires w.me) next_round;
+          opened = opened_is ∙ ap (λ n. (shared_at o n).opened) next_round;
+          dealt = rw add-one (rw handed at fits.dealt);
+          drawn = rw add-one (rw handed at fits.drawn);
+        };
+        mail = λ j may t.
+            stays t j (peer-is j w.me may).server
+            (ap (kept want) (fits.mail j may (w.round + 1))
+            ∙ kept_place want (x j w.me (w.round + 1)) (message_of o j w.me (w.round + 1)) (size_is j)
+            ∙ sym (fits.mail j may (w.round + 1)))
+            ∙ fits.mail j may t;
+        own = λ t lt. stays t w.me server own_stays ∙ fits.own t (rw handed (omega (arith, lt)));
+        none = λ t le. stays t w.me server own_stays ∙ fits.none t (rw handed (omega (arith, le)));
+        before = λ j may t h. elim (below-cases t w.round h) [
+          | inl less ↦ fits.before j may t less
+          | inr e ↦ rw e (delivered j may)
+        ];
+        soon = λ j may t e. let h = fits.soon j may t e in let low = rw handed at h.0 in (omega (arith, low), h.1);
+      };
       waits = λ e. absurd (true≢false (sym e));
     }
       where
@@ -279,7 +231,7 @@ module _ {S : Type 0} (next : S → ℕ → List ℕ → Batch) (o : Setup) (x :
     (at : c.mail.round ≡ c.work.round) where
   -- a core that passes a round goes on fitting
   pub after-moving : c.work.handed ≡ true → has_ended next c.work ≡ false → all_there c.mail.places c.work.round ≡ true →
-      MovesOn next c d → Almost next o x c.work c.mail → Fits next o x d.work d.mail
+      MovesOn next c d → Stands next o x c.work c.mail → Fits next o x d.work d.mail
   after-moving handed goes all moves fits =
       subst (λ (w : Work S). Fits next o x w d.mail) (sym moves.work)
       (moves-on next o x c.work c.mail server fits handed goes all at d.mail
@@ -292,10 +244,11 @@ module _ {S : Type 0} (next : S → ℕ → List ℕ → Batch) (o : Setup) (x :
   pub after-out : c.work.handed ≡ false → has_ended next c.work ≡ false → HandsOut next c d → Fits next o x c.work c.mail →
       Fits next o x d.work d.mail
   after-out handed goes leaves fits =
-      let a = hands-out next o x c.work c.mail server (almost next o x c.work c.mail fits) handed room in
+      let a = hands-out next o x c.work c.mail server fits.stands handed room in
       ⊎_elim
       (λ b. after-moving next o x (handed_out next c) d server at refl goes b.0 b.1 a)
-      (λ b. rw b.1
-      (wholly next o x (handed_out next c).work (handed_out next c).mail a
-      (λ h. still-waits next o x (handed_out next c).work (handed_out next c).mail server a h b.0)))
+      (λ b. rw b.1 (record {
+        stands = a;
+        waits = λ h. still-waits next o x (handed_out next c).work (handed_out next c).mail server a h b.0;
+      }))
       leaves

@@ -34,9 +34,8 @@ abbrev pub taken : ℕ → Bool → ℕ
 taken round true = suc round
 taken round false = round
 
--- the core stands in the run as its server, and has what was delivered to it
-pub record Fits {S : Type 0} (next : S → ℕ → List ℕ → Batch) (o : Setup) (x : Delivered ℕ) (w : Work S)
-    (bag : Mailbag) : Type 0 where
+-- what computes at a server stands in the run
+pub record FitsWork {S : Type 0} (next : S → ℕ → List ℕ → Batch) (o : Setup) (w : Work S) : Type 0 where
   -- it holds the script, the words and the numbers of its server, and has passed rounds of the run
   pub script : o.next ≡ next w.script
   pub words : w.masks.words ≡ o.masks w.me
@@ -48,15 +47,28 @@ pub record Fits {S : Type 0} (next : S → ℕ → List ℕ → Batch) (o : Setu
   pub dealt : w.masks.passed ≡ (shared_at o (taken w.round w.handed)).dealt
   pub drawn : w.coefficients.passed ≡ words_passed w.coefficients.words
       (drawn_in (shared_at o (taken w.round w.handed)))
+
+-- all that fits but for the wait
+pub record Stands {S : Type 0} (next : S → ℕ → List ℕ → Batch) (o : Setup) (x : Delivered ℕ) (w : Work S)
+    (bag : Mailbag) : Type 0 where
+  pub work : FitsWork next o w
+  pub open work use *
   -- it has the messages of its peers that were delivered, and its own of each round whose messages are handed out
   pub mail : (j : ℕ) → sends_to j w.me ≡ true → (t : ℕ) →
       cell bag.places t j ≡ some_if (x j w.me t) (message_of o j w.me t)
   pub own : (t : ℕ) → t < taken w.round w.handed → cell bag.places t w.me ≡ Some (message_of o w.me w.me t)
   pub none : (t : ℕ) → taken w.round w.handed ≤ t → cell bag.places t w.me ≡ None
   -- all messages of each passed round are delivered, and nothing above the round, or above the next once the messages
-  -- of the round are handed out; then one of those to the server is still missing
+  -- of the round are handed out
   pub before : (j : ℕ) → sends_to j w.me ≡ true → (t : ℕ) → t < w.round → x j w.me t ≡ true
   pub soon : (j : ℕ) → sends_to j w.me ≡ true → (t : ℕ) → x j w.me t ≡ true → (t ≤ taken w.round w.handed) × IsRound o t
+
+-- the core stands in the run as its server, and has what was delivered to it
+pub record Fits {S : Type 0} (next : S → ℕ → List ℕ → Batch) (o : Setup) (x : Delivered ℕ) (w : Work S)
+    (bag : Mailbag) : Type 0 where
+  pub stands : Stands next o x w bag
+  pub open stands use *
+  -- once the messages of the round are handed out, one of those to the server is still missing
   pub waits : w.handed ≡ true → all_in five x w.me w.round ≡ false
 
 -- a setup has this script, these points of the inputs, these words and these numbers at a server

@@ -5,5 +5,5 @@ pub mod Cores
 pub mod Runs
 pub mod Fits
 pub mod Answers
-pub mod Missing
 pub mod Received
+pub mod Lengths

@@ -1,5 +1,5 @@
 -- Five servers, 1 to 5, each of which hears the other four.
-use Rattle.std.specs.Prelude.{ℕ, ◌==◌, ◌&&◌, not, nat_le, filter, List, Bool}
+use Rattle.std.specs.Prelude.{ℕ, ◌-◌, ◌==◌, ◌&&◌, not, nat_le, nat_lt, if◌then◌else◌, filter, List, Bool}
 use Rattle.beet_delivery.specs.Networks.{Network}
 use Rattle.beet_weights.specs.Quadratics.{servers}
 
@@ -14,6 +14,10 @@ sends_to from to = is_server from && is_server to && not (from == to)
 -- the other servers, in rising order
 abbrev pub peers : ℕ → List ℕ
 peers s = filter (λ j. sends_to j s) servers
+
+-- the place of a peer among the four of a server, in rising order
+abbrev pub rank : ℕ → ℕ → ℕ
+rank from to = if nat_lt to from then to - 1 else to - 2
 
 abbrev pub five : Network ℕ
 five = record { servers = servers; peers = peers; same = λ a b. a == b; sends = sends_to }

@@ -10,17 +10,16 @@ ghost use Rattle.beet_gates.specs.Scripts.{size_of};
 ghost use Rattle.beet_five_server.specs.Parts.{by_sender};
 ghost use Rattle.beet_five_server.specs.Cores.{Work, batch_of, fresh, sends, handing, passing};
 
-use crate::parts::{Incoming, Outgoing, Tapes, absorb, put_numbers};
+use crate::parts::{Incoming, Outgoing, put_numbers};
 use beet_field::Fe;
-use beet_five_gates::ScriptOfFive;
-use beet_gates::Batch;
-use beet_server::{append_all, append_lets};
+use beet_gates::{Batch, Script};
+use beet_server::{Tapes, begin_run, pass_round};
 use beet_words::Tape;
 use std::marker::Model;
 
 /// What computes in a server. `batch` is the one that comes, from `place` in the script; its lets are among the wires.
 #[derive(Drop)]
-pub struct Engine<S: ScriptOfFive> {
+pub struct Engine<S: Script<5>> {
     me: u32,
     script: S,
     tapes: Tapes,
@@ -32,7 +31,7 @@ pub struct Engine<S: ScriptOfFive> {
     batch: Batch,
 }
 
-impl<S: ScriptOfFive> Model for Engine<S> {
+impl<S: Script<5>> Model for Engine<S> {
     ghost use Rattle.std.specs.Prelude.{◌<◌, ◌^◌, vec_capacity};
     ghost use Rattle.beet_gates.specs.Ends.{ComesTo};
     ghost use Rattle.beet_gates.specs.Scripts.{bounds_of};
@@ -61,7 +60,7 @@ impl<S: ScriptOfFive> Model for Engine<S> {
         × ComesTo (S.batch_of e.script) e.round e.opened.items × (S.rounds_of e.script < 2 ^ 31) };
 }
 
-impl<S: ScriptOfFive> Engine<S> {
+impl<S: Script<5>> Engine<S> {
     /// At the first batch of the script, with room for all wires and for all numbers that it may open.
     pub fn start(
         me: u32,
@@ -83,11 +82,8 @@ impl<S: ScriptOfFive> Engine<S> {
             × (MOST_NUMBERS * S.rounds_of script ≤ vec_capacity opened) }
         ensures { result ≡ fresh S.batch_of me script inputs.now masks coefficients }
     {
-        let place = script.begin();
-        let batch = script.next(0, &[]);
         let mut wires = wires;
-        append_all(&mut wires, inputs);
-        append_lets(&mut wires, batch.lets.as_slice());
+        let (place, batch) = begin_run(&script, inputs, &mut wires);
         Engine {
             me,
             script,
@@ -136,16 +132,17 @@ impl<S: ScriptOfFive> Engine<S> {
         ensures within { self.old.round < S.rounds_of self.old.script }
         ensures counted { self.old.round < 2 ^ 32 - 1 }
     {
-        absorb(&self.batch.act, &mut self.wires, &mut self.opened, given);
-        self.handed = false;
-        self.round += 1;
-        self.script.refill(
+        pass_round(
+            &self.script,
             self.round,
-            self.opened.as_slice(),
+            &given,
             &mut self.place,
             &mut self.batch,
+            &mut self.wires,
+            &mut self.opened,
         );
-        append_lets(&mut self.wires, self.batch.lets.as_slice());
+        self.handed = false;
+        self.round += 1;
     }
 
     /// How many numbers a message of the round has.

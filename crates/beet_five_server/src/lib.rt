@@ -9,10 +9,13 @@ mod laws_of_cores;
 mod mail;
 mod parts;
 mod receiving;
+mod sending;
 mod server;
 
+pub use beet_server::StartFault as FiveFault;
 pub use laws_of_cores::{
     a_quiet_core_is_at_its_passed_rounds, nothing_undelivered_means_ended, rounds_stay_close,
 };
 pub use mail::FiveMessage;
-pub use server::{FiveCore, FiveFault};
+pub use sending::message_to;
+pub use server::FiveCore;

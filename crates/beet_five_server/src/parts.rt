@@ -1,32 +1,19 @@
-//! What a batch does to lists of numbers.
+//! What five servers hide by polynomials, and what their numbers give.
 
-ghost use Rattle.std.specs.Prelude.{◌≡◌, ◌≤◌, ◌+◌, ◌*◌, ◌%◌, ◌++◌, ◌∷◌, [], take, map, length, slice_index};
-ghost use Rattle.std.specs.Prelude.{vec_capacity};
-ghost use Rattle.std.specs.Int.{bit_at};
+ghost use Rattle.std.specs.Prelude.{◌≡◌, ◌≤◌, ◌+◌, ◌*◌, ℕ, List, length, slice_index, take};
 ghost use Rattle.beet_field.specs.declared.TheConstants.{MOST_NUMBERS};
-ghost use Rattle.beet_field.specs.Field.{p};
-ghost use Rattle.beet_weights.specs.Weights.{three_weights, weighted};
 ghost use Rattle.beet_words.specs.Tapes.{drawn_from, left_of};
-ghost use Rattle.beet_gates.specs.Each.{each};
-ghost use Rattle.beet_gates.specs.Scripts.{ActBelow, WiresBelow, deals_in, revealed, size_of};
-ghost use Rattle.beet_weights.specs.Quadratics.{reshared};
+ghost use Rattle.beet_gates.specs.Scripts.{ActBelow, deals_in, size_of};
+ghost use Rattle.beet_server.specs.Values.{values_of};
 ghost use Rattle.beet_five_server.specs.Runs.{draws_in};
-ghost use Rattle.beet_five_server.specs.Parts.{by_sender, hidden, numbers_for, points_given, numbers_opened};
-ghost use Rattle.beet_sharing.specs.Steps.{gained_among};
+ghost use Rattle.beet_five_server.specs.Parts.{hidden, numbers_for};
 
-use arrayvec::ArrayVec;
 use beet_field::{Fe, MOST_NUMBERS};
 use beet_gates::Act;
-use beet_server::{Numbers, append_all, bits, pick, products};
+use beet_server::{
+    Drawn, Given, Numbers, Tapes, append_all, draw, put_all, put_values, secrets_in,
+};
 use beet_weights::{Quadratic, recombine, reshare};
-use beet_words::Tape;
-
-/// The words that a server deals, and those from which it draws numbers.
-#[derive(Drop)]
-pub struct Tapes {
-    pub masks: Tape,
-    pub coefficients: Tape,
-}
 
 /// The numbers of one server for each of the five.
 #[derive(Drop)]
@@ -61,25 +48,46 @@ pub struct Incoming<'a> {
     pub five: &'a [Fe],
 }
 
-/// The most numbers that a server draws for a batch.
-const MOST_DRAWN: usize = 128;
+impl<'a> Given<5> for Incoming<'a> {
+    ghost use Rattle.std.specs.Prelude.{◌≡◌, length, if◌then◌else◌, slice_index};
+    ghost use Rattle.beet_linear_sharing.specs.Sharings.{joined};
+    ghost use Rattle.beet_weights.specs.Quadratics.{recombined, reshared, servers};
+    ghost use Rattle.beet_five_server.specs.Parts.{by_sender};
+    ghost use Rattle.beet_five_server.specs.Lengths.{counted-five};
 
-/// The numbers that a server draws for a batch.
-type Drawn = ArrayVec<Fe, MOST_DRAWN>;
+    ghost are_even = { λ g. (length g.two.now ≡ length g.one.now) × (length g.three.now ≡ length g.one.now)
+        × (length g.four.now ≡ length g.one.now) × (length g.five.now ≡ length g.one.now) };
 
-/// The next numbers of the tape, two for each of so many secrets.
-fn draw(tape: &mut Tape, secrets: usize) -> Drawn
-    requires few { secrets ≤ MOST_NUMBERS }
-    requires enough { 2 * secrets ≤ length (left_of tape.old) }
-    ensures items { result.items ≡ take (2 * secrets) (left_of tape.old) }
-    ensures count { length result.items ≡ 2 * secrets }
-    ensures tape { tape.new ≡ drawn_from tape.old (2 * secrets) }
-{
-    let mut numbers = Drawn::new();
-    for _ in 0..2 * secrets {
-        numbers.push(tape.draw());
+    ghost count = { λ g. length g.one.now };
+
+    ghost all = { λ g. joined (by_sender g.one.now g.two.now g.three.now g.four.now g.five.now) servers };
+
+    ghost made = { λ g opens k. if opens
+        then recombined (λ j. slice_index (by_sender g.one.now g.two.now g.three.now g.four.now g.five.now j) k)
+        else reshared (λ j. slice_index (by_sender g.one.now g.two.now g.three.now g.four.now g.five.now j) k) };
+
+    ghost counted = { λ g even. counted-five g.one.now g.two.now g.three.now g.four.now g.five.now even };
+
+    fn count(&self) -> usize {
+        self.one.len()
     }
-    numbers
+
+    fn append_all(&self, list: &mut Vec<Fe>) {
+        append_all(list, self.one);
+        append_all(list, self.two);
+        append_all(list, self.three);
+        append_all(list, self.four);
+        append_all(list, self.five);
+    }
+
+    fn make(&self, opens: bool, k: usize) -> Fe {
+        let (one, two, three) = (self.one[k], self.two[k], self.three[k]);
+        if opens {
+            recombine(one, two, three)
+        } else {
+            reshare(one, two, three, self.four[k], self.five[k])
+        }
+    }
 }
 
 /// Puts the points at a server of the polynomials with these values and these coefficients, two for each, in the place
@@ -101,39 +109,43 @@ fn hide(values: &[Fe], drawn: &[Fe], to: u32, numbers: &mut Numbers)
     }
 }
 
-/// Puts the points at each server of the polynomials with these values and these coefficients in the place of other
-/// numbers.
-fn hide_for_each(values: &[Fe], drawn: &[Fe], out: &mut Outgoing)
-    requires drawn { length drawn.now ≡ 2 * length values.now }
+/// Puts the numbers of an act for a server in the place of other numbers: what is hidden by these numbers, or shown.
+fn put_for(act: &Act, values: &[Fe], drawn: &[Fe], to: u32, numbers: &mut Numbers)
+    requires values { length values.now ≡ size_of act.now }
+    requires drawn { length drawn.now ≡ draws_in act.now }
     requires few { length values.now ≤ MOST_NUMBERS }
-    ensures one { out.new.one.items ≡ hidden values.now drawn.now 1 }
-    ensures two { out.new.two.items ≡ hidden values.now drawn.now 2 }
-    ensures three { out.new.three.items ≡ hidden values.now drawn.now 3 }
-    ensures four { out.new.four.items ≡ hidden values.now drawn.now 4 }
-    ensures five { out.new.five.items ≡ hidden values.now drawn.now 5 }
+    ensures { (points : List ℕ) (word : ℕ) → values.now ≡ values_of act.now points word
+        → numbers.new.items ≡ numbers_for act.now points word drawn.now to }
 {
-    hide(values, drawn, 1, &mut out.one);
-    hide(values, drawn, 2, &mut out.two);
-    hide(values, drawn, 3, &mut out.three);
-    hide(values, drawn, 4, &mut out.four);
-    hide(values, drawn, 5, &mut out.five);
+    match act {
+        Act::Deal => hide(values, drawn, to, numbers),
+        Act::Mul(_) => hide(values, drawn, to, numbers),
+        Act::Reveal(_) => put_all(values, numbers),
+        Act::End => put_all(values, numbers),
+    }
 }
 
-/// Puts the points of the wires for each server in the place of other numbers: they are the same for all.
-fn show_to_each(wires: &[Fe], shown: &[u32], out: &mut Outgoing)
-    requires below { WiresBelow (length wires.now) shown.now }
-    requires few { length shown.now ≤ MOST_NUMBERS }
-    ensures one { out.new.one.items ≡ map (slice_index wires.now) shown.now }
-    ensures two { out.new.two.items ≡ map (slice_index wires.now) shown.now }
-    ensures three { out.new.three.items ≡ map (slice_index wires.now) shown.now }
-    ensures four { out.new.four.items ≡ map (slice_index wires.now) shown.now }
-    ensures five { out.new.five.items ≡ map (slice_index wires.now) shown.now }
+/// Puts the numbers of an act for each server in the place of other numbers.
+fn put_for_each(act: &Act, values: &[Fe], drawn: &[Fe], out: &mut Outgoing)
+    requires values { length values.now ≡ size_of act.now }
+    requires drawn { length drawn.now ≡ draws_in act.now }
+    requires few { length values.now ≤ MOST_NUMBERS }
+    ensures one { (points : List ℕ) (word : ℕ) → values.now ≡ values_of act.now points word
+        → out.new.one.items ≡ numbers_for act.now points word drawn.now 1 }
+    ensures two { (points : List ℕ) (word : ℕ) → values.now ≡ values_of act.now points word
+        → out.new.two.items ≡ numbers_for act.now points word drawn.now 2 }
+    ensures three { (points : List ℕ) (word : ℕ) → values.now ≡ values_of act.now points word
+        → out.new.three.items ≡ numbers_for act.now points word drawn.now 3 }
+    ensures four { (points : List ℕ) (word : ℕ) → values.now ≡ values_of act.now points word
+        → out.new.four.items ≡ numbers_for act.now points word drawn.now 4 }
+    ensures five { (points : List ℕ) (word : ℕ) → values.now ≡ values_of act.now points word
+        → out.new.five.items ≡ numbers_for act.now points word drawn.now 5 }
 {
-    pick(wires, shown, &mut out.one);
-    pick(wires, shown, &mut out.two);
-    pick(wires, shown, &mut out.three);
-    pick(wires, shown, &mut out.four);
-    pick(wires, shown, &mut out.five);
+    put_for(act, values, drawn, 1, &mut out.one);
+    put_for(act, values, drawn, 2, &mut out.two);
+    put_for(act, values, drawn, 3, &mut out.three);
+    put_for(act, values, drawn, 4, &mut out.four);
+    put_for(act, values, drawn, 5, &mut out.five);
 }
 
 /// The numbers of a batch for each server, in the place of others. The words and the numbers that they need are taken
@@ -161,111 +173,12 @@ pub fn put_numbers(act: &Act, wires: &[Fe], tapes: &mut Tapes, out: &mut Outgoin
     ensures dealt { tapes.new.masks ≡ record tapes.old.masks { passed = tapes.old.masks.passed + deals_in act.now } }
     ensures drawn { tapes.new.coefficients ≡ drawn_from tapes.old.coefficients (draws_in act.now) }
 {
-    match act {
-        Act::Deal => {
-            let values = bits(tapes.masks.next_mask());
-            let drawn = draw(&mut tapes.coefficients, 61);
-            hide_for_each(values.as_slice(), drawn.as_slice(), out);
-        }
-        Act::Mul(pairs) => {
-            let values = products(wires, pairs.as_slice());
-            let drawn = draw(&mut tapes.coefficients, pairs.len());
-            hide_for_each(values.as_slice(), drawn.as_slice(), out);
-        }
-        Act::Reveal(shown) => show_to_each(wires, shown.as_slice(), out),
-        Act::End => {
-            out.one.clear();
-            out.two.clear();
-            out.three.clear();
-            out.four.clear();
-            out.five.clear();
-        }
-    }
-}
-
-/// Appends the shares of the products, from what the five servers sent.
-#[tactic(auto, using(beet_gates::proofs::EachFacts::each_steps))]
-fn append_products(
-    wires: &mut Vec<Fe>,
-    one: &[Fe],
-    two: &[Fe],
-    three: &[Fe],
-    four: &[Fe],
-    five: &[Fe],
-)
-    requires two { length two.now ≡ length one.now }
-    requires three { length three.now ≡ length one.now }
-    requires four { length four.now ≡ length one.now }
-    requires five { length five.now ≡ length one.now }
-    requires room { length wires.old.items + length one.now ≤ vec_capacity wires.old }
-    ensures items { wires.new.items
-        ≡ wires.old.items
-        ++ each (λ k. reshared (λ j. slice_index (by_sender one.now two.now three.now four.now five.now j) k))
-        (length one.now) }
-    ensures count { length wires.new.items ≡ length wires.old.items + length one.now }
-    ensures capacity { vec_capacity wires.new ≡ vec_capacity wires.old }
-{
-    for k in 0..one.len() {
-        wires.push_reserved(reshare(one[k], two[k], three[k], four[k], five[k]));
-    }
-}
-
-/// Appends the opened numbers, from what servers 1, 2 and 3 sent.
-#[tactic(auto, using(beet_gates::proofs::EachFacts::each_steps))]
-fn append_opened(opened: &mut Vec<Fe>, one: &[Fe], two: &[Fe], three: &[Fe])
-    requires two { length two.now ≡ length one.now }
-    requires three { length three.now ≡ length one.now }
-    requires room { length opened.old.items + length one.now ≤ vec_capacity opened.old }
-    ensures items { opened.new.items
-        ≡ opened.old.items
-        ++ each
-        (λ k. weighted three_weights (slice_index one.now k ∷ slice_index two.now k ∷ slice_index three.now k ∷ []) % p)
-        (length one.now) }
-    ensures count { length opened.new.items ≡ length opened.old.items + length one.now }
-    ensures capacity { vec_capacity opened.new ≡ vec_capacity opened.old }
-{
-    for k in 0..one.len() {
-        opened.push_reserved(recombine(one[k], two[k], three[k]));
-    }
-}
-
-/// Appends the points of the wires and the opened numbers that the messages of the five servers give.
-pub fn absorb(act: &Act, wires: &mut Vec<Fe>, opened: &mut Vec<Fe>, given: Incoming<'_>)
-    requires one { length given.one.now ≡ size_of act.now }
-    requires two { length given.two.now ≡ size_of act.now }
-    requires three { length given.three.now ≡ size_of act.now }
-    requires four { length given.four.now ≡ size_of act.now }
-    requires five { length given.five.now ≡ size_of act.now }
-    requires wires_room { length wires.old.items + gained_among 5 act.now ≤ vec_capacity wires.old }
-    requires opened_room { length opened.old.items + revealed act.now ≤ vec_capacity opened.old }
-    ensures wires { wires.new.items ≡ wires.old.items ++ points_given act.now
-        (by_sender given.entry.one.now given.entry.two.now given.entry.three.now
-        given.entry.four.now given.entry.five.now) }
-    ensures opened { opened.new.items ≡ opened.old.items ++ numbers_opened act.now
-        (by_sender given.entry.one.now given.entry.two.now given.entry.three.now
-        given.entry.four.now given.entry.five.now) }
-    ensures wires_count { length wires.new.items ≡ length wires.old.items + gained_among 5 act.now }
-    ensures opened_count { length opened.new.items ≡ length opened.old.items + revealed act.now }
-    ensures wires_capacity { vec_capacity wires.new ≡ vec_capacity wires.old }
-    ensures opened_capacity { vec_capacity opened.new ≡ vec_capacity opened.old }
-{
-    let Incoming {
-        one,
-        two,
-        three,
-        four,
-        five,
-    } = given;
-    match act {
-        Act::Deal => {
-            append_all(wires, one);
-            append_all(wires, two);
-            append_all(wires, three);
-            append_all(wires, four);
-            append_all(wires, five);
-        }
-        Act::Mul(_) => append_products(wires, one, two, three, four, five),
-        Act::Reveal(_) => append_opened(opened, one, two, three),
-        Act::End => (),
-    }
+    let mut values = Numbers::new();
+    let mut drawn = Drawn::new();
+    put_values(act, wires, &mut tapes.masks, &mut values);
+    let count = secrets_in(act);
+    draw(&mut tapes.coefficients, 2 * count, &mut drawn);
+    let values = values.as_slice();
+    let drawn = drawn.as_slice();
+    put_for_each(act, values, drawn, out);
 }

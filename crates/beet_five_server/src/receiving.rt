@@ -13,7 +13,7 @@ ghost use Rattle.beet_five_server.specs.Runs.{message};
 use crate::mail::{Mail, place_of};
 use crate::server::FiveCore;
 use beet_field::Fe;
-use beet_five_gates::ScriptOfFive;
+use beet_gates::Script;
 
 impl Mail {
     /// The numbers of a sender in a round, if its message is there.
@@ -28,7 +28,7 @@ impl Mail {
     }
 }
 
-impl<S: ScriptOfFive> FiveCore<S> {
+impl<S: Script<5>> FiveCore<S> {
     /// The numbers that server `from`, 1 to 5, sent to this one in a round, from 0, in order; and this one's own to
     /// itself, once the round's messages are handed out. None if they did not come. In each round that a server has
     /// passed, it has those of all four peers.

@@ -6,6 +6,7 @@ ghost use Rattle.beet_field.specs.declared.TheConstants.{MOST_NUMBERS};
 ghost use Rattle.beet_words.specs.Tapes.{left_of};
 ghost use Rattle.beet_gates.specs.Ends.{ComesTo};
 ghost use Rattle.beet_delivery.specs.Networks.{Delivered, nothing, with_triple};
+ghost use Rattle.beet_server.specs.declared.server.StartFault.TheVariants.{TooFewWords, TooFewMasks};
 ghost use Rattle.beet_weights.specs.Quadratics.{IsServer};
 ghost use Rattle.beet_linear_sharing.specs.Runs.{Setup};
 ghost use Rattle.beet_five_server.specs.Answers.{Answers, AreTied, HandsOut, MovesOn, fresh_core, late_verdict};
@@ -16,44 +17,17 @@ ghost use Rattle.beet_five_server.specs.Mails.{all_there, cell};
 ghost use Rattle.beet_five_server.specs.Network.{five, peers, sends_to};
 ghost use Rattle.beet_five_server.specs.Parts.{by_sender};
 ghost use Rattle.beet_five_server.specs.declared.mail.FiveMessage.{FiveMessage as Message};
-ghost use Rattle.beet_five_server.specs.declared.server.FiveFault.TheVariants.{TooFewWords, TooFewMasks};
 
 use crate::engine::Engine;
 use crate::mail::{FiveMessage, Mail};
 use crate::parts::{Incoming, Outgoing};
 use beet_field::{Fe, MOST_NUMBERS};
-use beet_five_gates::ScriptOfFive;
+use beet_gates::Script;
 use beet_round::Verdict;
-use beet_server::Numbers;
+use beet_server::{Numbers, StartFault};
 use beet_words::{FeList, Tape};
-use std::alloc::{AllocError, Global};
+use std::alloc::Global;
 use std::marker::Model;
-use thiserror::Error;
-
-/// Why a server did not start.
-#[derive(Clone, Copy, PartialEq, Eq, Debug, Error)]
-pub enum FiveFault {
-    /// So many numbers can be drawn from the coefficient words, and the script may draw more.
-    #[error("only {0} numbers can be drawn from the coefficient words")]
-    TooFewWords(u32),
-    /// There are so many mask words, and the script may deal more.
-    #[error("there are only {0} mask words")]
-    TooFewMasks(u32),
-    /// Memory ran out.
-    #[error("out of memory")]
-    OutOfMemory,
-}
-
-impl From<AllocError> for FiveFault {
-    ghost use Rattle.std.specs.Prelude.{◌≡◌};
-    ghost use Rattle.beet_five_server.specs.declared.server.FiveFault.TheVariants.{OutOfMemory};
-
-    ghost from_gives = { λ _ fault. fault ≡ OutOfMemory };
-
-    fn from(_error: AllocError) -> FiveFault {
-        FiveFault::OutOfMemory
-    }
-}
 
 /// A message of these numbers.
 fn message(from: u32, to: u32, round: u32, numbers: Numbers) -> FiveMessage
@@ -103,12 +77,12 @@ fn address(me: u32, round: u32, out: Outgoing) -> (FiveMessage, [FiveMessage; 4]
 
 /// A server that runs a script with four others.
 #[derive(Drop)]
-pub struct FiveCore<S: ScriptOfFive> {
+pub struct FiveCore<S: Script<5>> {
     engine: Engine<S>,
     pub(crate) mail: Mail,
 }
 
-impl<S: ScriptOfFive> Model for FiveCore<S> {
+impl<S: Script<5>> Model for FiveCore<S> {
     ghost use Rattle.beet_five_server.specs.Answers.{Core, AreTied};
 
     ghost Value = { Core S };
@@ -118,7 +92,7 @@ impl<S: ScriptOfFive> Model for FiveCore<S> {
     ghost invariant = { λ c. AreTied S.batch_of (S.rounds_of c.engine.script) c.engine c.mail };
 }
 
-impl<S: ScriptOfFive> FiveCore<S> {
+impl<S: Script<5>> FiveCore<S> {
     /// A server in round 0, or ended if the script has no rounds. `inputs` are its points of the
     /// inputs; it deals the words of `masks`, and draws its numbers from `coefficients`. No other
     /// call takes memory.
@@ -129,7 +103,7 @@ impl<S: ScriptOfFive> FiveCore<S> {
         inputs: FeList,
         masks: Tape,
         coefficients: Tape,
-    ) -> Result<FiveCore<S>, FiveFault>
+    ) -> Result<FiveCore<S>, StartFault>
         requires me { IsServer me }
         requires inputs { length inputs ≡ S.inputs_of script }
         requires masks { masks.passed ≡ 0 }
@@ -147,11 +121,11 @@ impl<S: ScriptOfFive> FiveCore<S> {
     {
         let have = coefficients.accepted_left();
         if have < script.coefficients() {
-            return Err(FiveFault::TooFewWords(have));
+            return Err(StartFault::TooFewWords(have));
         }
         let have = masks.masks_left();
         if have < script.masks() {
-            return Err(FiveFault::TooFewMasks(have));
+            return Err(StartFault::TooFewMasks(have));
         }
         let opened = Vec::with_capacity(alloc, MOST_NUMBERS * script.rounds() as usize)?;
         let wires = Vec::with_capacity(alloc, script.wires() as usize)?;

@@ -2,7 +2,7 @@
 use Rattle.std.proofs.Common.{◌≡◌, ◌-◌, ◌∷◌, [], ℕ, zero, suc, List, Some, slice_get, refl, ap, subst}
 use Rattle.std.specs.Prelude.{Result, Ok, IfOk}
 use Rattle.beet_words.specs.Tapes.{Tape}
-use Rattle.beet_five_plan.specs.FivePlan.{FiveAuction, five_batch, most_rounds}
+use Rattle.beet_plan.specs.FivePlan.{FiveAuction, five_batch, most_rounds}
 use Rattle.beet_five_server.specs.Answers.{Core, fresh_core}
 use Rattle.beet_five_server.specs.Parts.{by_sender}
 use Rattle.beet_five_server.proofs.MailFacts.{by-server}

@@ -1,7 +1,7 @@
 -- A server of an auction among five that begins.
 use Rattle.std.specs.Prelude.{◌≡◌, ℕ, List}
 use Rattle.beet_words.specs.Tapes.{Tape}
-use Rattle.beet_five_plan.specs.FivePlan.{FiveAuction, five_batch, most_rounds}
+use Rattle.beet_plan.specs.FivePlan.{FiveAuction, five_batch, most_rounds}
 use Rattle.beet_five_server.specs.Answers.{Core, fresh_core}
 
 -- it has the script, and some points, words and numbers of its own

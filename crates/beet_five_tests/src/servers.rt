@@ -1,17 +1,16 @@
 //! Five servers of an auction at one price, with demand 35 and supply 40.
 
 ghost use Rattle.std.specs.Prelude.{◌≡◌, ◌*◌, length};
-ghost use Rattle.beet_five_plan.specs.FivePlan.{FiveAuction, five_batch, most_rounds};
+ghost use Rattle.beet_plan.specs.FivePlan.{FiveAuction, five_batch, most_rounds};
 ghost use Rattle.beet_five_tests.specs.Fresh.{IsFresh};
 ghost use Rattle.beet_five_world.specs.Members.{AreFresh};
 ghost use Rattle.beet_weights.specs.Quadratics.{IsServer};
 
 use beet_bids::Grid;
 use beet_field::Fe;
-use beet_five_gates::ScriptOfFive;
-use beet_five_script::FiveScript;
 use beet_five_server::FiveCore;
-use beet_gates::Gates;
+use beet_gates::{Gates, Script};
+use beet_search::FiveScript;
 use beet_weights::Quadratic;
 use beet_words::{FeList, Tape};
 use std::alloc::Global;

@@ -6,11 +6,11 @@ ghost use Rattle.beet_weights.specs.Quadratics.{IsServer};
 use crate::servers::{ROUNDS, VOLUME, servers};
 use beet_field::Fe;
 use beet_five_auction::finish_at;
-use beet_five_script::FiveScript;
 use beet_five_server::FiveCore;
 use beet_five_world::{FiveEvent, FiveWorld};
 use beet_plan::Finish;
 use beet_round::Verdict;
+use beet_search::FiveScript;
 use std::alloc::Global;
 use std::process::Abort;
 

@@ -18,8 +18,8 @@ use Rattle.beet_five_server.specs.Fits.{Fits}
 use Rattle.beet_five_server.specs.Network.{sends_to}
 use Rattle.beet_five_server.proofs.Passing.{ended-at}
 use Rattle.beet_five_server.proofs.PassedRounds.{passed-received}
-use Rattle.beet_five_plan.specs.FivePlan.{FiveAuction, five_batch}
-use Rattle.beet_five_plan.proofs.FiveFacts.{book-ends}
+use Rattle.beet_plan.specs.FivePlan.{FiveAuction, five_batch}
+use Rattle.beet_plan.proofs.FiveFacts.{book-ends}
 use Rattle.beet_five_dealing.specs.FiveInputs.{rounds_of, setup_of}
 use Rattle.beet_five_dealing.specs.FiveWords.{CanRun, FiveWords}
 use Rattle.beet_five_dealing.proofs.Lists.{at-five}

@@ -9,7 +9,7 @@ use Rattle.beet_bids.specs.Books.{Book}
 use Rattle.beet_book.specs.Farmers.{BidderWithWords, farmers_of}
 use Rattle.beet_view.specs.BookViews.{kept_if}
 use Rattle.beet_view.specs.Transcripts.{mark_of}
-use Rattle.beet_auction_map.proofs.BidderFacts.{same-own}
+use Rattle.beet_two_books.proofs.BidderFacts.{same-own}
 use Rattle.beet_linear_sharing.specs.Schemes.{five_servers}
 use Rattle.beet_linear_sharing.specs.Sharings.{IsAmong}
 use Rattle.beet_linear_sharing.proofs.Arithmetic.{among-bounds}

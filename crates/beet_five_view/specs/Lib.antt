@@ -2,4 +2,3 @@ pub mod JointViews
 pub mod JointBooks
 pub mod CoreViews
 pub mod WordsFiles
-pub mod Statements

@@ -6,6 +6,6 @@ mod laws;
 mod words;
 mod writing;
 
-pub use laws::{joint_transcripts_are_equal, two_of_five_cannot_tell_books_apart};
+pub use laws::joint_transcripts_are_equal;
 pub use words::write_five_words;
 pub use writing::write_joint;

@@ -4,6 +4,7 @@ ghost use Rattle.std.specs.Prelude.{◌≡◌, ◌<◌, ◌++◌, ◌*◌, ℕ, 
 ghost use Rattle.std.specs.List.{flat_map};
 ghost use Rattle.beet_words.specs.Fields.{number_bytes};
 ghost use Rattle.beet_gates.specs.Each.{each};
+ghost use Rattle.beet_gates.specs.declared.Gates.TheVariants.{Chain};
 ghost use Rattle.beet_bids.specs.Books.{IsBook};
 ghost use Rattle.beet_bids.specs.Curves.{IsOfGrid};
 ghost use Rattle.beet_book.specs.Farmers.{farmers_of};
@@ -15,20 +16,20 @@ ghost use Rattle.beet_five_server.specs.Cores.{has_ended};
 ghost use Rattle.beet_five_server.specs.Fits.{Fits};
 ghost use Rattle.beet_five_server.specs.Network.{sends_to};
 ghost use Rattle.beet_five_server.specs.Parts.{hidden};
-ghost use Rattle.beet_five_plan.specs.FivePlan.{five_batch};
+ghost use Rattle.beet_plan.specs.FivePlan.{five_batch};
 ghost use Rattle.beet_five_dealing.specs.FiveInputs.{setup_of, share_for};
 ghost use Rattle.beet_five_dealing.specs.FiveWords.{CanRun};
 ghost use Rattle.beet_five_view.specs.CoreViews.{numbers_received, round_received, rounds_received, view_of_core};
 ghost use Rattle.beet_five_view.specs.JointBooks.{joint_transcript, own_at, seen_at};
 ghost use Rattle.beet_five_view.specs.JointViews.{grid_bytes, magic, number_of_policy, round_bytes, view_bytes};
 
-use beet_auction_map::quantities_of;
 use beet_bids::{Bidder, Book, Curve, Grid, Policy};
 use beet_field::Fe;
 use beet_five_dealing::FiveWords;
-use beet_five_script::FiveScript;
 use beet_five_server::FiveCore;
 use beet_map::number_at;
+use beet_search::FiveScript;
+use beet_two_books::quantities_of;
 use beet_view::{mark_of, number_of_gates};
 use beet_weights::Quadratic;
 use beet_words::{WordList, numbers_in, push_list, push_number, push_points};
@@ -347,7 +348,8 @@ fn begin(alloc: Global, room: usize) -> Result<Vec<u8>, AllocError>
     Ok(file)
 }
 
-/// What two of five servers see together of the auction of a book: the joint transcript of two servers that have ended.
+/// What two of five servers see together of the auction of a book, whose gates are chains: the joint transcript of two
+/// servers that have ended.
 ///
 /// The file is `BEETFV01` and then, for the one server and for the other, each number in 8 bytes with the highest
 /// first: the server, 1 to 5; base, tick and number of prices of the grid; 0 for chain gates; the policy, 0 for the
@@ -368,7 +370,7 @@ pub fn write_joint(
     requires bidders { length words.now.bidders ≡ length book.now.bidders }
     requires one { has_ended five_batch one.now.work ≡ true }
     requires other { has_ended five_batch other.now.work ≡ true }
-    ensures { (x y : Delivered ℕ) → CanRun book.now words.now →
+    ensures { (x y : Delivered ℕ) → book.now.grid.gates ≡ Chain → CanRun book.now words.now →
         Fits five_batch (setup_of book.now words.now) x one.now.work one.now.mail →
         Fits five_batch (setup_of book.now words.now) y other.now.work other.now.mail →
         IfOk result (λ file.

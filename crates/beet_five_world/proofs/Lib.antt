@@ -1,4 +1,3 @@
 pub mod MemberFacts
-pub mod Places
 pub mod WorldFacts
 pub mod MissingFacts

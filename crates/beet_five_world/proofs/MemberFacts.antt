@@ -17,9 +17,8 @@ use Rattle.beet_five_server.specs.Fits.{Fits, messages_from, taken}
 use Rattle.beet_five_server.specs.Mails.{verdict_of}
 use Rattle.beet_five_server.specs.Network.{sends_to}
 use Rattle.beet_five_server.specs.declared.mail.FiveMessage.{FiveMessage}
-use Rattle.beet_five_server.proofs.MailFacts.{by-server}
-use Rattle.beet_five_server.proofs.Peers.{five-heard}
-use Rattle.beet_five_server.proofs.Standing.{all-delivered, almost, hands-out}
+use Rattle.beet_five_server.proofs.Peers.{five-heard, some-peer}
+use Rattle.beet_five_server.proofs.Standing.{all-delivered, hands-out}
 use Rattle.beet_five_world.specs.Members.{IsKept, IsMember, handed_rounds, verdict_at}
 use Rattle.beet_server.proofs.Delivering.{handed-first, not-handed}
 
@@ -114,9 +113,6 @@ module _ {S : Type 0} (next : S → ℕ → List ℕ → Batch) where
     by_verdict (WrongLength n) e = stay (λ r. cc (e, r))
     by_verdict Stranger e = stay (λ r. cc (e, r))
 
-  some-peer : (me : ℕ) → IsServer me → (j : ℕ) × (sends_to j me ≡ true)
-  some-peer = by-server (λ me. (j : ℕ) × (sends_to j me ≡ true)) (2, refl) (1, refl) (1, refl) (1, refl) (1, refl)
-
   -- a core that hands out twice with nothing delivered in between is quiet then
   pub twice : (o : Setup) (x : Delivered ℕ) (c d e : Core S) → IsServer c.work.me → Fits next o x c.work c.mail →
       is_quiet next c.work ≡ false → HandsOut next c d →
@@ -134,7 +130,7 @@ module _ {S : Type 0} (next : S → ℕ → List ℕ → Batch) where
       let peer = some-peer d.work.me mine in
       let there = five-heard x d.work.me d.work.round
       (all-delivered next o x (handed_out next d).work (handed_out next d).mail mine
-      (hands-out next o x d.work d.mail mine (almost next o x d.work d.mail g) k room) all) peer.0 peer.1 in
+      (hands-out next o x d.work d.mail mine g.stands k room) all) peer.0 peer.1 in
       let soon = (f.soon peer.0 (subst (λ i. sends_to peer.0 i ≡ true) me peer.1) d.work.round
       (subst (λ i. x peer.0 i d.work.round ≡ true) me there)).0 in
       let low = rw h at soon in

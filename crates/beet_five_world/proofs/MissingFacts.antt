@@ -1,38 +1,26 @@
 -- What was sent in a world and not delivered.
-use Rattle.std.proofs.Common.{◌≡◌, ◌≤◌, ◌+◌, ◌-◌, ◌&&◌, ℕ, Bool, true, false, not, nat_lt, List, length, is_some}
+use Rattle.std.proofs.Common.{◌≡◌, ◌≤◌, ◌<◌, ◌+◌, ◌-◌, ◌&&◌, ℕ, Bool, true, false, not, nat_lt, List, length, is_some}
 use Rattle.std.proofs.Common.{sym, refl, ap, subst, ◌∙◌, inl, inr, arith, map}
-use Rattle.std.specs.Prelude.{if◌then◌else◌, count_by, min}
-use Rattle.std.proofs.lemmas.Bool.{cases_lt, le-ltb, lt-ltb}
+use Rattle.std.specs.Prelude.{if◌then◌else◌, count_by, min, slice_get}
+use Rattle.std.proofs.lemmas.Bool.{cases_eq, cases_lt, le-ltb, lt-ltb}
 use Rattle.std.proofs.lemmas.Option.{same_Some, slice_get_cases}
-use Rattle.beet_delivery.specs.Networks.{Delivered, Triple, is_sent, passed, undelivered}
+use Rattle.beet_delivery.specs.Networks.{Delivered, Triple, is_missing, is_sent, of_round, passed, undelivered}
 use Rattle.beet_delivery.proofs.NetworkFacts.{passed_most}
+use Rattle.beet_delivery.proofs.TwoRounds.{lesser_is, undelivered_two}
 use Rattle.beet_gates.specs.declared.Batch.{Batch}
 use Rattle.beet_weights.specs.Quadratics.{IsServer}
 use Rattle.beet_linear_sharing.specs.Runs.{Setup}
 use Rattle.beet_five_server.specs.Answers.{Core}
 use Rattle.beet_five_server.specs.Fits.{message_of}
 use Rattle.beet_five_server.specs.Mails.{cell}
-use Rattle.beet_five_server.specs.Missing.{is_missing, of_round}
 use Rattle.beet_five_server.specs.Network.{five, peers}
 use Rattle.beet_five_server.proofs.MailFacts.{by-server}
 use Rattle.beet_five_server.proofs.Networking.{five-is}
 use Rattle.beet_five_server.proofs.Passing.{five-apart}
 use Rattle.beet_five_server.proofs.Peers.{peer-is, peer-sends}
-use Rattle.beet_five_server.proofs.TwoRounds.{undelivered-two}
 use Rattle.beet_five_world.specs.Members.{AllFit, IsAt, Seen, triple}
 use Rattle.beet_five_world.proofs.WorldFacts.{event-none, is-passed, sent-counts}
 use Rattle.beet_five_server.proofs.Standing.{some-place}
-
--- the least of five numbers is one of them
-one-of-two : (P : ℕ → Type 0) (a b : ℕ) → P a → P b → P (min a b)
-one-of-two P a b p q = elim (cases_lt a b) [
-  | inl lt ↦ let e : a ≡ min a b = omega (arith, lt) in subst P e p
-  | inr le ↦ let e : b ≡ min a b = omega (arith, le) in subst P e q
-]
-
-pub one-of-five : (P : ℕ → Type 0) (a b c d e : ℕ) → P a → P b → P c → P d → P e → P (min (min (min (min a b) c) d) e)
-one-of-five P a b c d e p q r s t =
-    one-of-two P (min (min (min a b) c) d) e (one-of-two P (min (min a b) c) d (one-of-two P (min a b) c (one-of-two P a b p q) r) s) t
 
 -- 1 if a test holds, and else 0
 abbrev one : Bool → ℕ
@@ -61,12 +49,43 @@ pub sum-of : (p : Triple ℕ → Bool) (t : ℕ) →
     ≡ of_round five p t
 sum-of p t = omega arith
 
-module _ {S : Type 0} where
-  -- how many rounds the server at a place has passed
-  pub at-round : (ms : List (Seen S)) (k r : ℕ) (core : Core S) → ((s : Seen S) × IsAt ms k s × (core ≡ s.core)) → r ≡ core.work.round →
-      (s : Seen S) → IsAt ms k s → r ≡ s.core.work.round
-  at-round ms k r core e is s there =
-      is ∙ ap (λ (c : Core S). c.work.round) e.2 ∙ ap (λ (v : Seen S). v.core.work.round) (same_Some e.0 s (sym e.1 ∙ there))
+module _ {S : Type 0} (ms : List (Seen S)) where
+  -- a server has passed so many rounds
+  abbrev IsPassed : ℕ → Type 0
+  IsPassed n = (j : ℕ) × (s : Seen S) × IsServer j × IsAt ms (j - 1) s × (n ≡ s.core.work.round)
+
+  -- the fewest rounds that a server below a number has passed
+  pub record IsLeast (below least : ℕ) : Type 0 where
+    pub of_all : (j : ℕ) (s : Seen S) → IsServer j → j < below → IsAt ms (j - 1) s → least ≤ s.core.work.round
+    pub of_one : IsPassed least
+
+  module _ (at r : ℕ) (server : IsServer at) (core : Core S) (e : (s : Seen S) × IsAt ms (at - 1) s × (core ≡ s.core))
+      (is : r ≡ core.work.round) where
+    is-passed-by : IsPassed r
+    is-passed-by = (at, e.0, server, e.1, is ∙ ap (λ (c : Core S). c.work.round) e.2)
+
+    at-round : (s : Seen S) → IsAt ms (at - 1) s → r ≡ s.core.work.round
+    at-round s there =
+        is ∙ ap (λ (c : Core S). c.work.round) e.2 ∙ ap (λ (v : Seen S). v.core.work.round) (same_Some e.0 s (sym e.1 ∙ there))
+
+    -- the first alone
+    pub least-one : at ≡ 1 → IsLeast 2 r
+    least-one first = record {
+      of_all = λ j s is_j lt there.
+          let same : j ≡ at = omega (arith, is_j.0, lt, first) in
+          let e = at-round s (ap (λ k. slice_get ms (k - 1)) (sym same) ∙ there) in omega (arith, e);
+      of_one = is-passed-by;
+    }
+
+    -- one more
+    pub least-more : (least : ℕ) → IsLeast at least → IsLeast (at + 1) (min least r)
+    least-more least l = record {
+      of_all = λ j s is_j lt there. elim (cases_eq j at) [
+        | inl same ↦ let e = at-round s (ap (λ k. slice_get ms (k - 1)) (sym same) ∙ there) in omega (arith, e)
+        | inr other ↦ let e = l.of_all j s is_j (omega (arith, lt, other)) there in omega (arith, e)
+      ];
+      of_one = lesser_is IsPassed least r l.of_one is-passed-by;
+    }
 
 module _ {S : Type 0} (next : S → ℕ → List ℕ → Batch) (script : S) (o : Setup) (rounds : ℕ) (x : Delivered ℕ) (ms : List (Seen S))
     (f : AllFit next script o rounds x ms) where
@@ -106,7 +125,7 @@ module _ {S : Type 0} (next : S → ℕ → List ℕ → Batch) (script : S) (o 
       ≡ of_round five (is_missing five rounds x) behind + of_round five (is_missing five rounds x) (behind + 1)
   two-rounds behind m b server there is least =
       let here : behind ≡ passed five rounds x b = is ∙ is-passed next script o rounds x ms b m server f there in
-      undelivered-two five-is rounds x behind (omega (arith, here, passed_most five-is rounds x b))
+      undelivered_two five-is rounds x behind (omega (arith, here, passed_most five-is rounds x b))
       (λ from to may.
       let p = peer-is from to may in
       let s = there-is to p.mine in

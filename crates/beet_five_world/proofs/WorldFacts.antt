@@ -15,18 +15,15 @@ use Rattle.beet_five_server.specs.Fits.{Fits, message_of, messages_from}
 use Rattle.beet_five_server.specs.Runs.{HasRounds}
 use Rattle.beet_five_server.proofs.Beginning.{begins}
 use Rattle.beet_words.specs.Words.{accepted}
-use Rattle.beet_five_server.specs.Network.{five, sends_to}
+use Rattle.beet_five_server.specs.Network.{five, rank, sends_to}
 use Rattle.beet_five_server.specs.declared.mail.FiveMessage.{FiveMessage}
-use Rattle.beet_five_server.proofs.MailFacts.{by-server}
 use Rattle.beet_five_server.proofs.Networking.{five-is}
 use Rattle.beet_five_server.proofs.Passing.{at-passed, away, ended-at, is-round, round-most}
 use Rattle.beet_five_server.proofs.Peers.{peer-sends}
+use Rattle.beet_five_server.proofs.Places.{get-seam}
+use Rattle.beet_five_server.proofs.Ranks.{at-rank}
 use Rattle.beet_five_world.specs.Members.{AllBegin, AllFit, AreFresh, Begins, GivesAt, HaveBegun, IsAt, IsMember, LeadAll}
-use Rattle.beet_five_world.specs.Members.{Seen, Stands, handed_rounds, rank, triple}
-
-get-seam : {A : Type 0} → (xs : List A) (y : A) (ys : List A) → slice_get (xs ++ y ∷ ys) (length xs) ≡ Some y
-get-seam [] y ys = refl
-get-seam (x ∷ xs) y ys = get-seam xs y ys
+use Rattle.beet_five_world.specs.Members.{Seen, Stands, handed_rounds, triple}
 
 module _ {S : Type 0} (next : S → ℕ → List ℕ → Batch) (script : S) (o : Setup) (rounds : ℕ) (x : Delivered ℕ) where
   -- a message that is sent is delivered to the server at its place, and nothing changes at the others
@@ -126,23 +123,6 @@ module _ {S : Type 0} (next : S → ℕ → List ℕ → Batch) (script : S) (o 
             )
       ]
 
-  -- the message of a server's round to another is at its place
-  at-rank : (from to t : ℕ) → IsServer from → IsServer to → (from ≡ to → ⊥) →
-      slice_get (messages_from o from t) (rank from to) ≡ Some (message_of o from to t)
-  at-rank from to t a b other =
-      by-server (λ f. (g : ℕ) → IsServer g → (f ≡ g → ⊥) → slice_get (messages_from o f t) (rank f g) ≡ Some (message_of o f g t))
-      (by-server (λ g. (1 ≡ g → ⊥) → slice_get (messages_from o 1 t) (rank 1 g) ≡ Some (message_of o 1 g t)) (λ n. absurd (n refl))
-      (λ n. refl) (λ n. refl) (λ n. refl) (λ n. refl))
-      (by-server (λ g. (2 ≡ g → ⊥) → slice_get (messages_from o 2 t) (rank 2 g) ≡ Some (message_of o 2 g t)) (λ n. refl)
-      (λ n. absurd (n refl)) (λ n. refl) (λ n. refl) (λ n. refl))
-      (by-server (λ g. (3 ≡ g → ⊥) → slice_get (messages_from o 3 t) (rank 3 g) ≡ Some (message_of o 3 g t)) (λ n. refl) (λ n. refl)
-      (λ n. absurd (n refl)) (λ n. refl) (λ n. refl))
-      (by-server (λ g. (4 ≡ g → ⊥) → slice_get (messages_from o 4 t) (rank 4 g) ≡ Some (message_of o 4 g t)) (λ n. refl) (λ n. refl)
-      (λ n. refl) (λ n. absurd (n refl)) (λ n. refl))
-      (by-server (λ g. (5 ≡ g → ⊥) → slice_get (messages_from o 5 t) (rank 5 g) ≡ Some (message_of o 5 g t)) (λ n. refl) (λ n. refl)
-      (λ n. refl) (λ n. refl) (λ n. absurd (n refl)))
-      from a to b other
-
   pub copy-is : (ms : List (Seen S)) (from to t : ℕ) → IsServer from → IsServer to → (from ≡ to → ⊥) → AllFit next script o rounds x ms →
       (s : Seen S) → IsAt ms (from - 1) s →
       (row : List FiveMessage) (m : FiveMessage) → slice_get s.sent t ≡ Some row → slice_get row (rank from to) ≡ Some m →
@@ -154,7 +134,7 @@ module _ {S : Type 0} (next : S → ℕ → List ℕ → Batch) (script : S) (o 
       same_Some row (messages_from o from t)
       (sym is_row ∙ ap (λ l. slice_get l t) at.member.messages ∙ get-each (messages_from o s.core.work.me) (handed_rounds s.core) t lt
       ∙ ap (λ i. Some (messages_from o i t)) at.me) in
-      same_Some m (message_of o from to t) (sym is_m ∙ ap (λ l. slice_get l (rank from to)) row_is ∙ at-rank from to t a b other)
+      same_Some m (message_of o from to t) (sym is_m ∙ ap (λ l. slice_get l (rank from to)) row_is ∙ at-rank o from to t a b other)
 
   -- where the sender has not handed out the round's messages, nothing was sent
   pub event-none : (ms : List (Seen S)) (from to t : ℕ) → IsServer from → IsServer to → (from ≡ to → ⊥) → AllFit next script o rounds x ms →

@@ -1,5 +1,5 @@
 -- A server of a world: its core, and the messages that it handed out.
-use Rattle.std.specs.Prelude.{◌≡◌, ◌≤◌, ◌+◌, ◌-◌, ℕ, List, [], ◌∷◌, length, true, false, Some, slice_get, nat_lt}
+use Rattle.std.specs.Prelude.{◌≡◌, ◌≤◌, ◌+◌, ◌-◌, ℕ, List, [], ◌∷◌, length, true, false, Some, slice_get}
 use Rattle.std.specs.Prelude.{if◌then◌else◌}
 use Rattle.beet_words.specs.Tapes.{Tape}
 use Rattle.beet_delivery.specs.Networks.{Delivered, Triple, deliver, has as is_in, is_sent, nothing, with_triple}
@@ -141,7 +141,3 @@ AllBegin {S} next script o cores =
 -- the message of a server's round to another
 abbrev pub triple : ℕ → ℕ → ℕ → Triple ℕ
 triple from to t = record { from = from; to = to; round = t }
-
--- the place of a peer among the four of a server, in rising order
-abbrev pub rank : ℕ → ℕ → ℕ
-rank from to = if nat_lt to from then to - 1 else to - 2

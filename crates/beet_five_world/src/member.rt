@@ -8,14 +8,14 @@ ghost use Rattle.beet_five_server.specs.Answers.{HandsOut};
 ghost use Rattle.beet_five_server.specs.Cores.{is_quiet};
 ghost use Rattle.beet_five_world.specs.Members.{Begins, Gives, IsMember, IsKept, verdict_at};
 
-use beet_five_gates::ScriptOfFive;
 use beet_five_server::{FiveCore, FiveMessage};
+use beet_gates::Script;
 use beet_round::Verdict;
 use std::alloc::{AllocError, Global};
 use std::marker::Model;
 
 /// Hands out the messages of a round, if they were not handed out before.
-fn hand_out<S: ScriptOfFive>(core: &mut FiveCore<S>, sent: &mut Vec<[FiveMessage; 4]>)
+fn hand_out<S: Script<5>>(core: &mut FiveCore<S>, sent: &mut Vec<[FiveMessage; 4]>)
     requires { IsKept S.batch_of (S.rounds_of core.old.work.script) (vec_capacity sent.old)
         core.old (length sent.old.items) }
     ensures me { core.new.work.me ≡ core.old.work.me }
@@ -36,12 +36,12 @@ fn hand_out<S: ScriptOfFive>(core: &mut FiveCore<S>, sent: &mut Vec<[FiveMessage
 
 /// A server of a world: its core, and the messages that it handed out.
 #[derive(Drop)]
-pub struct Member<S: ScriptOfFive> {
+pub struct Member<S: Script<5>> {
     core: FiveCore<S>,
     sent: Vec<[FiveMessage; 4]>,
 }
 
-impl<S: ScriptOfFive> Model for Member<S> {
+impl<S: Script<5>> Model for Member<S> {
     ghost use Rattle.std.specs.Prelude.{length, vec_capacity};
     ghost use Rattle.beet_five_world.specs.Members.{Seen, IsKept};
 
@@ -53,7 +53,7 @@ impl<S: ScriptOfFive> Model for Member<S> {
         m.core (length m.sent.items) };
 }
 
-impl<S: ScriptOfFive> Member<S> {
+impl<S: Script<5>> Member<S> {
     /// A server from its core, which has passed no round and handed out nothing. It hands out its messages of round 0.
     pub fn begin(alloc: Global, core: FiveCore<S>) -> Result<Member<S>, AllocError>
         requires server { IsServer core.work.me }

@@ -2,21 +2,21 @@
 
 ghost use Rattle.std.specs.Prelude.{◌≡◌, ◌↔◌, ◌≤◌, ◌<◌, ◌+◌, ◌-◌, ℕ, ◌≢◌, List, length, true, false, slice_get, Some};
 ghost use Rattle.std.specs.Prelude.{MatchOption, IfOk, ◌^◌, ◌&&◌, not, count_by, if◌then◌else◌, map};
-ghost use Rattle.beet_delivery.specs.Networks.{Delivered, is_sent, nothing, undelivered as undelivered_in};
+ghost use Rattle.beet_delivery.specs.Networks.{Delivered, is_missing, is_sent, nothing, of_round};
+ghost use Rattle.beet_delivery.specs.Networks.{undelivered as undelivered_in};
 ghost use Rattle.beet_weights.specs.Quadratics.{IsServer};
 ghost use Rattle.beet_linear_sharing.specs.Runs.{Setup};
 ghost use Rattle.beet_five_server.specs.Cores.{is_quiet};
-ghost use Rattle.beet_five_server.specs.Missing.{is_missing, of_round};
-ghost use Rattle.beet_five_server.specs.Network.{five, peers};
+ghost use Rattle.beet_five_server.specs.Network.{five, peers, rank};
 ghost use Rattle.beet_five_server.specs.Runs.{HasRounds};
-ghost use Rattle.beet_five_world.specs.Members.{AllBegin, AllFit, AreFresh, AreNear, GivesAt, IsAt, Leads, Seen, rank};
+ghost use Rattle.beet_five_world.specs.Members.{AllBegin, AllFit, AreFresh, AreNear, GivesAt, IsAt, Leads, Seen};
 ghost use Rattle.beet_five_world.specs.Members.{triple, verdict_at};
 ghost use Rattle.beet_five_world.specs.declared.world.FiveEvent.TheVariants.{Delivered as DeliveredBy, NotSent};
 ghost use Rattle.beet_five_server.specs.declared.mail.FiveMessage.{FiveMessage as Message};
 
 use crate::member::Member;
-use beet_five_gates::ScriptOfFive;
-use beet_five_server::{FiveCore, FiveMessage};
+use beet_five_server::{FiveCore, FiveMessage, message_to};
+use beet_gates::Script;
 use beet_round::Verdict;
 use std::alloc::{AllocError, Global};
 use std::marker::Model;
@@ -31,7 +31,7 @@ pub enum FiveEvent {
 }
 
 /// Gives the server at a place of the list a message.
-fn give_at<S: ScriptOfFive>(members: &mut Vec<Member<S>>, k: usize, m: FiveMessage) -> Verdict
+fn give_at<S: Script<5>>(members: &mut Vec<Member<S>>, k: usize, m: FiveMessage) -> Verdict
     requires place { k < length members.old.items }
     requires quiet { (s : Seen S) → IsAt members.old.items k s → is_quiet S.batch_of s.core.work ≡ true }
     ensures gives { GivesAt S.batch_of members.old.items members.new.items k m }
@@ -41,38 +41,8 @@ fn give_at<S: ScriptOfFive>(members: &mut Vec<Member<S>>, k: usize, m: FiveMessa
     member.give(m)
 }
 
-/// The message at a place of four.
-fn message_at(messages: &[FiveMessage; 4], place: u32) -> &FiveMessage
-    requires { place < 4 }
-    ensures { Some result.now ≡ slice_get messages.now place }
-{
-    let [one, two, three, four] = messages;
-    match place {
-        0 => one,
-        1 => two,
-        2 => three,
-        _ => four,
-    }
-}
-
-/// The place of a peer among the four of a server, in rising order.
-fn rank(from: u32, to: u32) -> u32
-    requires from { IsServer from }
-    requires to { IsServer to }
-    requires other { from ≢ to }
-    ensures value { result ≡ rank from to }
-    ensures small { result < 4 }
-{
-    if to < from { to - 1 } else { to - 2 }
-}
-
 /// A copy of what a server sent another in a round, if it did.
-fn copy_of<S: ScriptOfFive>(
-    member: &Member<S>,
-    from: u32,
-    to: u32,
-    round: u32,
-) -> Option<FiveMessage>
+fn copy_of<S: Script<5>>(member: &Member<S>, from: u32, to: u32, round: u32) -> Option<FiveMessage>
     requires from { IsServer from }
     requires to { IsServer to }
     requires other { from ≢ to }
@@ -81,7 +51,7 @@ fn copy_of<S: ScriptOfFive>(
         × (slice_get row (rank from to) ≡ Some m)) }
 {
     let row = member.sent().get(round as usize)?;
-    Some(message_at(row, rank(from, to)).copy())
+    Some(message_to(row, from, to).copy())
 }
 
 /// 1 for a message that was sent and has not come, and else 0.
@@ -93,11 +63,11 @@ fn one_if_missing(sent: bool, came: bool) -> u32
 
 /// Five servers.
 #[derive(Drop)]
-pub struct FiveWorld<S: ScriptOfFive> {
+pub struct FiveWorld<S: Script<5>> {
     members: Vec<Member<S>>,
 }
 
-impl<S: ScriptOfFive> Model for FiveWorld<S> {
+impl<S: Script<5>> Model for FiveWorld<S> {
     ghost use Rattle.std.specs.Prelude.{List};
     ghost use Rattle.beet_five_world.specs.Members.{IsWorld, Seen};
 
@@ -108,7 +78,7 @@ impl<S: ScriptOfFive> Model for FiveWorld<S> {
     ghost invariant = { λ w. IsWorld S.batch_of w.members.items };
 }
 
-impl<S: ScriptOfFive> FiveWorld<S> {
+impl<S: Script<5>> FiveWorld<S> {
     /// The servers 1 to 5 in order, from cores of one script that have handed out nothing. Each has then sent its
     /// messages of round 0. It takes the memory for all messages, and no other call takes memory. That it fails only if
     /// there is too little is no clause: a body that always fails meets the contract.
@@ -172,12 +142,11 @@ impl<S: ScriptOfFive> FiveWorld<S> {
             × (result ≡ s.core.work.round) }
         ensures few { result < 2 ^ 31 }
     {
-        self.core(1)
-            .round()
-            .min(self.core(2).round())
-            .min(self.core(3).round())
-            .min(self.core(4).round())
-            .min(self.core(5).round())
+        let mut least = self.core(1).round();
+        for at in 2..6 {
+            least = least.min(self.core(at).round());
+        }
+        least
     }
 
     /// 1 for a message of a round that was sent and not delivered, and else 0.

@@ -1,5 +1,5 @@
 -- The numbers that a server draws for an act, and what each hides.
-use Rattle.std.specs.Prelude.{ℕ, List, length, slice_index_or}
+use Rattle.std.specs.Prelude.{ℕ, ◌*◌, ◌==◌, if◌then◌else◌, List, length, slice_index_or}
 use Rattle.std.specs.Int.{bit_at}
 use Rattle.beet_gates.specs.Clear.{product_of}
 use Rattle.beet_gates.specs.declared.Act.{Act}
@@ -23,3 +23,7 @@ secret_of Deal points word k = bit_at word k
 secret_of (Mul pairs) points word k = product_of points (pair_at pairs.items k)
 secret_of (Reveal shown) points word k = 0
 secret_of End points word k = 0
+
+-- how many numbers a server draws among so many, for so many secrets
+abbrev pub drawn_among : ℕ → ℕ → ℕ
+drawn_among servers secrets = if servers == 5 then 2 * secrets else secrets

@@ -197,7 +197,7 @@ impl Run {
 
 /// Runs the script on plain values: the inputs are the first wires, and the n-th `Deal` takes the n-th word of each
 /// list. The run goes to the first end, whose lets are appended too.
-pub fn clear_run<S: Script>(
+pub fn clear_run<S: Script<3>>(
     alloc: Global,
     script: &S,
     inputs: &[Fe],

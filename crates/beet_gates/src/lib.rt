@@ -1,16 +1,17 @@
 //! Scripts of gates over shared numbers, the law that they keep, and their runs on plain values.
 //!
 //! The wires of a run are numbered from 0. The inputs come first. Each batch appends its lets in order, and then the
-//! results of its act: 183 bits for [`Act::Deal`] (the 61 of server 1 from the lowest up, then those of server 2, then
-//! those of server 3), one product for each pair of [`Act::Mul`], and none for [`Act::Reveal`], which appends the
+//! results of its act: 61 bits for each server for [`Act::Deal`] (those of server 1 from the lowest up, then those of
+//! server 2, and so on), one product for each pair of [`Act::Mul`], and none for [`Act::Reveal`], which appends the
 //! values of its wires to the opened numbers.
 #![tactic(auto)]
 
-ghost use Rattle.std.specs.Prelude.{◌≡◌, ◌≤◌, ◌++◌, ℕ, List, []};
+ghost use Rattle.std.specs.Prelude.{◌≡◌, ◌<◌, ◌≤◌, ◌++◌, ◌^◌, ℕ, List, []};
 ghost use Rattle.beet_field.specs.declared.TheConstants.{MOST_NUMBERS};
 ghost use Rattle.beet_gates.specs.declared.Batch.{Batch};
 ghost use Rattle.beet_gates.specs.Clear.{is_end};
-ghost use Rattle.beet_gates.specs.Scripts.{LawFrom, start_of, bounds_of, size_of};
+ghost use Rattle.beet_gates.specs.Draws.{drawn_among};
+ghost use Rattle.beet_gates.specs.Scripts.{LawFrom, start_among, bounds_of, size_of};
 
 mod clear;
 mod filling;
@@ -90,8 +91,8 @@ pub struct Batch {
     pub act: Act,
 }
 
-/// A program of batches, each of which may depend on the numbers opened before it.
-pub trait Script: Copy {
+/// A program of batches for so many servers, each batch of which may depend on the numbers opened before it.
+pub trait Script<const SERVERS: usize>: Copy {
     /// How far a run has come in the script. It is no part of what the run does: with it a batch reads only the numbers
     /// that were opened since the one before.
     type Place: Copy;
@@ -102,7 +103,7 @@ pub trait Script: Copy {
 
     ghost masks_of: { Self → ℕ };
 
-    ghost coefficients_of: { Self → ℕ };
+    ghost secrets_of: { Self → ℕ };
 
     ghost wires_of: { Self → ℕ };
 
@@ -116,17 +117,30 @@ pub trait Script: Copy {
     fn inputs(&self) -> u32
         ensures { result ≡ inputs_of self.now };
 
-    /// The most batches that come before the end.
+    /// The most batches that come before the end, below 2^31.
     fn rounds(&self) -> u32
-        ensures { result ≡ rounds_of self.now };
+        ensures value { result ≡ rounds_of self.now }
+        ensures few { result < 2 ^ 31 };
 
     /// The most mask words that each server deals.
     fn masks(&self) -> u32
         ensures { result ≡ masks_of self.now };
 
-    /// The most numbers that each server draws: 61 for a deal, and one for each product.
-    fn coefficients(&self) -> u32
-        ensures { result ≡ coefficients_of self.now };
+    /// The most secrets that each server hides, below 2^31: 61 for a deal, and one for each product.
+    fn secrets(&self) -> u32
+        ensures value { result ≡ secrets_of self.now }
+        ensures few { result < 2 ^ 31 };
+
+    /// The most numbers that each server draws: two for each secret among five servers, and else one.
+    final fn coefficients(&self) -> u32
+        ensures { result ≡ drawn_among SERVERS (secrets_of self.now) }
+    {
+        if SERVERS == 5 {
+            2 * self.secrets()
+        } else {
+            self.secrets()
+        }
+    }
 
     /// The most wires, with the inputs.
     fn wires(&self) -> u32
@@ -156,8 +170,8 @@ pub trait Script: Copy {
 
     /// Whatever numbers are opened, each batch names only wires that stand before it or earlier in its own lets, no
     /// product or opening is empty, no batch has more than `MOST_LETS` lets or `MOST_NUMBERS` pairs or wires, the end
-    /// comes after at most `rounds` batches, and the wires, mask words and numbers drawn stay within their bounds.
+    /// comes after at most `rounds` batches, and the wires, mask words and secrets stay within their bounds.
     ghost lawful: { (s : Self) →
-        LawFrom (batch_of s) (bounds_of (wires_of s) (masks_of s) (coefficients_of s)) (rounds_of s)
-        (start_of (inputs_of s)) [] };
+        LawFrom (batch_of s) (bounds_of (wires_of s) (masks_of s) (secrets_of s)) (rounds_of s)
+        (start_among SERVERS (inputs_of s)) [] };
 }

@@ -8,7 +8,7 @@ use beet_field::Fe;
 #[derive(Clone, Copy, PartialEq, Eq, Debug)]
 pub struct Product;
 
-impl Script for Product {
+impl Script<3> for Product {
     ghost use Rattle.std.specs.Prelude.{⊤};
     ghost use Rattle.std.proofs.Common.{rules};
     ghost use Rattle.beet_gates.specs.Product.{product_batch};
@@ -21,7 +21,7 @@ impl Script for Product {
 
     ghost masks_of = { λ _. 0 };
 
-    ghost coefficients_of = { λ _. 1 };
+    ghost secrets_of = { λ _. 1 };
 
     ghost wires_of = { λ _. 3 };
 
@@ -45,7 +45,7 @@ impl Script for Product {
         0
     }
 
-    fn coefficients(&self) -> u32 {
+    fn secrets(&self) -> u32 {
         1
     }
 

@@ -3,11 +3,22 @@ use Rattle.std.specs.Prelude.{◌≡◌, ℕ, List, [], ◌∷◌, ◌++◌, len
 use Rattle.beet_field.specs.declared.point.Point.TheVariants.{One, Two, Three}
 use Rattle.beet_field.specs.declared.trio.Trio.{Trio}
 use Rattle.beet_bids.specs.Grids.{Grid}
+use Rattle.beet_book.specs.declared.sources.Servers.{Servers}
 use Rattle.beet_farmer.specs.Envelopes.{envelope_of}
+use Rattle.beet_farmer.specs.Lists.{list_of}
 use Rattle.beet_farmer.specs.Sealing.{points_in}
 use Rattle.beet_farmer.specs.declared.list_file.ListEntry.{ListEntry}
 use Rattle.beet_errand.specs.Errands.{Step, gives, reads, ◌>>=◌}
 use Rattle.beet_farmer.specs.declared.envelope.TheConstants.{ENVELOPE_LIMIT}
+use Rattle.beet_farmer.specs.declared.list_file.TheConstants.{LIST_LIMIT}
+use Rattle.beet_load.specs.Settings.{auction_and_servers}
+
+-- the grid of an auction, where the words of its servers come from, and the entries of its list
+abbrev pub listed_errand : List ℕ → List ℕ → List ℕ → Step (Grid × Servers × List ListEntry)
+listed_errand auction servers list = do
+  read ← auction_and_servers auction servers
+  entries ← reads list LIST_LIMIT list_of
+  gives (read.0, read.1, entries)
 
 -- the points in the three envelopes of a bidder, for the servers in order
 abbrev pub envelopes_errand : Grid → Trio (List ℕ) → Step (Trio (List ℕ))

@@ -1,9 +1,6 @@
 -- The lines of a book's inputs are there.
-use Rattle.std.proofs.Common.{◌≡◌, ◌+◌, ◌*◌, ◌++◌, ℕ, inl, inr, List, length, map, slice_index, refl, sym, subst, ◌∙◌, arith}
-use Rattle.std.specs.Prelude.{All}
-use Rattle.std.proofs.lemmas.Bool.{cases_lt}
-use Rattle.std.proofs.lemmas.List.{get_or_past, map-append}
-use Rattle.std.proofs.lemmas.List.Elements.{All-get_or}
+use Rattle.std.proofs.Common.{◌≡◌, ◌+◌, ◌*◌, ◌++◌, ℕ, List, length, map, slice_index, refl, sym, subst, ◌∙◌}
+use Rattle.std.proofs.lemmas.List.{map-append}
 use Rattle.beet_field.specs.Field.{IsElement}
 use Rattle.beet_shamir.specs.declared.Line.{Line}
 use Rattle.beet_gates.specs.Each.{each}
@@ -11,6 +8,7 @@ use Rattle.beet_gates.proofs.EachFacts.{map-each}
 use Rattle.beet_bids.specs.Books.{Book, IsBook}
 use Rattle.beet_bids.specs.Sums.{demand_at, supply_at, sums_of}
 use Rattle.beet_bids.proofs.BookSums.{sums-elements}
+use Rattle.beet_map.proofs.Places.{element-at}
 use Rattle.beet_map.specs.Secrets.{values_of}
 use Rattle.beet_auction_map.specs.InputLines.{AreInputLines, summed_slope}
 use Rattle.beet_auction_map.proofs.InputFacts.{input-lines}
@@ -38,13 +36,7 @@ module _ (book : Book) (words : List (List ℕ)) where
   lines-there b count = input-lines book words lines_of sums b count refl (lines-by (λ (l : Line). l.value))
       (lines-by (λ (l : Line). l.slope))
 
-items-small : (xs : List ℕ) → All IsElement xs → (k : ℕ) → IsElement (slice_index xs k)
-items-small xs all k = elim (cases_lt k (length xs)) [
-  | inl h ↦ All-get_or IsElement xs k 0 h all
-  | inr past ↦ subst (λ x. IsElement x) (sym (get_or_past xs k 0 past)) (omega arith)
-]
-
 pub values-small : (book : Book) (words : List (List ℕ)) (lines : List Line) → IsBook book → AreInputLines book words lines →
     (k : ℕ) → IsElement (slice_index (values_of lines) k)
 values-small book words lines b are k =
-    subst (λ l. IsElement (slice_index l k)) (sym are.values) (items-small (sums_of book) (sums-elements book b) k)
+    subst (λ l. IsElement (slice_index l k)) (sym are.values) (element-at (sums_of book) (sums-elements book b) k)

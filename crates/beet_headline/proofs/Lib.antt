@@ -7,5 +7,7 @@ pub mod Delivering
 pub mod Telling
 pub mod Zeros
 pub mod Sealed
+pub mod Told
 pub mod TwoServers
+pub mod ThreeServers
 pub mod UsedTwice

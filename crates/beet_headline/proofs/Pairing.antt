@@ -23,18 +23,18 @@ use Rattle.beet_mapped.proofs.WorldFacts.{all-words, are-masks}
 use Rattle.beet_auction_map.specs.MappedBidders.{BiddersMapped, party_of}
 use Rattle.beet_turned.specs.MappedMasks.{MasksMapped}
 use Rattle.beet_turned.proofs.MasksThere.{masks-there}
-use Rattle.beet_auction_map.specs.Losses.{losses_of}
+use Rattle.beet_two_books.specs.Losses.{losses_of}
 use Rattle.beet_auction_map.specs.MappedWords.{Mapped}
 use Rattle.beet_auction_map.specs.Worlds.{WorldsMapped}
 use Rattle.beet_auction_map.proofs.BidderFacts.{bidders-back}
 use Rattle.beet_auction_map.proofs.EnoughFacts.{mapped-enough}
-use Rattle.beet_auction_map.proofs.MasksBack.{agree-back, books-back}
+use Rattle.beet_two_books.proofs.MasksBack.{agree-back, books-back}
 use Rattle.beet_turned.proofs.Small.{mapped-masks}
 use Rattle.beet_auction_map.proofs.WorldFacts.{Stands, can-map, worlds-mapped}
 use Rattle.beet_headline.specs.Statements.{AreOnePair, AreTwoBooks, CanRun}
 use Rattle.beet_trades.proofs.AllWords.{all-are}
 use Rattle.beet_trades.proofs.DealersThere.{MovedDealers, dealers-there}
-use Rattle.beet_trades.proofs.Disagreeing.{as-many}
+use Rattle.beet_map.proofs.Disagreeing.{as-many}
 use Rattle.beet_trades.proofs.Drawn.{all-drawn, numbers-enough}
 use Rattle.beet_trades.proofs.EnoughFacts.{masks-enough}
 use Rattle.beet_headline.proofs.Inputs.{lines-there, lines_of, values-small}

@@ -21,7 +21,7 @@ use Rattle.beet_farmer.specs.declared.envelope.Envelope.{Envelope}
 use Rattle.beet_farmer.proofs.SealedAgain.{item, long, member-dealt, sealed-again}
 use Rattle.beet_headline.specs.Envelopes.{AreOneEnvelope, AreTwoBids, CanSeal, DifferInSlopes}
 use Rattle.beet_trades.proofs.DealersThere.{moved}
-use Rattle.beet_auction_map.proofs.BidderFacts.{quantity-element}
+use Rattle.beet_two_books.proofs.BidderFacts.{quantity-element}
 
 -- what is read is one value
 pub same-read : {A E : Type 0} (x y : A) (read : Result A E) → read ≡ Ok x → read ≡ Ok y → x ≡ y

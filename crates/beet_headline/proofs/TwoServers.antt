@@ -1,9 +1,7 @@
 -- What two servers have tells every bid.
-use Rattle.std.proofs.Common.{◌≡◌, ◌≢◌, ◌<◌, ◌+◌, ◌*◌, ℕ, List, [], ◌∷◌, length, map, take, slice_index, refl, sym}
+use Rattle.std.proofs.Common.{◌≡◌, ◌≢◌, ◌<◌, ◌*◌, ℕ, List, length, map, take, slice_index, refl, sym}
 use Rattle.std.proofs.Common.{ap, subst, ◌∙◌, arith}
-use Rattle.std.specs.Prelude.{All}
-use Rattle.std.proofs.lemmas.List.{get_or_append_left, get_or-append-add, length-map}
-use Rattle.std.proofs.lemmas.List.Elements.{All-head, All-tail}
+use Rattle.std.proofs.lemmas.List.{length-map}
 use Rattle.beet_field.specs.Field.{IsElement}
 use Rattle.beet_field.specs.declared.point.Point.{Point}
 use Rattle.beet_field.specs.declared.point.Point.TheVariants.{One, Two, Three}
@@ -12,7 +10,7 @@ use Rattle.beet_words.specs.Bundles.{Words}
 use Rattle.beet_words.specs.Words.{accepted}
 use Rattle.beet_gates.proofs.EachFacts.{item-each}
 use Rattle.beet_bids.specs.Books.{Book, IsBook}
-use Rattle.beet_bids.specs.Curves.{Curve, IsCurve, IsOfGrid, quantity}
+use Rattle.beet_bids.specs.Curves.{Curve, quantity}
 use Rattle.beet_bids.specs.Grids.{Grid}
 use Rattle.beet_bids.specs.declared.book.Bidder.{Bidder}
 use Rattle.beet_book.specs.Farmers.{BidderWithWords, farmers_of, point_for, slope_for}
@@ -21,13 +19,13 @@ use Rattle.beet_view.specs.BookViews.{seen_at}
 use Rattle.beet_view.specs.Views.{Viewed}
 use Rattle.beet_view.specs.declared.view.Seen.{Seen}
 use Rattle.beet_auction_map.specs.ViewsWith.{view_with}
-use Rattle.beet_auction_map.proofs.Disagreeing.{curves-same}
 use Rattle.beet_farmer.specs.Sealing.{envelope_for}
 use Rattle.beet_headline.specs.Envelopes.{AreTwoBids, CanSeal}
 use Rattle.beet_headline.specs.Statements.{CanRun}
 use Rattle.beet_headline.proofs.Sealed.{points-told}
 use Rattle.beet_headline.proofs.Telling.{over}
-use Rattle.beet_auction_map.proofs.BidderFacts.{quantity-element}
+use Rattle.beet_headline.proofs.Told.{alike-each, as-many, books-told, curves-told}
+use Rattle.beet_two_books.proofs.BidderFacts.{quantity-element}
 
 -- two points of a line tell its value
 pub one-value : (s t : Point) (v w a b : ℕ) → s ≢ t → IsElement v → IsElement w → point_of w b s ≡ point_of v a s →
@@ -41,20 +39,6 @@ one-value Two Three v w a b ne h l e f = omega (arith, h, l, e, f)
 one-value Three One v w a b ne h l e f = omega (arith, h, l, e, f)
 one-value Three Two v w a b ne h l e f = omega (arith, h, l, e, f)
 one-value Three Three v w a b ne h l e f = absurd (ne refl)
-
--- the quantities of a grid tell a curve
-pub curves-told : (grid : Grid) (one other : Curve) → IsOfGrid grid one → IsOfGrid grid other →
-    ((n : ℕ) → n < 2 * grid.prices → quantity other n ≡ quantity one n) → other ≡ one
-curves-told grid one other g h same =
-    curves-same one other grid.prices g.buy_length g.sell_length h.buy_length h.sell_length
-    (λ k lt.
-    sym (get_or_append_left other.buy other.sell 0 k (omega (arith, lt, h.buy_length))) ∙ same k (omega (arith, lt))
-    ∙ get_or_append_left one.buy one.sell 0 k (omega (arith, lt, g.buy_length)))
-    (λ k lt. sym (at-sell other k h.buy_length) ∙ same (grid.prices + k) (omega (arith, lt))
-    ∙ at-sell one k g.buy_length)
-  where
-    at-sell : (x : Curve) (k : ℕ) → length x.buy ≡ grid.prices → quantity x (grid.prices + k) ≡ slice_index x.sell k
-    at-sell x k e = ap (λ n. quantity x (n + k)) (sym e) ∙ get_or-append-add x.buy x.sell k 0
 
 -- two envelopes tell the bid
 pub envelopes-tell : (grid : Grid) (s t : Point) (one other : Curve) (words words' : List ℕ) → s ≢ t →
@@ -70,61 +54,13 @@ envelopes-tell grid s t one other words words' ne two can can' e f =
     (points-told grid s one other words words' two can can' e n lt)
     (points-told grid t one other words words' two can can' f n lt))
 
--- the bidders as two servers see them tell their curves
+-- what two servers see of the bidders tells the book
 module _ (grid : Grid) (s t : Point) (ne : s ≢ t) where
-  abbrev Curves : List Bidder → Type 0
-  Curves bidders = All (λ (b : Bidder). IsCurve b.curve) bidders
-
-  abbrev OfGrid : List Bidder → Type 0
-  OfGrid bidders = All (λ (b : Bidder). IsOfGrid grid b.curve) bidders
-
   point-seen : (i : Point) (f g : BidderWithWords) → seen_at grid i g ≡ seen_at grid i f → (n : ℕ) → n < 2 * grid.prices →
       point_for g i n ≡ point_for f i n
   point-seen i f g e n lt =
       sym (item-each (point_for g i) (2 * grid.prices) n lt) ∙ ap (λ (x : Seen). slice_index x.points n) e
       ∙ item-each (point_for f i) (2 * grid.prices) n lt
-
-  bidder-told : (f g : BidderWithWords) → IsCurve f.bidder.curve → IsCurve g.bidder.curve → IsOfGrid grid f.bidder.curve →
-      IsOfGrid grid g.bidder.curve →
-      seen_at grid s g ≡ seen_at grid s f → seen_at grid t g ≡ seen_at grid t f → g.bidder ≡ f.bidder
-  bidder-told f g c d h l e e' =
-      let curves : g.bidder.curve ≡ f.bidder.curve =
-      curves-told grid f.bidder.curve g.bidder.curve h l
-      (λ n lt.
-      one-value s t (quantity f.bidder.curve n) (quantity g.bidder.curve n) (slope_for f n) (slope_for g n) ne
-      (quantity-element f.bidder.curve c n)
-      (quantity-element g.bidder.curve d n) (point-seen s f g e n lt) (point-seen t f g e' n lt)) in
-      λ i. record { known = (e i).known; curve = curves i }
-
-  all-told : (bidders others : List Bidder) (words words' : List (List ℕ)) → length words ≡ length bidders →
-      length words' ≡ length others →
-      Curves bidders → Curves others → OfGrid bidders → OfGrid others →
-      map (seen_at grid s) (farmers_of others words') ≡ map (seen_at grid s) (farmers_of bidders words) →
-      map (seen_at grid t) (farmers_of others words') ≡ map (seen_at grid t) (farmers_of bidders words) →
-      others ≡ bidders
-  all-told [] [] words words' n n' c d h l e e' = refl
-  all-told [] (o ∷ os) words [] n n' c d h l e e' = absurd (omega (arith, n'))
-  all-told [] (o ∷ os) words (w ∷ ws) n n' c d h l e e' = cc e
-  all-told (b ∷ bs) [] [] words' n n' c d h l e e' = absurd (omega (arith, n))
-  all-told (b ∷ bs) [] (w ∷ ws) words' n n' c d h l e e' = cc e
-  all-told (b ∷ bs) (o ∷ os) [] words' n n' c d h l e e' = absurd (omega (arith, n))
-  all-told (b ∷ bs) (o ∷ os) (w ∷ ws) [] n n' c d h l e e' = absurd (omega (arith, n'))
-  all-told (b ∷ bs) (o ∷ os) (w ∷ ws) (v ∷ vs) n n' c d h l e e' =
-      let f : BidderWithWords = record { bidder = b; words = w } in
-      let g : BidderWithWords = record { bidder = o; words = v } in
-      let C = λ (b : Bidder). IsCurve b.curve in
-      let G = λ (b : Bidder). IsOfGrid grid b.curve in
-      let one : seen_at grid s g ≡ seen_at grid s f = cc e in
-      let two : seen_at grid t g ≡ seen_at grid t f = cc e' in
-      let more : map (seen_at grid s) (farmers_of os vs) ≡ map (seen_at grid s) (farmers_of bs ws) = cc e in
-      let more' : map (seen_at grid t) (farmers_of os vs) ≡ map (seen_at grid t) (farmers_of bs ws) = cc e' in
-      let first : o ≡ b =
-      bidder-told f g (All-head C b bs c) (All-head C o os d) (All-head G b bs h) (All-head G o os l) one two in
-      let rest : os ≡ bs =
-      all-told bs os ws vs (omega (arith, n)) (omega (arith, n')) (All-tail C b bs c) (All-tail C o os d)
-      (All-tail G b bs h)
-      (All-tail G o os l) more more' in
-      λ i. first i ∷ rest i
 
   books-over : (bidders others : List Bidder) (words words' : Words) → IsBook (over grid bidders) →
       IsBook (over grid others) →
@@ -133,13 +69,25 @@ module _ (grid : Grid) (s t : Point) (ne : s ≢ t) where
       view_with (over grid others) words' t ≡ view_with (over grid bidders) words t →
       over grid others ≡ over grid bidders
   books-over bidders others words words' b b' n n' e e' =
-      let kept : List (List ℕ) → List (List ℕ) = map (take (words_kept grid.prices)) in
-      let same : others ≡ bidders =
-      all-told bidders others (kept words.bidders) (kept words'.bidders)
-      (length-map words.bidders (take (words_kept grid.prices)) ∙ n)
-      (length-map words'.bidders (take (words_kept grid.prices)) ∙ n') b.curves b'.curves b.of_grid b'.of_grid
-      (ap (λ (v : Viewed). v.bidders) e) (ap (λ (v : Viewed). v.bidders) e') in
-      λ i. record { grid = grid; bidders = same i }
+      let cut = take {A = ℕ} (words_kept grid.prices) in
+      let kept = map cut words.bidders in
+      let kept' = map cut words'.bidders in
+      let fs = farmers_of bidders kept in
+      let gs = farmers_of others kept' in
+      let m : length kept ≡ length bidders = length-map words.bidders cut ∙ n in
+      let m' : length kept' ≡ length others = length-map words'.bidders cut ∙ n' in
+      let one : map (seen_at grid s) gs ≡ map (seen_at grid s) fs = ap (λ (v : Viewed). v.bidders) e in
+      let two : map (seen_at grid t) gs ≡ map (seen_at grid t) fs = ap (λ (v : Viewed). v.bidders) e' in
+      books-told grid bidders others kept kept' b b' m m' (as-many grid bidders others kept kept' b b' m m' (seen_at grid s) one)
+      (λ k f g at at' c d.
+      let here = alike-each (seen_at grid s) fs gs one k f g at at' in
+      let there = alike-each (seen_at grid t) fs gs two k f g at at' in (
+        ap (λ (x : Seen). x.known) here,
+        λ n lt.
+            one-value s t (quantity f.bidder.curve n) (quantity g.bidder.curve n) (slope_for f n) (slope_for g n) ne
+            (quantity-element f.bidder.curve c n) (quantity-element g.bidder.curve d n)
+            (point-seen s f g here n lt) (point-seen t f g there n lt),
+      ))
 
 pub views-tell : (s t : Point) (first second : Book) (words words' : Words) → s ≢ t → IsBook first → IsBook second →
     CanRun first words →

@@ -16,11 +16,11 @@ use Rattle.beet_turned.proofs.MasksBack.{all-at}
 use Rattle.beet_view.specs.BookViews.{seen_at}
 use Rattle.beet_view.specs.declared.view.Seen.{Seen}
 use Rattle.beet_trades.specs.Enough.{HasAccepted}
-use Rattle.beet_trades.proofs.Disagreeing.{get-map}
+use Rattle.beet_map.proofs.Disagreeing.{get-map}
 use Rattle.beet_auction_map.proofs.CutRuns.{cut, farmers-cut, point-cut}
 use Rattle.beet_headline.specs.Statements.{CanRun, IsSeen}
 use Rattle.beet_headline.proofs.Sealed.{difference}
-use Rattle.beet_auction_map.proofs.BidderFacts.{quantity-element}
+use Rattle.beet_two_books.proofs.BidderFacts.{quantity-element}
 
 farmer-there : (bidders : List Bidder) (words : List (List ℕ)) (k : ℕ) (bidder : Bidder) (list : List ℕ) →
     slice_get bidders k ≡ Some bidder →

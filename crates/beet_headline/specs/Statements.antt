@@ -23,7 +23,7 @@ use Rattle.beet_auction.specs.Endings.{book_rounds}
 use Rattle.beet_auction.specs.Setups.{rounds_for, setup_for}
 use Rattle.beet_auction.specs.WorldEnds.{auction_in}
 use Rattle.beet_view.specs.declared.view.Seen.{Seen}
-use Rattle.beet_auction_map.specs.Agreement.{Agree}
+use Rattle.beet_two_books.specs.Agreement.{Agree}
 use Rattle.beet_auction_map.specs.Enough.{AreEnough}
 use Rattle.beet_auction_map.specs.MappedWords.{IsOnlyFirst, IsOnlySecond, Mapped}
 use Rattle.beet_auction_map.specs.ViewsWith.{transcript_with, view_with}

@@ -1,7 +1,8 @@
 //! What the auction is for, in laws: a server opens the outcome of the plaintext auction, nobody waits once all
 //! messages are delivered, and a server cannot tell two books apart that clear alike and have the same bids of its own
 //! bidders, whatever the random words of the others, for which there are as many choices in both. And where that ends:
-//! two servers tell every bid, and so do words that are used twice.
+//! two servers tell every bid, and so do words that are used twice. Of five servers two together cannot tell such books
+//! apart, and three tell every bid.
 //!
 //! There is no code here, and no memory is taken: the laws are contracts of functions that do nothing.
 #![tactic(auto)]
@@ -33,6 +34,10 @@ ghost use Rattle.beet_headline.specs.Statements.{AllDelivered, AllEndWith, AllHa
 ghost use Rattle.beet_headline.specs.Statements.{AreOnePair};
 ghost use Rattle.beet_headline.specs.Statements.{ArePairs, AreTwoBooks, Began, CanRun, CoreOpensTheOutcome, IsSeen};
 ghost use Rattle.beet_headline.specs.Statements.{OpensTheOutcome, WereGiven};
+
+mod five;
+
+pub use five::{three_of_five_tell_every_bid, two_of_five_cannot_tell_books_apart};
 
 /// For every book of accepted bids, all words that are enough, and every order, repeat or delay of the messages, a
 /// server that has ended has opened the outcome of the plaintext auction. The only other end is spent, exactly where

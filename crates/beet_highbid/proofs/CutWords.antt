@@ -11,7 +11,7 @@ use Rattle.beet_mapped.specs.Dealers.{dealers_of}
 use Rattle.beet_mapped.specs.Trades.{Trade, TradesMapped}
 use Rattle.beet_mapped.proofs.DealerFacts.{lists-alike, lists-long}
 use Rattle.beet_trades.specs.Enough.{Wants, read_words}
-use Rattle.beet_trades.proofs.Disagreeing.{as-many}
+use Rattle.beet_map.proofs.Disagreeing.{as-many}
 use Rattle.beet_sale_file.specs.declared.rows.SaleBid.{SaleBid}
 use Rattle.beet_sale_map.specs.Bids.{HaveOneShape}
 use Rattle.beet_sale_map.specs.Enough.{AreEnough, cut_words, wants_of}

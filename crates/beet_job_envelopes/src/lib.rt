@@ -8,6 +8,6 @@ mod sealing;
 mod source_word;
 
 pub use laws::sealed_books_open_their_outcome;
-pub use opening::{OpenFiles, open_envelopes};
+pub use opening::open_envelopes;
 pub use sealing::{SealFiles, seal_bid};
 pub use source_word::{SourceWord, read_source_word};

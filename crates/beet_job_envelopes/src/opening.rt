@@ -1,20 +1,17 @@
 //! The job `open`.
 
 ghost use Rattle.std.specs.Prelude.{IfOk};
-ghost use Rattle.beet_farmer.specs.Lists.{list_of};
-ghost use Rattle.beet_errand.specs.Errands.{reads};
 ghost use Rattle.beet_errand.specs.Fetches.{IsDone, Reads};
 ghost use Rattle.beet_job_envelopes.specs.Open.{entries_job, open_job};
-ghost use Rattle.beet_farmer.specs.declared.list_file.TheConstants.{LIST_LIMIT};
 
 use beet_auction_run::run_auction;
 use beet_bids::Grid;
 use beet_book::{Servers, Totals};
 use beet_errand::{Reply, Stop};
 use beet_farmer::ListEntry;
-use beet_gathering::{gather_bidders, read_entries};
+use beet_gathering::{ListFiles, gather_bidders, read_listed};
 use beet_link::Gate;
-use beet_load::{AllWords, auction_wants, read_grid, read_sources, read_words};
+use beet_load::{AllWords, auction_wants, read_words};
 use beet_run::outcome_reply;
 use beet_store::Shelf;
 use std::alloc::Global;
@@ -51,35 +48,6 @@ fn open_entries<S: Shelf, R: Threads + Wait + Clock + Sync, G: Gate>(
     Ok(outcome_reply(alloc, grid, finish, rounds)?)
 }
 
-/// The outcome of the bids in the envelopes of a list file, and the rounds in which three servers find it.
-fn open_list<S: Shelf, R: Threads + Wait + Clock + Sync, G: Gate>(
-    rt: &R,
-    alloc: Global,
-    shelf: &mut S,
-    grid: &Grid,
-    sources: &Servers,
-    list: &str,
-    gate: &G,
-) -> Result<Reply, Stop>
-    ensures done { IfOk result (λ reply. IsDone reply.status) }
-    ensures reads { Reads (λ reply. reply) (S.seen shelf.old) (S.seen shelf.new)
-        (λ next. reads list.now LIST_LIMIT list_of (λ entries. entries_job grid.now sources.now entries next)) result }
-{
-    let entries = read_entries(alloc, shelf, list)?;
-    let opened = open_entries(rt, alloc, shelf, grid, sources, entries.as_slice(), gate);
-    // One call lets them go: else the proof of this way out goes through each of their parts.
-    drop(entries);
-    opened
-}
-
-/// The names of the files of the job.
-#[derive(Clone, Copy)]
-pub struct OpenFiles<'a> {
-    pub auction: &'a str,
-    pub servers: &'a str,
-    pub list: &'a str,
-}
-
 /// The outcome of the bids in the envelopes of a list, and the rounds in which three servers find it, in threads and
 /// under the gate where `run_servers` says so. The points in the envelopes need not lie on lines. Where they were
 /// sealed, `sealed_books_open_their_outcome` says that each file is within its limit and is read, that the bidders of
@@ -88,16 +56,17 @@ pub fn open_envelopes<S: Shelf, R: Threads + Wait + Clock + Sync, G: Gate>(
     rt: &R,
     alloc: Global,
     shelf: &mut S,
-    files: &OpenFiles<'_>,
+    files: &ListFiles<'_>,
     gate: &G,
 ) -> Result<Reply, Stop>
     ensures done { IfOk result (λ reply. IsDone reply.status) }
     ensures reads { Reads (λ reply. reply) (S.seen shelf.old) (S.seen shelf.new)
         (open_job files.now.auction.now files.now.servers.now files.now.list.now) result }
 {
-    let grid = read_grid(alloc, shelf, files.auction)?;
-    let sources = read_sources(alloc, shelf, files.servers)?;
-    let opened = open_list(rt, alloc, shelf, &grid, &sources, files.list, gate);
+    let (grid, sources, entries) = read_listed(alloc, shelf, files)?;
+    let opened = open_entries(rt, alloc, shelf, &grid, &sources, entries.as_slice(), gate);
+    // One call lets them go: else the proof of this way out goes through each of their parts.
+    drop(entries);
     drop(sources);
     opened
 }

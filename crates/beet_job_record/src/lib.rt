@@ -3,4 +3,4 @@
 
 mod recording;
 
-pub use recording::{RecordFiles, record};
+pub use recording::record;

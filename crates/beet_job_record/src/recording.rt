@@ -2,13 +2,14 @@
 
 ghost use Rattle.std.specs.Prelude.{◌≡◌, IfErr, IfOk};
 ghost use Rattle.beet_errand.specs.Fetches.{IsDone, Reads};
+ghost use Rattle.beet_load.specs.Files.{of_files};
 ghost use Rattle.beet_load.specs.WholeViews.{loaded_of};
 ghost use Rattle.beet_job_record.specs.Records.{record_job, recorded_answer};
 
 use beet_auction_run::run_servers;
 use beet_errand::{Reply, Stop};
 use beet_link::Gate;
-use beet_load::{Whole, load_whole};
+use beet_load::{AuctionFiles, Whole, load_whole};
 use beet_store::Shelf;
 use beet_transcripts::{make_ready, reply_of_run};
 use std::alloc::Global;
@@ -35,15 +36,6 @@ fn reply_for<R: Threads + Wait + Clock + Sync, G: Gate>(
     Ok(reply_of_run(rt, alloc, &grid, begun.seen, cores, out)?)
 }
 
-/// The names of the files of the job, and the name with which those that it puts begin.
-#[derive(Clone, Copy)]
-pub struct RecordFiles<'a> {
-    pub auction: &'a str,
-    pub servers: &'a str,
-    pub book: &'a str,
-    pub out: &'a str,
-}
-
 /// Runs the auction of a book among three servers, in threads and under the gate where `run_servers` says so. What each
 /// server has seen is put into the file of the name `out`, a dot and the server's number; the text is that of the job
 /// `clear`.
@@ -51,13 +43,14 @@ pub fn record<S: Shelf, R: Threads + Wait + Clock + Sync, G: Gate>(
     rt: &R,
     alloc: Global,
     shelf: &mut S,
-    files: &RecordFiles<'_>,
+    files: &AuctionFiles<'_>,
+    out: &str,
     gate: &G,
 ) -> Result<Reply, Stop>
     ensures done { IfOk result (λ reply. IsDone reply.status) }
     ensures reads { Reads (λ reply. reply) (S.seen shelf.old) (S.seen shelf.new)
-        (record_job files.now.auction.now files.now.servers.now files.now.book.now files.now.out.now) result }
+        (of_files record_job files.now out.now) result }
 {
-    let whole = load_whole(alloc, shelf, files.auction, files.servers, files.book)?;
-    reply_for(rt, alloc, whole, files.out, gate)
+    let whole = load_whole(alloc, shelf, files)?;
+    reply_for(rt, alloc, whole, out, gate)
 }

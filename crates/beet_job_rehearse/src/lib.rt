@@ -8,6 +8,6 @@ mod standing;
 mod telling;
 
 pub use laws::nothing_undelivered_tells_the_end;
-pub use rehearsing::{RehearseFiles, rehearse};
+pub use rehearsing::rehearse;
 pub use standing::{Standing, standing_at};
 pub use telling::{push_undelivered, servers_reply};

@@ -5,6 +5,7 @@ ghost use Rattle.beet_errand.specs.Errands.{reads};
 ghost use Rattle.beet_errand.specs.Fetches.{IsDone, Reads};
 ghost use Rattle.beet_field.specs.Trio.{member};
 ghost use Rattle.beet_field.specs.declared.point.Point.{Point};
+ghost use Rattle.beet_load.specs.Files.{of_files};
 ghost use Rattle.beet_load.specs.Counts.{counts_of};
 ghost use Rattle.beet_load.specs.Loading.{IsKeptOf, AuctionWithBidders};
 ghost use Rattle.beet_load.specs.Servers.{HaveEnough};
@@ -19,7 +20,7 @@ use crate::telling::rehearsal_reply;
 use beet_bids::Grid;
 use beet_errand::{Reply, Stop, fetch_file, judge};
 use beet_field::Trio;
-use beet_load::{Loaded, ServerWords, load};
+use beet_load::{AuctionFiles, Loaded, ServerWords, load};
 use beet_run::start_servers;
 use beet_store::Shelf;
 use beet_words::FeList;
@@ -82,28 +83,20 @@ fn answer(alloc: Global, loaded: Loaded, schedule: &[Delivery]) -> Result<Reply,
     Ok(rehearsal_reply(alloc, &grid, &rehearsal)?)
 }
 
-/// The names of the files of the job.
-#[derive(Clone, Copy)]
-pub struct RehearseFiles<'a> {
-    pub auction: &'a str,
-    pub servers: &'a str,
-    pub book: &'a str,
-    pub schedule: &'a str,
-}
-
 /// How three servers stand in the auction of a book after the deliveries of a schedule, in order:
 /// `rehearse AUCTION SERVERS BOOK SCHEDULE`. A message that is not sent when its turn comes is passed over.
 pub fn rehearse<S: Shelf>(
     alloc: Global,
     shelf: &mut S,
-    files: &RehearseFiles<'_>,
+    files: &AuctionFiles<'_>,
+    schedule: &str,
 ) -> Result<Reply, Stop>
     ensures done { IfOk result (λ reply. IsDone reply.status) }
     ensures reads { Reads (λ reply. reply) (S.seen shelf.old) (S.seen shelf.new)
-        (rehearse_job files.now.auction.now files.now.servers.now files.now.book.now files.now.schedule.now) result }
+        (of_files rehearse_job files.now schedule.now) result }
 {
-    let loaded = load(alloc, shelf, files.auction, files.servers, files.book)?;
-    let deliveries = read_deliveries(alloc, shelf, files.schedule);
+    let loaded = load(alloc, shelf, files)?;
+    let deliveries = read_deliveries(alloc, shelf, schedule);
     match deliveries {
         Ok(deliveries) => answer(alloc, loaded, deliveries.as_slice()),
         Err(stop) => {

@@ -7,4 +7,4 @@ mod playing;
 mod replaying;
 mod telling;
 
-pub use replaying::{ReplayFiles, replay};
+pub use replaying::replay;

@@ -12,7 +12,7 @@ use crate::playing::play;
 use beet_errand::{Reply, Stop, fetch_file, judge};
 use beet_forms::beside;
 use beet_lot_files::read_lot_schedule;
-use beet_lot_load::{read_lots, read_seeds};
+use beet_lot_load::{SessionFiles, load_session};
 use beet_lots::LotDelivery;
 use beet_store::Shelf;
 use beet_world::SCHEDULE_LIMIT;
@@ -37,33 +37,25 @@ fn read_deliveries<S: Shelf>(
     )
 }
 
-/// The names of the files of the job.
-#[derive(Clone, Copy)]
-pub struct ReplayFiles<'a> {
-    pub session: &'a str,
-    pub servers: &'a str,
-    pub schedule: &'a str,
-}
-
 /// How three servers stand in each lot of a session after the deliveries of a schedule, in order:
 /// `replay SESSION SERVERS SCHEDULE`. A message that is not sent when its turn comes is passed over. All lots are read
 /// before the schedule.
 pub fn replay<S: Shelf>(
     alloc: Global,
     shelf: &mut S,
-    files: &ReplayFiles<'_>,
+    files: &SessionFiles<'_>,
+    schedule: &str,
 ) -> Result<Reply, Stop>
     ensures done { IfOk result (λ reply. IsDone reply.status) }
     ensures reads { Reads (λ reply. reply) (S.seen shelf.old) (S.seen shelf.new)
-        (replay_job files.now.session.now files.now.servers.now files.now.schedule.now) result }
+        (replay_job files.now.session.now files.now.servers.now schedule.now) result }
 {
-    let lots = read_lots(alloc, shelf, files.session)?;
-    let (lots, sources) = beside(lots, read_seeds(alloc, shelf, files.servers))?;
+    let (lots, sources) = load_session(alloc, shelf, files)?;
     let rows = lots.rows();
     let begun = begin_lots(alloc, shelf, &sources, rows);
     drop(sources);
     let begun = begun?;
-    let deliveries = read_deliveries(alloc, shelf, rows.len() as u32, files.schedule);
+    let deliveries = read_deliveries(alloc, shelf, rows.len() as u32, schedule);
     let (begun, deliveries) = beside(begun, deliveries)?;
     let reply = play(alloc, rows, begun, deliveries.as_slice());
     drop(lots);

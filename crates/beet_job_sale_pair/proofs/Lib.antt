@@ -1,4 +1,3 @@
 pub mod DifferenceFacts
 pub mod Judged
 pub mod SaleAnswers
-pub mod JobSteps

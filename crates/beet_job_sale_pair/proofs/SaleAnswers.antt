@@ -1,10 +1,10 @@
 -- The answer for two sales.
 use Rattle.std.proofs.Common.{◌≡◌, ◌≤◌, ℕ, List, [], ◌∷◌, map, take, length, Result, Ok, Err, IfOk, IfErr, refl, ap, arith}
-use Rattle.std.specs.Prelude.{All, IsSomeAnd}
+use Rattle.std.specs.Prelude.{All}
+use Rattle.std.proofs.lemmas.Result.{IfOk-weaker}
 use Rattle.std.proofs.lemmas.List.{length-take}
 use Rattle.std.proofs.lemmas.List.Elements.{All-cons, All-nil}
 use Rattle.beet_field.specs.declared.point.Point.{Point}
-use Rattle.beet_store.specs.Files.{File}
 use Rattle.beet_words.specs.Bundles.{FitsBundle, IsShort, Words, bundle_bytes}
 use Rattle.beet_sale_plan.specs.declared.SaleEnd.{SaleEnd}
 use Rattle.beet_sale_file.specs.Sales.{SaleRecord, bids_of}
@@ -20,14 +20,16 @@ use Rattle.beet_errand.specs.Errands.{Answer}
 use Rattle.beet_errand.specs.Fetches.{IsDone}
 use Rattle.beet_errand.specs.Worlds.{files_of_worlds, telling_equal}
 use Rattle.beet_errand.specs.declared.answer.Stop.{Stop}
-use Rattle.beet_errand.specs.declared.answer.Stop.TheVariants.{Refused, OutOfMemory}
+use Rattle.beet_errand.specs.declared.answer.Stop.TheVariants.{OutOfMemory}
+use Rattle.beet_differences.specs.Comparing.{TellsApart}
+use Rattle.beet_differences.proofs.Comparing.{apart-memory, apart-told, both-answers}
 use Rattle.beet_sale_load.specs.SaleLoading.{SaleRead}
 use Rattle.beet_sale_run.specs.SaleRuns.{finish_read, rounds_read}
 use Rattle.beet_job_sale.specs.SaleAnswers.{end_answer}
 use Rattle.beet_job_sale.proofs.SaleEnds.{status-done}
 use Rattle.beet_job_sale_pair.specs.Differences.{difference_between, refused_text}
-use Rattle.beet_job_sale_pair.specs.Answering.{agreed_answer, transcript_of}
-use Rattle.beet_job_sale_pair.specs.Ending.{AnswersSales, IsLineOf, TellsApart, TellsRefusal}
+use Rattle.beet_job_sale_pair.specs.Answering.{ShowsTheSameSale, agreed_answer, transcript_of}
+use Rattle.beet_job_sale_pair.specs.Ending.{AnswersSales, TellsRefusal}
 use Rattle.beet_job_sale_pair.proofs.DifferenceFacts.{the-difference}
 
 module _ (s : Point) (out : List ℕ) (first : SaleRead) (second : SaleRecord) where
@@ -40,19 +42,20 @@ module _ (s : Point) (out : List ℕ) (first : SaleRead) (second : SaleRecord) w
       (result : Result Answer Stop) → IfErr result (λ stop. stop ≡ OutOfMemory) →
       IfOk result (λ answer. answer ≡ agreed_answer out first (transcript_of first.sale first.words s) mapped) →
       AnswersSales s out first second result
-  agreed-answers mapped a m t only back (Ok answer) h e = record {
-    agree = a;
-    second_words = mapped;
-    mapped = m;
-    only = only;
-    back = back;
-    seen = transcript_of first.sale first.words s;
-    first_seen = refl;
-    second_seen = t;
-    is = e;
-  }
-  agreed-answers mapped a m t only back (Err OutOfMemory) h e = tt
-  agreed-answers mapped a m t only back (Err (Refused refusal line)) h e = absurd (cc h)
+  agreed-answers mapped a m t only back result h e =
+      both-answers refused_text (ShowsTheSameSale s out first second) (difference_between s (bids_of first.sale.rows) (bids_of second.rows))
+      result h
+      (IfOk-weaker result _ _ (λ answer is. record {
+        agree = a;
+        second_words = mapped;
+        mapped = m;
+        only = only;
+        back = back;
+        seen = transcript_of first.sale first.words s;
+        first_seen = refl;
+        second_seen = t;
+        is = is;
+      }) e)
 
   -- and it is that of a job that is done
   pub answered-done : (result : Result Answer Stop) → AnswersSales s out first second result →
@@ -62,25 +65,22 @@ module _ (s : Point) (out : List ℕ) (first : SaleRead) (second : SaleRecord) w
 
 -- the reply for sales that agree
 pub replies-agreed : (out : List ℕ) (first : SaleRead) (mapped : Words) (seen one two bytes : List ℕ) (end : SaleEnd) (rounds : ℕ)
-    (files : List File) (reply : Answer) →
+    (told reply : Answer) →
     end ≡ finish_read first → rounds ≡ rounds_read first → one ≡ seen → two ≡ seen → bytes ≡ bundle_bytes mapped →
-    files ≡ files_of_worlds out one two bytes → reply ≡ telling_equal (end_answer first.sale.rows end rounds) files →
+    told ≡ end_answer first.sale.rows end rounds → reply ≡ telling_equal told (files_of_worlds out one two bytes) →
     reply ≡ agreed_answer out first seen mapped
-replies-agreed out first mapped seen one two bytes end rounds files reply f r a b w fs is = rw (is, fs, f, r, a, b, w) refl
+replies-agreed out first mapped seen one two bytes end rounds told reply f r a b w t is = rw (is, t, f, r, a, b, w) refl
 
-module _ (s : Point) (first second : List SaleBid) where
-  -- the line of a refusal tells the sales apart
-  told-apart : (fault : SaleFault) → RefusesMap s first second fault → (text : List ℕ) → IsLineOf fault text →
-      IsSomeAnd (difference_between s first second) (λ difference. text ≡ refused_text difference)
-  told-apart (ShapeDiffers bidder) r text t = rw (the-difference s first second (ShapeDiffers bidder) r) t
-  told-apart (OwnBidsDiffer bidder) r text t = rw (the-difference s first second (OwnBidsDiffer bidder) r) t
-  told-apart (SalesDiffer one other) r text t = rw (the-difference s first second (SalesDiffer one other) r) t
-  told-apart MemoryOut r text t = absurd t
-
-  pub refused-answers : (fault : SaleFault) → RefusesMap s first second fault → (stop : Stop) → TellsRefusal fault stop →
-      TellsApart s first second stop
-  refused-answers fault r (Refused refusal line) t = (t.0, told-apart fault r line.items t.1)
-  refused-answers fault r OutOfMemory t = tt
+-- the line of a refusal tells the sales apart
+pub refused-answers : (s : Point) (first second : List SaleBid) (fault : SaleFault) → RefusesMap s first second fault →
+    (stop : Stop) → TellsRefusal fault stop → TellsApart refused_text (difference_between s first second) stop
+refused-answers s first second (ShapeDiffers bidder) r stop t =
+    apart-told refused_text _ (ShapeDiffers bidder) stop (the-difference s first second (ShapeDiffers bidder) r) t
+refused-answers s first second (OwnBidsDiffer bidder) r stop t =
+    apart-told refused_text _ (OwnBidsDiffer bidder) stop (the-difference s first second (OwnBidsDiffer bidder) r) t
+refused-answers s first second (SalesDiffer one other) r stop t =
+    apart-told refused_text _ (SalesDiffer one other) stop (the-difference s first second (SalesDiffer one other) r) t
+refused-answers s first second MemoryOut r stop t = rw t (apart-memory refused_text (difference_between s first second))
 
 -- a list that is cut to so many has no more
 few : (n : ℕ) (words : List ℕ) → take n words ≡ words → length words ≤ n

@@ -2,38 +2,19 @@
 
 ghost use Rattle.std.specs.Prelude.{◌≡◌, IfErr, IfOk};
 ghost use Rattle.beet_words.specs.Bundles.{bundle_bytes};
-ghost use Rattle.beet_errand.specs.Worlds.{telling_equal};
-ghost use Rattle.beet_job_sale.specs.SaleAnswers.{end_answer};
-ghost use Rattle.beet_job_sale.specs.SaleTexts.{IsOfBidders};
 ghost use Rattle.beet_job_sale_pair.specs.Answering.{agreed_answer, transcript_of};
 ghost use Rattle.beet_job_sale_pair.specs.Ending.{AnswersSales};
 
-use crate::refusing::refusal;
-use beet_errand::{NewFile, Reply, Stop, worlds_files};
+use crate::refusing::refuse_sales;
+use beet_errand::{Reply, Stop};
 use beet_field::Point;
 use beet_highbid::sale_map;
 use beet_job_sale::sale_reply;
-use beet_sale_file::{Sale, SaleRow};
+use beet_sale_file::Sale;
 use beet_sale_load::SaleWithWords;
-use beet_sale_plan::SaleEnd;
 use beet_sale_run::{SeenSale, see_sale};
 use beet_words::write_bundle;
 use std::alloc::{AllocError, Global};
-
-/// The reply that tells how the first sale ended, and that the transcripts are equal, and puts these files.
-fn equal_reply(
-    alloc: Global,
-    rows: &[SaleRow],
-    end: SaleEnd,
-    rounds: u32,
-    files: Vec<NewFile>,
-) -> Result<Reply, AllocError>
-    requires { IsOfBidders rows.now end }
-    ensures { IfOk result (λ reply. reply ≡ telling_equal (end_answer rows.now end rounds) files.items) }
-{
-    let reply = sale_reply(alloc, rows, end, rounds)?;
-    reply.telling_equal(files)
-}
 
 /// The bundle of the words of a sale.
 fn words_file(alloc: Global, whole: &SaleWithWords) -> Result<Vec<u8>, AllocError>
@@ -65,8 +46,8 @@ fn agreed_reply(
         rounds,
         transcript,
     } = first_seen;
-    let files = worlds_files(alloc, out, transcript, second_seen.transcript, words)?;
-    Ok(equal_reply(alloc, first.sale.rows(), end, rounds, files)?)
+    let reply = sale_reply(alloc, first.sale.rows(), end, rounds)?;
+    Ok(reply.telling_worlds(alloc, out, transcript, second_seen.transcript, words)?)
 }
 
 /// The answer for two sales with the same gates: they are refused if they do not agree for server `me`.
@@ -90,6 +71,6 @@ pub(crate) fn answer_both(
             drop(second);
             reply
         }
-        Err(fault) => Err(refusal(alloc, fault)),
+        Err(fault) => Err(refuse_sales(alloc, fault)),
     }
 }

@@ -1,6 +1,7 @@
 //! The job `pair`.
 
 ghost use Rattle.beet_errand.specs.Tasks.{DoesTask};
+ghost use Rattle.beet_pair_words.specs.Pairs.{of_pair};
 ghost use Rattle.beet_job_sale_pair.specs.Ending.{pair_task};
 
 use crate::answering::answer_both;
@@ -21,9 +22,7 @@ pub fn pair<S: Shelf>(
     files: &PairFiles<'_>,
     server: Point,
 ) -> Result<Reply, Stop>
-    ensures { DoesTask (pair_task files.now.first.now files.now.second.now files.now.servers.now server
-        files.now.out.now)
-        (S.seen shelf.old) (S.seen shelf.new) result }
+    ensures { DoesTask (of_pair pair_task files.now server) (S.seen shelf.old) (S.seen shelf.new) result }
 {
     let first = load_sale(alloc, shelf, files.first, files.servers)?;
     let second = load_second(alloc, shelf, files.second, first.sale.gates());

@@ -1,11 +1,11 @@
-//! The lines that refuse two sales.
+//! The refusal of two sales.
 
-ghost use Rattle.std.specs.Prelude.{◌≡◌, ◌++◌, IfOk, codes, decimal};
-ghost use Rattle.beet_errand.specs.Texts.{line_of};
+ghost use Rattle.std.specs.Prelude.{◌≡◌, IfOk};
 ghost use Rattle.beet_job_sale_pair.specs.Differences.{refused_text};
-ghost use Rattle.beet_job_sale_pair.specs.Ending.{IsLineOf, TellsRefusal};
+ghost use Rattle.beet_job_sale_pair.specs.Ending.{TellsRefusal};
 
-use beet_errand::{OwnRefusal, Refusal, Stop};
+use beet_differences::{refuse_bidder, refuse_worlds};
+use beet_errand::Stop;
 use beet_sale_map::{SaleFault, SaleResult};
 use std::alloc::{AllocError, Global};
 
@@ -21,33 +21,19 @@ fn results_line(alloc: Global, one: SaleResult, other: SaleResult) -> Result<Vec
     Ok(line.into_bytes())
 }
 
-/// The line for two sales of which one bidder differs, for this reason.
-fn bidder_line(alloc: Global, reason: &str, bidder: u32) -> Result<Vec<u8>, AllocError>
-    ensures { IfOk result (λ line.
-        line.items ≡ line_of (codes "sales refused " ++ reason.now ++ codes " " ++ decimal bidder)) }
-{
-    let line = format!(in alloc; "sales refused {reason} {bidder}\n")?;
-    Ok(line.into_bytes())
-}
-
-/// The line for two sales whose words are not mapped.
-fn refused_line(alloc: Global, fault: SaleFault) -> Result<Vec<u8>, AllocError>
-    ensures { IfOk result (λ line. IsLineOf fault line.items) }
-{
-    match fault {
-        SaleFault::ShapeDiffers(bidder) => bidder_line(alloc, "shape", bidder),
-        SaleFault::OwnBidsDiffer(bidder) => bidder_line(alloc, "own bids", bidder),
-        SaleFault::SalesDiffer(one, other) => results_line(alloc, one, other),
-        SaleFault::OutOfMemory => Err(AllocError),
-    }
-}
-
-/// Refuses two sales whose words are not mapped.
-pub(crate) fn refusal(alloc: Global, fault: SaleFault) -> Stop
+/// Refuses two sales whose words are not mapped, by the line of the fault.
+pub(crate) fn refuse_sales(alloc: Global, fault: SaleFault) -> Stop
     ensures { TellsRefusal fault result }
 {
-    Stop::of_line(
-        Refusal::Own(OwnRefusal::OfWorlds),
-        refused_line(alloc, fault),
-    )
+    match fault {
+        SaleFault::ShapeDiffers(bidder) => refuse_bidder(alloc, "sales refused", "shape", bidder),
+        SaleFault::OwnBidsDiffer(bidder) => refuse_bidder(
+            alloc,
+            "sales refused",
+            "own bids",
+            bidder,
+        ),
+        SaleFault::SalesDiffer(one, other) => refuse_worlds(results_line(alloc, one, other)),
+        SaleFault::OutOfMemory => Stop::OutOfMemory,
+    }
 }

@@ -4,4 +4,4 @@
 mod running;
 mod telling;
 
-pub use running::{SessionFiles, session};
+pub use running::session;

@@ -11,9 +11,8 @@ ghost use Rattle.beet_job_session.specs.Sessions.{session_job};
 use crate::telling::tell_lot;
 use beet_book::Servers;
 use beet_errand::{Reply, Stop};
-use beet_forms::beside;
 use beet_lot_files::LotRow;
-use beet_lot_load::{LotsTold, read_lots, read_seeds};
+use beet_lot_load::{LotsTold, SessionFiles, load_session};
 use beet_store::Shelf;
 use std::alloc::Global;
 
@@ -35,13 +34,6 @@ fn tell_lots<S: Shelf>(
     Ok(told)
 }
 
-/// The names of the files of the job.
-#[derive(Clone, Copy)]
-pub struct SessionFiles<'a> {
-    pub session: &'a str,
-    pub servers: &'a str,
-}
-
 /// The outcome of each lot of a session, and the rounds in which three servers find it: `session SESSION SERVERS`. Each
 /// lot is read and run before the next one is read, in lockstep on the caller's thread.
 pub fn session<S: Shelf>(
@@ -53,8 +45,7 @@ pub fn session<S: Shelf>(
     ensures reads { Reads (λ reply. reply) (S.seen shelf.old) (S.seen shelf.new)
         (session_job files.now.session.now files.now.servers.now) result }
 {
-    let lots = read_lots(alloc, shelf, files.session)?;
-    let (lots, sources) = beside(lots, read_seeds(alloc, shelf, files.servers))?;
+    let (lots, sources) = load_session(alloc, shelf, files)?;
     let told = tell_lots(alloc, shelf, &sources, lots.rows());
     drop(sources);
     drop(lots);

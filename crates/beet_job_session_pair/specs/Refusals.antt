@@ -1,7 +1,7 @@
 -- The line that tells two sessions apart.
 use Rattle.std.specs.Prelude.{◌≡◌, ℕ, List, [], ◌++◌, codes, decimal}
 use Rattle.beet_errand.specs.Texts.{line_of}
-use Rattle.beet_job_worlds.specs.Differences.{outcome_word}
+use Rattle.beet_run.specs.OutcomeTexts.{outcome_word}
 use Rattle.beet_lot_map.specs.declared.mapping.SessionFault.{SessionFault}
 use Rattle.beet_lot_map.specs.declared.mapping.SessionFault.TheVariants.{LotsDiffer, GridDiffers, ShapeDiffers}
 use Rattle.beet_lot_map.specs.declared.mapping.SessionFault.TheVariants.{OwnBidsDiffer, OutcomesDiffer, OutOfMemory}

@@ -17,7 +17,7 @@ ghost use Rattle.beet_job_session_pair.specs.Starting.{CanStartEach};
 use crate::refusing::refusal;
 use crate::sessions::{BothSessions, WholeLots};
 use beet_bids::Book;
-use beet_errand::{Reply, Stop, worlds_files};
+use beet_errand::{Reply, Stop};
 use beet_field::Point;
 use beet_lot_files::LotRow;
 use beet_lot_load::LotsTold;
@@ -121,14 +121,13 @@ impl SeenSessions {
             words,
             told,
         } = self;
-        let files = worlds_files(
+        told.into_reply(alloc).telling_worlds(
             alloc,
             out,
             first.into_bytes(),
             second.into_bytes(),
             words.into_bytes(),
-        )?;
-        told.into_reply(alloc).telling_equal(files)
+        )
     }
 }
 

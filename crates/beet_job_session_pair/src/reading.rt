@@ -17,7 +17,7 @@ use beet_errand::Stop;
 use beet_forms::beside;
 use beet_load::{check_product, load_curves, load_whole_rest, read_entries, read_grid};
 use beet_lot_files::LotRow;
-use beet_lot_load::{read_lots, read_seeds};
+use beet_lot_load::{SessionFiles, load_session, read_lots};
 use beet_store::Shelf;
 use std::alloc::Global;
 
@@ -135,8 +135,11 @@ pub(crate) fn read_both<S: Shelf>(
     ensures reads { Reads both_of (S.seen shelf.old) (S.seen shelf.new) (both_errand first.now second.now servers.now)
         result }
 {
-    let rows = read_lots(alloc, shelf, first)?;
-    let (rows, sources) = beside(rows, read_seeds(alloc, shelf, servers))?;
+    let files = SessionFiles {
+        session: first,
+        servers,
+    };
+    let (rows, sources) = load_session(alloc, shelf, &files)?;
     let lots = read_wholes(alloc, shelf, &sources, rows.rows());
     drop(sources);
     let (rows, lots) = beside(rows, lots)?;

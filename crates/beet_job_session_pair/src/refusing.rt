@@ -1,8 +1,7 @@
 //! The lines that refuse two sessions.
 
-ghost use Rattle.std.specs.Prelude.{◌≡◌, ◌++◌, IfOk, codes, decimal, string_bytes};
+ghost use Rattle.std.specs.Prelude.{◌≡◌, ◌++◌, IfOk, codes, decimal};
 ghost use Rattle.beet_errand.specs.Texts.{line_of};
-ghost use Rattle.beet_job_worlds.specs.Differences.{outcome_word as word_of};
 ghost use Rattle.beet_lot_map.specs.declared.mapping.SessionFault.TheVariants.{OutcomesDiffer};
 ghost use Rattle.beet_job_session_pair.specs.Ending.{TellsRefusal};
 ghost use Rattle.beet_job_session_pair.specs.Refusals.{IsLineOf, of_lot, refused_text};
@@ -10,27 +9,8 @@ ghost use Rattle.beet_job_session_pair.specs.Refusals.{IsLineOf, of_lot, refused
 use beet_bids::Outcome;
 use beet_errand::{OwnRefusal, Refusal, Stop};
 use beet_lot_map::SessionFault;
-use beet_run::opened_as_text;
+use beet_run::outcome_word;
 use std::alloc::{AllocError, Global};
-
-/// An outcome as a refusal tells it: its price, with the volume and the supply if they are opened.
-fn outcome_word(alloc: Global, outcome: Outcome) -> Result<String, AllocError>
-    ensures { IfOk result (λ word. string_bytes word ≡ word_of outcome) }
-{
-    let Outcome::Price {
-        price,
-        volume,
-        supply,
-        ..
-    } = outcome
-    else {
-        return String::from_str(alloc, "none");
-    };
-    let volume = opened_as_text(alloc, "/", "", volume)?;
-    let supply = opened_as_text(alloc, "/", "", supply)?;
-    let word = format!(in alloc; "{price}{volume}{supply}")?;
-    Ok(word)
-}
 
 /// The line for sessions of different numbers of lots.
 fn lots_line(alloc: Global, first: u32, second: u32) -> Result<Vec<u8>, AllocError>

@@ -1,25 +1,41 @@
 //! The job.
 
-ghost use Rattle.std.specs.Prelude.{IfOk};
+ghost use Rattle.std.specs.Prelude.{◌≡◌, ◌*◌, IfErr, IfOk, length};
+ghost use Rattle.beet_field.specs.Trio.{member};
+ghost use Rattle.beet_field.specs.declared.point.Point.{Point};
 ghost use Rattle.beet_errand.specs.Fetches.{IsDone, Reads};
-ghost use Rattle.beet_job_watch.specs.Watch.{watch_job};
+ghost use Rattle.beet_load.specs.Files.{of_files};
+ghost use Rattle.beet_load.specs.Loading.{AuctionWithBidders, IsKeptOf};
+ghost use Rattle.beet_job_watch.specs.Watch.{watch_job, watched};
 
 use crate::running::watch_auction;
 use crate::telling::watched_reply;
 use beet_errand::{Reply, Stop};
-use beet_load::load;
+use beet_load::{AuctionFiles, Loaded, load};
 use beet_store::Shelf;
 use std::alloc::Global;
 use std::sync::Wait;
 use std::thread::Threads;
 use std::time::Clock;
 
-/// The names of the files of the job.
-#[derive(Clone, Copy)]
-pub struct WatchFiles<'a> {
-    pub auction: &'a str,
-    pub servers: &'a str,
-    pub book: &'a str,
+/// The reply for an auction that is read. Want of memory is the only error.
+fn reply_for<R: Threads + Wait + Clock + Sync>(
+    rt: &R,
+    alloc: Global,
+    loaded: Loaded,
+) -> Result<Reply, Stop>
+    requires inputs { (i : Point) → length (member loaded.inputs i) ≡ 2 * loaded.grid.prices }
+    ensures memory { IfErr result (λ stop. stop ≡ Stop.OutOfMemory) }
+    ensures done { IfOk result (λ reply. IsDone reply.status) }
+    ensures tells { (read : AuctionWithBidders) → IsKeptOf loaded read → IfOk result (λ reply. reply ≡ watched read) }
+{
+    let Loaded {
+        grid,
+        servers,
+        inputs,
+    } = loaded;
+    let ended = watch_auction(rt, alloc, &grid, inputs, servers)?;
+    Ok(watched_reply(alloc, &grid, &ended)?)
 }
 
 /// The outcome of a book, the rounds in which three servers find it, and how many notes the desk took of each and how
@@ -28,14 +44,11 @@ pub fn watch<S: Shelf, R: Threads + Wait + Clock + Sync>(
     rt: &R,
     alloc: Global,
     shelf: &mut S,
-    files: &WatchFiles<'_>,
+    files: &AuctionFiles<'_>,
 ) -> Result<Reply, Stop>
     ensures done { IfOk result (λ reply. IsDone reply.status) }
-    ensures reads { Reads (λ reply. reply) (S.seen shelf.old) (S.seen shelf.new)
-        (watch_job files.now.auction.now files.now.servers.now files.now.book.now) result }
+    ensures reads { Reads (λ reply. reply) (S.seen shelf.old) (S.seen shelf.new) (of_files watch_job files.now) result }
 {
-    let loaded = load(alloc, shelf, files.auction, files.servers, files.book)?;
-    let grid = loaded.grid;
-    let ended = watch_auction(rt, alloc, &grid, loaded.inputs, loaded.servers)?;
-    Ok(watched_reply(alloc, &grid, &ended)?)
+    let loaded = load(alloc, shelf, files)?;
+    reply_for(rt, alloc, loaded)
 }

@@ -6,4 +6,4 @@ mod job;
 mod running;
 mod telling;
 
-pub use job::{WatchFiles, watch};
+pub use job::watch;

@@ -5,4 +5,4 @@
 mod keeping;
 mod witnessing;
 
-pub use witnessing::{WitnessFiles, witness};
+pub use witnessing::witness;

@@ -2,7 +2,7 @@
 
 ghost use Rattle.std.specs.Prelude.{◌≤◌, IfOk, length};
 ghost use Rattle.beet_errand.specs.Fetches.{IsDone, Reads};
-ghost use Rattle.beet_job_witness.specs.Witness.{kept_job, list_job, witness_job};
+ghost use Rattle.beet_job_witness.specs.Witness.{kept_job, witness_job};
 ghost use Rattle.beet_words.specs.declared.bundle.TheConstants.{MOST_BIDDERS};
 
 use crate::keeping::KeptBidders;
@@ -11,9 +11,9 @@ use beet_bids::Grid;
 use beet_book::Servers;
 use beet_errand::{Reply, Stop};
 use beet_farmer::ListEntry;
-use beet_gathering::{gather_bidders, read_entries};
+use beet_gathering::{ListFiles, gather_bidders, read_listed};
 use beet_link::Gate;
-use beet_load::{AllWords, auction_wants, check_product, read_grid, read_sources, read_words};
+use beet_load::{AllWords, auction_wants, check_product, read_words};
 use beet_store::Shelf;
 use beet_transcripts::reply_of_run;
 use std::alloc::Global;
@@ -60,59 +60,32 @@ fn witness_entries<S: Shelf, R: Threads + Wait + Clock + Sync, G: Gate>(
     Ok(reply_of_run(rt, alloc, grid, seen, cores, out)?)
 }
 
-/// The reply for the bids in the envelopes of a list file. Right after it was read, the list is refused at row 0 for
-/// the reason 6 if its bidders, each counted once for each price, are more than 500,000.
-fn witness_list<S: Shelf, R: Threads + Wait + Clock + Sync, G: Gate>(
-    rt: &R,
-    alloc: Global,
-    shelf: &mut S,
-    setting: &Setting<'_>,
-    list: &str,
-    gate: &G,
-) -> Result<Reply, Stop>
-    ensures done { IfOk result (λ reply. IsDone reply.status) }
-    ensures reads { Reads (λ reply. reply) (S.seen shelf.old) (S.seen shelf.new)
-        (list_job setting.now.out.now setting.now.grid.now setting.now.sources.now list.now) result }
-{
-    let entries = read_entries(alloc, shelf, list)?;
-    check_product(alloc, 0, list, setting.grid, entries.len())?;
-    let witnessed = witness_entries(rt, alloc, shelf, setting, entries.as_slice(), gate);
-    // One call lets them go: else the proof of this way out goes through each of their parts.
-    drop(entries);
-    witnessed
-}
-
-/// The names of the files of the job, and the name with which those that it puts begin.
-#[derive(Clone, Copy)]
-pub struct WitnessFiles<'a> {
-    pub auction: &'a str,
-    pub servers: &'a str,
-    pub list: &'a str,
-    pub out: &'a str,
-}
-
 /// Opens the envelopes of a list as the job `open` does, in threads and under the gate where `run_servers` says so.
 /// What each server has seen is put into the file of the name `out`, a dot and the server's number; the text is that of
-/// `open`. The points in the envelopes need not lie on lines.
+/// `open`. The points in the envelopes need not lie on lines. Right after it was read, the list is refused at row 0 for
+/// the reason 6 if its bidders, each counted once for each price, are more than 500,000.
 pub fn witness<S: Shelf, R: Threads + Wait + Clock + Sync, G: Gate>(
     rt: &R,
     alloc: Global,
     shelf: &mut S,
-    files: &WitnessFiles<'_>,
+    files: &ListFiles<'_>,
+    out: &str,
     gate: &G,
 ) -> Result<Reply, Stop>
     ensures done { IfOk result (λ reply. IsDone reply.status) }
     ensures reads { Reads (λ reply. reply) (S.seen shelf.old) (S.seen shelf.new)
-        (witness_job files.now.auction.now files.now.servers.now files.now.list.now files.now.out.now) result }
+        (witness_job files.now.auction.now files.now.servers.now files.now.list.now out.now) result }
 {
-    let grid = read_grid(alloc, shelf, files.auction)?;
-    let sources = read_sources(alloc, shelf, files.servers)?;
+    let (grid, sources, entries) = read_listed(alloc, shelf, files)?;
+    check_product(alloc, 0, files.list, &grid, entries.len())?;
     let setting = Setting {
         grid: &grid,
         sources: &sources,
-        out: files.out,
+        out,
     };
-    let witnessed = witness_list(rt, alloc, shelf, &setting, files.list, gate);
+    let witnessed = witness_entries(rt, alloc, shelf, &setting, entries.as_slice(), gate);
+    // One call lets them go: else the proof of this way out goes through each of their parts.
+    drop(entries);
     drop(sources);
     witnessed
 }

@@ -1,29 +1,30 @@
 -- The answer for two books.
 use Rattle.std.proofs.Common.{◌≡◌, ℕ, List, Result, Ok, Err, IfOk, IfErr, refl}
-use Rattle.std.specs.Prelude.{IsSomeAnd}
+use Rattle.std.proofs.lemmas.Result.{IfOk-weaker}
 use Rattle.beet_field.specs.declared.point.Point.{Point}
 use Rattle.beet_words.specs.Bundles.{Words, bundle_bytes}
 use Rattle.beet_bids.specs.Books.{Book}
 use Rattle.beet_bids.specs.Grids.{Grid}
 use Rattle.beet_plan.specs.declared.Finish.{Finish}
 use Rattle.beet_auction.specs.Endings.{book_finish, book_rounds}
-use Rattle.beet_store.specs.Files.{File}
 use Rattle.beet_run.specs.Outcomes.{outcome_answer}
 use Rattle.beet_errand.specs.Worlds.{files_of_worlds, telling_equal}
 use Rattle.beet_errand.specs.Errands.{Answer}
 use Rattle.beet_errand.specs.Fetches.{IsDone}
 use Rattle.beet_errand.specs.declared.answer.Stop.{Stop}
-use Rattle.beet_errand.specs.declared.answer.Stop.TheVariants.{Refused, OutOfMemory}
-use Rattle.beet_auction_map.specs.Agreement.{Agree}
+use Rattle.beet_errand.specs.declared.answer.Stop.TheVariants.{OutOfMemory}
+use Rattle.beet_differences.specs.Comparing.{TellsApart}
+use Rattle.beet_differences.proofs.Comparing.{apart-memory, apart-told, both-answers}
+use Rattle.beet_two_books.specs.Agreement.{Agree}
 use Rattle.beet_auction_map.specs.Disagreement.{RefusesMap}
 use Rattle.beet_auction_map.specs.MappedWords.{IsOnlyFirst, IsOnlySecond, Mapped}
-use Rattle.beet_auction_map.specs.declared.agreeing.MapFault.{MapFault}
-use Rattle.beet_auction_map.specs.declared.agreeing.MapFault.TheVariants.{ShapeDiffers, OwnBidsDiffer, OutcomesDiffer}
-use Rattle.beet_auction_map.specs.declared.agreeing.MapFault.TheVariants.{OutOfMemory as MemoryOut}
+use Rattle.beet_two_books.specs.declared.agreeing.MapFault.{MapFault}
+use Rattle.beet_two_books.specs.declared.agreeing.MapFault.TheVariants.{ShapeDiffers, OwnBidsDiffer, OutcomesDiffer}
+use Rattle.beet_two_books.specs.declared.agreeing.MapFault.TheVariants.{OutOfMemory as MemoryOut}
 use Rattle.beet_job_worlds.specs.Differences.{difference_between, refused_text}
-use Rattle.beet_job_worlds.specs.Answering.{agreed_answer}
+use Rattle.beet_job_worlds.specs.Answering.{ShowsTheSame, agreed_answer}
 use Rattle.beet_view.specs.BookViews.{transcript_for}
-use Rattle.beet_job_worlds.specs.Ending.{AnswersBooks, IsLineOf, TellsApart, TellsRefusal}
+use Rattle.beet_job_worlds.specs.Ending.{AnswersBooks, TellsRefusal}
 use Rattle.beet_job_worlds.proofs.DifferenceFacts.{the-difference}
 use Rattle.beet_run.proofs.StatusFacts.{status-done}
 
@@ -34,19 +35,19 @@ module _ (s : Point) (out : List ℕ) (first : Book) (words : Words) (second : B
       IsOnlyFirst s first words second mapped → (result : Result Answer Stop) → IfErr result (λ stop. stop ≡ OutOfMemory) →
       IfOk result (λ answer. answer ≡ agreed_answer out first words (transcript_for first words s) mapped) →
       AnswersBooks s out first words second result
-  agreed-answers mapped a m t only back (Ok answer) h e = record {
-    agree = a;
-    second_words = mapped;
-    mapped = m;
-    only = only;
-    back = back;
-    seen = transcript_for first words s;
-    first_seen = refl;
-    second_seen = t;
-    is = e;
-  }
-  agreed-answers mapped a m t only back (Err OutOfMemory) h e = tt
-  agreed-answers mapped a m t only back (Err (Refused refusal line)) h e = absurd (cc h)
+  agreed-answers mapped a m t only back result h e =
+      both-answers refused_text (ShowsTheSame s out first words second) (difference_between s first second) result h
+      (IfOk-weaker result _ _ (λ answer is. record {
+        agree = a;
+        second_words = mapped;
+        mapped = m;
+        only = only;
+        back = back;
+        seen = transcript_for first words s;
+        first_seen = refl;
+        second_seen = t;
+        is = is;
+      }) e)
 
   -- and it is that of a job that is done
   pub answered-done : (result : Result Answer Stop) → AnswersBooks s out first words second result →
@@ -56,25 +57,22 @@ module _ (s : Point) (out : List ℕ) (first : Book) (words : Words) (second : B
 
 -- the reply for books that agree
 pub replies-agreed : (out : List ℕ) (first : Book) (words mapped : Words) (seen one two bytes : List ℕ) (finish : Finish) (rounds : ℕ)
-    (grid : Grid) (files : List File) (reply : Answer) →
+    (grid : Grid) (told reply : Answer) →
     grid ≡ first.grid → finish ≡ book_finish first words.masks → rounds ≡ book_rounds first words.masks →
     one ≡ seen → two ≡ seen → bytes ≡ bundle_bytes mapped →
-    files ≡ files_of_worlds out one two bytes →
-    reply ≡ telling_equal (outcome_answer grid finish rounds) files →
+    told ≡ outcome_answer grid finish rounds →
+    reply ≡ telling_equal told (files_of_worlds out one two bytes) →
     reply ≡ agreed_answer out first words seen mapped
-replies-agreed out first words mapped seen one two bytes finish rounds grid files reply g f r a b w fs is =
-    rw (is, fs, g, f, r, a, b, w) refl
+replies-agreed out first words mapped seen one two bytes finish rounds grid told reply g f r a b w t is =
+    rw (is, t, g, f, r, a, b, w) refl
 
-module _ (s : Point) (first second : Book) where
-  -- the line of a refusal tells the books apart
-  told-apart : (fault : MapFault) → RefusesMap s first second fault → (text : List ℕ) → IsLineOf fault text →
-      IsSomeAnd (difference_between s first second) (λ difference. text ≡ refused_text difference)
-  told-apart (ShapeDiffers bidder) r text t = rw (the-difference s first second (ShapeDiffers bidder) r) t
-  told-apart (OwnBidsDiffer bidder) r text t = rw (the-difference s first second (OwnBidsDiffer bidder) r) t
-  told-apart (OutcomesDiffer one other) r text t = rw (the-difference s first second (OutcomesDiffer one other) r) t
-  told-apart MemoryOut r text t = absurd t
-
-  pub refused-answers : (fault : MapFault) → RefusesMap s first second fault → (stop : Stop) → TellsRefusal fault stop →
-      TellsApart s first second stop
-  refused-answers fault r (Refused refusal line) t = (t.0, told-apart fault r line.items t.1)
-  refused-answers fault r OutOfMemory t = tt
+-- the line of a refusal tells the books apart
+pub refused-answers : (s : Point) (first second : Book) (fault : MapFault) → RefusesMap s first second fault → (stop : Stop) →
+    TellsRefusal fault stop → TellsApart refused_text (difference_between s first second) stop
+refused-answers s first second (ShapeDiffers bidder) r stop t =
+    apart-told refused_text _ (ShapeDiffers bidder) stop (the-difference s first second (ShapeDiffers bidder) r) t
+refused-answers s first second (OwnBidsDiffer bidder) r stop t =
+    apart-told refused_text _ (OwnBidsDiffer bidder) stop (the-difference s first second (OwnBidsDiffer bidder) r) t
+refused-answers s first second (OutcomesDiffer one other) r stop t =
+    apart-told refused_text _ (OutcomesDiffer one other) stop (the-difference s first second (OutcomesDiffer one other) r) t
+refused-answers s first second MemoryOut r stop t = rw t (apart-memory refused_text (difference_between s first second))

@@ -6,7 +6,7 @@ use Rattle.beet_words.specs.Bundles.{Words, bundle_bytes}
 use Rattle.beet_bids.specs.Books.{Book}
 use Rattle.beet_auction.specs.Endings.{book_finish, book_rounds}
 use Rattle.beet_view.specs.BookViews.{transcript_for}
-use Rattle.beet_auction_map.specs.Agreement.{Agree}
+use Rattle.beet_two_books.specs.Agreement.{Agree}
 use Rattle.beet_auction_map.specs.MappedWords.{IsOnlyFirst, IsOnlySecond, Mapped}
 use Rattle.beet_errand.specs.Errands.{Answer}
 use Rattle.beet_errand.specs.Worlds.{equal_text, files_of_worlds}

@@ -1,37 +1,42 @@
 -- How the job `worlds` ends.
-use Rattle.std.specs.Prelude.{◌≡◌, ℕ, List, Option, Some, None, Result, Ok, Err, IsSomeAnd}
+use Rattle.std.specs.Prelude.{◌≡◌, ℕ, List, Option, Result}
 use Rattle.beet_field.specs.declared.point.Point.{Point}
 use Rattle.beet_words.specs.Bundles.{Words}
 use Rattle.beet_bids.specs.Books.{Book}
-use Rattle.beet_auction_map.specs.declared.agreeing.MapFault.{MapFault}
-use Rattle.beet_auction_map.specs.declared.agreeing.MapFault.TheVariants.{OutOfMemory as MemoryOut}
-use Rattle.beet_errand.specs.Errands.{Answer, Errand, Step, gives, refuses, ◌>>=◌, ◌>>◌}
+use Rattle.beet_two_books.specs.declared.agreeing.MapFault.{MapFault}
+use Rattle.beet_two_books.specs.declared.agreeing.MapFault.TheVariants.{OutOfMemory as MemoryOut}
+use Rattle.beet_errand.specs.Errands.{Answer, Errand, Step}
+use Rattle.beet_errand.specs.Fetches.{Refuses}
 use Rattle.beet_errand.specs.Tasks.{Shows, ShowsRead, Task, ToShow}
 use Rattle.beet_errand.specs.declared.answer.OwnRefusal.TheVariants.{OfWorlds}
 use Rattle.beet_errand.specs.declared.answer.Refusal.TheVariants.{Own}
 use Rattle.beet_errand.specs.declared.answer.Stop.{Stop}
-use Rattle.beet_errand.specs.declared.answer.Stop.TheVariants.{Refused, OutOfMemory}
+use Rattle.beet_errand.specs.declared.answer.Stop.TheVariants.{OutOfMemory}
+use Rattle.beet_differences.specs.Comparing.{AnswersBoth, compared, unless_apart}
 use Rattle.beet_job_worlds.specs.Differences.{difference_between, refused_text}
 use Rattle.beet_job_worlds.specs.Reading.{Both, both_errand, first_book, second_book, words_read}
 use Rattle.beet_job_worlds.specs.Answering.{ShowsTheSame}
 
 -- two books go on together where there is no difference between them; else the job ends with its line
 abbrev pub unless_differing : Option MapFault → Errand → Errand
-unless_differing None next = next
-unless_differing (Some difference) next = refuses (Own OfWorlds) (refused_text difference)
+unless_differing = unless_apart refused_text
+
+-- the difference between two books that are read
+abbrev pub difference_read : Point → Both → Option MapFault
+difference_read s both = difference_between s (first_book both) (second_book both)
 
 -- both books are read, and they are refused where one server can tell them apart
 abbrev pub compared_errand : List ℕ → List ℕ → List ℕ → List ℕ → Point → Step Both
-compared_errand auction servers book1 book2 s = do
-  both ← both_errand auction servers book1 book2
-  unless_differing (difference_between s (first_book both) (second_book both))
-  gives both
+compared_errand auction servers book1 book2 s =
+    compared refused_text (difference_read s) (both_errand auction servers book1 book2)
+
+-- an answer shows that two books that are read look the same to the server
+abbrev pub ShowsBoth : Point → List ℕ → Both → Answer → Type 0
+ShowsBoth s out both = ShowsTheSame s out (first_book both) (words_read both) (second_book both)
 
 -- both books are read, and the answer shows that they look the same to the server
 abbrev pub ShowsWorlds : List ℕ → List ℕ → List ℕ → List ℕ → Point → List ℕ → Shows
-ShowsWorlds auction servers book1 book2 s out =
-    ShowsRead (both_errand auction servers book1 book2)
-    (λ both answer. ShowsTheSame s out (first_book both) (words_read both) (second_book both) answer)
+ShowsWorlds auction servers book1 book2 s out = ShowsRead (both_errand auction servers book1 book2) (ShowsBoth s out)
 
 -- the job compares both books, and its answer shows that
 abbrev pub worlds_task : List ℕ → List ℕ → List ℕ → List ℕ → Point → List ℕ → Task
@@ -45,17 +50,10 @@ IsLineOf fault text = text ≡ refused_text fault
 
 -- two books are refused by the line of the fault, unless memory ran out
 abbrev pub TellsRefusal : MapFault → Stop → Type 0
-TellsRefusal fault (Refused refusal line) = (refusal ≡ Own OfWorlds) × IsLineOf fault line.items
-TellsRefusal fault OutOfMemory = Unit {0}
-
--- two books are refused by the line of what tells them apart, unless memory ran out
-abbrev pub TellsApart : Point → Book → Book → Stop → Type 0
-TellsApart s first second (Refused refusal line) =
-    (refusal ≡ Own OfWorlds)
-    × IsSomeAnd (difference_between s first second) (λ difference. line.items ≡ refused_text difference)
-TellsApart s first second OutOfMemory = Unit {0}
+TellsRefusal MemoryOut stop = stop ≡ OutOfMemory
+TellsRefusal fault stop = Refuses (Own OfWorlds) (refused_text fault) stop
 
 -- the answer for two books that look the same; or their refusal
 abbrev pub AnswersBooks : Point → List ℕ → Book → Words → Book → Result Answer Stop → Type 0
-AnswersBooks s out first words second (Ok answer) = ShowsTheSame s out first words second answer
-AnswersBooks s out first words second (Err stop) = TellsApart s first second stop
+AnswersBooks s out first words second =
+    AnswersBoth refused_text (difference_between s first second) (ShowsTheSame s out first words second)

@@ -2,40 +2,23 @@
 
 ghost use Rattle.std.specs.Prelude.{◌≡◌, IfErr, IfOk};
 ghost use Rattle.beet_words.specs.Bundles.{FitsBundle};
-ghost use Rattle.beet_errand.specs.Worlds.{telling_equal};
 ghost use Rattle.beet_load.specs.Wholes.{CanStart};
-ghost use Rattle.beet_run.specs.Outcomes.{outcome_answer};
 ghost use Rattle.beet_job_worlds.specs.Answering.{agreed_answer};
 ghost use Rattle.beet_view.specs.BookViews.{transcript_for};
 ghost use Rattle.beet_job_worlds.specs.Ending.{AnswersBooks};
 
-use crate::refusing::refusal;
+use crate::refusing::refuse_books;
 use beet_auction_map::world_map;
-use beet_bids::{Book, Grid};
-use beet_errand::{NewFile, Reply, Stop, worlds_files};
+use beet_bids::Book;
+use beet_errand::{Reply, Stop};
 use beet_field::Point;
 use beet_load::Whole;
-use beet_plan::Finish;
 use beet_run::outcome_reply;
 use beet_transcripts::{SeenRun, see_whole};
 use beet_words::{Words, write_bundle};
-use std::alloc::{AllocError, Global};
+use std::alloc::Global;
 use std::marker::Sync;
 use std::thread::Threads;
-
-/// The reply that tells how the first run ended, and that the transcripts are equal, and puts these files.
-fn equal_reply(
-    alloc: Global,
-    grid: &Grid,
-    finish: Finish,
-    rounds: u32,
-    files: Vec<NewFile>,
-) -> Result<Reply, AllocError>
-    ensures { IfOk result (λ reply. reply ≡ telling_equal (outcome_answer grid.now finish rounds) files.items) }
-{
-    let reply = outcome_reply(alloc, grid, finish, rounds)?;
-    reply.telling_equal(files)
-}
 
 /// Runs both worlds of books that agree, and answers with both transcripts and the words of the second.
 fn agreed_reply<R: Threads + Sync>(
@@ -62,8 +45,8 @@ fn agreed_reply<R: Threads + Sync>(
         rounds,
         transcript,
     } = first_run;
-    let files = worlds_files(alloc, out, transcript, second_run.transcript, words)?;
-    Ok(equal_reply(alloc, whole.book.grid(), finish, rounds, files)?)
+    let reply = outcome_reply(alloc, whole.book.grid(), finish, rounds)?;
+    Ok(reply.telling_worlds(alloc, out, transcript, second_run.transcript, words)?)
 }
 
 /// The answer for two books over one grid: they are refused where they do not agree for server `me`.
@@ -82,6 +65,6 @@ pub(crate) fn answer_both<R: Threads + Sync>(
     let _within_limits = second.grid().prices();
     match world_map(alloc, me, &whole.book, second, &whole.words) {
         Ok(mapped) => agreed_reply(rt, alloc, me, out, whole, second, &mapped),
-        Err(fault) => Err(refusal(alloc, fault)),
+        Err(fault) => Err(refuse_books(alloc, fault)),
     }
 }

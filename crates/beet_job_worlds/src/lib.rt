@@ -7,4 +7,5 @@ mod refusing;
 mod two_worlds;
 
 pub use laws::differences_are_told;
+pub use refusing::refuse_books;
 pub use two_worlds::{WorldsFiles, worlds};

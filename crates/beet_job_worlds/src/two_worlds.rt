@@ -7,7 +7,7 @@ use crate::answering::answer_both;
 use beet_errand::{Reply, Stop};
 use beet_field::Point;
 use beet_forms::beside;
-use beet_load::{load_curves, load_whole};
+use beet_load::{AuctionFiles, load_curves, load_whole};
 use beet_store::Shelf;
 use std::alloc::Global;
 use std::marker::Sync;
@@ -37,7 +37,12 @@ pub fn worlds<S: Shelf, R: Threads + Sync>(
         files.now.second.now server files.now.out.now)
         (S.seen shelf.old) (S.seen shelf.new) result }
 {
-    let whole = load_whole(alloc, shelf, files.auction, files.servers, files.first)?;
+    let first = AuctionFiles {
+        auction: files.auction,
+        servers: files.servers,
+        book: files.first,
+    };
+    let whole = load_whole(alloc, shelf, &first)?;
     let second = load_curves(alloc, shelf, 0, whole.book.grid(), files.second);
     let (whole, second) = beside(whole, second)?;
     let reply = answer_both(rt, alloc, server, files.out, &whole, &second);

@@ -20,7 +20,7 @@ use std::sync::Arc;
 /// The link for the messages of the run of three fresh servers from one of them to another. It has
 /// room for as many messages as the script has rounds, and at least for one. That is for all of them, so
 /// that no put is refused; no other call takes memory.
-pub fn link<S: Script>(
+pub fn link<S: Script<3>>(
     alloc: Global,
     cores: &Trio<ServerCore<S>>,
     from: Point,
@@ -36,7 +36,7 @@ pub fn link<S: Script>(
 }
 
 /// A link with room for so many messages.
-fn open<K: Named<Parcel>, S: Script>(
+fn open<K: Named<Parcel>, S: Script<3>>(
     alloc: Global,
     _cores: &Trio<ServerCore<S>>,
     _from: Point,

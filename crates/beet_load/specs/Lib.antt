@@ -1,4 +1,5 @@
 pub mod Counts
+pub mod Files
 pub mod Wanted
 pub mod Lots
 pub mod WordTexts

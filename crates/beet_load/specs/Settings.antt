@@ -17,6 +17,13 @@ pub record Setting : Type 0 where
   pub sources : Servers
   pub entries : List Entry
 
+-- the grid of an auction, and then where the words of its servers come from
+abbrev pub auction_and_servers : List ℕ → List ℕ → Step (Grid × Servers)
+auction_and_servers auction servers = do
+  grid ← reads auction AUCTION_LIMIT auction_of
+  sources ← reads servers SERVERS_LIMIT servers_of
+  gives (grid, sources)
+
 -- the three files, one after another
 unfoldable pub setting_errand : List ℕ → List ℕ → List ℕ → Step Setting
 setting_errand auction servers book = do

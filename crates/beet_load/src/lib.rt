@@ -6,6 +6,7 @@ mod books;
 mod collecting;
 mod curves;
 mod farmers;
+mod files;
 mod keeping;
 mod limits;
 mod loading;
@@ -22,6 +23,7 @@ pub use curves::load_curves;
 pub use farmers::{
     BidderWithTape, check_words, front, read_bidder, read_curve, read_farmer, read_tape_file,
 };
+pub use files::AuctionFiles;
 pub use keeping::{Farmers, read_farmers};
 pub use limits::check_product;
 pub use loading::{Loaded, lists_in, load, load_rest};
@@ -29,6 +31,7 @@ pub use servers::{
     AllWords, ServerWords, check_three, cut_three, read_server, read_sources, read_words,
     seed_words,
 };
+pub use setting::read_auction_and_servers;
 pub use wanted::{Counts, Wanted, auction_counts, auction_wants};
 pub use whole::Whole;
 pub use whole_loading::{load_whole, load_whole_rest, words_with};

@@ -3,9 +3,11 @@
 ghost use Rattle.std.specs.Prelude.{◌≡◌, ◌≤◌, length, option_map};
 ghost use Rattle.beet_words.specs.declared.bundle.TheConstants.{MOST_BIDDERS};
 ghost use Rattle.beet_errand.specs.Fetches.{ReadsFor};
+ghost use Rattle.beet_load.specs.Files.{of_files};
 ghost use Rattle.beet_load.specs.Loading.{IsKeptOf, loaded_errand, rest_errand};
 
 use crate::collecting::add_farmers;
+use crate::files::AuctionFiles;
 use crate::servers::{AllWords, ServerWords, read_words};
 use crate::setting::read_setting;
 use crate::wanted::auction_wants;
@@ -82,14 +84,11 @@ pub fn load_rest<S: Shelf>(
 pub fn load<S: Shelf>(
     alloc: Global,
     shelf: &mut S,
-    auction: &str,
-    servers: &str,
-    book: &str,
+    files: &AuctionFiles<'_>,
 ) -> Result<Loaded, Stop>
-    ensures { ReadsFor IsKeptOf (S.seen shelf.old) (S.seen shelf.new)
-        (loaded_errand auction.now servers.now book.now) result }
+    ensures { ReadsFor IsKeptOf (S.seen shelf.old) (S.seen shelf.new) (of_files loaded_errand files.now) result }
 {
-    let setting = read_setting(alloc, shelf, auction, servers, book)?;
+    let setting = read_setting(alloc, shelf, files)?;
     let loaded = load_rest(
         alloc,
         shelf,

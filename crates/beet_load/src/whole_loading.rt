@@ -3,6 +3,7 @@
 ghost use Rattle.std.specs.Prelude.{◌≡◌, ◌≤◌, ◌*◌, All, length};
 ghost use Rattle.beet_errand.specs.Fetches.{Reads};
 ghost use Rattle.beet_load.specs.Counts.{counts_of};
+ghost use Rattle.beet_load.specs.Files.{of_files};
 ghost use Rattle.beet_load.specs.Loading.{rest_errand};
 ghost use Rattle.beet_load.specs.Servers.{AreCut, HaveEnough};
 ghost use Rattle.beet_load.specs.Wholes.{IsFarmer, all_words, limited_errand};
@@ -10,6 +11,7 @@ ghost use Rattle.beet_load.specs.WholeViews.{loaded_of};
 ghost use Rattle.beet_words.specs.declared.bundle.TheConstants.{MOST_BIDDERS};
 ghost use Rattle.beet_book.specs.declared.book_file.TheConstants.{MOST_PRODUCT};
 
+use crate::files::AuctionFiles;
 use crate::keeping::{Farmers, read_farmers};
 use crate::limits::check_product;
 use crate::loading::lists_in;
@@ -101,16 +103,13 @@ pub fn load_whole_rest<S: Shelf>(
 pub fn load_whole<S: Shelf>(
     alloc: Global,
     shelf: &mut S,
-    auction: &str,
-    servers: &str,
-    book: &str,
+    files: &AuctionFiles<'_>,
 ) -> Result<Whole, Stop>
-    ensures { Reads loaded_of (S.seen shelf.old) (S.seen shelf.new)
-        (limited_errand auction.now servers.now book.now) result }
+    ensures { Reads loaded_of (S.seen shelf.old) (S.seen shelf.new) (of_files limited_errand files.now) result }
 {
-    let setting = read_setting(alloc, shelf, auction, servers, book)?;
+    let setting = read_setting(alloc, shelf, files)?;
     let entries = setting.entries.as_slice();
-    check_product(alloc, 0, book, &setting.grid, entries.len())?;
+    check_product(alloc, 0, files.book, &setting.grid, entries.len())?;
     let whole = load_whole_rest(alloc, shelf, None, &setting.grid, &setting.sources, entries);
     drop(setting);
     whole

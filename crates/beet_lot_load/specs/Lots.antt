@@ -4,10 +4,21 @@ use Rattle.beet_bids.specs.AuctionFiles.{auction_of}
 use Rattle.beet_bids.specs.declared.auction_file.TheConstants.{AUCTION_LIMIT}
 use Rattle.beet_book.specs.BookFiles.{book_of}
 use Rattle.beet_book.specs.declared.book_file.TheConstants.{BOOK_LIMIT}
+use Rattle.beet_book.specs.declared.server_file.TheConstants.{SERVERS_LIMIT}
 use Rattle.beet_book.specs.declared.sources.Servers.{Servers}
 use Rattle.beet_errand.specs.Errands.{Step, gives, reads, ◌>>=◌}
 use Rattle.beet_load.specs.Loading.{AuctionWithBidders, rest_errand}
+use Rattle.beet_lot_files.specs.SeedFiles.{seed_servers_of}
+use Rattle.beet_lot_files.specs.SessionFiles.{session_of}
 use Rattle.beet_lot_files.specs.declared.session_file.LotRow.{LotRow}
+use Rattle.beet_lot_files.specs.declared.session_file.TheConstants.{SESSION_LIMIT}
+
+-- the lots of a session, and then the seeds of its servers
+abbrev pub setting_errand : List ℕ → List ℕ → Step (List LotRow × Servers)
+setting_errand session servers = do
+  rows ← reads session SESSION_LIMIT session_of
+  sources ← reads servers SERVERS_LIMIT seed_servers_of
+  gives (rows, sources)
 
 -- a step for each of these rows in order, by what was read of the rows before
 abbrev pub each_row : {A : Type 0} → (List A → LotRow → Step A) → List A → List LotRow → Step (List A)

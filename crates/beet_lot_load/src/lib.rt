@@ -4,5 +4,5 @@
 mod reading;
 mod telling;
 
-pub use reading::{load_lot, read_lots, read_seeds};
+pub use reading::{SessionFiles, load_lot, load_session, read_lots};
 pub use telling::LotsTold;

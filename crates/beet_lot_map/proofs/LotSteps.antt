@@ -7,12 +7,12 @@ use Rattle.std.proofs.lemmas.Option.{get_or_from_slice_get, same_Some, slice_get
 use Rattle.beet_field.specs.declared.point.Point.{Point}
 use Rattle.beet_words.specs.Bundles.{Words}
 use Rattle.beet_bids.specs.Books.{Book}
-use Rattle.beet_auction_map.specs.Agreement.{Agree}
+use Rattle.beet_two_books.specs.Agreement.{Agree}
 use Rattle.beet_auction_map.specs.ViewsWith.{transcript_with}
 use Rattle.beet_auction_map.specs.Enough.{AreEnough}
 use Rattle.beet_lot_map.specs.LotMaps.{AgreeBefore, AreEnoughEach, LotMapped, MappedBefore, RefusesAt, RefusesLot}
 use Rattle.beet_lot_map.specs.LotMaps.{SessionMapped, session_transcripts}
-use Rattle.beet_auction_map.specs.declared.agreeing.MapFault.TheVariants.{OutOfMemory as MapOutOfMemory}
+use Rattle.beet_two_books.specs.declared.agreeing.MapFault.TheVariants.{OutOfMemory as MapOutOfMemory}
 use Rattle.beet_lot_map.specs.declared.mapping.SessionFault.{SessionFault}
 use Rattle.beet_lot_map.specs.declared.mapping.SessionFault.TheVariants.{OutOfMemory}
 

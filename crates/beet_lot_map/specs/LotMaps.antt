@@ -3,14 +3,14 @@ use Rattle.std.specs.Prelude.{◌≡◌, ◌≢◌, ◌<◌, ◌+◌, ◌⊎◌,
 use Rattle.beet_field.specs.declared.point.Point.{Point}
 use Rattle.beet_words.specs.Bundles.{Words}
 use Rattle.beet_bids.specs.Books.{Book}
-use Rattle.beet_auction_map.specs.Agreement.{Agree}
+use Rattle.beet_two_books.specs.Agreement.{Agree}
 use Rattle.beet_auction_map.specs.Disagreement.{RefusesMap}
 use Rattle.beet_auction_map.specs.Enough.{AreEnough}
 use Rattle.beet_auction_map.specs.ViewsWith.{transcript_with}
 use Rattle.beet_auction_map.specs.Worlds.{WorldsMapped}
-use Rattle.beet_auction_map.specs.declared.agreeing.MapFault.{MapFault}
-use Rattle.beet_auction_map.specs.declared.agreeing.MapFault.TheVariants.{ShapeDiffers, OwnBidsDiffer, OutcomesDiffer}
-use Rattle.beet_auction_map.specs.declared.agreeing.MapFault.TheVariants.{OutOfMemory}
+use Rattle.beet_two_books.specs.declared.agreeing.MapFault.{MapFault}
+use Rattle.beet_two_books.specs.declared.agreeing.MapFault.TheVariants.{ShapeDiffers, OwnBidsDiffer, OutcomesDiffer}
+use Rattle.beet_two_books.specs.declared.agreeing.MapFault.TheVariants.{OutOfMemory}
 use Rattle.beet_lot_map.specs.declared.mapping.SessionFault.{SessionFault}
 use Rattle.beet_lot_map.specs.declared.mapping.SessionFault.TheVariants.{LotsDiffer, GridDiffers}
 use Rattle.beet_lot_map.specs.declared.mapping.SessionFault.TheVariants.{ShapeDiffers as ShapeOf}

@@ -28,7 +28,7 @@ pub fn lots_do_not_touch_each_other()
 {}
 
 /// One event is a list of one, and lists of events one after another are one list.
-pub fn events_add_up<S: Script>()
+pub fn events_add_up<S: Script<3>>()
     ensures one { (old new : List (World S)) (lot : ℕ) (e : Triple) (event : Event) →
         HappensIn S.batch_of S.inputs_of S.rounds_of old new lot e event →
         PlaysIn S.batch_of S.inputs_of S.rounds_of old new (record { lot = lot; triple = e } ∷ []) }
@@ -40,7 +40,7 @@ pub fn events_add_up<S: Script>()
 
 /// After every list of events of all lots, the core of a server of a lot fits what this lot began with and the set that
 /// the events of this lot alone give, and is at the rounds that its server has passed by this set.
-pub fn each_lot_stands_by_its_own_events<S: Script>()
+pub fn each_lot_stands_by_its_own_events<S: Script<3>>()
     ensures { (openings : List (Trio (Core S))) (now : List (World S)) (events : List LotTriple)
         (lot : ℕ) (opening : Trio (Core S)) (w : World S) (s : Point) (c : Core S) →
         PlaysIn S.batch_of S.inputs_of S.rounds_of (map (begun S.rounds_of) openings) now events →

@@ -27,11 +27,11 @@ pub struct LotDelivery {
 
 /// A `World` of three servers for each lot, of 1 to 16 lots.
 #[derive(Drop)]
-pub struct LotWorld<S: Script> {
+pub struct LotWorld<S: Script<3>> {
     worlds: Vec<World<S>>,
 }
 
-impl<S: Script> Model for LotWorld<S> {
+impl<S: Script<3>> Model for LotWorld<S> {
     ghost use Rattle.std.specs.Prelude.{List, ◌≤◌, length as count};
     ghost use Rattle.beet_world.specs.Worlds.{World as Lot};
     ghost use Rattle.beet_lots.specs.declared.lots.TheConstants.{MOST_LOTS as most};
@@ -43,7 +43,7 @@ impl<S: Script> Model for LotWorld<S> {
     ghost invariant = { λ a. (1 ≤ count a.worlds.items) × (count a.worlds.items ≤ most) };
 }
 
-impl<S: Script> LotWorld<S> {
+impl<S: Script<3>> LotWorld<S> {
     /// A `World` for each lot, of fresh servers, each of which has sent its messages of round 0. It takes the memory
     /// for all messages, and fails only if there is too little; no other call takes memory.
     pub fn of(alloc: Global, lots: Vec<Trio<ServerCore<S>>>) -> Result<LotWorld<S>, AllocError>

@@ -8,3 +8,4 @@ pub mod Turning
 pub mod Places
 pub mod Whole
 pub mod Grounds
+pub mod Disagreeing

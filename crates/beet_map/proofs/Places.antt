@@ -1,7 +1,10 @@
 -- Lists that are the same at each place.
 use Rattle.std.proofs.Common.{◌≡◌, ◌<◌, ◌≤◌, ℕ, zero, suc, List, [], ◌∷◌, ◌++◌, length, take, slice_get, slice_index}
-use Rattle.std.proofs.Common.{get_or, Some, None, sym, refl, ◌∙◌, ⊎_elim, arith}
+use Rattle.std.proofs.Common.{get_or, Some, None, sym, refl, ◌∙◌, ⊎_elim, inl, inr, arith}
+use Rattle.std.specs.Prelude.{All}
 use Rattle.std.proofs.lemmas.Bool.{cases_lt}
+use Rattle.std.proofs.lemmas.List.{get_or_past}
+use Rattle.std.proofs.lemmas.List.Elements.{All-get_or}
 use Rattle.beet_field.specs.Field.{IsElement}
 use Rattle.beet_gates.proofs.EachFacts.{get-past}
 
@@ -33,3 +36,10 @@ elements_more [] x few h zero = h
 elements_more [] x few h (suc k) = omega arith
 elements_more (y ∷ xs) x few h zero = few 0
 elements_more (y ∷ xs) x few h (suc k) = elements_more xs x (λ n. few (suc n)) h k
+
+-- the numbers of a list of them, and what is read past its end
+pub element-at : (xs : List ℕ) → All IsElement xs → (n : ℕ) → IsElement (slice_index xs n)
+element-at xs all n = elim (cases_lt n (length xs)) [
+  | inl h ↦ All-get_or IsElement xs n 0 h all
+  | inr past ↦ rw (get_or_past xs n 0 past) (omega arith)
+]

@@ -3,3 +3,4 @@ pub mod Mapped
 pub mod Refused
 pub mod Steps
 pub mod Premise
+pub mod Agreement

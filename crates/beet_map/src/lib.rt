@@ -16,7 +16,7 @@ mod wires;
 mod words;
 
 pub use map::gate_map;
-pub use moving::{draws, moved, multiply, secret, word_at};
+pub use moving::{deals, draws, moved, multiply, secret, word_at};
 pub use numbers::number_at;
 pub use refusals::GateFault;
 pub use secrets::Secrets;

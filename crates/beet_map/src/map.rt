@@ -22,7 +22,7 @@ use std::alloc::Global;
 /// words are the only ones of the first world that they belong to. Words past those that the run
 /// draws stay as they are. The refusals are tested in the order of [`GateFault`]; want of memory may
 /// come at any time.
-pub fn gate_map<S: Script>(
+pub fn gate_map<S: Script<3>>(
     alloc: Global,
     me: Point,
     script: &S,
@@ -32,7 +32,7 @@ pub fn gate_map<S: Script>(
 ) -> Result<Trio<WordList>, GateFault>
     requires first { HasSecrets (S.inputs_of script.now) (S.masks_of script.now) first.now }
     requires second { HasSecrets (S.inputs_of script.now) (S.masks_of script.now) second.now }
-    requires numbers { HasWords (S.coefficients_of script.now) (numbers_of coefficients.now) }
+    requires numbers { HasWords (S.secrets_of script.now) (numbers_of coefficients.now) }
     ensures same { IfOk result (λ _. LookSame (S.batch_of script.now) (S.rounds_of script.now)
         (S.masks_of script.now) me first.now second.now) }
     ensures mapped { IfOk result (WordsMapped (S.batch_of script.now) (S.rounds_of script.now) me

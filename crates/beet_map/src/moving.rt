@@ -4,6 +4,7 @@ ghost use Rattle.std.specs.Prelude.{◌≡◌, ◌<◌, ◌≤◌, ◌+◌, leng
 ghost use Rattle.std.specs.Int.{bit_at};
 ghost use Rattle.beet_gates.specs.Clear.{product_of};
 ghost use Rattle.beet_gates.specs.Draws.{draws_in, secret_of};
+ghost use Rattle.beet_gates.specs.Scripts.{deals_in};
 ghost use Rattle.beet_map.specs.Mapped.{moved_of};
 ghost use Rattle.beet_map.specs.Steps.{MovesList};
 
@@ -20,6 +21,16 @@ pub fn draws(act: &Act) -> usize
         Act::Deal => 61,
         Act::Mul(pairs) => pairs.len(),
         Act::Reveal(_) | Act::End => 0,
+    }
+}
+
+/// How many words each server deals for an act.
+pub fn deals(act: &Act) -> usize
+    ensures { result ≡ deals_in act.now }
+{
+    match act {
+        Act::Deal => 1,
+        Act::Mul(_) | Act::Reveal(_) | Act::End => 0,
     }
 }
 

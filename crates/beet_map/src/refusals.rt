@@ -103,7 +103,7 @@ fn values(alloc: Global, lines: &[Line]) -> Result<Vec<Fe>, AllocError>
 }
 
 /// The script's run on the values of a world.
-fn run_on_values<S: Script>(
+fn run_on_values<S: Script<3>>(
     alloc: Global,
     script: &S,
     secrets: &Secrets,
@@ -174,7 +174,7 @@ fn rounds_in_both(first: &ClearRun, second: &ClearRun) -> Result<u32, GateFault>
 }
 
 /// The rounds of the script's runs in two worlds that open the same numbers, or the first that differs.
-fn rounds_opening_the_same<S: Script>(
+fn rounds_opening_the_same<S: Script<3>>(
     alloc: Global,
     script: &S,
     first: &Secrets,
@@ -201,7 +201,7 @@ fn rounds_opening_the_same<S: Script>(
 }
 
 /// The rounds of the script's runs in two worlds that look alike to the server, or the first refusal.
-pub(crate) fn rounds_alike<S: Script>(
+pub(crate) fn rounds_alike<S: Script<3>>(
     alloc: Global,
     me: Point,
     script: &S,

@@ -3,13 +3,12 @@
 ghost use Rattle.std.specs.Prelude.{◌≡◌, ◌≤◌, ◌<◌, ◌+◌, ◌++◌, [], IfOk, OnOk, length, map, slice_index};
 ghost use Rattle.beet_field.specs.Trio.{member, trio_of};
 ghost use Rattle.beet_gates.specs.Each.{each};
-ghost use Rattle.beet_gates.specs.Scripts.{deals_in};
 ghost use Rattle.beet_gates.specs.Draws.{draws_in};
 ghost use Rattle.beet_sharing.specs.Runs.{act_among, opened_at, opened_by, with_batch_lets};
 ghost use Rattle.beet_map.specs.Steps.{HasEnough, dealing, hidden_line, lines_gained, nothing_shared};
 ghost use Rattle.beet_map.specs.Secrets.{shares_of};
 
-use crate::moving::{draws, word_at};
+use crate::moving::{deals, draws, word_at};
 use crate::numbers::{Numbers, number_at};
 use crate::wires::{append_hidden, append_lets, append_points, append_products};
 use beet_field::{Fe, Point, Trio};
@@ -49,16 +48,6 @@ pub(crate) fn points(alloc: Global, lines: &[Line], at: Point) -> Result<Vec<Fe>
     let mut points = Vec::new(alloc);
     append_points(&mut points, lines, at)?;
     Ok(points)
-}
-
-/// How many words each server deals for an act.
-fn deals(act: &Act) -> usize
-    ensures { result ≡ deals_in act.now }
-{
-    match act {
-        Act::Deal => 1,
-        Act::Mul(_) | Act::Reveal(_) | Act::End => 0,
-    }
 }
 
 /// Appends the values of the wires that are opened.

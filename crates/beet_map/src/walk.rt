@@ -136,7 +136,7 @@ fn step(
 
 /// Takes the runs of both worlds through so many rounds, and moves the numbers of the second. Both begin
 /// with the same numbers, and no wires yet.
-fn walk<S: Script>(
+fn walk<S: Script<3>>(
     alloc: Global,
     me: Point,
     script: &S,
@@ -169,7 +169,7 @@ fn walk<S: Script>(
 
 /// The numbers of the second world that show `me` the same as these do in the first. The script's run
 /// has so many rounds in both.
-pub(crate) fn map_numbers<S: Script>(
+pub(crate) fn map_numbers<S: Script<3>>(
     alloc: Global,
     me: Point,
     script: &S,

@@ -3,8 +3,8 @@ use Rattle.std.proofs.Common.{◌≡◌, ◌≢◌, ◌⊎◌, ℕ, suc, ◌<◌
 use Rattle.std.proofs.Common.{Some, None, refl, sym, ap, ◌∙◌, arith}
 use Rattle.std.specs.Prelude.{All}
 use Rattle.std.proofs.lemmas.Bool.{cases_lt}
-use Rattle.std.proofs.lemmas.List.{ext_get_or, get_or_past}
-use Rattle.std.proofs.lemmas.List.Elements.{All-head, All-tail, All-get_or, All-cons}
+use Rattle.std.proofs.lemmas.List.{ext_get_or}
+use Rattle.std.proofs.lemmas.List.Elements.{All-head, All-tail, All-cons}
 use Rattle.std.proofs.lemmas.Simd.{map-map}
 use Rattle.beet_field.specs.Field.{IsElement}
 use Rattle.beet_field.specs.declared.point.Point.{Point}
@@ -14,6 +14,7 @@ use Rattle.beet_words.specs.Words.{IsWord, accepted, ones_in}
 use Rattle.beet_words.proofs.WordLists.{ones-long, words_same}
 use Rattle.beet_map.specs.Mapped.{moved_of}
 use Rattle.beet_map.proofs.Moves.{moved_back, moved_same}
+use Rattle.beet_map.proofs.Places.{element-at}
 use Rattle.beet_mapped.specs.Dealers.{Party, Dealer, DealerMapped, DealersMapped, dealers_of}
 use Rattle.beet_turned.proofs.MasksBack.{all-at}
 use Rattle.beet_mapped.proofs.WordPlaces.{accepted-length, accepted-small}
@@ -41,12 +42,6 @@ known-or (Some Three) Three = inl refl
 -- the quantities are numbers of the field, also what is read past the end
 abbrev pub AreElements : List ℕ → Type 0
 AreElements quantities = All IsElement quantities
-
-pub element-at : (quantities : List ℕ) → AreElements quantities → (n : ℕ) → IsElement (slice_index quantities n)
-element-at quantities all n = elim (cases_lt n (length quantities)) [
-  | inl h ↦ All-get_or IsElement quantities n 0 h all
-  | inr past ↦ rw (get_or_past quantities n 0 past) (omega arith)
-]
 
 -- one party
 module _ (s : Point) (one other : Dealer) where

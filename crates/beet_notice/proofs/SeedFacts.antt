@@ -12,7 +12,7 @@ use Rattle.std.specs.List.{flat_map}
 use Rattle.std.proofs.lemmas.Grind.{flat_map-append}
 use Rattle.std.proofs.lemmas.List.Concat.{flat_map-cons}
 use Rattle.std.proofs.lemmas.Map.Text.{is_eq-slice_cmp}
-use Rattle.std.proofs.lemmas.Bool.{cases_Bool, le-ltb, lt-ltb}
+use Rattle.std.proofs.lemmas.Bool.{cases_Bool, le-ltb}
 use Rattle.beet_store.specs.Files.{Bytes, Fetch}
 use Rattle.beet_forms.specs.Faults.{Answers, Reading}
 use Rattle.beet_forms.specs.declared.faults.FaultPlace.{FaultPlace}
@@ -114,9 +114,6 @@ uncounted-more (auction ∷ servers ∷ book ∷ others) fetch none = refl
 pub keeps-same : (seeds more : List (List ℕ)) (kept : Seeds) → more ≡ [] → Keeps seeds kept → Keeps (seeds ++ more) kept
 keeps-same seeds more kept none keeps =
     subst (λ l. Keeps l kept) (sym (ap (λ l. seeds ++ l) none ∙ append-nil seeds)) keeps
-
-pub fetched-long : (bytes : List ℕ) → LONGEST_FILE < length bytes → seeds_fetched (Bytes bytes) ≡ []
-fetched-long bytes long = rw (lt-ltb LONGEST_FILE (length bytes) long) refl
 
 pub fetched-short : (bytes : List ℕ) → length bytes ≤ LONGEST_FILE → seeds_fetched (Bytes bytes) ≡ seeds_in bytes
 fetched-short bytes short = rw (le-ltb LONGEST_FILE (length bytes) short) refl

@@ -3,8 +3,6 @@
 #![tactic(auto)]
 
 mod seeds;
-#[cfg(test)]
-mod tests;
 mod watch;
 mod watched;
 

@@ -34,3 +34,7 @@ words_of first second servers s out = record {
 -- the words that are read
 abbrev pub read_words : PairFiles × Point → Pair
 read_words read = words_of read.0.first.now read.0.second.now read.0.servers.now read.1 read.0.out.now
+
+-- what is made of the words that are read
+abbrev pub of_pair : {A : Type 1} → (List ℕ → List ℕ → List ℕ → Point → List ℕ → A) → PairFiles → Point → A
+of_pair made files s = made files.first.now files.second.now files.servers.now s files.out.now

@@ -7,3 +7,4 @@ pub mod AuctionRuns
 pub mod FiveRuns
 pub mod BookFacts
 pub mod BookRuns
+pub mod FiveFacts

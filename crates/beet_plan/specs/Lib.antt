@@ -2,3 +2,4 @@ pub mod Auction
 pub mod Search
 pub mod Runs
 pub mod Kept
+pub mod FivePlan

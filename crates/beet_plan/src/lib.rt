@@ -1,6 +1,8 @@
 //! The auction's script as blocks, one after another, and how it ends on plain values.
 #![tactic(auto)]
 
+mod five;
+
 ghost use Rattle.std.specs.Prelude.{◌≡◌, ◌≤◌, ◌+◌, ◌*◌};
 ghost use Rattle.beet_bids.specs.declared.grid.TheConstants.{MOST_COMPARISONS, MOST_PRICES};
 ghost use Rattle.beet_plan.specs.Auction.{most_masks_of, most_coefficients_of};
@@ -9,6 +11,7 @@ ghost use Rattle.beet_plan.specs.Kept.{words_kept, masks_kept, coefficients_kept
 use beet_bids::{Grid, comparisons};
 use beet_field::Fe;
 use beet_masking::{MASK_COEFFICIENTS, SPARE_MASKS, SPARE_WORDS, masks_for};
+pub use five::{five_book_law, five_rounds_law};
 
 /// The most mask words that a run with so many prices wants of each server.
 pub fn most_masks(prices: u32) -> u32

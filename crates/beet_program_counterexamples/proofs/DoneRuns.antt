@@ -1,7 +1,7 @@
 -- What is right for a command has a run in which it is done.
 use Rattle.std.proofs.Common.{◌≡◌, ◌≢◌, ◌<◌, inl, ℕ, List, [], ◌∷◌, Option, Some, None, Ok}
 use Rattle.std.proofs.Common.{refl, sym, ap, subst, ◌∙◌, arith}
-use Rattle.std.specs.Prelude.{codes, option_map}
+use Rattle.std.specs.Prelude.{codes, if◌then◌else◌, option_map}
 use Rattle.beet_field.specs.Point.{server_of}
 use Rattle.beet_field.specs.Trio.{of_each}
 use Rattle.beet_field.specs.declared.point.Point.{Point}
@@ -29,6 +29,7 @@ use Rattle.beet_audit.specs.Audits.{recombined_book}
 use Rattle.beet_audit.proofs.OneRunFacts.{right-from_one}
 use Rattle.beet_job_tally.specs.Tally.{tally_errand}
 use Rattle.beet_job_clear.specs.Clear.{clear_errand}
+use Rattle.beet_job_five.specs.Five.{five_errand}
 use Rattle.beet_job_rehearse.specs.Rehearse.{rehearse_errand}
 use Rattle.beet_job_watch.specs.Watch.{watch_errand}
 use Rattle.beet_job_record.specs.Records.{record_errand}
@@ -51,10 +52,10 @@ use Rattle.beet_program_laws.specs.Accepted.{witness_words}
 use Rattle.beet_program_laws.proofs.Jobs.{runs-in}
 use Rattle.beet_program_laws.proofs.Read.{can-run-cut}
 use Rattle.beet_program_laws.proofs.Worlds.{is-both}
-use Rattle.beet_completeness_laws.specs.Complete.{CanAudit, CanClear, CanCompare, CanOpen, CanRehearse, CanRunTrial}
-use Rattle.beet_completeness_laws.specs.Complete.{CanSeal, CanTally, CanWitness}
-use Rattle.beet_completeness_laws.proofs.Jobs.{clear-done, open-done, record-done, rehearse-done, seal-done, tally-done}
-use Rattle.beet_completeness_laws.proofs.Jobs.{trial-done, watch-done, witness-done}
+use Rattle.beet_completeness_laws.specs.Complete.{CanAudit, CanClear, CanCompare, CanOpen, CanRehearse, CanRunFive}
+use Rattle.beet_completeness_laws.specs.Complete.{CanRunTrial, CanSeal, CanTally, CanWitness}
+use Rattle.beet_completeness_laws.proofs.Jobs.{clear-done, five-done, open-done, record-done, rehearse-done, seal-done}
+use Rattle.beet_completeness_laws.proofs.Jobs.{tally-done, trial-done, watch-done, witness-done}
 use Rattle.beet_completeness_laws.proofs.Leading.{IsDoneOver, book-done}
 use Rattle.beet_program_counterexamples.specs.HasRun.{HasRun}
 use Rattle.beet_program_counterexamples.proofs.Deciding.{passes-to}
@@ -143,30 +144,51 @@ module _ (files : List File) where
       errand-run files (codes "tally" ∷ auction ∷ list ∷ []) errand
       (past (are_names (auction ∷ list ∷ [])) (Some (Answering errand)) not) (tally-done files auction list can)
 
+  -- a command with three files has a run if these lead its errand to its end
+  three-files : (command one two three : List ℕ) (errand : Errand) →
+      job_of (command ∷ one ∷ two ∷ three ∷ [])
+      ≡ (if are_names (one ∷ two ∷ three ∷ []) then Some (Answering errand) else None) →
+      job_of (command ∷ one ∷ two ∷ three ∷ []) ≢ None → IsDoneOver files errand →
+      HasRun files (command ∷ one ∷ two ∷ three ∷ [])
+  three-files command one two three errand is not done =
+      errand-run files (command ∷ one ∷ two ∷ three ∷ []) errand
+      (is ∙ past (are_names (one ∷ two ∷ three ∷ [])) (Some (Answering errand)) (λ e. not (is ∙ e))) done
+
+  -- and so has one with four
+  four-files : (command one two three four : List ℕ) (errand : Errand) →
+      job_of (command ∷ one ∷ two ∷ three ∷ four ∷ [])
+      ≡ (if are_names (one ∷ two ∷ four ∷ []) then if is_name_of three then Some (Answering errand) else None else None) →
+      job_of (command ∷ one ∷ two ∷ three ∷ four ∷ []) ≢ None → IsDoneOver files errand →
+      HasRun files (command ∷ one ∷ two ∷ three ∷ four ∷ [])
+  four-files command one two three four errand is not done =
+      errand-run files (command ∷ one ∷ two ∷ three ∷ four ∷ []) errand
+      (is ∙ past-both (are_names (one ∷ two ∷ four ∷ [])) (is_name_of three) (Some (Answering errand)) (λ e. not (is ∙ e)))
+      done
+
   pub clear : (auction servers list : List ℕ) → job_of (codes "clear" ∷ auction ∷ servers ∷ list ∷ []) ≢ None →
       CanClear files (loaded_errand auction servers list) →
       HasRun files (codes "clear" ∷ auction ∷ servers ∷ list ∷ [])
   clear auction servers list not can =
-      let errand = clear_errand auction servers list in
-      errand-run files (codes "clear" ∷ auction ∷ servers ∷ list ∷ []) errand
-      (past (are_names (auction ∷ servers ∷ list ∷ [])) (Some (Answering errand)) not)
+      three-files (codes "clear") auction servers list (clear_errand auction servers list) refl not
       (clear-done files auction servers list can)
 
   pub watch : (auction servers list : List ℕ) → job_of (codes "watch" ∷ auction ∷ servers ∷ list ∷ []) ≢ None →
       CanClear files (loaded_errand auction servers list) →
       HasRun files (codes "watch" ∷ auction ∷ servers ∷ list ∷ [])
   watch auction servers list not can =
-      let errand = watch_errand auction servers list in
-      errand-run files (codes "watch" ∷ auction ∷ servers ∷ list ∷ []) errand
-      (past (are_names (auction ∷ servers ∷ list ∷ [])) (Some (Answering errand)) not)
+      three-files (codes "watch") auction servers list (watch_errand auction servers list) refl not
       (watch-done files auction servers list can)
+
+  pub five : (auction servers list : List ℕ) → job_of (codes "five" ∷ auction ∷ servers ∷ list ∷ []) ≢ None →
+      CanRunFive files auction servers list → HasRun files (codes "five" ∷ auction ∷ servers ∷ list ∷ [])
+  five auction servers list not can =
+      three-files (codes "five") auction servers list (five_errand auction servers list) refl not
+      (five-done files auction servers list can)
 
   pub opened : (auction servers list : List ℕ) → job_of (codes "open" ∷ auction ∷ servers ∷ list ∷ []) ≢ None →
       CanOpen files auction servers list → HasRun files (codes "open" ∷ auction ∷ servers ∷ list ∷ [])
   opened auction servers list not can =
-      let errand = open_errand auction servers list in
-      errand-run files (codes "open" ∷ auction ∷ servers ∷ list ∷ []) errand
-      (past (are_names (auction ∷ servers ∷ list ∷ [])) (Some (Answering errand)) not)
+      three-files (codes "open") auction servers list (open_errand auction servers list) refl not
       (open-done files auction servers list can)
 
   pub rehearse : (auction servers list name : List ℕ) (loaded : AuctionWithBidders) (schedule : List Delivery) →
@@ -174,9 +196,7 @@ module _ (files : List File) where
       CanRehearse files auction servers list name loaded schedule →
       HasRun files (codes "rehearse" ∷ auction ∷ servers ∷ list ∷ name ∷ [])
   rehearse auction servers list name loaded schedule not can =
-      let errand = rehearse_errand auction servers list name in
-      errand-run files (codes "rehearse" ∷ auction ∷ servers ∷ list ∷ name ∷ []) errand
-      (past-both (are_names (auction ∷ servers ∷ name ∷ [])) (is_name_of list) (Some (Answering errand)) not)
+      four-files (codes "rehearse") auction servers list name (rehearse_errand auction servers list name) refl not
       (rehearse-done files auction servers list name loaded schedule can)
 
   pub recorded : (auction servers list out : List ℕ) →
@@ -184,17 +204,13 @@ module _ (files : List File) where
       CanClear files (limited_errand auction servers list) →
       HasRun files (codes "record" ∷ auction ∷ servers ∷ list ∷ out ∷ [])
   recorded auction servers list out not can =
-      let errand = record_errand auction servers list out in
-      errand-run files (codes "record" ∷ auction ∷ servers ∷ list ∷ out ∷ []) errand
-      (past-both (are_names (auction ∷ servers ∷ out ∷ [])) (is_name_of list) (Some (Answering errand)) not)
+      four-files (codes "record") auction servers list out (record_errand auction servers list out) refl not
       (record-done files auction servers list out can)
 
   pub witness : (auction servers list out : List ℕ) → job_of (witness_words auction servers list out) ≢ None →
       CanWitness files auction servers list → HasRun files (witness_words auction servers list out)
   witness auction servers list out not can =
-      let errand = witness_errand auction servers list out in
-      errand-run files (witness_words auction servers list out) errand
-      (past-both (are_names (auction ∷ servers ∷ out ∷ [])) (is_name_of list) (Some (Answering errand)) not)
+      four-files (codes "witness") auction servers list out (witness_errand auction servers list out) refl not
       (witness-done files auction servers list out can)
 
   pub seal : (auction bid source out : List ℕ) →

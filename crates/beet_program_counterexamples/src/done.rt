@@ -9,7 +9,7 @@ ghost use Rattle.beet_app.specs.Jobs.{job_of};
 ghost use Rattle.beet_program_laws.specs.Accepted.{audit_words, witness_words};
 ghost use Rattle.beet_program_laws.specs.Again.{record_words};
 ghost use Rattle.beet_completeness_laws.specs.Complete.{CanAudit, CanClear, CanCompare, CanOpen, CanRehearse};
-ghost use Rattle.beet_completeness_laws.specs.Complete.{CanRunTrial, CanSeal, CanTally, CanWitness};
+ghost use Rattle.beet_completeness_laws.specs.Complete.{CanRunFive, CanRunTrial, CanSeal, CanTally, CanWitness};
 ghost use Rattle.beet_program_counterexamples.specs.HasRun.{HasRun};
 
 /// The laws of completeness and of commands are not empty: what is right for a command has a run that ends with status
@@ -26,6 +26,9 @@ pub fn what_is_right_has_a_run()
         job_of (codes "watch" ∷ auction ∷ servers ∷ book ∷ []) ≢ None →
         CanClear files (loaded_errand auction servers book) →
         HasRun files (codes "watch" ∷ auction ∷ servers ∷ book ∷ []) }
+    ensures five { (files : List File) (auction servers book : List ℕ) →
+        job_of (codes "five" ∷ auction ∷ servers ∷ book ∷ []) ≢ None →
+        CanRunFive files auction servers book → HasRun files (codes "five" ∷ auction ∷ servers ∷ book ∷ []) }
     ensures rehearse { (files : List File) (auction servers book name : List ℕ) (loaded : AuctionWithBidders)
         (schedule : List Delivery) → job_of (codes "rehearse" ∷ auction ∷ servers ∷ book ∷ name ∷ []) ≢ None →
         CanRehearse files auction servers book name loaded schedule →

@@ -32,7 +32,10 @@ use Rattle.beet_app.specs.Jobs.{Job}
 use Rattle.beet_errand.specs.Overs.{ReadsTo, answer_over}
 use Rattle.beet_app_laws.proofs.Led.{went-end}
 use Rattle.beet_app_laws.specs.Calls.{Call, IsOf, Puts, RunsJob}
-use Rattle.beet_program_laws.specs.Outcomes.{ServersOpen, TellsTheEnd}
+use Rattle.beet_coalition.specs.Lists.{at_server}
+use Rattle.beet_five_dealing.specs.FiveWords.{FiveWords}
+use Rattle.beet_five_auction.specs.FiveEndings.{book_finish as finish_among_five, book_rounds as rounds_among_five}
+use Rattle.beet_program_laws.specs.Outcomes.{ServersOpen, TellsOfFive, TellsSo, TellsTheEnd, are_spent_among_five}
 use Rattle.beet_program_laws.proofs.Steps.{Yields}
 
 not-one : (status : ℕ) → IsDoneCode status → status ≡ 1 → ⊥
@@ -210,22 +213,26 @@ end-tells true o status e = (λ f. absurd (omega (arith, e, f)), λ f. refl)
 end-tells false (Price place price volume supply) status e = (λ f. refl, λ f. absurd (omega (arith, e, f)))
 end-tells false No status e = (λ f. refl, λ f. absurd (omega (arith, e, f)))
 
+tells-so : (b : Bool) (book : Book) (rounds status : ℕ) →
+    status ≡ code_of (status_of (if b then MasksSpent else finish_of (outcome_of book))) →
+    TellsSo b book rounds status (outcome_text book.grid (if b then MasksSpent else finish_of (outcome_of book)) rounds)
+tells-so b book rounds status e =
+    let h = end-tells b (outcome_of book) status e in
+    record {
+      opened = λ f. (h.0 f, λ i. outcome_text book.grid (if h.0 f i then MasksSpent else finish_of (outcome_of book)) rounds);
+      spent = λ f. (h.1 f, λ i. outcome_text book.grid (if h.1 f i then MasksSpent else finish_of (outcome_of book)) rounds);
+    }
+
 pub tells : (book : Book) (words : Words) (status : ℕ) → status ≡ code_of (status_of (book_finish book words.masks)) →
     TellsTheEnd book words status (outcome_text book.grid (book_finish book words.masks) (book_rounds book words.masks))
-tells book words status e =
-    let h = end-tells (are_spent book words) (outcome_of book) status e in
-    record {
-      opened = λ f. (
-        h.0 f,
-        λ i. outcome_text book.grid (if h.0 f i then MasksSpent else finish_of (outcome_of book))
-            (book_rounds book words.masks),
-      );
-      spent = λ f. (
-        h.1 f,
-        λ i. outcome_text book.grid (if h.1 f i then MasksSpent else finish_of (outcome_of book))
-            (book_rounds book words.masks),
-      );
-    }
+tells book words status e = tells-so (are_spent book words) book (book_rounds book words.masks) status e
+
+pub tells-of-five : (book : Book) (words : FiveWords) (status : ℕ) →
+    status ≡ code_of (status_of (finish_among_five book (at_server words.masks))) →
+    TellsOfFive book words status (outcome_text book.grid (finish_among_five book (at_server words.masks))
+    (rounds_among_five book (at_server words.masks)))
+tells-of-five book words status e =
+    tells-so (are_spent_among_five book words) book (rounds_among_five book (at_server words.masks)) status e
 
 pub servers-open : (book : Book) (words : Words) → IsBook book → CanRun book words → ServersOpen book words
 servers-open book words b runs = record { is_book = b; can_run = runs; opens = λ es s. stands book words b runs es s }

@@ -6,6 +6,7 @@ pub mod Read
 pub mod Envelopes
 pub mod Ends
 pub mod Jobs
+pub mod Fives
 pub mod Tallies
 pub mod Seals
 pub mod Trials

@@ -58,6 +58,7 @@ use Rattle.beet_load.specs.Wholes.{CanDeal, CanStart, IsFarmer, all_words, bids_
 use Rattle.beet_load.specs.declared.wanted.Wanted.{Wanted}
 use Rattle.beet_load.specs.WordTexts.{server_short_text, too_few_text}
 use Rattle.beet_load.proofs.Cuts.{seeded_cut, take-few}
+use Rattle.beet_five_load.proofs.Running.{makes-book}
 use Rattle.beet_app_laws.specs.Held.{IsHeld}
 use Rattle.beet_load.specs.WholeViews.{loaded_with}
 use Rattle.beet_program_laws.proofs.Files.{AreFew, bid-is, book-few, bundle-are, seed-are, tape-are}
@@ -65,10 +66,14 @@ use Rattle.beet_program_laws.proofs.Held.{held-yield}
 use Rattle.beet_program_laws.proofs.Steps.{Yields, any-yield, gives-yield, passes-yield, reads-yield, then-yields}
 use Rattle.beet_program_laws.proofs.Steps.{weaker-yield}
 
--- a bidder that is read with its words
-pub record IsRead (grid : Grid) (farmer : BidderWithWords) : Type 0 where
-  pub is : IsFarmer (counts_of grid) grid farmer
+-- a bidder that is read with its words, of which so many are wanted
+pub record IsReadFor (counts : Counts) (grid : Grid) (farmer : BidderWithWords) : Type 0 where
+  pub is : IsFarmer counts grid farmer
   pub words : All IsWord farmer.words
+
+-- so it is for an auction among three servers
+abbrev pub IsRead : Grid → BidderWithWords → Type 0
+IsRead grid farmer = IsReadFor (counts_of grid) grid farmer
 
 -- the words of a server that are read
 pub record AreKept (counts : Counts) (words : ServerWords) : Type 0 where
@@ -210,7 +215,7 @@ module _ (files : List File) (wanted : Wanted) where
       enough-yield 2 servers.two (λ next. enough_of wanted 3 servers.three (step next)) P (λ two.
       enough-yield 3 servers.three step P (λ three. y one two three)))
 
-  server-yield : (server : ℕ) (source : ServerSource) →
+  pub server-yield : (server : ℕ) (source : ServerSource) →
       Yields files (server_errand wanted server source) (CanServe wanted.counts)
   server-yield server source =
       then-yields files (source_errand wanted source) _ (AreKept wanted.counts) (CanServe wanted.counts)
@@ -289,46 +294,49 @@ module _ (files : List File) (wanted : Wanted) where
         are.bidders,
       )))
 
--- the bidders of an auction alone, or of a lot
-module _ (files : List File) (lot : Option ℕ) where
+-- the bidders of a book, of which so many words are wanted
+module _ (files : List File) (wanted : Wanted) where
   farmer-yield : (grid : Grid) (given : Option (List ℕ)) → IfSome given (λ list. All IsWord list) →
       (number : ℕ) (entry : Entry) →
-      Yields files (farmer_errand (wanted_of lot grid) grid given number entry) (IsRead grid)
+      Yields files (farmer_errand wanted grid given number entry) (IsReadFor wanted.counts grid)
   farmer-yield grid given all number entry =
       then-yields files (reads entry.bid BID_LIMIT (bid_of grid)) _
-      (λ curve. IsCurve curve × IsOfGrid grid curve) (IsRead grid)
+      (λ curve. IsCurve curve × IsOfGrid grid curve) (IsReadFor wanted.counts grid)
       (reads-yield files entry.bid BID_LIMIT (bid_of grid) (λ curve. IsCurve curve × IsOfGrid grid curve)
       (λ bytes curve e. bid-is grid bytes curve e)) (λ curve is.
-      then-yields files (bidder_errand (wanted_of lot grid) given number entry.source) _
-      (IsDealt (counts_of grid)) (IsRead grid)
-      (bidder-yield files (wanted_of lot grid) given all number entry.source) (λ words dealt.
-      gives-yield files (IsRead grid)
+      then-yields files (bidder_errand wanted given number entry.source) _
+      (IsDealt wanted.counts) (IsReadFor wanted.counts grid)
+      (bidder-yield files wanted given all number entry.source) (λ words dealt.
+      gives-yield files (IsReadFor wanted.counts grid)
       (record { bidder = record { known = entry.known; curve = curve }; words = words })
       (record { is = record { curve = is.0; of_grid = is.1; words = dealt.1 }; words = dealt.0 })))
 
   pub farmers-yield : (grid : Grid) (lists : Option (List (List ℕ))) → AreLists lists → (read : List BidderWithWords) →
-      All (IsRead grid) read → (entries : List Entry) →
-      Yields files (farmers_errand (wanted_of lot grid) grid lists read entries)
-      (λ farmers. All (IsRead grid) farmers × (length farmers ≡ length read + length entries))
+      All (IsReadFor wanted.counts grid) read → (entries : List Entry) →
+      Yields files (farmers_errand wanted grid lists read entries)
+      (λ farmers. All (IsReadFor wanted.counts grid) farmers × (length farmers ≡ length read + length entries))
   farmers-yield grid lists all read are [] =
-      gives-yield files (λ farmers. All (IsRead grid) farmers × (length farmers ≡ length read + 0)) read
+      gives-yield files (λ farmers. All (IsReadFor wanted.counts grid) farmers × (length farmers ≡ length read + 0)) read
       (are, omega arith)
   farmers-yield grid lists all read are (entry ∷ entries) =
-      then-yields files (farmer_errand (wanted_of lot grid) grid (list_at lists (length read)) (length read + 1) entry)
-      (λ farmer. farmers_errand (wanted_of lot grid) grid lists (read ++ farmer ∷ []) entries) (IsRead grid)
-      (λ farmers. All (IsRead grid) farmers × (length farmers ≡ length read + length (entry ∷ entries)))
+      then-yields files (farmer_errand wanted grid (list_at lists (length read)) (length read + 1) entry)
+      (λ farmer. farmers_errand wanted grid lists (read ++ farmer ∷ []) entries) (IsReadFor wanted.counts grid)
+      (λ farmers. All (IsReadFor wanted.counts grid) farmers × (length farmers ≡ length read + length (entry ∷ entries)))
       (farmer-yield grid (list_at lists (length read)) (list-has lists (length read) all) (length read + 1) entry)
       (λ farmer is.
       let more =
-      All-append (IsRead grid) read (farmer ∷ []) are (All-cons (IsRead grid) farmer [] is (All-nil (IsRead grid))) in
+      All-append (IsReadFor wanted.counts grid) read (farmer ∷ []) are
+      (All-cons (IsReadFor wanted.counts grid) farmer [] is (All-nil (IsReadFor wanted.counts grid))) in
       let long : length (read ++ farmer ∷ []) ≡ length read + 1 = length-append read (farmer ∷ []) in
-      weaker-yield files (farmers_errand (wanted_of lot grid) grid lists (read ++ farmer ∷ []) entries)
-      (λ farmers. All (IsRead grid) farmers × (length farmers ≡ length (read ++ farmer ∷ []) + length entries))
-      (λ farmers. All (IsRead grid) farmers × (length farmers ≡ length read + length (entry ∷ entries)))
+      weaker-yield files (farmers_errand wanted grid lists (read ++ farmer ∷ []) entries)
+      (λ farmers. All (IsReadFor wanted.counts grid) farmers × (length farmers ≡ length (read ++ farmer ∷ []) + length entries))
+      (λ farmers. All (IsReadFor wanted.counts grid) farmers × (length farmers ≡ length read + length (entry ∷ entries)))
       (λ farmers h.
       (h.0, one-more (length farmers) (length (read ++ farmer ∷ [])) (length read) (length entries) h.1 long))
       (farmers-yield grid lists all (read ++ farmer ∷ []) more entries))
 
+-- an auction alone, or of a lot
+module _ (files : List File) (lot : Option ℕ) where
   -- ---- both
 
   pub rest-yield : (grid : Grid) (sources : Servers) (entries : List Entry) → length entries ≤ MOST_BIDDERS →
@@ -345,7 +353,7 @@ module _ (files : List File) (lot : Option ℕ) where
       then-yields files (farmers_errand (wanted_of lot grid) grid words.bidders [] entries)
       (λ farmers. gives (record { grid = grid; servers = words.servers; farmers = farmers }))
       (λ farmers. All (IsRead grid) farmers × (length farmers ≡ 0 + length entries)) IsLoaded
-      (farmers-yield grid words.bidders good.1 [] (All-nil (IsRead grid)) entries) (λ farmers h.
+      (farmers-yield files (wanted_of lot grid) grid words.bidders good.1 [] (All-nil (IsRead grid)) entries) (λ farmers h.
       gives-yield files IsLoaded (record { grid = grid; servers = words.servers; farmers = farmers })
       (record { few = omega (arith, few, h.1); farmers = h.0; servers = good.0 })))
 
@@ -390,7 +398,7 @@ module _ (files : List File) where
       (λ farmers. gives (record { grid = grid; servers = words.servers; farmers = farmers }))
       (λ farmers. All (IsRead grid) farmers × (length farmers ≡ 0 + length entries))
       (IsLimited files auction)
-      (farmers-yield files None grid words.bidders good.1 [] (All-nil (IsRead grid)) entries) (λ farmers h.
+      (farmers-yield files (wanted_of None grid) grid words.bidders good.1 [] (All-nil (IsRead grid)) entries) (λ farmers h.
       gives-yield files (IsLimited files auction)
       (record { grid = grid; servers = words.servers; farmers = farmers }) (record {
         grid = held;
@@ -461,13 +469,7 @@ has-accepted wanted words enough short =
 -- bidders that are read are those of a book
 pub farmers-book : (grid : Grid) (farmers : List BidderWithWords) → length farmers ≤ MOST_BIDDERS → All (IsRead grid) farmers →
     IsBook (book_with grid farmers)
-farmers-book grid farmers few each = record {
-  few = omega (arith, length-map farmers (λ (f : BidderWithWords). f.bidder), few);
-  curves = All-map (λ (b : Bidder). IsCurve b.curve) (λ (f : BidderWithWords). f.bidder) farmers
-      (λ k d lt. (each k d lt).is.curve);
-  of_grid = All-map (λ (b : Bidder). IsOfGrid grid b.curve) (λ (f : BidderWithWords). f.bidder) farmers
-      (λ k d lt. (each k d lt).is.of_grid);
-}
+farmers-book grid farmers few each = makes-book (counts_of grid) grid farmers (λ k d lt. (each k d lt).is) few
 
 module _ (grid : Grid) (servers : Trio ServerWords) (farmers : List BidderWithWords) where
   abbrev pub the_book : Book

@@ -49,7 +49,7 @@ module _ (files : List File) where
       (λ bytes entries e. book-few bytes entries e)) (λ entries entries_read few.
       then-told files (farmers_errand (wanted_of None grid) grid None [] entries) (λ farmers. gives (tallied farmers))
       (λ farmers. All (IsRead grid) farmers × (length farmers ≡ 0 + length entries)) (IsTallied auction list)
-      (farmers-yield files None grid None tt [] (All-nil (IsRead grid)) entries) (λ farmers farmers_read h.
+      (farmers-yield files (wanted_of None grid) grid None tt [] (All-nil (IsRead grid)) entries) (λ farmers farmers_read h.
       gives-yield files (IsTallied auction list) (tallied farmers) (record {
         read = record {
           grid = record { value = grid; is = grid_read };

@@ -9,7 +9,7 @@ use Rattle.beet_bids.specs.Books.{IsBook}
 use Rattle.beet_auction.specs.Endings.{book_finish, book_rounds}
 use Rattle.beet_view.specs.BookViews.{transcript_for}
 use Rattle.beet_auction_map.specs.ViewsWith.{transcript_with}
-use Rattle.beet_auction_map.specs.declared.agreeing.MapFault.{MapFault}
+use Rattle.beet_two_books.specs.declared.agreeing.MapFault.{MapFault}
 use Rattle.beet_headline.specs.Statements.{AreOnePair, AreTwoBooks}
 use Rattle.beet_headline.proofs.Pairing.{mapped-pair}
 use Rattle.beet_errand.specs.Errands.{Answer, Errand, answers, refuses}

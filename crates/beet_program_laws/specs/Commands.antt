@@ -59,7 +59,9 @@ use Rattle.beet_errand.specs.Overs.{ReadsTo}
 use Rattle.beet_load.specs.WholeViews.{loaded_with}
 use Rattle.beet_app_laws.specs.Calls.{Call, Puts, Says}
 use Rattle.beet_app_laws.specs.Readings.{OpenRead, SealRead, TallyRead}
-use Rattle.beet_program_laws.specs.Outcomes.{IsShown, ServersOpen, TellsTheEnd, three_files, transcript_files}
+use Rattle.beet_five_load.specs.FiveLoading.{FiveRead, five_loaded_errand}
+use Rattle.beet_program_laws.specs.Outcomes.{FiveServersOpen, IsShown, ServersOpen, TellsOfFive, TellsTheEnd}
+use Rattle.beet_program_laws.specs.Outcomes.{three_files, transcript_files}
 
 -- `tally`: the files read as a grid of one price and the bidders of a book, each with words enough; the sums of what
 -- they sell and buy at that price were said, and nothing else
@@ -84,8 +86,17 @@ pub record Clears (files : List File) (auction servers book_file : List ℕ) (ca
   pub tells : TellsTheEnd book words call.status text
   pub said : Says call text
 
--- `watch`: the same was said, and then of each server how many notes the desk counted and how many numbers they name:
--- the rounds of the run of this book among three servers, and the numbers that it opens
+-- `five`: the files read as a book with words of five servers; what these open was said, and nothing else
+pub record ClearsAmongFive (files : List File) (auction servers book_file : List ℕ) (call : Call) : Type 0 where
+  pub read : FiveRead
+  pub is_read : ReadsTo files (five_loaded_errand auction servers book_file) read
+  pub run : FiveServersOpen read.book read.words
+  pub text : List ℕ
+  pub tells : TellsOfFive read.book read.words call.status text
+  pub said : Says call text
+
+-- `watch`: what `clear` says was said, and then of each server how many notes the desk counted and how many numbers
+-- they name: the rounds of the run of this book among three servers, and the numbers that it opens
 pub record Watches (files : List File) (auction servers book_file : List ℕ) (call : Call) : Type 0 where
   pub book : Book
   pub words : Words

@@ -13,8 +13,9 @@ ghost use Rattle.beet_store.specs.Files.{File};
 ghost use Rattle.beet_app_laws.specs.Calls.{Call, IsDoneCall};
 ghost use Rattle.beet_program_laws.specs.Again.{IsPutAgain, record_words};
 ghost use Rattle.beet_program_laws.specs.Accepted.{IsAccepted, IsAuditedByPoints, audit_words, witness_words};
-ghost use Rattle.beet_program_laws.specs.Commands.{AuditsOneRun, Clears, OpensEnvelopes, PutsBothWorlds, RecordsRun};
-ghost use Rattle.beet_program_laws.specs.Commands.{RunsTrial, Seals, ShowsStandings, Tallies, Watches};
+ghost use Rattle.beet_program_laws.specs.Commands.{AuditsOneRun, Clears, ClearsAmongFive, OpensEnvelopes};
+ghost use Rattle.beet_program_laws.specs.Commands.{PutsBothWorlds, RecordsRun, RunsTrial, Seals, ShowsStandings};
+ghost use Rattle.beet_program_laws.specs.Commands.{Tallies, Watches};
 ghost use Rattle.beet_program_laws.specs.Commands.{WitnessesEnvelopes};
 
 /// `tally AUCTION BOOK` says the sums of what the bidders of the book sell and buy.
@@ -30,8 +31,16 @@ pub fn what_clear_says_is_what_servers_open()
         IsDoneCall files (codes "clear" ∷ auction ∷ servers ∷ book ∷ []) call → Clears files auction servers book call }
 {}
 
-/// `watch AUCTION SERVERS BOOK` says the same, and then of each server the rounds of this run and how many numbers it
-/// opens.
+/// `five AUCTION SERVERS BOOK` says what five servers of the book open, or that they are spent, and after how many
+/// rounds.
+pub fn what_five_says_is_what_five_servers_open()
+    ensures { (files : List File) (auction servers book : List ℕ) (call : Call) →
+        IsDoneCall files (codes "five" ∷ auction ∷ servers ∷ book ∷ []) call →
+        ClearsAmongFive files auction servers book call }
+{}
+
+/// `watch AUCTION SERVERS BOOK` says what `clear` says, and then of each server the rounds of this run and how many
+/// numbers it opens.
 pub fn what_watch_counts_is_the_run()
     ensures { (files : List File) (auction servers book : List ℕ) (call : Call) →
         IsDoneCall files (codes "watch" ∷ auction ∷ servers ∷ book ∷ []) call →

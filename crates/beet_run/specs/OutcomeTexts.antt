@@ -1,6 +1,8 @@
 -- The lines that tell how a run ended.
 use Rattle.std.specs.Prelude.{ℕ, List, [], ◌++◌, Option, None, Some, codes, decimal}
 use Rattle.beet_bids.specs.Grids.{Grid, price_of}
+use Rattle.beet_bids.specs.declared.outcomes.Outcome.{Outcome}
+use Rattle.beet_bids.specs.declared.outcomes.Outcome.TheVariants.{Price as AtPrice, No}
 use Rattle.beet_errand.specs.Texts.{line_of}
 use Rattle.beet_plan.specs.declared.Finish.{Finish}
 use Rattle.beet_plan.specs.declared.Finish.TheVariants.{Price, NoPrice, MasksSpent}
@@ -23,3 +25,9 @@ finish_text between grid MasksSpent = codes "masks spent"
 abbrev pub outcome_text : Grid → Finish → ℕ → List ℕ
 outcome_text grid finish rounds =
     line_of (finish_text (codes "\n") grid finish) ++ line_of (codes "rounds " ++ decimal rounds)
+
+-- an outcome in a word: its price, and behind slashes what it holds of the volume and the supply
+abbrev pub outcome_word : Outcome → List ℕ
+outcome_word (AtPrice place price volume supply) =
+    decimal price ++ opened_text (codes "/") [] volume ++ opened_text (codes "/") [] supply
+outcome_word No = codes "none"

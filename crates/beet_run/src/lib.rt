@@ -5,7 +5,7 @@
 mod outcome;
 mod running;
 
-pub use outcome::{finish_as_text, opened_as_text, outcome_reply};
+pub use outcome::{finish_as_text, outcome_reply, outcome_word};
 pub use running::{
     end_of, end_on_one_thread, finish_at, run_on_one_thread, run_script, start_script,
     start_servers,

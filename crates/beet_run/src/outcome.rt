@@ -2,9 +2,9 @@
 
 ghost use Rattle.std.specs.Prelude.{◌≡◌, IfOk, string_bytes};
 ghost use Rattle.beet_run.specs.Outcomes.{outcome_answer, status_of};
-ghost use Rattle.beet_run.specs.OutcomeTexts.{finish_text, opened_text, outcome_text};
+ghost use Rattle.beet_run.specs.OutcomeTexts.{finish_text, opened_text, outcome_text, outcome_word as word_of};
 
-use beet_bids::Grid;
+use beet_bids::{Grid, Outcome};
 use beet_errand::{Reply, Status};
 use beet_field::Fe;
 use beet_plan::Finish;
@@ -21,7 +21,7 @@ fn status_after(finish: &Finish) -> Status
 }
 
 /// The text of a number that may be opened: its name and digits behind a text, or nothing.
-pub fn opened_as_text(
+fn opened_as_text(
     alloc: Global,
     before: &str,
     name: &str,
@@ -34,6 +34,26 @@ pub fn opened_as_text(
         Some(number) => format!(in alloc; "{before}{name}{number}")?,
     };
     Ok(text)
+}
+
+/// An outcome as a refusal tells it: its price, and behind slashes what it holds of the volume and the supply, or
+/// `none`. Want of memory is the only error.
+pub fn outcome_word(alloc: Global, outcome: Outcome) -> Result<String, AllocError>
+    ensures { IfOk result (λ word. string_bytes word ≡ word_of outcome) }
+{
+    let Outcome::Price {
+        price,
+        volume,
+        supply,
+        ..
+    } = outcome
+    else {
+        return String::from_str(alloc, "none");
+    };
+    let volume = opened_as_text(alloc, "/", "", volume)?;
+    let supply = opened_as_text(alloc, "/", "", supply)?;
+    let word = format!(in alloc; "{price}{volume}{supply}")?;
+    Ok(word)
 }
 
 /// The text of a price, of none, or of spent masks; behind a price, the numbers that are opened there, each after

@@ -25,14 +25,14 @@ use beet_world::lockstep;
 use std::alloc::Global;
 
 /// A server that begins a script with these points and words.
-fn start<S: Script>(
+fn start<S: Script<3>>(
     alloc: Global,
     me: Point,
     script: S,
     inputs: FeList,
     words: ServerWords,
 ) -> Result<ServerCore<S>, Stop>
-    requires { CanStart S.inputs_of S.coefficients_of S.masks_of script inputs words }
+    requires { CanStart S.inputs_of S.secrets_of S.masks_of script inputs words }
     ensures memory { IfErr result (λ stop. stop ≡ Stop.OutOfMemory) }
     ensures core { IfOk result (λ core. core ≡ fresh S.batch_of me script inputs
         (record { words = words.masks; passed = 0 })
@@ -52,13 +52,13 @@ fn start<S: Script>(
 
 /// The three servers of a script, at its start, with these points of the inputs and these words. Want of memory is the
 /// only error.
-pub fn start_script<S: Script>(
+pub fn start_script<S: Script<3>>(
     alloc: Global,
     script: S,
     inputs: Trio<FeList>,
     words: Trio<ServerWords>,
 ) -> Result<Trio<ServerCore<S>>, Stop>
-    requires { (i : Point) → CanStart S.inputs_of S.coefficients_of S.masks_of script (member inputs i)
+    requires { (i : Point) → CanStart S.inputs_of S.secrets_of S.masks_of script (member inputs i)
         (member words i) }
     ensures memory { IfErr result (λ stop. stop ≡ Stop.OutOfMemory) }
     ensures starts { IfOk result (StartScript S.batch_of S.inputs_of script inputs words) }
@@ -72,13 +72,13 @@ pub fn start_script<S: Script>(
 
 /// Starts the three servers of a script with these points of the inputs and these words, and runs them to the end on
 /// the caller's thread, round by round. Want of memory is the only error, and comes before the first round.
-pub fn run_script<S: Script>(
+pub fn run_script<S: Script<3>>(
     alloc: Global,
     script: S,
     inputs: Trio<FeList>,
     words: Trio<ServerWords>,
 ) -> Result<Trio<ServerCore<S>>, Stop>
-    requires { (i : Point) → CanStart S.inputs_of S.coefficients_of S.masks_of script (member inputs i)
+    requires { (i : Point) → CanStart S.inputs_of S.secrets_of S.masks_of script (member inputs i)
         (member words i) }
     ensures memory { IfErr result (λ stop. stop ≡ Stop.OutOfMemory) }
     ensures ended { IfOk result (HaveRunScript S.batch_of S.inputs_of S.rounds_of script inputs words) }

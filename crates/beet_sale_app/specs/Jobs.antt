@@ -1,6 +1,7 @@
 -- The table of commands: a row for each, with its words and the job that they name.
 use Rattle.std.specs.Prelude.{ℕ, List, [], ◌∷◌, Option, Some, None, ◌&&◌, if◌then◌else◌, codes}
 use Rattle.beet_field.specs.declared.point.Point.{Point}
+use Rattle.beet_command.specs.Lines.{Words, WithTwo, WithFive, words_in}
 use Rattle.beet_command.specs.Words.{are_names, is_word}
 use Rattle.beet_errand.specs.Errands.{Errand}
 use Rattle.beet_job_sale.specs.Sales.{sale_errand}
@@ -24,7 +25,10 @@ abbrev pub job_of_five : List ℕ → List ℕ → List ℕ → List ℕ → Lis
 job_of_five command first second servers server out = pair_of Comparing command first second servers server out
 
 -- the job that the words name: a command, and exactly its words
+abbrev pub job_in : Words → Option Job
+job_in (WithTwo command a b) = job_of_two command a b
+job_in (WithFive command a b c d e) = job_of_five command a b c d e
+job_in words = None
+
 abbrev pub job_of : List (List ℕ) → Option Job
-job_of (command ∷ a ∷ b ∷ []) = job_of_two command a b
-job_of (command ∷ a ∷ b ∷ c ∷ d ∷ e ∷ []) = job_of_five command a b c d e
-job_of words = None
+job_of words = job_in (words_in words)

@@ -4,7 +4,7 @@ ghost use Rattle.std.specs.Prelude.{◌≡◌, map, option_map, string_bytes};
 ghost use Rattle.beet_sale_app.specs.Commands.{job_for};
 ghost use Rattle.beet_sale_app.specs.Jobs.{job_of, job_of_five, job_of_two};
 
-use beet_command::is_file;
+use beet_command::{Line, is_file, read_line};
 use beet_field::Point;
 use beet_job_sale::SaleFiles;
 use beet_pair_words::{PairFiles, read_pair};
@@ -47,16 +47,9 @@ fn with_five<'a>(
 pub(crate) fn read_command(words: &[String]) -> Option<Command<'_>>
     ensures { option_map job_for result ≡ job_of (map string_bytes words.now) }
 {
-    match words {
-        [name, a, b] => with_two(name.as_str(), a.as_str(), b.as_str()),
-        [name, a, b, c, d, e] => with_five(
-            name.as_str(),
-            a.as_str(),
-            b.as_str(),
-            c.as_str(),
-            d.as_str(),
-            e.as_str(),
-        ),
+    match read_line(words) {
+        Line::Two(name, a, b) => with_two(name, a, b),
+        Line::Five(name, a, b, c, d, e) => with_five(name, a, b, c, d, e),
         _ => None,
     }
 }

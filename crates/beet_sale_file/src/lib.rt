@@ -9,8 +9,6 @@ ghost use Rattle.beet_sale_file.specs.declared.sale_file.TheConstants.{BAD_GATES
 mod rows;
 mod sale;
 mod sale_file;
-#[cfg(test)]
-mod tests;
 
 pub use rows::{BAD_SALE_SOURCE, SaleBid, SaleRow};
 pub use sale::Sale;

@@ -68,9 +68,9 @@ pub fn what_is_right_is_done()
         IsWholeOrShort (PutsBothSales files sale1 sale2 servers can.s out call) call }
 {}
 
-/// The premises of the laws of two sales can be met: bids of 700, 900 and 800 and bids of 700, 950 and 800 that no
-/// server knows differ in the winning bid alone, and so they agree for each server. Sales of another price or of another
-/// winner do not agree, nor do those of which the server knows the winning bid.
+/// The premises of the laws of two sales can be met. Bids of 700, 900 and 800 and bids of 700, 950 and 800 that no
+/// server knows differ in the winning bid alone, and so they agree for each server. Sales of another price or of
+/// another winner do not agree, nor do those of which the server knows the winning bid.
 pub fn sales_agree_but_for_the_winning_bid()
     ensures bid { (s : Point) → DifferInTheWinningBid s (three_bids 700 900 800) (three_bids 700 950 800) }
     ensures price { (s : Point) → Agree s (three_bids 700 900 800) (three_bids 700 900 801) → ⊥ }

@@ -18,13 +18,14 @@ use Rattle.beet_turned.proofs.MasksBack.{masks-back}
 use Rattle.beet_turned.proofs.MasksThere.{masks-there}
 use Rattle.beet_turned.proofs.Small.{mapped-masks}
 use Rattle.beet_mapped.specs.Dealers.{Party, DealersMapped, dealers_of}
-use Rattle.beet_mapped.proofs.DealerFacts.{dealers-back, dealers-elements, dealers-words, element-at}
+use Rattle.beet_map.proofs.Places.{element-at}
+use Rattle.beet_mapped.proofs.DealerFacts.{dealers-back, dealers-elements, dealers-words}
 use Rattle.beet_mapped.proofs.WorldFacts.{all-words, are-masks}
 use Rattle.beet_trades.proofs.AllWords.{all-are}
 use Rattle.beet_trades.proofs.DealersThere.{MovedDealers, dealers-there}
 use Rattle.beet_trades.specs.Enough.{HasEnough}
 use Rattle.beet_trades.specs.Servers.{world_with}
-use Rattle.beet_trades.proofs.Disagreeing.{as-many, mark-at}
+use Rattle.beet_map.proofs.Disagreeing.{as-many, mark-at}
 use Rattle.beet_trades.proofs.Drawn.{all-drawn}
 use Rattle.beet_trades.proofs.EnoughFacts.{masks-enough, parts-enough}
 use Rattle.beet_compare.specs.Compare.{doubled}

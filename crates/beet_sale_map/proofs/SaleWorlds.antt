@@ -31,7 +31,7 @@ use Rattle.beet_mapped.proofs.WorldFacts.{trades-mapped}
 use Rattle.beet_trades.specs.Enough.{HasAccepted, HasEnough, read_words}
 use Rattle.beet_masking.specs.Masks.{with_spare}
 use Rattle.beet_trades.specs.Servers.{world_with}
-use Rattle.beet_trades.proofs.Disagreeing.{as-many}
+use Rattle.beet_map.proofs.Disagreeing.{as-many}
 use Rattle.beet_trades.proofs.Drawn.{accepted-read, numbers-enough}
 use Rattle.beet_trades.proofs.EnoughFacts.{mapped-enough}
 use Rattle.beet_trades.proofs.ReadRuns.{Reads, seen-read-same}

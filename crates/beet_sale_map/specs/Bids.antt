@@ -2,7 +2,7 @@
 use Rattle.std.specs.Prelude.{◌≡◌, ℕ, List, length, map, Option, All}
 use Rattle.beet_field.specs.declared.point.Point.{Point}
 use Rattle.beet_gates.specs.declared.Gates.{Gates}
-use Rattle.beet_trades.specs.Agreement.{SameKnown}
+use Rattle.beet_map.specs.Agreement.{SameKnown}
 use Rattle.beet_sale_plan.specs.Outcome.{IsBid, IsSale}
 use Rattle.beet_sale_plan.specs.Sale.{Sale, IsSaleSize, sale_of}
 use Rattle.beet_sale_file.specs.declared.rows.SaleBid.{SaleBid}

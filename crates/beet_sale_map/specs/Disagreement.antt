@@ -2,7 +2,7 @@
 use Rattle.std.specs.Prelude.{◌≡◌, ◌≢◌, ◌+◌, ℕ, List}
 use Rattle.beet_field.specs.declared.point.Point.{Point}
 use Rattle.beet_map.specs.Refused.{DifferFirst}
-use Rattle.beet_trades.specs.Agreement.{KnownDiffersAt}
+use Rattle.beet_map.specs.Agreement.{KnownDiffersAt}
 use Rattle.beet_sale_plan.specs.Outcome.{IsSale}
 use Rattle.beet_sale_file.specs.declared.rows.SaleBid.{SaleBid}
 use Rattle.beet_sale_map.specs.declared.results.SaleResult.{SaleResult}

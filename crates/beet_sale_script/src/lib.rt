@@ -2,8 +2,6 @@
 #![tactic(auto)]
 
 mod script;
-#[cfg(test)]
-mod tests;
 mod walk;
 
 pub use beet_sale_plan::SaleEnd;

@@ -100,7 +100,7 @@ impl SaleScript {
     }
 }
 
-impl Script for SaleScript {
+impl Script<3> for SaleScript {
     ghost use Rattle.beet_sale_plan.specs.Sale.{bidders_of, sale_batch, most_rounds, most_masks, most_coefficients};
     ghost use Rattle.beet_sale_plan.specs.Sale.{most_wires};
     ghost use Rattle.beet_sale_plan.proofs.SaleStands.{sale-law};
@@ -115,7 +115,7 @@ impl Script for SaleScript {
 
     ghost masks_of = { most_masks };
 
-    ghost coefficients_of = { most_coefficients };
+    ghost secrets_of = { most_coefficients };
 
     ghost wires_of = { most_wires };
 
@@ -140,7 +140,7 @@ impl Script for SaleScript {
         most_masks(self.bidders())
     }
 
-    fn coefficients(&self) -> u32 {
+    fn secrets(&self) -> u32 {
         most_coefficients(self.bidders())
     }
 

@@ -1,8 +1,8 @@
 //! Sales of bids that are drawn, by the script and by the plain rule.
 
-use beet_field::{Fe, Trio};
-use beet_gates::{ClearRun, Gates, Script, clear_run};
-use beet_sale_script::SaleScript;
+use crate::runs::{run, sold};
+use beet_field::Trio;
+use beet_gates::Gates;
 use beet_words::{Tape, Word, WordList};
 use std::alloc::Global;
 use std::process::Abort;
@@ -74,43 +74,26 @@ fn plain_rule(bids: &[u64]) -> (usize, u64) {
     (place, price)
 }
 
-/// The run of the script on these bids, with masks of the streams behind this one.
-fn run(rt: &impl Abort, alloc: Global, gates: Gates, bids: &[u64], stream: u64) -> ClearRun {
-    let masks = Trio {
+/// Mask words for each server, of the streams behind this one.
+fn masks_behind(rt: &impl Abort, alloc: Global, stream: u64) -> Trio<WordList> {
+    Trio {
         one: masks_of(rt, alloc, stream.saturating_add(1)),
         two: masks_of(rt, alloc, stream.saturating_add(2)),
         three: masks_of(rt, alloc, stream.saturating_add(3)),
-    };
-    let mut inputs = Vec::new(alloc);
-    for bid in bids {
-        inputs.push(Fe::reduce(*bid as u128)).expect(rt, "memory");
     }
-    assert!(rt; bids.len() <= 16);
-    let script = SaleScript::new(bids.len() as u32, gates).expect(rt, "a script");
-    let wanted = script.masks() as usize;
-    assert!(rt; masks.one.len() >= wanted);
-    assert!(rt; masks.two.len() >= wanted);
-    assert!(rt; masks.three.len() >= wanted);
-    assert!(rt; inputs.len() == script.inputs() as usize);
-    clear_run(alloc, &script, &inputs, &masks).expect(rt, "memory")
 }
 
 /// Runs a sale, and compares the last two opened numbers with the plain rule.
 fn expect_plain(rt: &impl Abort, alloc: Global, gates: Gates, stream: u64) {
     let bids = draw_bids(rt, alloc, stream);
     let (place, price) = plain_rule(bids.as_slice());
-    let run = run(rt, alloc, gates, bids.as_slice(), stream);
-    let opened = run.opened.as_slice();
-    assert!(rt; opened.len() >= 2);
-    let winner = opened[opened.len() - 2].value();
+    let masks = masks_behind(rt, alloc, stream);
+    let (winner, paid) = sold(rt, &run(rt, alloc, gates, bids.as_slice(), masks));
     assert!(rt;
         winner == (place as u64).saturating_add(1),
         "winner of stream {stream}"
     );
-    assert!(rt;
-        opened[opened.len() - 1].value() == price,
-        "price of stream {stream}"
-    );
+    assert!(rt; paid == price, "price of stream {stream}");
 }
 
 /// Runs all sales, in turn with chains and with trees.

@@ -6,7 +6,7 @@ use Rattle.beet_samples.specs.declared.Sample.{Sample}
 use Rattle.beet_samples.specs.declared.Sample.TheVariants.{Product, SecondBits, Inputs}
 
 pub sample-law : (s : Sample) →
-    LawFrom (batch_of s) (bounds_of (needs s).wires (needs s).masks (needs s).coefficients) (needs s).rounds
+    LawFrom (batch_of s) (bounds_of (needs s).wires (needs s).masks (needs s).secrets) (needs s).rounds
     (start_of (inputs_of s)) []
 sample-law Product = search rules
 sample-law SecondBits = search rules

@@ -9,9 +9,9 @@ use Rattle.beet_samples.specs.declared.Sample.TheVariants.{Product, SecondBits, 
 use Rattle.beet_samples.specs.declared.Sizes.{Sizes}
 
 abbrev pub needs : Sample → Sizes
-needs Product = record { inputs = 2; rounds = 2; masks = 0; coefficients = 1; wires = 3 }
-needs SecondBits = record { inputs = 0; rounds = 2; masks = 1; coefficients = 61; wires = 183 }
-needs Inputs = record { inputs = MOST_NUMBERS; rounds = 1; masks = 0; coefficients = 0; wires = MOST_NUMBERS }
+needs Product = record { inputs = 2; rounds = 2; masks = 0; secrets = 1; wires = 3 }
+needs SecondBits = record { inputs = 0; rounds = 2; masks = 1; secrets = 61; wires = 183 }
+needs Inputs = record { inputs = MOST_NUMBERS; rounds = 1; masks = 0; secrets = 0; wires = MOST_NUMBERS }
 
 abbrev pub inputs_of : Sample → ℕ
 inputs_of s = (needs s).inputs

@@ -1,7 +1,7 @@
 //! Small scripts for the tests of what runs scripts, and three servers of one of them.
 #![tactic(auto)]
 
-ghost use Rattle.std.specs.Prelude.{◌≡◌, IfErr, IfOk, length};
+ghost use Rattle.std.specs.Prelude.{◌≡◌, ◌<◌, ◌^◌, IfErr, IfOk, length};
 ghost use Rattle.std.specs.List.{range_with_len};
 ghost use Rattle.beet_field.specs.declared.TheConstants.{MOST_NUMBERS};
 ghost use Rattle.beet_server.specs.Cores.{AreFresh, IsFresh};
@@ -33,7 +33,7 @@ pub struct Sizes {
     pub inputs: u32,
     pub rounds: u32,
     pub masks: u32,
-    pub coefficients: u32,
+    pub secrets: u32,
     pub wires: u32,
 }
 
@@ -50,35 +50,36 @@ fn all_wires() -> ArrayVec<u32, MOST_NUMBERS>
 
 impl Sample {
     fn needs(self) -> Sizes
-        ensures { result ≡ needs self }
+        ensures value { result ≡ needs self }
+        ensures few { (result.rounds < 2 ^ 31) × (result.secrets < 2 ^ 31) }
     {
         match self {
             Sample::Product => Sizes {
                 inputs: 2,
                 rounds: 2,
                 masks: 0,
-                coefficients: 1,
+                secrets: 1,
                 wires: 3,
             },
             Sample::SecondBits => Sizes {
                 inputs: 0,
                 rounds: 2,
                 masks: 1,
-                coefficients: 61,
+                secrets: 61,
                 wires: 183,
             },
             Sample::Inputs => Sizes {
                 inputs: MOST_NUMBERS as u32,
                 rounds: 1,
                 masks: 0,
-                coefficients: 0,
+                secrets: 0,
                 wires: MOST_NUMBERS as u32,
             },
         }
     }
 }
 
-impl Script for Sample {
+impl Script<3> for Sample {
     ghost use Rattle.std.specs.Prelude.{⊤};
     ghost use Rattle.beet_samples.specs.Samples.{batch_of, inputs_of, needs};
     ghost use Rattle.beet_samples.specs.SampleLaw.{sample-law};
@@ -91,7 +92,7 @@ impl Script for Sample {
 
     ghost masks_of = { λ s. (needs s).masks };
 
-    ghost coefficients_of = { λ s. (needs s).coefficients };
+    ghost secrets_of = { λ s. (needs s).secrets };
 
     ghost wires_of = { λ s. (needs s).wires };
 
@@ -115,8 +116,8 @@ impl Script for Sample {
         self.needs().masks
     }
 
-    fn coefficients(&self) -> u32 {
-        self.needs().coefficients
+    fn secrets(&self) -> u32 {
+        self.needs().secrets
     }
 
     fn wires(&self) -> u32 {

@@ -51,14 +51,14 @@ fn have_numbers(words: &Trio<WordList>, wanted: u32) -> bool
 }
 
 /// Whether a world is one of the script.
-fn has_secrets<S: Script>(script: &S, secrets: &Secrets) -> bool
+fn has_secrets<S: Script<3>>(script: &S, secrets: &Secrets) -> bool
     ensures { IsTrue result → HasSecrets (S.inputs_of script.now) (S.masks_of script.now) secrets.now }
 {
     secrets.inputs.len() == script.inputs() as usize && have_words(&secrets.masks, script.masks())
 }
 
 /// The map for server 2.
-fn map<S: Script>(
+fn map<S: Script<3>>(
     rt: &impl Abort,
     alloc: Global,
     script: &S,

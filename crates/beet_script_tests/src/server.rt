@@ -34,7 +34,7 @@ fn two_one_six(rt: &impl Abort, alloc: Global) -> Trio<ServerCore<Sample>> {
 }
 
 /// What the server says of the message, or `None` where its own are not handed out.
-fn give<S: Script>(core: &mut ServerCore<S>, m: RoundMessage) -> Option<Verdict> {
+fn give<S: Script<3>>(core: &mut ServerCore<S>, m: RoundMessage) -> Option<Verdict> {
     if core.sent() {
         Some(core.deliver(&m))
     } else {
@@ -43,12 +43,12 @@ fn give<S: Script>(core: &mut ServerCore<S>, m: RoundMessage) -> Option<Verdict>
 }
 
 /// Whether the server says this of the message.
-pub fn says<S: Script>(core: &mut ServerCore<S>, m: RoundMessage, verdict: Verdict) -> bool {
+pub fn says<S: Script<3>>(core: &mut ServerCore<S>, m: RoundMessage, verdict: Verdict) -> bool {
     give(core, m) == Some(verdict)
 }
 
 /// The two messages that the server hands out.
-fn send<S: Script>(rt: &impl Abort, core: &mut ServerCore<S>) -> (RoundMessage, RoundMessage) {
+fn send<S: Script<3>>(rt: &impl Abort, core: &mut ServerCore<S>) -> (RoundMessage, RoundMessage) {
     let [low, high] = core.out().expect(rt, "two messages");
     (low, high)
 }
@@ -57,7 +57,7 @@ fn send<S: Script>(rt: &impl Abort, core: &mut ServerCore<S>) -> (RoundMessage, 
 type Sent = Trio<(RoundMessage, RoundMessage)>;
 
 /// The messages that the servers hand out.
-pub fn send_all<S: Script>(rt: &impl Abort, cores: &mut Trio<ServerCore<S>>) -> Sent {
+pub fn send_all<S: Script<3>>(rt: &impl Abort, cores: &mut Trio<ServerCore<S>>) -> Sent {
     Trio {
         one: send(rt, &mut cores.one),
         two: send(rt, &mut cores.two),
@@ -66,7 +66,7 @@ pub fn send_all<S: Script>(rt: &impl Abort, cores: &mut Trio<ServerCore<S>>) -> 
 }
 
 /// Gives each server its two messages; answers whether all verdicts are as they should be.
-pub fn give_all<S: Script>(cores: &mut Trio<ServerCore<S>>, sent: Sent) -> bool {
+pub fn give_all<S: Script<3>>(cores: &mut Trio<ServerCore<S>>, sent: Sent) -> bool {
     let (one_two, one_three) = sent.one;
     let (two_one, two_three) = sent.two;
     let (three_one, three_two) = sent.three;
@@ -80,7 +80,7 @@ pub fn give_all<S: Script>(cores: &mut Trio<ServerCore<S>>, sent: Sent) -> bool 
 }
 
 /// Passes a round at each server, and expects that all verdicts are as they should be.
-pub fn pass_round<S: Script>(rt: &impl Abort, cores: &mut Trio<ServerCore<S>>) {
+pub fn pass_round<S: Script<3>>(rt: &impl Abort, cores: &mut Trio<ServerCore<S>>) {
     let sent = send_all(rt, cores);
     assert!(rt; give_all(cores, sent));
 }
@@ -104,7 +104,7 @@ fn have_received(
 }
 
 /// Whether each server has opened these numbers.
-fn have_opened<S: Script>(cores: &Trio<ServerCore<S>>, numbers: &[Fe]) -> bool {
+fn have_opened<S: Script<3>>(cores: &Trio<ServerCore<S>>, numbers: &[Fe]) -> bool {
     cores.one.opened() == numbers
         && cores.two.opened() == numbers
         && cores.three.opened() == numbers

@@ -91,7 +91,7 @@ impl AuctionScript {
     }
 }
 
-impl Script for AuctionScript {
+impl Script<3> for AuctionScript {
     ghost use Rattle.std.specs.Prelude.{◌*◌};
     ghost use Rattle.beet_plan.specs.Auction.{auction_batch, most_rounds, most_masks, most_coefficients, most_wires};
     ghost use Rattle.beet_plan.proofs.AuctionLaw.{auction-law};
@@ -106,7 +106,7 @@ impl Script for AuctionScript {
 
     ghost masks_of = { most_masks };
 
-    ghost coefficients_of = { most_coefficients };
+    ghost secrets_of = { most_coefficients };
 
     ghost wires_of = { most_wires };
 
@@ -130,7 +130,7 @@ impl Script for AuctionScript {
         most_masks(self.prices)
     }
 
-    fn coefficients(&self) -> u32 {
+    fn secrets(&self) -> u32 {
         most_coefficients(self.prices)
     }
 

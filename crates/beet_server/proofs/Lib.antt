@@ -10,3 +10,5 @@ pub mod Endings
 pub mod Senders
 pub mod Rounds
 pub mod Beginning
+pub mod Givings
+pub mod Going

@@ -157,6 +157,15 @@ module _ (servers numbers : ℕ) (next : ℕ → List ℕ → Batch) (bounds : S
           absurd (true≢false (sym last ∙ goes))
       by_left (suc n) e = omega (arith, sound.few, e)
 
+    -- there is room for what the act gives and opens
+    pub gains-room : length wires + gained_among servers batch.act ≤ wire_room
+    gains-room = omega (arith, sound.counted, gains, (leads sound.standing batch).wires, now.1.0, sound.wires_fit)
+
+    pub opens-room : is_end batch.act ≡ false → length opened + revealed batch.act ≤ opened_room
+    opens-room goes =
+        let few = few-opened batch.act in
+        omega (arith, sound.answers, few, small-act, still-going goes, sound.opened_fit)
+
     -- the round is passed
     module _ (is_handed : handed ≡ true) (goes : is_end batch.act ≡ false) where
       more : (n : ℕ) × (sound.left ≡ suc n) × ((new : List ℕ) → length new ≡ revealed batch.act →

@@ -7,3 +7,5 @@ pub mod Sound
 pub mod Rows
 pub mod Kept
 pub mod Lockstep
+pub mod Values
+pub mod Lengths

@@ -10,7 +10,9 @@ ghost use Rattle.beet_round.specs.Sides.{peer};
 ghost use Rattle.beet_round.specs.declared.sides.Side.TheVariants.{Low, High};
 ghost use Rattle.beet_server.specs.Steps.{Work, batch_of, sends, handing, passing};
 
-use crate::parts::{Numbers, Tapes, absorb, append_all, append_lets, of_sender, put_numbers};
+use crate::lines::{Incoming, of_sender, put_numbers};
+use crate::parts::{Numbers, Tapes};
+use crate::progress::{begin_run, pass_round};
 use beet_field::{Fe, Point};
 use beet_gates::{Batch, Script};
 use beet_words::Tape;
@@ -18,7 +20,7 @@ use std::marker::Model;
 
 /// What computes in a server. `batch` is the one that comes, from `place` in the script; its lets are among the wires.
 #[derive(Drop)]
-pub struct Engine<S: Script> {
+pub struct Engine<S: Script<3>> {
     me: Point,
     script: S,
     tapes: Tapes,
@@ -31,7 +33,7 @@ pub struct Engine<S: Script> {
     batch: Batch,
 }
 
-impl<S: Script> Model for Engine<S> {
+impl<S: Script<3>> Model for Engine<S> {
     ghost use Rattle.std.specs.Prelude.{◌≡◌, length, vec_capacity};
     ghost use Rattle.beet_gates.specs.Scripts.{bounds_of, size_of};
     ghost use Rattle.beet_server.specs.Steps.{Work};
@@ -52,7 +54,7 @@ impl<S: Script> Model for Engine<S> {
     } };
 
     ghost invariant = { λ e. IsSound 3 1 (S.batch_of e.script)
-        (bounds_of (S.wires_of e.script) (S.masks_of e.script) (S.coefficients_of e.script))
+        (bounds_of (S.wires_of e.script) (S.masks_of e.script) (S.secrets_of e.script))
         (S.rounds_of e.script)
         e.batch e.round e.wires.items e.opened.items e.tapes.masks e.tapes.coefficients e.handed
         (vec_capacity e.wires) (vec_capacity e.opened)
@@ -60,7 +62,7 @@ impl<S: Script> Model for Engine<S> {
         × S.is_at e.script e.round e.opened.items e.place };
 }
 
-impl<S: Script> Engine<S> {
+impl<S: Script<3>> Engine<S> {
     /// At the first batch of the script, with room for all wires and for all numbers that it may open.
     pub fn start(
         me: Point,
@@ -75,7 +77,7 @@ impl<S: Script> Engine<S> {
         requires masks_start { masks.passed ≡ 0 }
         requires coefficients_start { coefficients.passed ≡ 0 }
         requires words { S.masks_of script ≤ length masks.words }
-        requires numbers { S.coefficients_of script ≤ length (left_of coefficients) }
+        requires numbers { S.secrets_of script ≤ length (left_of coefficients) }
         requires counted { S.rounds_of script < 2 ^ 32 }
         requires wires { (wires.items ≡ []) × (S.wires_of script ≤ vec_capacity wires) }
         requires opened { (opened.items ≡ [])
@@ -92,11 +94,8 @@ impl<S: Script> Engine<S> {
           handed = false;
         } }
     {
-        let place = script.begin();
-        let batch = script.next(0, &[]);
         let mut wires = wires;
-        append_all(&mut wires, inputs);
-        append_lets(&mut wires, batch.lets.as_slice());
+        let (place, batch) = begin_run(&script, inputs, &mut wires);
         Engine {
             me,
             script,
@@ -150,24 +149,19 @@ impl<S: Script> Engine<S> {
         let one = of_sender(self.me, Point::One, own, low, high);
         let two = of_sender(self.me, Point::Two, own, low, high);
         let three = of_sender(self.me, Point::Three, own, low, high);
-        absorb(
-            &self.batch.act,
+        let given = Incoming { one, two, three };
+        pass_round(
+            &self.script,
+            self.round,
+            &given,
+            &mut self.place,
+            &mut self.batch,
             &mut self.wires,
             &mut self.opened,
-            one,
-            two,
-            three,
         );
         self.own.clear();
         self.handed = false;
         self.round += 1;
-        self.script.refill(
-            self.round,
-            self.opened.as_slice(),
-            &mut self.place,
-            &mut self.batch,
-        );
-        append_lets(&mut self.wires, self.batch.lets.as_slice());
     }
 
     /// How many numbers a message of the round has.

@@ -7,7 +7,9 @@
 mod engine;
 mod kept;
 mod laws_of_cores;
+mod lines;
 mod parts;
+mod progress;
 mod rows;
 mod server;
 
@@ -15,5 +17,6 @@ pub use laws_of_cores::{
     a_core_that_has_sent_is_at_its_passed_rounds, all_end_alike,
     deliveries_elsewhere_change_nothing, messages_go_out_at_most_twice,
 };
-pub use parts::{Numbers, append_all, append_lets, bits, pick, products};
+pub use parts::{Drawn, Given, Numbers, Tapes, append_all, draw, put_all, put_values, secrets_in};
+pub use progress::{begin_run, pass_round};
 pub use server::{ServerCore, StartFault};

@@ -63,7 +63,7 @@ fn address(message: &mut RoundMessage, me: Point, side: Side, round: u32)
 
 /// All memory that a server ever needs: for the messages that it gets, for its wires, and for the numbers that it
 /// opens. Tapes that hold too few words are refused first.
-fn take_room<S: Script>(
+fn take_room<S: Script<3>>(
     alloc: Global,
     me: Point,
     script: &S,
@@ -72,12 +72,12 @@ fn take_room<S: Script>(
 ) -> Result<(KeptRounds, Vec<Fe>, Vec<Fe>), StartFault>
     requires { masks.now.passed ≡ 0 }
     ensures words { (have : ℕ) → IsErrOf result (TooFewWords have)
-        ↔ ((have ≡ length (left_of coefficients.now)) × (have < S.coefficients_of script.now)) }
+        ↔ ((have ≡ length (left_of coefficients.now)) × (have < S.secrets_of script.now)) }
     ensures masks { (have : ℕ) → IsErrOf result (TooFewMasks have)
-        ↔ ((S.coefficients_of script.now ≤ length (left_of coefficients.now))
+        ↔ ((S.secrets_of script.now ≤ length (left_of coefficients.now))
         × (have ≡ length masks.now.words) × (have < S.masks_of script.now)) }
     ensures enough { IfOk result (λ room. (S.masks_of script.now ≤ length masks.now.words)
-        × (S.coefficients_of script.now ≤ length (left_of coefficients.now))) }
+        × (S.secrets_of script.now ≤ length (left_of coefficients.now))) }
     ensures counted { IfOk result (λ room. S.rounds_of script.now < 2 ^ 32) }
     ensures received { IfOk result (λ room. room.0 ≡ record {
       me = me;
@@ -105,13 +105,13 @@ fn take_room<S: Script>(
 
 /// A server that runs a script with two others.
 #[derive(Drop)]
-pub struct ServerCore<S: Script> {
+pub struct ServerCore<S: Script<3>> {
     engine: Engine<S>,
     mail: RoundBox,
     received: KeptRounds,
 }
 
-impl<S: Script> Model for ServerCore<S> {
+impl<S: Script<3>> Model for ServerCore<S> {
     ghost use Rattle.beet_server.specs.Cores.{Core};
     ghost use Rattle.beet_server.specs.Steps.{core_of};
     ghost use Rattle.beet_server.specs.Sound.{AreTied};
@@ -124,7 +124,7 @@ impl<S: Script> Model for ServerCore<S> {
         c.received.messages c.mail c.received.room c.received.me };
 }
 
-impl<S: Script> ServerCore<S> {
+impl<S: Script<3>> ServerCore<S> {
     /// A server in round 0, or ended where the script has no rounds. `inputs` are its points of the
     /// inputs; it deals the words of `masks`, and draws its numbers from `coefficients`. No other
     /// call takes memory.
@@ -140,9 +140,9 @@ impl<S: Script> ServerCore<S> {
         requires masks { masks.passed ≡ 0 }
         requires coefficients { coefficients.passed ≡ 0 }
         ensures words { (have : ℕ) → IsErrOf result (TooFewWords have)
-            ↔ ((have ≡ length (left_of coefficients)) × (have < S.coefficients_of script)) }
+            ↔ ((have ≡ length (left_of coefficients)) × (have < S.secrets_of script)) }
         ensures masks { (have : ℕ) → IsErrOf result (TooFewMasks have)
-            ↔ ((S.coefficients_of script ≤ length (left_of coefficients))
+            ↔ ((S.secrets_of script ≤ length (left_of coefficients))
             × (have ≡ length masks.words) × (have < S.masks_of script)) }
         ensures core { IfOk result (λ c. c ≡ fresh S.batch_of me script inputs masks coefficients) }
         ensures fresh { IfOk result (IsFresh S.batch_of S.inputs_of) }

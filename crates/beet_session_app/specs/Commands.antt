@@ -8,5 +8,5 @@ use Rattle.beet_session_app.specs.declared.commands.Command.TheVariants.{Session
 -- the job of a command with these words
 abbrev pub job_for : Command → Job
 job_for (Session files) = Answering (session_errand files.session.now files.servers.now)
-job_for (Replay files) = Answering (replay_errand files.session.now files.servers.now files.schedule.now)
+job_for (Replay files schedule) = Answering (replay_errand files.session.now files.servers.now schedule.now)
 job_for (Pair files s) = Comparing files.first.now files.second.now files.servers.now s files.out.now

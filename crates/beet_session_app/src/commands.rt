@@ -4,17 +4,16 @@ ghost use Rattle.std.specs.Prelude.{◌≡◌, map, option_map, string_bytes};
 ghost use Rattle.beet_session_app.specs.Commands.{job_for};
 ghost use Rattle.beet_session_app.specs.Jobs.{job_of, job_of_five, job_of_three, job_of_two};
 
-use beet_command::is_file;
+use beet_command::{Line, is_file, read_line};
 use beet_field::Point;
-use beet_job_replay::ReplayFiles;
-use beet_job_session::SessionFiles;
+use beet_lot_load::SessionFiles;
 use beet_pair_words::{PairFiles, read_pair};
 
 /// A command with its words. Those that stand for files are names.
 #[derive(Clone, Copy)]
 pub(crate) enum Command<'a> {
     Session(SessionFiles<'a>),
-    Replay(ReplayFiles<'a>),
+    Replay(SessionFiles<'a>, &'a str),
     Pair(PairFiles<'a>, Point),
 }
 
@@ -39,11 +38,7 @@ fn with_three<'a>(
     ensures { option_map job_for result ≡ job_of_three name.now session.now servers.now schedule.now }
 {
     if name == "replay" && is_file(session) && is_file(servers) && is_file(schedule) {
-        Some(Command::Replay(ReplayFiles {
-            session,
-            servers,
-            schedule,
-        }))
+        Some(Command::Replay(SessionFiles { session, servers }, schedule))
     } else {
         None
     }
@@ -69,17 +64,10 @@ fn with_five<'a>(
 pub(crate) fn read_command(words: &[String]) -> Option<Command<'_>>
     ensures { option_map job_for result ≡ job_of (map string_bytes words.now) }
 {
-    match words {
-        [name, a, b] => with_two(name.as_str(), a.as_str(), b.as_str()),
-        [name, a, b, c] => with_three(name.as_str(), a.as_str(), b.as_str(), c.as_str()),
-        [name, a, b, c, d, e] => with_five(
-            name.as_str(),
-            a.as_str(),
-            b.as_str(),
-            c.as_str(),
-            d.as_str(),
-            e.as_str(),
-        ),
+    match read_line(words) {
+        Line::Two(name, a, b) => with_two(name, a, b),
+        Line::Three(name, a, b, c) => with_three(name, a, b, c),
+        Line::Five(name, a, b, c, d, e) => with_five(name, a, b, c, d, e),
         _ => None,
     }
 }

@@ -27,7 +27,7 @@ fn do_job<S: Shelf, R: Threads + Sync>(
 {
     match command {
         Command::Session(files) => session(alloc, shelf, &files),
-        Command::Replay(files) => replay(alloc, shelf, &files),
+        Command::Replay(files, schedule) => replay(alloc, shelf, &files, schedule),
         Command::Pair(files, server) => pair(rt, alloc, shelf, &files, server),
     }
 }

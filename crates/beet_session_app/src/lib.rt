@@ -32,8 +32,8 @@ use std::thread::Threads;
 /// At 2, 3, 5, 7 and 9 the line that tells the cause is said, and no file is put. The text is said after all files were
 /// put.
 ///
-/// The servers run in lockstep on the caller's thread, so the call waits for nobody. `session` and `replay` start no
-/// thread; `pair` deals the points of large books by all processors.
+/// The servers run in lockstep on the caller's thread. `session` and `replay` start no thread, and wait for nobody;
+/// `pair` deals the points of large books in several threads, which it joins.
 pub fn run_session<S: Shelf, K: Desk, R: Threads + Sync>(
     rt: &R,
     alloc: Global,

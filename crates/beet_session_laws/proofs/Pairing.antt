@@ -10,13 +10,13 @@ use Rattle.beet_field.specs.declared.point.Point.{Point}
 use Rattle.beet_store.specs.Files.{File}
 use Rattle.beet_words.specs.Bundles.{Words}
 use Rattle.beet_bids.specs.Books.{Book, IsBook}
-use Rattle.beet_auction_map.specs.Agreement.{Agree}
+use Rattle.beet_two_books.specs.Agreement.{Agree}
 use Rattle.beet_auction_map.specs.Disagreement.{Refuses, RefusesMap}
 use Rattle.beet_auction_map.specs.MappedWords.{Mapped}
 use Rattle.beet_auction_map.specs.ViewsWith.{transcript_with}
-use Rattle.beet_auction_map.specs.declared.agreeing.MapFault.{MapFault}
-use Rattle.beet_auction_map.specs.declared.agreeing.MapFault.TheVariants.{ShapeDiffers, OwnBidsDiffer, OutcomesDiffer}
-use Rattle.beet_auction_map.specs.declared.agreeing.MapFault.TheVariants.{OutOfMemory as MapOutOfMemory}
+use Rattle.beet_two_books.specs.declared.agreeing.MapFault.{MapFault}
+use Rattle.beet_two_books.specs.declared.agreeing.MapFault.TheVariants.{ShapeDiffers, OwnBidsDiffer, OutcomesDiffer}
+use Rattle.beet_two_books.specs.declared.agreeing.MapFault.TheVariants.{OutOfMemory as MapOutOfMemory}
 use Rattle.beet_headline.specs.Statements.{AreTwoBooks}
 use Rattle.beet_headline.proofs.Pairing.{mapped-pair}
 use Rattle.beet_lot_map.specs.LotMaps.{RefusesLot, RefusesSession, SessionMapped, fault_in, session_transcripts}

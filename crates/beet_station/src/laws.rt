@@ -8,7 +8,7 @@ ghost use Rattle.beet_server.specs.Lockstep.{HaveEnded};
 use beet_gates::Script;
 
 /// Three servers that their loops have run to the end are as after lockstep.
-pub fn ended_servers_are_as_after_lockstep<S: Script>()
+pub fn ended_servers_are_as_after_lockstep<S: Script<3>>()
     ensures { (start ended : Trio (Core S)) → AreFresh S.batch_of S.inputs_of start
         → AreEnded S.batch_of S.inputs_of S.rounds_of start ended
         → HaveEnded S.batch_of S.inputs_of S.rounds_of start ended }

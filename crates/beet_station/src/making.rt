@@ -21,7 +21,7 @@ pub struct Ends {
 }
 
 /// Both links between two servers: the ends of the first, and those of the second.
-fn pair<S: Script>(
+fn pair<S: Script<3>>(
     alloc: Global,
     cores: &Trio<ServerCore<S>>,
     first: Point,
@@ -54,7 +54,10 @@ pub struct Links {
 }
 
 /// All six links of three fresh servers. No other call takes memory.
-pub fn all_links<S: Script>(alloc: Global, cores: &Trio<ServerCore<S>>) -> Result<Links, AllocError>
+pub fn all_links<S: Script<3>>(
+    alloc: Global,
+    cores: &Trio<ServerCore<S>>,
+) -> Result<Links, AllocError>
     requires { AreFresh S.batch_of S.inputs_of cores.now }
     ensures { IfOk result (AreLinked S.batch_of S.inputs_of S.rounds_of cores.now) }
 {
@@ -72,7 +75,7 @@ pub fn all_links<S: Script>(alloc: Global, cores: &Trio<ServerCore<S>>) -> Resul
     })
 }
 
-fn station<S: Script>(core: ServerCore<S>, low: Ends, high: Ends) -> Station<S>
+fn station<S: Script<3>>(core: ServerCore<S>, low: Ends, high: Ends) -> Station<S>
     ensures { result ≡ record {
       core = core;
       to_low = low.to;
@@ -91,7 +94,7 @@ fn station<S: Script>(core: ServerCore<S>, low: Ends, high: Ends) -> Station<S>
 }
 
 /// Three fresh servers with their ends, which are those of all six links between them.
-pub fn stations<S: Script>(cores: Trio<ServerCore<S>>, links: Links) -> Trio<Station<S>>
+pub fn stations<S: Script<3>>(cores: Trio<ServerCore<S>>, links: Links) -> Trio<Station<S>>
     requires fresh { AreFresh S.batch_of S.inputs_of cores }
     requires links { AreLinked S.batch_of S.inputs_of S.rounds_of cores links }
     ensures tied { AreTied S.batch_of S.inputs_of S.rounds_of cores result }

@@ -25,7 +25,7 @@ use std::time::Clock;
 
 /// A server with its ends: to and from its lower and its higher peer.
 #[derive(Drop)]
-pub struct Station<S: Script> {
+pub struct Station<S: Script<3>> {
     pub core: ServerCore<S>,
     pub to_low: LinkTx,
     pub to_high: LinkTx,
@@ -42,7 +42,7 @@ pub struct Mail {
 }
 
 /// Waits for the next message of a link, and gives it to the server. The message comes back, to be written anew.
-fn hear<S: Script, R: Wait + Clock>(
+fn hear<S: Script<3>, R: Wait + Clock>(
     rt: &R,
     core: &mut ServerCore<S>,
     from: &mut LinkRx,
@@ -75,7 +75,7 @@ fn behind(numbers: &[Fe], place: usize) -> &[Fe]
 }
 
 /// Sends both messages of the round, in the memory of the mail. It never waits.
-pub fn put_both<S: Script, R: Wait>(
+pub fn put_both<S: Script<3>, R: Wait>(
     rt: &R,
     _me: Point,
     station: &mut Station<S>,
@@ -93,7 +93,7 @@ pub fn put_both<S: Script, R: Wait>(
 }
 
 /// One round behind the gate: the server puts its messages, takes those of its peers, and tells what the round opened.
-fn round<S: Script, R: Wait + Clock, K: Sink>(
+fn round<S: Script<3>, R: Wait + Clock, K: Sink>(
     rt: &R,
     me: Point,
     station: &mut Station<S>,
@@ -121,7 +121,7 @@ fn round<S: Script, R: Wait + Clock, K: Sink>(
 
 /// Runs the server to its end, in the memory of the messages of its mail, and tells of each round that it has passed.
 /// It meets the gate in each round before it puts its messages.
-pub fn serve<S: Script, R: Wait + Clock, G: Gate, K: Sink>(
+pub fn serve<S: Script<3>, R: Wait + Clock, G: Gate, K: Sink>(
     rt: &R,
     gate: &G,
     me: Point,

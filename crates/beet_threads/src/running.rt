@@ -28,7 +28,7 @@ use std::time::Clock;
 pub type Telling<S, K> = (ServerCore<S>, K);
 
 /// Of one that has served.
-fn telling<'s, S: Script, K: Drop>(served: Served<'s, S, K>) -> Telling<S, K>
+fn telling<'s, S: Script<3>, K: Drop>(served: Served<'s, S, K>) -> Telling<S, K>
     ensures { result ≡ (served.entry.station.core, served.entry.sink) }
 {
     let (station, sink) = (served.station, served.sink);
@@ -36,7 +36,7 @@ fn telling<'s, S: Script, K: Drop>(served: Served<'s, S, K>) -> Telling<S, K>
 }
 
 /// Three servers, and whom they have told.
-pub fn apart<S: Script, K>(ends: Trio<Telling<S, K>>) -> (Trio<ServerCore<S>>, Trio<K>)
+pub fn apart<S: Script<3>, K>(ends: Trio<Telling<S, K>>) -> (Trio<ServerCore<S>>, Trio<K>)
     ensures servers { result.0 ≡ record { one = ends.one.0; two = ends.two.0; three = ends.three.0 } }
     ensures told { result.1 ≡ record { one = ends.one.1; two = ends.two.1; three = ends.three.1 } }
 {
@@ -53,7 +53,7 @@ pub fn apart<S: Script, K>(ends: Trio<Telling<S, K>>) -> (Trio<ServerCore<S>>, T
 
 /// The servers, once each has served: `Ok` where they have run, and `Err` where they stand as they began. All have
 /// heard one word.
-fn settle<'s, S: Script, K: Drop>(
+fn settle<'s, S: Script<3>, K: Drop>(
     word: &'s Word,
     one: Served<'s, S, K>,
     two: Served<'s, S, K>,
@@ -89,7 +89,7 @@ fn settle<'s, S: Script, K: Drop>(
 /// Runs the first server in this thread and the two others in workers: the servers at their end. `Err`: a worker
 /// could not be started, and no server has begun.
 pub fn in_threads<
-    S: Script + Send,
+    S: Script<3> + Send,
     R: Threads + Wait + Clock + Sync,
     G: Gate,
     K: Sink + Send + Drop,
@@ -141,7 +141,7 @@ where
 pub type Runs<S> = Trio<Snapshot<Trio<ServerCore<S>>>>;
 
 /// They are taken before the servers go into their stations.
-pub fn runs<S: Script>(cores: &Trio<ServerCore<S>>) -> Runs<S>
+pub fn runs<S: Script<3>>(cores: &Trio<ServerCore<S>>) -> Runs<S>
     ensures one { result.one.value ≡ cores.now }
     ensures two { result.two.value ≡ cores.now }
     ensures three { result.three.value ≡ cores.now }
@@ -150,7 +150,7 @@ pub fn runs<S: Script>(cores: &Trio<ServerCore<S>>) -> Runs<S>
 }
 
 /// The three servers with their ends, as they are to run.
-pub fn servings<S: Script, K: Sink>(
+pub fn servings<S: Script<3>, K: Sink>(
     stations: Trio<Station<S>>,
     mails: Trio<Mail>,
     sinks: Trio<K>,
@@ -198,7 +198,7 @@ pub fn servings<S: Script, K: Sink>(
 }
 
 /// All memory that three servers need to run in threads.
-pub fn rooms<S: Script>(
+pub fn rooms<S: Script<3>>(
     alloc: Global,
     cores: &Trio<ServerCore<S>>,
 ) -> Result<(Links, Trio<Mail>), AllocError>
@@ -212,7 +212,7 @@ pub fn rooms<S: Script>(
 
 /// Runs three fresh servers to the end, the second and the third in workers. Where a link finds no memory or a worker
 /// cannot be started, no server has begun, and all three run in lockstep instead, without the gate.
-pub fn run_three<S: Script + Send, R: Threads + Wait + Clock + Sync, G: Gate>(
+pub fn run_three<S: Script<3> + Send, R: Threads + Wait + Clock + Sync, G: Gate>(
     rt: &R,
     alloc: Global,
     cores: Trio<ServerCore<S>>,

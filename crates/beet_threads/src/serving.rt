@@ -18,7 +18,7 @@ use std::time::Clock;
 
 /// A server that is to run, with its ends, whom it tells of its rounds, and the three servers as the run began.
 #[derive(Drop)]
-pub struct Serving<S: Script, K: Sink> {
+pub struct Serving<S: Script<3>, K: Sink> {
     pub me: Point,
     pub station: Station<S>,
     pub mail: Mail,
@@ -34,7 +34,7 @@ pub type Word = OnceLock<bool>;
 
 /// A server that has heard whether it is to run, and then has run to its end or stands as it began.
 #[derive(Drop)]
-pub struct Served<'s, S: Script, K> {
+pub struct Served<'s, S: Script<3>, K> {
     pub told: OnceToken<'s, bool>,
     pub station: Station<S>,
     pub mail: Mail,
@@ -43,12 +43,12 @@ pub struct Served<'s, S: Script, K> {
 
 /// What the worker of a server answers.
 #[derive(Drop)]
-pub struct Ends<S: Script, K: Sink> {
+pub struct Ends<S: Script<3>, K: Sink> {
     serving: Snapshot<Serving<S, K>>,
     word: Snapshot<Word>,
 }
 
-impl<'s, S: Script, K: Sink> Promise<Served<'s, S, K>> for Ends<S, K> {
+impl<'s, S: Script<3>, K: Sink> Promise<Served<'s, S, K>> for Ends<S, K> {
     ghost use Rattle.beet_threads.specs.Words.{HasServed};
 
     ghost kept_by = { λ p r. HasServed S.batch_of S.inputs_of S.rounds_of K.due K.origin
@@ -74,7 +74,7 @@ fn hear_word<'s, R: Wait>(rt: &R, word: &'s Word) -> OnceToken<'s, bool>
 }
 
 /// Waits for the word, and runs the server to its end if it is to run.
-pub fn serve_if_told<'s, S: Script, R: Wait + Clock, G: Gate, K: Sink>(
+pub fn serve_if_told<'s, S: Script<3>, R: Wait + Clock, G: Gate, K: Sink>(
     rt: &R,
     gate: &G,
     word: &'s Word,
@@ -117,7 +117,7 @@ pub type Worker<'s, S, K> = PromisedHandle<Served<'s, S, K>, Ends<S, K>>;
 pub fn start<
     's,
     E,
-    S: Script + Send + 's,
+    S: Script<3> + Send + 's,
     R: Wait + Clock + Sync,
     G: Gate,
     K: Sink + Send + Drop + 's,
@@ -158,7 +158,7 @@ where
 }
 
 /// The server of a worker, once that has ended, or the one for which there is none.
-pub fn end<'s, S: Script, R: Threads, K: Sink>(
+pub fn end<'s, S: Script<3>, R: Threads, K: Sink>(
     rt: &R,
     started: Result<Worker<'s, S, K>, Served<'s, S, K>>,
 ) -> Served<'s, S, K>

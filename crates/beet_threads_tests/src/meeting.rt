@@ -23,7 +23,7 @@ use std::time::Clock;
 #[derive(Clone, Copy)]
 struct Shown;
 
-impl Script for Shown {
+impl Script<3> for Shown {
     ghost use Rattle.std.specs.Prelude.{⊤};
     ghost use Rattle.std.proofs.Common.{rules};
     ghost use Rattle.beet_threads_tests.specs.Words.{shown_batch};
@@ -36,7 +36,7 @@ impl Script for Shown {
 
     ghost masks_of = { λ _. 0 };
 
-    ghost coefficients_of = { λ _. 0 };
+    ghost secrets_of = { λ _. 0 };
 
     ghost wires_of = { λ _. 1 };
 
@@ -60,7 +60,7 @@ impl Script for Shown {
         0
     }
 
-    fn coefficients(&self) -> u32 {
+    fn secrets(&self) -> u32 {
         0
     }
 

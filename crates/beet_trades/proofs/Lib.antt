@@ -3,5 +3,4 @@ pub mod EnoughFacts
 pub mod ReadRuns
 pub mod DealersThere
 pub mod AllWords
-pub mod Disagreeing
 pub mod MappedSoFar

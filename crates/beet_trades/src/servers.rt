@@ -34,7 +34,7 @@ fn copy_of(alloc: Global, words: &Trio<WordList>) -> Result<Trio<WordList>, Allo
 
 /// The coefficient words of the second world, where server `me` cannot tell the worlds by its inputs, its mask words
 /// and what is opened.
-fn map_coefficients<S: Script>(
+fn map_coefficients<S: Script<3>>(
     alloc: Global,
     me: Point,
     script: &S,
@@ -44,7 +44,7 @@ fn map_coefficients<S: Script>(
 ) -> Result<Trio<WordList>, AllocError>
     requires here { HasSecrets (S.inputs_of script.now) (S.masks_of script.now) here.now }
     requires there { HasSecrets (S.inputs_of script.now) (S.masks_of script.now) there.now }
-    requires numbers { HasWords (S.coefficients_of script.now) (numbers_of words.now) }
+    requires numbers { HasWords (S.secrets_of script.now) (numbers_of words.now) }
     requires same { LookSame (S.batch_of script.now) (S.rounds_of script.now) (S.masks_of script.now) me here.now
         there.now }
     ensures together { IfOk result (GoTogether (S.batch_of script.now) (S.rounds_of script.now) me here.now there.now
@@ -70,7 +70,7 @@ fn into_masks(secrets: Secrets) -> Trio<WordList>
 
 /// The mask words and the coefficient words of the second world, whose inputs lie on `lines`. In the first the servers
 /// hold `here`, and draw from `words`.
-fn map_from<S: Script>(
+fn map_from<S: Script<3>>(
     alloc: Global,
     me: Point,
     script: &S,
@@ -80,7 +80,7 @@ fn map_from<S: Script>(
     words: &Trio<WordList>,
 ) -> Result<(Trio<WordList>, Trio<WordList>), AllocError>
     requires { CanMap (S.batch_of script.now) (S.rounds_of script.now) (S.inputs_of script.now)
-        (S.masks_of script.now) (S.coefficients_of script.now) me losses.now here.now lines.items words.now }
+        (S.masks_of script.now) (S.secrets_of script.now) me losses.now here.now lines.items words.now }
     ensures { IfOk result (λ mapped. ServersMapped (S.batch_of script.now) (S.rounds_of script.now) me losses.now
         here.now lines.items words.now mapped.0 mapped.1) }
 {
@@ -95,7 +95,7 @@ fn map_from<S: Script>(
 /// lie on the lines `here` and those of the second on the lines `there`, and the numbers that are compared, one after
 /// another, lose so much. Server `me` must not be able to tell the worlds once the masks are mapped. Want of memory is
 /// the only error.
-pub fn map_servers<S: Script>(
+pub fn map_servers<S: Script<3>>(
     alloc: Global,
     me: Point,
     script: &S,
@@ -105,7 +105,7 @@ pub fn map_servers<S: Script>(
     words: &Words,
 ) -> Result<(Trio<WordList>, Trio<WordList>), AllocError>
     requires { CanMap (S.batch_of script.now) (S.rounds_of script.now) (S.inputs_of script.now)
-        (S.masks_of script.now) (S.coefficients_of script.now) me losses.now (world_with here.items words.now.masks)
+        (S.masks_of script.now) (S.secrets_of script.now) me losses.now (world_with here.items words.now.masks)
         there.items words.now.coefficients }
     ensures { IfOk result (λ mapped. ServersMapped (S.batch_of script.now) (S.rounds_of script.now) me losses.now
         (world_with here.items words.now.masks) there.items words.now.coefficients mapped.0 mapped.1) }

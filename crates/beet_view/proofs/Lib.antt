@@ -2,6 +2,7 @@ pub mod Marks
 pub mod QuantityTurns
 pub mod ReadFacts
 pub mod RunFacts
+pub mod SeenBytes
 pub mod SeenFacts
 pub mod ViewAgain
 pub mod ViewBytes

@@ -195,6 +195,15 @@ abbrev pub grid_bytes : Grid → List ℕ
 grid_bytes grid =
     numbers_bytes (grid.base ∷ grid.tick ∷ grid.prices ∷ number_of_gates grid.gates ∷ policy_field grid.policy)
 
+-- what a transcript begins with: its text, the server, the grid, and the number of the bidders
+abbrev pub header_bytes : Point → Grid → ℕ → List ℕ
+header_bytes server grid bidders =
+    magic (tells_policy grid.policy) ++ (number_bytes (number_of server) ++ (grid_bytes grid ++ number_bytes bidders))
+
+-- the bytes of the mark and of the points of a bidder
+abbrev pub sealed_bytes : Option Point → List ℕ → List ℕ
+sealed_bytes known points = number_bytes (mark_of known) ++ numbers_bytes points
+
 -- the bytes of the curve and the words of a known bidder
 abbrev pub own_bytes : Option (Curve × List ℕ) → List ℕ
 own_bytes None = []

@@ -34,7 +34,11 @@ fn copy_of(numbers: &[Fe]) -> ArrayVec<Fe, MOST_NUMBERS>
 }
 
 /// A copy of the numbers from a peer in a passed round.
-fn numbers_of<S: Script>(core: &ServerCore<S>, side: Side, round: u32) -> ArrayVec<Fe, MOST_NUMBERS>
+fn numbers_of<S: Script<3>>(
+    core: &ServerCore<S>,
+    side: Side,
+    round: u32,
+) -> ArrayVec<Fe, MOST_NUMBERS>
     requires { round < core.now.round }
     ensures { result.items ≡ numbers_received core.now side round }
 {
@@ -45,7 +49,7 @@ fn numbers_of<S: Script>(core: &ServerCore<S>, side: Side, round: u32) -> ArrayV
 }
 
 /// Copies of the numbers from both peers in a passed round.
-fn received_in<S: Script>(core: &ServerCore<S>, round: u32) -> Received
+fn received_in<S: Script<3>>(core: &ServerCore<S>, round: u32) -> Received
     requires { round < core.now.round }
     ensures { result ≡ round_received core.now round }
 {
@@ -57,7 +61,7 @@ fn received_in<S: Script>(core: &ServerCore<S>, round: u32) -> Received
 
 /// Copies of the numbers from both peers in all passed rounds.
 #[tactic(auto, using(beet_gates::proofs::EachFacts::each_steps))]
-fn rounds_of<S: Script>(alloc: Global, core: &ServerCore<S>) -> Result<Vec<Received>, AllocError>
+fn rounds_of<S: Script<3>>(alloc: Global, core: &ServerCore<S>) -> Result<Vec<Received>, AllocError>
     ensures rounds { IfOk result (λ rounds. rounds.items ≡ rounds_received core.now) }
     ensures small { IfOk result (λ rounds. length rounds.items < 2 ^ 32) }
 {
@@ -77,7 +81,7 @@ fn words_of(alloc: Global, words: &[Word]) -> Result<WordList, AllocError>
 }
 
 /// What a server has seen of its run, in memory of its own. Want of memory is the only error.
-pub fn run_view<S: Script>(alloc: Global, core: &ServerCore<S>) -> Result<RunView, AllocError>
+pub fn run_view<S: Script<3>>(alloc: Global, core: &ServerCore<S>) -> Result<RunView, AllocError>
     ensures core { IfOk result (λ run. run ≡ run_of_core core.now) }
     ensures run { (o : Setup) (x : Delivered) → Fits S.batch_of o x core.now
         → IfOk result (λ run. run ≡ run_seen o core.now.me core.now.round core.now.masks.words
@@ -93,7 +97,7 @@ pub fn run_view<S: Script>(alloc: Global, core: &ServerCore<S>) -> Result<RunVie
 
 /// The view of a server that has ended, with these bidders in their order, as it sees them. The view has the words and
 /// numbers in memory of its own. Want of memory is the only error.
-pub fn view_of<S: Script>(
+pub fn view_of<S: Script<3>>(
     alloc: Global,
     core: &ServerCore<S>,
     grid: &Grid,

@@ -1,24 +1,26 @@
 //! The writer of transcripts.
 
-ghost use Rattle.std.specs.Prelude.{◌≡◌, ◌≤◌, ◌++◌, Ok, IfOk, OnOk, All, length};
+ghost use Rattle.std.specs.Prelude.{◌≡◌, ◌≤◌, ◌++◌, [], Ok, Some, IfOk, OnOk, All, length};
 ghost use Rattle.std.specs.List.{flat_map};
 ghost use Rattle.beet_field.specs.Field.{IsElement};
 ghost use Rattle.beet_forms.specs.declared.faults.TheConstants.{LONGEST_FILE};
 ghost use Rattle.beet_words.specs.Fields.{number_bytes};
 ghost use Rattle.beet_words.specs.Words.{IsWord};
+ghost use Rattle.beet_bids.specs.Curves.{IsCurve};
 ghost use Rattle.beet_bids.specs.Grids.{IsGrid};
 ghost use Rattle.beet_view.specs.Views.{IsView};
 ghost use Rattle.beet_view.specs.Transcripts.{tells_policy, magic, mark_of, number_of_gates, policy_field};
-ghost use Rattle.beet_view.specs.Transcripts.{numbers_bytes, counted_bytes, grid_bytes, own_bytes, seen_bytes};
-ghost use Rattle.beet_view.specs.Transcripts.{round_bytes, run_bytes, view_bytes, view_in, FitsFile, HasElements};
+ghost use Rattle.beet_view.specs.Transcripts.{numbers_bytes, counted_bytes, header_bytes, grid_bytes, sealed_bytes};
+ghost use Rattle.beet_view.specs.Transcripts.{own_bytes, seen_bytes, round_bytes, run_bytes, view_bytes, view_in};
+ghost use Rattle.beet_view.specs.Transcripts.{FitsFile, HasElements};
 ghost use Rattle.beet_view.specs.Transcripts.{HasNumbers, AreNumbers};
 
 use crate::reading::magic;
 use crate::view::{Received, RunView, Seen, View};
-use beet_bids::{Grid, Policy};
+use beet_bids::{Curve, Grid, Policy};
 use beet_field::{Fe, Point};
 use beet_gates::Gates;
-use beet_words::{push_list, push_number, push_points};
+use beet_words::{WordList, push_list, push_number, push_points};
 use std::alloc::{AllocError, Global};
 
 fn push_numbers(file: &mut Vec<u8>, numbers: &[u64]) -> Result<(), AllocError>
@@ -77,17 +79,63 @@ fn push_grid(file: &mut Vec<u8>, grid: &Grid) -> Result<(), AllocError>
     push_numbers(file, policy_field(grid.policy()))
 }
 
+/// Appends the text that a transcript over a grid begins with.
+fn push_magic(file: &mut Vec<u8>, grid: &Grid) -> Result<(), AllocError>
+    ensures { OnOk result (file.new.items ≡ file.old.items ++ magic (tells_policy grid.now.policy)) }
+{
+    file.extend_from_slice(magic(grid.policy() != Policy::Volume))?;
+    Ok(())
+}
+
+/// Appends what a transcript begins with: its text, the server, the grid, and the number of the bidders.
+pub fn push_header(
+    file: &mut Vec<u8>,
+    server: Point,
+    grid: &Grid,
+    bidders: usize,
+) -> Result<(), AllocError>
+    ensures bytes { OnOk result (file.new.items ≡ file.old.items ++ header_bytes server grid.now bidders) }
+    ensures grid { OnOk result (IsGrid grid.now) }
+{
+    push_magic(file, grid)?;
+    push_number(file, server.number())?;
+    push_grid(file, grid)?;
+    push_number(file, bidders as u64)?;
+    Ok(())
+}
+
+/// Appends the mark of a bidder and its points.
+pub fn push_sealed(
+    file: &mut Vec<u8>,
+    known: Option<Point>,
+    points: &[Fe],
+) -> Result<(), AllocError>
+    ensures bytes { OnOk result (file.new.items ≡ file.old.items ++ sealed_bytes known points.now) }
+    ensures points { OnOk result (All IsElement points.now) }
+{
+    push_number(file, mark_of(known))?;
+    push_points(file, points)
+}
+
+/// Appends the curve and the words of a bidder, which stand behind its points if the server knows it.
+pub fn push_own(file: &mut Vec<u8>, curve: &Curve, words: &WordList) -> Result<(), AllocError>
+    ensures bytes { OnOk result (file.new.items ≡ file.old.items ++ own_bytes (Some (curve.now, words.now))) }
+    ensures curve { IsCurve curve.now }
+    ensures words { OnOk result (All IsWord words.now) }
+{
+    push_numbers(file, curve.bought())?;
+    push_numbers(file, curve.sold())?;
+    push_list(file, words)
+}
+
 /// Appends a bidder.
 fn push_seen(file: &mut Vec<u8>, seen: &Seen) -> Result<(), AllocError>
     ensures bytes { OnOk result (file.new.items ≡ file.old.items ++ seen_bytes seen.now) }
     ensures numbers { OnOk result (HasNumbers seen.now) }
 {
-    push_number(file, mark_of(seen.known))?;
-    push_points(file, seen.points.as_slice())?;
+    push_sealed(file, seen.known, seen.points.as_slice())?;
     if let Some((curve, words)) = &seen.own {
-        push_numbers(file, curve.bought())?;
-        push_numbers(file, curve.sold())?;
-        push_list(file, words)?;
+        push_own(file, curve, words)?;
     }
     Ok(())
 }
@@ -187,25 +235,14 @@ fn room_for(view: &View) -> usize {
     numbers.saturating_add(beside).saturating_mul(8)
 }
 
-/// A file with the text that the transcript of a view begins with, and with room for the rest.
-fn begin(alloc: Global, view: &View) -> Result<Vec<u8>, AllocError>
-    ensures { IfOk result (λ file. file.items ≡ magic (tells_policy view.now.grid.policy)) }
-{
-    let mut file = Vec::with_capacity(alloc, room_for(view))?;
-    file.extend_from_slice(magic(view.grid().policy() != Policy::Volume))?;
-    Ok(file)
-}
-
-/// Appends the rest of the transcript of a view.
+/// Writes the transcript of a view into an empty file.
 fn push_view(file: &mut Vec<u8>, view: &View) -> Result<(), AllocError>
-    requires { file.old.items ≡ magic (tells_policy view.now.grid.policy) }
+    requires { file.old.items ≡ [] }
     ensures bytes { OnOk result (file.new.items ≡ view_bytes view.now) }
     ensures view { OnOk result (IsView view.now) }
     ensures numbers { OnOk result (AreNumbers view.now) }
 {
-    push_number(file, view.server().number())?;
-    push_grid(file, view.grid())?;
-    push_number(file, view.bidders().len() as u64)?;
+    push_header(file, view.server(), view.grid(), view.bidders().len())?;
     push_bidders(file, view.bidders())?;
     push_run(file, &view.run)?;
     Ok(())
@@ -220,7 +257,7 @@ pub fn write_view(alloc: Global, view: &View) -> Result<Vec<u8>, AllocError>
     ensures again { FitsFile view.now → IfOk result (λ file. view_in file.items ≡ Ok view.now) }
     ensures short { FitsFile view.now → IfOk result (λ file. length file.items ≤ LONGEST_FILE) }
 {
-    let mut file = begin(alloc, view)?;
+    let mut file = Vec::with_capacity(alloc, room_for(view))?;
     push_view(&mut file, view)?;
     Ok(file)
 }

@@ -19,7 +19,7 @@ use Rattle.beet_server.specs.Cores.{Core, is_quiet}
 use Rattle.beet_delivery.specs.Events.{Delivered, deliver, is_sent, same, three}
 use Rattle.beet_server.specs.Fits.{message_of, taken}
 use Rattle.beet_sharing.specs.Runs.{HasRounds, Setup}
-use Rattle.beet_delivery.proofs.NetworkFacts.{WasSent, was_sent}
+use Rattle.beet_delivery.proofs.NetworkFacts.{WasSent, passed_most, was_sent}
 use Rattle.beet_delivery.proofs.ThreeServers.{one_apart, side_of as side_from, three-is}
 use Rattle.beet_server.proofs.Passing.{round_most}
 use Rattle.beet_sharing.proofs.Rounds.{lawful-rounds}
@@ -27,9 +27,10 @@ use Rattle.beet_world.specs.Happens.{IsGiven, MayGive, MayTakeMessages, event_of
 use Rattle.beet_world.specs.declared.world.Event.TheVariants.{Delivered as DeliveredBy, NotSent}
 use Rattle.std.specs.Prelude.{Option, if◌then◌else◌, nat_lt, slice_index_or}
 use Rattle.beet_round.proofs.SideFacts.{side_of-peer}
-use Rattle.beet_delivery.specs.Events.{passed, undelivered}
-use Rattle.beet_world.specs.Missing.{is_missing, one_if, six, to_side}
-use Rattle.beet_world.proofs.TwoRounds.{missing-two}
+use Rattle.beet_delivery.specs.Events.{is_missing, passed, three, undelivered}
+use Rattle.beet_delivery.specs.Networks.{of_round}
+use Rattle.beet_delivery.proofs.TwoRounds.{undelivered_two}
+use Rattle.beet_world.specs.Missing.{one_if, to_side}
 use Rattle.beet_world.specs.Marks.{mark_at, marked_to}
 use Rattle.beet_world.proofs.MarkFacts.{with_mark}
 use Rattle.beet_world.specs.Worlds.{HoldsWorld, IsCoreOf, IsWorld, World, delivered_in, setup_in, rounds_in}
@@ -138,14 +139,16 @@ module _ {S : Type 0} (next : S → ℕ → List ℕ → Batch) (inputs most : S
   -- what is undelivered is of the round of the server that is behind, and of the next
   pub two-rounds : (behind : ℕ) (s : Point) → behind ≡ (member cores s).round → ((other : Point) → behind ≤ (member cores other).round) →
       undelivered (rounds_in next inputs most w) (delivered_in w)
-      ≡ six (is_missing (rounds_in next inputs most w) (delivered_in w)) behind
-      + six (is_missing (rounds_in next inputs most w) (delivered_in w)) (behind + 1)
+      ≡ of_round three (is_missing (rounds_in next inputs most w) (delivered_in w)) behind
+      + of_round three (is_missing (rounds_in next inputs most w) (delivered_in w)) (behind + 1)
   two-rounds behind s is least =
+      let rounds = rounds_in next inputs most w in
       let at = at_round next inputs most w cores (items_of sent) has i few in
-      let same : passed (rounds_in next inputs most w) (delivered_in w) s ≡ behind = sym (is ∙ at s) in
-      missing-two (rounds_in next inputs most w) (delivered_in w) s was (λ other. omega (arith, same, least other, at other))
-      ∙ (λ j. six (is_missing (rounds_in next inputs most w) (delivered_in w)) (same j)
-      + six (is_missing (rounds_in next inputs most w) (delivered_in w)) (same j + 1))
+      undelivered_two three-is rounds (delivered_in w) behind (omega (arith, passed_most three-is rounds (delivered_in w) s, is, at s))
+      (λ from to may. (
+        omega (arith, least to, at to),
+        omega (arith, one_apart rounds (delivered_in w) was from s, is, at s),
+      ))
 
   -- the same of a message to a server
   pub not-sent-to : (from to : Point) (side : Side) (t : ℕ) → to ≡ peer from side → length (member sent from).items ≤ t →

@@ -13,6 +13,7 @@ use Rattle.beet_round.specs.Sides.{peer, place_of, side_of}
 use Rattle.beet_round.specs.declared.sides.Side.{Side}
 use Rattle.beet_round.specs.declared.sides.Side.TheVariants.{Low, High}
 use Rattle.beet_delivery.specs.Events.{Triple, nothing, same, with_triple}
+use Rattle.beet_delivery.proofs.NetworkFacts.{bool_same}
 use Rattle.beet_delivery.proofs.ThreeServers.{same_is, same_self}
 use Rattle.beet_round.proofs.SideFacts.{side_of-peer}
 use Rattle.beet_world.specs.Marks.{mark_at, marked_to, set_of, unmarked}
@@ -68,12 +69,6 @@ peer-side Three One High e = cc e
 peer-side Three Two Low e = cc e
 peer-side Three Two High e = refl
 peer-side Three Three s e = cc e
-
-pub bool_same : (a b : Bool) → (a ≡ true → b ≡ true) → (b ≡ true → a ≡ true) → a ≡ b
-bool_same true true f g = refl
-bool_same false false f g = refl
-bool_same true false f g = sym (f refl)
-bool_same false true f g = g refl
 
 module _ (marks : List Bool) (from : Point) (side : Side) (round : ℕ) (within : mark_at from side round < length marks) where
   e : Triple

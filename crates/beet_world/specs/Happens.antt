@@ -14,10 +14,10 @@ use Rattle.beet_round.specs.declared.message.RoundMessage.{RoundMessage}
 use Rattle.beet_round.specs.declared.sides.Side.{Side}
 use Rattle.beet_server.specs.Answers.{Keeps, verdict_on}
 use Rattle.beet_server.specs.Cores.{Core, is_quiet}
-use Rattle.beet_delivery.specs.Events.{Delivered as Set, Triple, is_sent, passed, with_triple}
+use Rattle.beet_delivery.specs.Events.{Delivered as Set, Triple, deliver, is_sent, passed, with_triple}
 use Rattle.beet_server.specs.Fits.{Fits, IsRound, message_of, taken}
 use Rattle.beet_sharing.specs.Runs.{HasRounds, Setup}
-use Rattle.beet_world.specs.Worlds.{sent_by}
+use Rattle.beet_world.specs.Worlds.{World, delivered_in, rounds_in, sent_by}
 
 module _ {S : Type 0} (next : S → ℕ → List ℕ → Batch) (o : Setup) (x : Set) (rounds : ℕ) (s : Side) (t : ℕ) where
   -- the message of the round t of a run comes from the other server of this side, at most one round early, to a core
@@ -75,3 +75,11 @@ abbrev pub event_of : ℕ → Set → Triple → Event
 event_of rounds x e =
     if is_sent rounds x e then
     Delivered (verdict_from x e.to (passed rounds x e.to) (side_of e.to e.from) e.round) else NotSent
+
+-- an event changes the set as it says, and if the message was not sent, nothing
+pub record HasHappened {S : Type 0} (next : S → ℕ → List ℕ → Batch) (inputs most : S → ℕ) (old : World S) (e : Triple)
+    (event : Event) (new : World S) : Type 0 where
+  pub delivered : delivered_in new ≡ deliver (rounds_in next inputs most old) (delivered_in old) e
+  pub start : new.start ≡ old.start
+  pub told : event ≡ event_of (rounds_in next inputs most old) (delivered_in old) e
+  pub unchanged : event ≡ NotSent → new ≡ old

@@ -15,7 +15,7 @@ use beet_server::ServerCore;
 /// Takes all messages that a server has to hand out, so that nothing is left. There is room for
 /// those of all rounds. In a run it has at most two turns; the loop ends by the number of rounds,
 /// which holds for every server.
-pub(crate) fn hand_out<S: Script>(core: &mut ServerCore<S>, sent: &mut Vec<[RoundMessage; 2]>)
+pub(crate) fn hand_out<S: Script<3>>(core: &mut ServerCore<S>, sent: &mut Vec<[RoundMessage; 2]>)
     requires { HoldsMessages (S.rounds_of core.old.script) core.old sent.old }
     ensures took { HasTakenMessages S.batch_of (S.rounds_of core.old.script) core.old core.new
         sent.old sent.new }
@@ -38,7 +38,7 @@ pub(crate) fn hand_out<S: Script>(core: &mut ServerCore<S>, sent: &mut Vec<[Roun
 }
 
 /// Gives a server a message, and takes all messages that it then has to hand out.
-pub(crate) fn give<S: Script>(
+pub(crate) fn give<S: Script<3>>(
     core: &mut ServerCore<S>,
     sent: &mut Vec<[RoundMessage; 2]>,
     message: &RoundMessage,

@@ -18,7 +18,7 @@ use beet_round::{RoundMessage, ToPeers};
 use beet_server::ServerCore;
 
 /// Gives a server both messages of its round, and so it passes the round.
-fn take_both<S: Script>(core: &mut ServerCore<S>, low: &RoundMessage, high: &RoundMessage)
+fn take_both<S: Script<3>>(core: &mut ServerCore<S>, low: &RoundMessage, high: &RoundMessage)
     requires { MayTake S.batch_of core.old low.now high.now }
     ensures keeps { Keeps core.old core.new }
     ensures passed { (o : Setup) (t : ℕ) (s : Point) → IsRound o t
@@ -32,7 +32,7 @@ fn take_both<S: Script>(core: &mut ServerCore<S>, low: &RoundMessage, high: &Rou
 
 /// One round: each server hands out its messages, in the place of others, and each message is
 /// delivered.
-fn exchange<S: Script>(cores: &mut Trio<ServerCore<S>>, sent: &mut Trio<ToPeers>)
+fn exchange<S: Script<3>>(cores: &mut Trio<ServerCore<S>>, sent: &mut Trio<ToPeers>)
     requires { MayPass S.batch_of cores.old }
     ensures keeps { (s : Point) → Keeps (member cores.old s) (member cores.new s) }
     ensures passed { (o : Setup) (t : ℕ) → IsRound o t → AreAtRound S.batch_of o t cores.old
@@ -50,7 +50,7 @@ fn exchange<S: Script>(cores: &mut Trio<ServerCore<S>>, sent: &mut Trio<ToPeers>
 
 /// Runs three fresh servers to the end, round by round. Each message is delivered in the round in
 /// which it is sent. No memory is taken, and the messages of all rounds lie in the same places.
-pub fn lockstep<S: Script>(cores: Trio<ServerCore<S>>) -> Trio<ServerCore<S>>
+pub fn lockstep<S: Script<3>>(cores: Trio<ServerCore<S>>) -> Trio<ServerCore<S>>
     requires { AreFresh S.batch_of S.inputs_of cores }
     ensures { HaveEnded S.batch_of S.inputs_of S.rounds_of cores result }
 {

@@ -8,12 +8,14 @@ ghost use Rattle.beet_round.specs.declared.mailbox.Verdict.TheVariants.{Old, Rep
 ghost use Rattle.beet_round.specs.declared.message.RoundMessage.{RoundMessage as Message};
 ghost use Rattle.beet_round.specs.declared.sides.Side.{Side as SideOf};
 ghost use Rattle.beet_server.specs.Cores.{AreFresh};
-ghost use Rattle.beet_delivery.specs.Events.{Delivered, after_from, deliver, has, passed};
+ghost use Rattle.beet_delivery.specs.Events.{Delivered, after_from, deliver, has, is_missing, passed, three};
 ghost use Rattle.beet_delivery.specs.Events.{undelivered as undelivered_in};
+ghost use Rattle.beet_delivery.specs.Networks.{of_round};
 ghost use Rattle.beet_sharing.specs.Runs.{Setup};
-ghost use Rattle.beet_world.specs.Happens.{HasTakenMessages, IsGiven, MayGive, MayTakeMessages, event_of, of_side};
+ghost use Rattle.beet_world.specs.Happens.{HasHappened, HasTakenMessages, IsGiven, MayGive, MayTakeMessages, event_of};
+ghost use Rattle.beet_world.specs.Happens.{of_side};
 ghost use Rattle.beet_world.specs.Marks.{mark_at, unmarked};
-ghost use Rattle.beet_world.specs.Missing.{is_missing, one_if, six, to_side};
+ghost use Rattle.beet_world.specs.Missing.{one_if, to_side};
 ghost use Rattle.beet_world.specs.Worlds.{IsCoreOf, delivered_in, named_in, rounds_in};
 ghost use Rattle.beet_world.specs.declared.world.Event.TheVariants.{Delivered as DeliveredBy, NotSent};
 
@@ -38,14 +40,14 @@ pub enum Event {
 
 /// Three servers, the messages that each has sent, and a mark for each message that was delivered.
 #[derive(Drop)]
-pub struct World<S: Script> {
+pub struct World<S: Script<3>> {
     cores: Trio<ServerCore<S>>,
     sent: Trio<Vec<[RoundMessage; 2]>>,
     marks: Vec<bool>,
     start: Snapshot<Trio<ServerCore<S>>>,
 }
 
-impl<S: Script> Model for World<S> {
+impl<S: Script<3>> Model for World<S> {
     ghost use Rattle.beet_world.specs.Worlds.{World as Seen, HoldsWorld};
 
     ghost Value = { Seen S };
@@ -98,7 +100,7 @@ fn sent_message(
 }
 
 /// Gives a server a message, and takes what it then has to hand out.
-fn give_to<S: Script>(
+fn give_to<S: Script<3>>(
     cores: &mut Trio<ServerCore<S>>,
     sent: &mut Trio<Vec<[RoundMessage; 2]>>,
     to: Point,
@@ -147,7 +149,7 @@ fn room(alloc: Global, rounds: u32) -> Result<(Trio<Vec<[RoundMessage; 2]>>, Vec
     Ok((sent, marks))
 }
 
-impl<S: Script> World<S> {
+impl<S: Script<3>> World<S> {
     /// A `World` of three fresh servers, of which each has sent its messages of round 0. It takes the
     /// memory for the messages of all rounds, and fails only where there is too little; no other
     /// call takes memory.
@@ -229,14 +231,8 @@ impl<S: Script> World<S> {
     /// large, so an event that repeats another has none.
     fn give_copy(&mut self, from: Point, to: Point, side: Side, round: u32) -> Event
         requires { to ≡ peer from side }
-        ensures delivered { delivered_in self.new
-            ≡ deliver (rounds_in S.batch_of S.inputs_of S.rounds_of self.old)
-            (delivered_in self.old) (record { from = from; to = to; round = round }) }
-        ensures start { self.new.start ≡ self.old.start }
-        ensures event { result
-            ≡ event_of (rounds_in S.batch_of S.inputs_of S.rounds_of self.old)
-            (delivered_in self.old) (record { from = from; to = to; round = round }) }
-        ensures unchanged { result ≡ NotSent → self.new ≡ self.old }
+        ensures { HasHappened S.batch_of S.inputs_of S.rounds_of self.old
+            (record { from = from; to = to; round = round }) result self.new }
     {
         let Some(message) = sent_message(&self.sent, from, side, round) else {
             return Event::NotSent;
@@ -278,7 +274,7 @@ impl<S: Script> World<S> {
     /// How many messages of a round were sent and not delivered.
     fn missing_of(&self, round: usize) -> u32
         ensures missing { result
-            ≡ six (is_missing (rounds_in S.batch_of S.inputs_of S.rounds_of self.now)
+            ≡ of_round three (is_missing (rounds_in S.batch_of S.inputs_of S.rounds_of self.now)
             (delivered_in self.now)) round }
         ensures few { result ≤ 6 }
     {

@@ -1,5 +1,5 @@
-use Rattle.beet_completeness_laws.proofs.Jobs.{audit, clear, opened, recorded, rehearse, seal, tally, trial, watch, witness}
-use Rattle.beet_completeness_laws.proofs.Jobs.{worlds}
+use Rattle.beet_completeness_laws.proofs.Jobs.{audit, clear, five, opened, recorded, rehearse, seal, tally, trial, watch}
+use Rattle.beet_completeness_laws.proofs.Jobs.{witness, worlds}
 use Rattle.beet_completeness_laws.proofs.Rehearsals.{said}
 use Rattle.beet_completeness_laws.proofs.what_is_right_is_done.Goals as goal
 
@@ -11,6 +11,9 @@ returns-clause-clear c = λ files auction servers list call w can. clear files c
 
 pub returns-clause-watch : goal.returns-clause-watch
 returns-clause-watch c = λ files auction servers list call w can. watch files call auction servers list w can
+
+pub returns-clause-five : goal.returns-clause-five
+returns-clause-five c = λ files auction servers list call w can. five files call auction servers list w can
 
 pub returns-clause-rehearse : goal.returns-clause-rehearse
 returns-clause-rehearse c = λ files auction servers list name loaded schedule call w can.

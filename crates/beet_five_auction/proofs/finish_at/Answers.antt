@@ -1,7 +1,7 @@
 use Rattle.std.proofs.Common.{ℕ, List, ap, ◌∙◌, subst}
 use Rattle.beet_gates.specs.Ends.{ComesTo, TellsEnd}
 use Rattle.beet_gates.specs.Plans.{plan_finish}
-use Rattle.beet_five_plan.specs.FivePlan.{five_batch, five_plan}
+use Rattle.beet_plan.specs.FivePlan.{five_batch, five_plan}
 use Rattle.beet_five_auction.proofs.FiveCores.{opens-the-outcome, tells-end}
 use Rattle.beet_five_auction.proofs.finish_at.Goals as goal
 

@@ -1,7 +1,7 @@
 use Rattle.std.proofs.Common.{◌*◌, ap, subst, sym}
 use Rattle.beet_errand.proofs.Frame.{bound, exits, given, no_memory, stopped}
 use Rattle.beet_five_load.specs.FiveLoading.{FiveWithInputs}
-use Rattle.beet_five_plan.specs.FivePlan.{FiveAuction, five_over, most_masks, most_secrets}
+use Rattle.beet_plan.specs.FivePlan.{FiveAuction, five_over, most_masks, most_secrets}
 use Rattle.beet_five_run.specs.FiveRuns.{CanStart, EndsBook}
 use Rattle.beet_job_five.proofs.FiveStarting.{can-start, tells-five}
 use Rattle.beet_job_five.proofs.five.Goals as goal

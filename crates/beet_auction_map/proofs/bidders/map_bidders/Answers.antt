@@ -1,61 +1,15 @@
-use Rattle.std.proofs.Common.{◌≡◌, ◌≤◌, ◌*◌, map, length, refl, sym, ap, subst, ◌∙◌, arith}
+use Rattle.std.proofs.Common.{◌≤◌, ◌*◌, map, length, sym, subst, ◌∙◌, arith}
 use Rattle.std.proofs.lemmas.List.{length-map}
 use Rattle.std.proofs.lemmas.List.Elements.{All-get_or}
-use Rattle.std.proofs.lemmas.Option.{slice_get_read}
 use Rattle.beet_words.specs.Words.{accepted}
-use Rattle.beet_bids.specs.declared.book.Bidder.{Bidder}
-use Rattle.beet_trades.proofs.Disagreeing.{as-many, get-map, mark-at}
+use Rattle.beet_map.proofs.Disagreeing.{get-map}
+use Rattle.beet_two_books.proofs.Marks.{as-many-in}
 use Rattle.beet_trades.proofs.MappedSoFar.{all-below, all-mapped, mapped-more, none-mapped}
 use Rattle.beet_auction_map.specs.MappedBidders.{party_of}
-use Rattle.beet_auction_map.proofs.Marks.{as-many-in, curve-at}
 use Rattle.beet_auction_map.proofs.bidders.map_bidders.Goals as goal
 
-pub bounds-bidders-i : goal.bounds-bidders-i
-bounds-bidders-i c = omega (arith, ap length c.bidders-bidders.ensures.value, c.loop-i-test.true, c.requires.count)
-
-pub bounds-others-i : goal.bounds-others-i
-bounds-others-i c =
-    let bidders = c.bidders-bidders.result.now in
-    let others = c.bidders-others.result.now in
-    let many = as-many-in c.args.first.now c.args.second.now bidders others c.bidders-bidders.ensures.value
-    c.bidders-others.ensures.value c.requires.marks in
-    omega (arith, many, ap length c.bidders-bidders.ensures.value, c.loop-i-test.true, c.requires.count)
-
-pub words_in_second-requires-clause-mark : goal.words_in_second-requires-clause-mark
-words_in_second-requires-clause-mark c =
-    let bidders = c.bidders-bidders.result.now in
-    let others = c.bidders-others.result.now in
-    let same : map (λ (b : Bidder). b.known) others ≡ map (λ (b : Bidder). b.known) bidders =
-    ap (map (λ (b : Bidder). b.known)) c.bidders-others.ensures.value ∙ c.requires.marks
-    ∙ sym (ap (map (λ (b : Bidder). b.known)) c.bidders-bidders.ensures.value) in
-    let many = as-many (λ (b : Bidder). b.known) bidders others same in
-    let few = ap length c.bidders-bidders.ensures.value in
-    let lt = c.loop-i-test.true in
-    mark-at (λ (b : Bidder). b.known) bidders others c.loop-i.i c.index-bidders-i.result c.index-others-i.result same
-    (slice_get_read bidders (length bidders) c.loop-i.i c.index-bidders-i.result refl
-    (omega (arith, few, lt, c.requires.count)) c.index-bidders-i.is)
-    (slice_get_read others (length others) c.loop-i.i c.index-others-i.result refl
-    (omega (arith, many, few, lt, c.requires.count)) c.index-others-i.is)
-
-pub words_in_second-requires-clause-first : goal.words_in_second-requires-clause-first
-words_in_second-requires-clause-first c =
-    curve-at c.grid-grid.result.now c.bidders-bidders.result.now c.loop-i.i c.index-bidders-i.result
-    (rw (c.grid-grid.ensures.value, c.bidders-bidders.ensures.value) c.bidders-bidders.ensures.limits.of_grid) (omega
-    (arith, ap length c.bidders-bidders.ensures.value, c.loop-i-test.true, c.requires.count)) c.index-bidders-i.is
-
-pub words_in_second-requires-clause-second : goal.words_in_second-requires-clause-second
-words_in_second-requires-clause-second c =
-    let bidders = c.bidders-bidders.result.now in
-    let others = c.bidders-others.result.now in
-    let many = as-many-in c.args.first.now c.args.second.now bidders others c.bidders-bidders.ensures.value
-    c.bidders-others.ensures.value c.requires.marks in
-    curve-at c.grid-grid.result.now others c.loop-i.i c.index-others-i.result
-    (rw (
-      c.grid-grid.ensures.value,
-      ← c.requires.grids,
-      c.bidders-others.ensures.value,
-    ) c.bidders-others.ensures.limits.of_grid) (omega
-    (arith, many, ap length c.bidders-bidders.ensures.value, c.loop-i-test.true, c.requires.count)) c.index-others-i.is
+pub pair_at-requires-clause-place : goal.pair_at-requires-clause-place
+pair_at-requires-clause-place c = omega (arith, c.loop-i-test.true, c.requires.count)
 
 pub words_in_second-requires-clause-enough : goal.words_in_second-requires-clause-enough
 words_in_second-requires-clause-enough c =
@@ -66,27 +20,20 @@ words_in_second-requires-clause-enough c =
 
 pub loop-i-init : goal.loop-i-init
 loop-i-init c =
-    rw c.in_ok-mapped.ensures.items (none-mapped c.args.me (map party_of c.bidders-bidders.result.now)
-    (map party_of c.bidders-others.result.now) c.args.words.now)
+    rw c.in_ok-mapped.ensures.items (none-mapped c.args.me (map party_of c.args.first.now.bidders)
+    (map party_of c.args.second.now.bidders) c.args.words.now)
 
 pub loop-i-preserved : goal.loop-i-preserved
 loop-i-preserved c =
-    let bidders = c.bidders-bidders.result.now in
-    let others = c.bidders-others.result.now in
-    let many = as-many-in c.args.first.now c.args.second.now bidders others c.bidders-bidders.ensures.value
-    c.bidders-others.ensures.value c.requires.marks in
-    let few = ap length c.bidders-bidders.ensures.value in
-    let lt = c.loop-i-test.true in
+    let bidders = c.args.first.now.bidders in
+    let others = c.args.second.now.bidders in
     let mapped = c.in_ok-words_in_second in
     rw c.in_ok-push.ensures.items
     (mapped-more c.args.me (map party_of bidders) (map party_of others) c.args.words.now c.loop-i.mapped.items c.loop-i.i
-    (party_of c.index-bidders-i.result) (party_of c.index-others-i.result) c.index-words-i.result mapped.field-0 c.loop-i.invariant lt
-    (get-map party_of bidders c.loop-i.i c.index-bidders-i.result
-    (slice_get_read bidders (length bidders) c.loop-i.i c.index-bidders-i.result refl
-    (omega (arith, few, lt, c.requires.count)) c.index-bidders-i.is))
-    (get-map party_of others c.loop-i.i c.index-others-i.result
-    (slice_get_read others (length others) c.loop-i.i c.index-others-i.result refl
-    (omega (arith, many, few, lt, c.requires.count)) c.index-others-i.is))
+    (party_of c.pair_at.result.0.now) (party_of c.pair_at.result.1.now) c.index-words-i.result mapped.field-0
+    c.loop-i.invariant c.loop-i-test.true
+    (get-map party_of bidders c.loop-i.i c.pair_at.result.0.now c.pair_at.ensures.one)
+    (get-map party_of others c.loop-i.i c.pair_at.result.1.now c.pair_at.ensures.other)
     c.index-words-i.is mapped.ensures.mapped mapped.ensures.below mapped.ensures.words)
 
 pub returns-clause-count : goal.returns-clause-count
@@ -94,20 +41,16 @@ returns-clause-count c = omega (arith, c.loop-i.invariant.count, c.loop-i-test.f
 
 pub returns-clause-mapped : goal.returns-clause-mapped
 returns-clause-mapped c =
-    let bidders = c.bidders-bidders.result.now in
-    let others = c.bidders-others.result.now in
-    let many = as-many-in c.args.first.now c.args.second.now bidders others c.bidders-bidders.ensures.value
-    c.bidders-others.ensures.value c.requires.marks in
-    let few = ap length c.bidders-bidders.ensures.value in
-    let all = all-mapped c.args.me (map party_of bidders) (map party_of others) c.args.words.now c.loop-i.mapped.items c.loop-i.i
-    c.loop-i.invariant (omega (arith, c.loop-i.invariant.count, c.loop-i-test.false))
-    (omega (arith, few, c.requires.count) ∙ sym (length-map bidders party_of))
-    (length-map others party_of ∙ many ∙ sym (length-map bidders party_of)) in
-    rw (← c.bidders-bidders.ensures.value, ← c.bidders-others.ensures.value) all
+    let bidders = c.args.first.now.bidders in
+    let others = c.args.second.now.bidders in
+    let many = as-many-in c.args.first.now c.args.second.now c.requires.marks in
+    all-mapped c.args.me (map party_of bidders) (map party_of others) c.args.words.now c.loop-i.mapped.items c.loop-i.i
+    c.loop-i.invariant (omega (arith, c.loop-i.invariant.count, c.loop-i-test.false)) (c.requires.count ∙ sym (length-map bidders party_of))
+    (length-map others party_of ∙ many ∙ sym (length-map bidders party_of))
 
 pub returns-clause-below : goal.returns-clause-below
 returns-clause-below c =
-    all-below c.args.me (map party_of c.bidders-bidders.result.now) (map party_of c.bidders-others.result.now) c.args.words.now
+    all-below c.args.me (map party_of c.args.first.now.bidders) (map party_of c.args.second.now.bidders) c.args.words.now
     c.loop-i.mapped.items c.loop-i.i c.loop-i.invariant c.loop-i-test.false
 
 pub returns-clause-words : goal.returns-clause-words

@@ -1,5 +1,5 @@
 use Rattle.beet_auction_map.proofs.BidderFacts.{bidders-back}
-use Rattle.beet_auction_map.proofs.MasksBack.{agree-back, books-back}
+use Rattle.beet_two_books.proofs.MasksBack.{agree-back, books-back}
 use Rattle.beet_auction_map.proofs.laws.mapped_worlds_map_back.Goals as goal
 
 pub returns-clause-books : goal.returns-clause-books

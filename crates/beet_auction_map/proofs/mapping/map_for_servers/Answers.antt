@@ -4,9 +4,9 @@ use Rattle.beet_words.specs.Bundles.{AreWords}
 use Rattle.beet_bids.specs.declared.book.Bidder.{Bidder}
 use Rattle.beet_plan.specs.Auction.{auction_batch, auction_over, most_coefficients, most_masks, most_rounds}
 use Rattle.beet_trades.specs.Servers.{AreBelow, CanMap, ServersMapped, world_with}
-use Rattle.beet_trades.proofs.Disagreeing.{as-many}
+use Rattle.beet_map.proofs.Disagreeing.{as-many}
 use Rattle.beet_auction_map.specs.InputLines.{AreInputLines}
-use Rattle.beet_auction_map.specs.Losses.{losses_of}
+use Rattle.beet_two_books.specs.Losses.{losses_of}
 use Rattle.beet_auction_map.proofs.WorldFacts.{Stands, can-map, worlds-mapped}
 use Rattle.beet_auction_map.proofs.mapping.map_for_servers.Goals.{After-as_slice-2}
 use Rattle.beet_auction_map.proofs.mapping.map_for_servers.Goals as goal

@@ -14,17 +14,17 @@ module _ (g : Over) (c : After-refill g) where
   read : c.as_slice-opened.result.now ≡ c.loop-t.here.stage.opened
   read = c.as_slice-opened.ensures.value ∙ ap (λ (w : World). w.stage.opened) c.here.view_is
 
-  batch_is : c.refill.new.batch ≡ g.S.ScriptOfFive.batch_of c.args.script.now c.loop-t.t c.loop-t.here.stage.opened
-  batch_is = c.refill.ensures.batch ∙ ap (g.S.ScriptOfFive.batch_of c.args.script.now c.loop-t.t) read
+  batch_is : c.refill.new.batch ≡ g.S.Script.batch_of c.args.script.now c.loop-t.t c.loop-t.here.stage.opened
+  batch_is = c.refill.ensures.batch ∙ ap (g.S.Script.batch_of c.args.script.now c.loop-t.t) read
 
   abbrev bounds : Standing
   bounds =
-      bounds_of (g.S.ScriptOfFive.wires_of c.args.script.now) (g.S.ScriptOfFive.masks_of c.args.script.now)
-      (g.S.ScriptOfFive.secrets_of c.args.script.now)
+      bounds_of (g.S.Script.wires_of c.args.script.now) (g.S.Script.masks_of c.args.script.now)
+      (g.S.Script.secrets_of c.args.script.now)
 
 pub loop-t-init : goal.loop-t-init
 loop-t-init g c =
-    let start = begins c.args.two.a c.args.two.b (g.S.ScriptOfFive.batch_of c.args.script.now) c.args.here.now.secrets.now
+    let start = begins c.args.two.a c.args.two.b (g.S.Script.batch_of c.args.script.now) c.args.here.now.secrets.now
     c.args.there.now.secrets.now c.args.here.now.numbers in
     record {
       secrets = refl;
@@ -37,14 +37,14 @@ loop-t-init g c =
 
 pub refill-requires : goal.refill-requires
 refill-requires g c =
-    subst (λ l. g.S.ScriptOfFive.is_at c.args.script.now c.loop-t.t l c.loop-t.place)
+    subst (λ l. g.S.Script.is_at c.args.script.now c.loop-t.t l c.loop-t.place)
     (sym (c.as_slice-opened.ensures.value ∙ ap (λ (w : World). w.stage.opened) c.here.view_is)) c.loop-t.invariant.placed
 
 pub returns-then-is_end-clause-mapped : goal.returns-then-is_end-clause-mapped
 returns-then-is_end-clause-mapped g c =
     let after = (goal.at.returns-then-is_end-clause-mapped g c).After-refill in
-    at-end c.args.two.a c.args.two.b (g.S.ScriptOfFive.batch_of c.args.script.now) c.args.here.now.secrets.now
-    c.args.there.now.secrets.now c.args.here.now.numbers c.requires.first c.requires.order c.requires.last
+    at-end c.args.two.a c.args.two.b (g.S.Script.batch_of c.args.script.now) c.args.here.now.secrets.now
+    c.args.there.now.secrets.now c.args.here.now.numbers c.args.two.lowest c.args.two.order c.args.two.highest
     c.loop-t.here.stage c.loop-t.there.stage c.loop-t.there.numbers c.loop-t.t c.loop-t.invariant.walked c.refill.new.batch
     (batch_is g after) (sym c.is_end.ensures ∙ c.if-is_end.true)
 
@@ -55,33 +55,33 @@ pub step-requires-clause-first : goal.step-requires-clause-first
 step-requires-clause-first g c =
     let after = (goal.at.step-requires-clause-first g c).After-refill in
     rw c.loop-t.invariant.numbers
-    (fits c.args.two.a c.args.two.b (g.S.ScriptOfFive.batch_of c.args.script.now) c.args.here.now.secrets.now
-    c.args.there.now.secrets.now c.args.here.now.numbers c.requires.first c.requires.order c.requires.last
+    (fits c.args.two.a c.args.two.b (g.S.Script.batch_of c.args.script.now) c.args.here.now.secrets.now
+    c.args.there.now.secrets.now c.args.here.now.numbers c.args.two.lowest c.args.two.order c.args.two.highest
     c.loop-t.here.stage c.loop-t.there.stage c.loop-t.there.numbers c.loop-t.t c.loop-t.invariant.walked c.refill.new.batch
     (batch_is g after) (sym c.is_end.ensures ∙ c.if-is_end.false) (bounds g after)
-    (g.S.ScriptOfFive.rounds_of c.args.script.now) (g.S.ScriptOfFive.inputs_of c.args.script.now)
-    (g.met.S.ScriptOfFive.lawful c.args.script.now) c.requires.enough (omega arith))
+    (g.S.Script.rounds_of c.args.script.now) (g.S.Script.inputs_of c.args.script.now)
+    (g.met.S.Script.lawful c.args.script.now) c.requires.enough (omega arith))
 
 pub step-requires-clause-moving : goal.step-requires-clause-moving
 step-requires-clause-moving g c =
     let after = (goal.at.step-requires-clause-moving g c).After-refill in
-    fits' c.args.two.a c.args.two.b (g.S.ScriptOfFive.batch_of c.args.script.now) c.args.here.now.secrets.now
-    c.args.there.now.secrets.now c.args.here.now.numbers c.requires.first c.requires.order c.requires.last
+    fits' c.args.two.a c.args.two.b (g.S.Script.batch_of c.args.script.now) c.args.here.now.secrets.now
+    c.args.there.now.secrets.now c.args.here.now.numbers c.args.two.lowest c.args.two.order c.args.two.highest
     c.loop-t.here.stage c.loop-t.there.stage c.loop-t.there.numbers c.loop-t.t c.loop-t.invariant.walked c.refill.new.batch
     (batch_is g after) (sym c.is_end.ensures ∙ c.if-is_end.false) (bounds g after)
-    (g.S.ScriptOfFive.rounds_of c.args.script.now) (g.S.ScriptOfFive.inputs_of c.args.script.now)
-    (g.met.S.ScriptOfFive.lawful c.args.script.now) c.requires.enough (omega arith)
+    (g.S.Script.rounds_of c.args.script.now) (g.S.Script.inputs_of c.args.script.now)
+    (g.met.S.Script.lawful c.args.script.now) c.requires.enough (omega arith)
 
 pub step-requires-clause-second : goal.step-requires-clause-second
 step-requires-clause-second g c =
     let after = (goal.at.step-requires-clause-second g c).After-refill in
     rw (c.loop-t.invariant.secrets, c.loop-t.invariant.secrets')
-    (fits-moved c.args.two.a c.args.two.b (g.S.ScriptOfFive.batch_of c.args.script.now) c.args.here.now.secrets.now
-    c.args.there.now.secrets.now c.args.here.now.numbers c.requires.first c.requires.order c.requires.last
+    (fits-moved c.args.two.a c.args.two.b (g.S.Script.batch_of c.args.script.now) c.args.here.now.secrets.now
+    c.args.there.now.secrets.now c.args.here.now.numbers c.args.two.lowest c.args.two.order c.args.two.highest
     c.loop-t.here.stage c.loop-t.there.stage c.loop-t.there.numbers c.loop-t.t c.loop-t.invariant.walked c.refill.new.batch
     (batch_is g after) (sym c.is_end.ensures ∙ c.if-is_end.false) (bounds g after)
-    (g.S.ScriptOfFive.rounds_of c.args.script.now) (g.S.ScriptOfFive.inputs_of c.args.script.now)
-    (g.met.S.ScriptOfFive.lawful c.args.script.now) c.requires.enough (omega arith))
+    (g.S.Script.rounds_of c.args.script.now) (g.S.Script.inputs_of c.args.script.now)
+    (g.met.S.Script.lawful c.args.script.now) c.requires.enough (omega arith))
 
 pub loop-t-preserved : goal.loop-t-preserved
 loop-t-preserved g c =
@@ -98,14 +98,14 @@ loop-t-preserved g c =
     ≡ acted c.args.there.now.secrets.now.masks c.step.new.there.numbers batch.act (lets_added batch c.loop-t.there.stage) =
     ap (λ (w : World). w.stage) step.second
     ∙ (λ i. acted (inv.secrets' i).now.masks c.step.new.there.numbers batch.act (lets_added batch c.loop-t.there.stage)) in
-    let stands = walked c.args.two.a c.args.two.b (g.S.ScriptOfFive.batch_of c.args.script.now) c.args.here.now.secrets.now
-    c.args.there.now.secrets.now c.args.here.now.numbers c.requires.first c.requires.order c.requires.last
+    let stands = walked c.args.two.a c.args.two.b (g.S.Script.batch_of c.args.script.now) c.args.here.now.secrets.now
+    c.args.there.now.secrets.now c.args.here.now.numbers c.args.two.lowest c.args.two.order c.args.two.highest
     c.loop-t.here.stage c.loop-t.there.stage c.loop-t.there.numbers c.loop-t.t inv.walked batch
     (batch_is g after) (sym c.is_end.ensures ∙ c.if-is_end.false) c.step.new.there.numbers moves in
-    let goes : (l : List ℕ) → g.S.ScriptOfFive.is_at c.args.script.now c.loop-t.t l c.refill.new.place → (more : List ℕ) →
-    g.S.ScriptOfFive.is_at c.args.script.now (c.loop-t.t + 1) (l ++ more) c.refill.new.place =
+    let goes : (l : List ℕ) → g.S.Script.is_at c.args.script.now c.loop-t.t l c.refill.new.place → (more : List ℕ) →
+    g.S.Script.is_at c.args.script.now (c.loop-t.t + 1) (l ++ more) c.refill.new.place =
     λ l there more.
-    g.met.S.ScriptOfFive.goes_on c.args.script.now c.loop-t.t (c.loop-t.t + 1) l more c.refill.new.place there (omega arith) in
+    g.met.S.Script.goes_on c.args.script.now c.loop-t.t (c.loop-t.t + 1) l more c.refill.new.place there (omega arith) in
     let more = opened_by five_servers (run_of (lets_added batch c.loop-t.here.stage)) batch.act in
     record {
       secrets = ap (λ (w : World). w.secrets) step.first ∙ inv.secrets;
@@ -113,21 +113,21 @@ loop-t-preserved g c =
       secrets' = ap (λ (w : World). w.secrets) step.second ∙ inv.secrets';
       walked = rw (here, there) stands;
       end = inv.end;
-      placed = subst (λ l. g.S.ScriptOfFive.is_at c.args.script.now (c.loop-t.t + 1) l c.refill.new.place)
+      placed = subst (λ l. g.S.Script.is_at c.args.script.now (c.loop-t.t + 1) l c.refill.new.place)
           (sym (ap (λ (w : World). w.stage.opened) step.first))
-          (goes c.loop-t.here.stage.opened (subst (λ l. g.S.ScriptOfFive.is_at c.args.script.now c.loop-t.t l c.refill.new.place)
+          (goes c.loop-t.here.stage.opened (subst (λ l. g.S.Script.is_at c.args.script.now c.loop-t.t l c.refill.new.place)
           (read g after) c.refill.ensures.place) more);
     }
 
 pub returns-clause-mapped : goal.returns-clause-mapped
 returns-clause-mapped g c =
-    let script = g.S.ScriptOfFive in
+    let script = g.S.Script in
     let s = c.args.script.now in
     let inv = c.loop-t.invariant in
     let most : c.loop-t.t ≡ script.rounds_of s = omega (arith, inv.end, c.loop-t-test.false, c.loop-t.auto.t-end) in
     at-last c.args.two.a c.args.two.b (script.batch_of s) c.args.here.now.secrets.now c.args.there.now.secrets.now
     c.args.here.now.numbers c.loop-t.here.stage c.loop-t.there.stage c.loop-t.there.numbers (script.rounds_of s)
-    (script.inputs_of s) (bounds_of (script.wires_of s) (script.masks_of s) (script.secrets_of s)) (g.met.S.ScriptOfFive.lawful s)
+    (script.inputs_of s) (bounds_of (script.wires_of s) (script.masks_of s) (script.secrets_of s)) (g.met.S.Script.lawful s)
     (subst (λ n. Walked c.args.two.a c.args.two.b (script.batch_of s) c.args.here.now.secrets.now c.args.there.now.secrets.now
     c.args.here.now.numbers c.loop-t.here.stage c.loop-t.there.stage c.loop-t.there.numbers n) most inv.walked)
 

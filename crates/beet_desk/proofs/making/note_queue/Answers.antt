@@ -18,9 +18,9 @@ open-requires-clause-room g c =
     let first = cores.one.script in
     let few : all_named (notes_from script.batch_of script.inputs_of script.rounds_of cores) ≤ 3 * script.rounds_of first =
     named-few (setup_of script.batch_of script.inputs_of cores)
-    (bounds_of (script.wires_of first) (script.masks_of first) (script.coefficients_of first))
+    (bounds_of (script.wires_of first) (script.masks_of first) (script.secrets_of first))
     (script.rounds_of first) (script.inputs_of first) (g.met.S.Script.lawful first) in
-    omega (arith, few, c.max-capacity.ensures, c.rounds.ensures ∙ ap script.rounds_of c.script.ensures)
+    omega (arith, few, c.max-capacity.ensures, c.rounds.ensures.value ∙ ap script.rounds_of c.script.ensures)
 
 pub open-requires-clause-named : goal.open-requires-clause-named
 open-requires-clause-named g c = λ s.
@@ -38,5 +38,5 @@ returns-clause-small g c =
     IfOk_then c.open.result c.open.ensures.receiver (λ ends made s. subst AreSmall
     (sym (ap (λ e. member e.notes s) made ∙ member-trio_of (notes_at script.batch_of script.inputs_of script.rounds_of cores) s))
     (small-notes script.batch_of script.inputs_of script.rounds_of cores
-    (bounds_of (script.wires_of first) (script.masks_of first) (script.coefficients_of first))
+    (bounds_of (script.wires_of first) (script.masks_of first) (script.secrets_of first))
     (g.met.S.Script.lawful first) c.requires.few s))

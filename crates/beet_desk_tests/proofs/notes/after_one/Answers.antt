@@ -6,7 +6,7 @@ use Rattle.beet_server.proofs.Rounds.{by_point}
 use Rattle.beet_desk.specs.Ends.{AreOf, Sender}
 use Rattle.beet_desk.proofs.RunFacts.{in-ok, starts-told}
 use Rattle.beet_desk_tests.proofs.Taken.{taken-queue}
-use Rattle.beet_samples.specs.contracts.SampleScript.TheImpl.{ghosts}
+use Rattle.beet_samples.specs.contracts.SampleScript3.TheImpl.{ghosts}
 use Rattle.beet_desk_tests.proofs.notes.after_one.Goals as goal
 
 pub servings-servings-requires-clause-one : goal.servings-servings-requires-clause-one

@@ -1,7 +1,7 @@
 use Rattle.std.proofs.Common.{ap, drop, ◌∙◌}
 use Rattle.beet_field.specs.declared.point.Point.TheVariants.{One, Two, Three}
 use Rattle.beet_desk.proofs.RunFacts.{in-ok, starts-told}
-use Rattle.beet_samples.specs.contracts.SampleScript.TheImpl.{ghosts}
+use Rattle.beet_samples.specs.contracts.SampleScript3.TheImpl.{ghosts}
 use Rattle.beet_desk_tests.proofs.notes.held_servings.Goals as goal
 
 pub servings-requires-clause-one : goal.servings-requires-clause-one

@@ -1,3 +1,5 @@
+use Rattle.std.proofs.Common.{sym, subst}
+use Rattle.beet_five_load.specs.FiveServers.{AreFew, ServerLists}
 use Rattle.beet_five_load.proofs.Running.{makes-book, whole-grid, whole-many, whole-read, whole-runs}
 use Rattle.beet_five_load.proofs.whole_loading.whole_of.Goals as goal
 
@@ -17,6 +19,9 @@ invariant_of-result c =
       is_book = c.in-Some.ensures.limits;
       runs = whole-runs _ _ _ _ _ _ _ made is these c.servers.view_is c.requires.serves c.requires.each
           (rw c.as_slice.ensures.value at c.tell_words.ensures);
+      few_masks = subst (λ (l : ServerLists). AreFew l.masks) (sym c.servers.view_is) c.requires.serves.few_masks;
+      few_coefficients =
+          subst (λ (l : ServerLists). AreFew l.coefficients) (sym c.servers.view_is) c.requires.serves.few_coefficients;
       within = rw (
         whole-many _ _ _ _ _ _ _ made is these c.servers.view_is,
         whole-grid _ _ _ _ _ _ _ made is these c.servers.view_is,

@@ -1,7 +1,7 @@
 use Rattle.std.proofs.Common.{◌≡◌, ◌*◌, length, sym, ap, subst, ◌∙◌}
 use Rattle.beet_bids.specs.declared.book.Bidder.{Bidder}
-use Rattle.beet_five_plan.specs.FivePlan.{five_batch, five_over}
-use Rattle.beet_trades.proofs.Disagreeing.{as-many}
+use Rattle.beet_plan.specs.FivePlan.{five_batch, five_over}
+use Rattle.beet_map.proofs.Disagreeing.{as-many}
 use Rattle.beet_five_dealing.specs.FiveWords.{AllAccepted}
 use Rattle.beet_five_map.specs.FiveWorlds.{AreOnePair, BiddersMapped}
 use Rattle.beet_book.specs.Farmers.{farmers_of}
@@ -40,15 +40,15 @@ returns c =
     let there : c.there.inside.masks.items ≡ masks = (λ i. (c.there.view_is i).masks) ∙ (λ i. (c.in_ok-there.ensures i).masks) in
     subst (λ l. AreOnePair c.args.two.a c.args.two.b first words second
     (record { masks = l; coefficients = coefficients; bidders = bidders })) (sym there)
-    (assembled c.args.two.a c.args.two.b c.requires.lowest c.requires.order c.requires.highest first second
+    (assembled c.args.two.a c.args.two.b c.args.two.lowest c.args.two.order c.args.two.highest first second
     (record { first_book = c.grid.ensures.limits; second_book = c.grid-grid.ensures.limits; agree = c.requires.agree }) words
-    c.requires.runs (five_batch c.script_of-script.result) c.in_ok-here.here c.in_ok-there.there c.as_slice.result.now
+    c.requires.runs (five_batch c.script_over-script.result) c.in_ok-here.here c.in_ok-there.there c.as_slice.result.now
     c.as_slice-2.result.now c.as_slice-6.result.now masks bidders coefficients
-    (λ i. five_batch ((c.script_of-script.ensures ∙ (λ j. five_over (c.grid.ensures.value j))) i))
+    (λ i. five_batch ((c.script_over-script.ensures ∙ (λ j. five_over (c.grid.ensures.value j))) i))
     (c.as_slice.ensures.value ∙ (λ i. (c.words.view_is i).masks)) (c.as_slice-2.ensures.value ∙ (λ i. (c.words.view_is i).bidders))
     (c.as_slice-6.ensures.value ∙ (λ i. (c.words.view_is i).coefficients))
     (c.in_ok-here.ensures ∙ (λ i. begins first (record words {
-      masks = (c.in_ok-copy_of.ensures ∙ c.as_slice-4.ensures.value ∙ (λ j. (c.words.view_is j).masks)) i;
+      masks = (c.in_ok-copy_lists.ensures ∙ c.as_slice-4.ensures.value ∙ (λ j. (c.words.view_is j).masks)) i;
       bidders = (c.as_slice-3.ensures.value ∙ (λ j. (c.words.view_is j).bidders)) i;
     })))
     (c.in_ok-there.ensures ∙ (λ i. begins second (record words { masks = masks; bidders = c.as_slice-5.ensures.value i })))

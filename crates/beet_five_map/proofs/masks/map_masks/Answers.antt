@@ -1,5 +1,5 @@
 use Rattle.std.proofs.Common.{arith}
-use Rattle.beet_auction_map.specs.Losses.{losses_of}
+use Rattle.beet_two_books.specs.Losses.{losses_of}
 use Rattle.beet_five_map.proofs.MaskLists.{masks-all, masks-more, masks-none}
 use Rattle.beet_five_map.proofs.masks.map_masks.Goals as goal
 

@@ -1,4 +1,4 @@
-use Rattle.beet_auction_map.specs.Losses.{losses_of}
+use Rattle.beet_two_books.specs.Losses.{losses_of}
 use Rattle.beet_five_map.proofs.MaskLists.{MasksTo}
 use Rattle.beet_five_map.proofs.masks.map_masks.Given as goal
 

@@ -1,5 +1,5 @@
 use Rattle.std.proofs.Common.{[], slice_index_or}
-use Rattle.beet_auction_map.specs.Losses.{losses_of}
+use Rattle.beet_two_books.specs.Losses.{losses_of}
 use Rattle.beet_five_map.proofs.AsThree.{turned-five, turned-long}
 use Rattle.beet_five_map.proofs.masks.turning_words.Goals as goal
 

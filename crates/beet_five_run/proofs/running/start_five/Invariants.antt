@@ -8,7 +8,7 @@ invariant-loop-k g l = record {
   inputs : l.inputs.items ≡ drop l.k l.fn.inputs.items;
   masks : l.masks.items ≡ drop l.k l.fn.masks.items;
   coefficients : l.coefficients.items ≡ drop l.k l.fn.coefficients.items;
-  begun : HaveBegun g.S.ScriptOfFive.batch_of g.S.ScriptOfFive.rounds_of l.fn.script l.fn.inputs.items l.fn.masks.items
+  begun : HaveBegun g.S.Script.batch_of g.S.Script.rounds_of l.fn.script l.fn.inputs.items l.fn.masks.items
       l.fn.coefficients.items l.k l.cores.items;
   room : 5 ≤ vec_capacity l.cores;
 }

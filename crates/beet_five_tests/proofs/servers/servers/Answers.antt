@@ -1,5 +1,5 @@
 use Rattle.std.proofs.Common.{subst, sym}
-use Rattle.beet_five_plan.specs.FivePlan.{five_batch, most_rounds}
+use Rattle.beet_plan.specs.FivePlan.{five_batch, most_rounds}
 use Rattle.beet_five_world.specs.Members.{AreFresh}
 use Rattle.beet_five_tests.proofs.AllFresh.{all-fresh, in-ok}
 use Rattle.beet_five_tests.proofs.servers.servers.Goals as goal

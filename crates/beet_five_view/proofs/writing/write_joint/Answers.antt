@@ -5,7 +5,7 @@ use Rattle.beet_five_view.proofs.CoreSees.{core-sees}
 use Rattle.beet_five_view.proofs.writing.write_joint.Goals as goal
 
 pub returns : goal.returns
-returns c = λ x y can f g.
+returns c = λ x y chain can f g.
     let book = c.args.book.now in
     let words = c.args.words.now in
     let one = c.args.one.now in

@@ -7,7 +7,7 @@ use Rattle.beet_five_world.proofs.member.hand_out.Goals as goal
 
 pub returns-in-Some-clause-members : goal.returns-in-Some-clause-members
 returns-in-Some-clause-members g c = λ o x k.
-    let next = g.S.ScriptOfFive.batch_of in
+    let next = g.S.Script.batch_of in
     let old = c.args.core.now in
     let quiet : is_quiet next old.work ≡ false = false_from_ne_true _ (λ e. absurd (true≢false (c.in-Some.ensures.quiet.1 e))) in
     subst (IsMember next o x c.out.new.self) (sym c.push_reserved.ensures.items)
@@ -16,14 +16,14 @@ returns-in-Some-clause-members g c = λ o x k.
 
 pub returns-in-Some-clause-me : goal.returns-in-Some-clause-me
 returns-in-Some-clause-me g c =
-    let next = g.S.ScriptOfFive.batch_of in
+    let next = g.S.Script.batch_of in
     let old = c.args.core.now in
     let quiet : is_quiet next old.work ≡ false = false_from_ne_true _ (λ e. absurd (true≢false (c.in-Some.ensures.quiet.1 e))) in
     (steps-out next old c.out.new.self quiet c.in-Some.ensures.leaves).me
 
 pub returns-in-Some-clause-script : goal.returns-in-Some-clause-script
 returns-in-Some-clause-script g c =
-    let next = g.S.ScriptOfFive.batch_of in
+    let next = g.S.Script.batch_of in
     let old = c.args.core.now in
     let quiet : is_quiet next old.work ≡ false = false_from_ne_true _ (λ e. absurd (true≢false (c.in-Some.ensures.quiet.1 e))) in
     (steps-out next old c.out.new.self quiet c.in-Some.ensures.leaves).script

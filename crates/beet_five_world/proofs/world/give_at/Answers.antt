@@ -1,8 +1,8 @@
 use Rattle.std.proofs.Common.{Some, ap, sym, ◌∙◌}
 use Rattle.std.proofs.lemmas.List.{length-set}
 use Rattle.std.proofs.lemmas.Option.{same_Some, slice_get-get_or}
+use Rattle.beet_five_server.proofs.Places.{get-other, get-set}
 use Rattle.beet_five_world.specs.Members.{IsAt, Seen, verdict_at}
-use Rattle.beet_five_world.proofs.Places.{get-other, get-set}
 use Rattle.beet_five_world.proofs.world.give_at.Given.{Over}
 use Rattle.beet_five_world.proofs.world.give_at.Goals.{After-give}
 use Rattle.beet_five_world.proofs.world.give_at.Goals as goal
@@ -33,5 +33,5 @@ pub returns-clause-verdict : goal.returns-clause-verdict
 returns-clause-verdict g c = λ s there.
     let at = (goal.at.returns-clause-verdict g c).After-give in
     c.give.ensures.verdict
-    ∙ ap (λ (v : Seen g.row.S.Denot). verdict_at g.S.ScriptOfFive.batch_of v.core c.args.m)
+    ∙ ap (λ (v : Seen g.row.S.Denot). verdict_at g.S.Script.batch_of v.core c.args.m)
     (same_Some c.index_mut-member.result.now s (sym (was-at g at) ∙ there))

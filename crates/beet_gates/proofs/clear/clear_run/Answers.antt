@@ -9,11 +9,11 @@ pub loop-done-init : goal.loop-done-init
 loop-done-init g c =
     let script = g.S.Script in
     let bounds = bounds_of (script.wires_of c.args.script.now) (script.masks_of c.args.script.now)
-    (script.coefficients_of c.args.script.now) in
-    let law = rw (← c.requires.inputs, ← c.rounds-rounds.ensures) at (g.met.S.Script.lawful c.args.script.now) in
+    (script.secrets_of c.args.script.now) in
+    let law = rw (← c.requires.inputs, ← c.rounds-rounds.ensures.value) at (g.met.S.Script.lawful c.args.script.now) in
     let whole : c.rounds-rounds.result - 0 ≡ c.rounds-rounds.result = omega arith in
     record {
-      end = c.rounds-rounds.ensures;
+      end = c.rounds-rounds.ensures.value;
       underway = rw (whole, c.in_ok-run.ensures)
           (begins (script.batch_of c.args.script.now) (deals_of c.args.masks.now) bounds c.args.inputs.now 3
           c.rounds-rounds.result (by-three c.args.masks.now) law);
@@ -24,7 +24,7 @@ pub loop-done-preserved : goal.loop-done-preserved
 loop-done-preserved g c =
     let script = g.S.Script in
     let bounds = bounds_of (script.wires_of c.args.script.now) (script.masks_of c.args.script.now)
-    (script.coefficients_of c.args.script.now) in
+    (script.secrets_of c.args.script.now) in
     let left = c.rounds-rounds.result - (c.loop-done.done + 1) in
     let e : c.rounds-rounds.result - c.loop-done.done ≡ suc left = omega arith in
     let is : c.refill.new.batch ≡ script.batch_of c.args.script.now c.loop-done.done c.loop-done.run.opened =
@@ -47,7 +47,7 @@ pub step-requires-clause-words : goal.step-requires-clause-words
 step-requires-clause-words g c =
     let script = g.S.Script in
     let bounds = bounds_of (script.wires_of c.args.script.now) (script.masks_of c.args.script.now)
-    (script.coefficients_of c.args.script.now) in
+    (script.secrets_of c.args.script.now) in
     let is : c.refill.new.batch ≡ script.batch_of c.args.script.now c.loop-done.done c.loop-done.run.opened =
     rw c.opened.ensures at c.refill.ensures.batch in
     let there = words-there (script.batch_of c.args.script.now) (deals_of c.args.masks.now) bounds c.args.inputs.now

@@ -10,7 +10,7 @@ invariant-loop-done g l =
     record {
       end : l.rounds ≡ script.rounds_of l.script;
       underway : Underway (script.batch_of l.script) (deals_of l.masks)
-          (bounds_of (script.wires_of l.script) (script.masks_of l.script) (script.coefficients_of l.script))
+          (bounds_of (script.wires_of l.script) (script.masks_of l.script) (script.secrets_of l.script))
           l.inputs (l.rounds - l.done) l.done l.run;
       placed : script.is_at l.script l.done l.run.opened l.place;
     }

@@ -10,4 +10,4 @@ pub returns-clause-reads : goal.returns-clause-reads
 returns-clause-reads g c = bind c.in_ok-whole.ensures (computed _ c.reply_for.ensures.reply c.reply_for.ensures.memory)
 
 pub returns-clause-done : goal.returns-clause-done
-returns-clause-done g c = record_done c.args.files.now.out.now (loaded_of c.in_ok-whole.whole) _ c.reply_for.ensures.reply
+returns-clause-done g c = record_done c.args.out.now (loaded_of c.in_ok-whole.whole) _ c.reply_for.ensures.reply

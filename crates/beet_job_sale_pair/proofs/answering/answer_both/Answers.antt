@@ -1,8 +1,10 @@
 use Rattle.std.proofs.Common.{◌≡◌, ◌∙◌, IfOk, ap, subst, sym}
 use Rattle.beet_sale_file.specs.Sales.{bids_of}
+use Rattle.beet_differences.specs.Comparing.{TellsApart}
 use Rattle.beet_sale_load.specs.SaleLoading.{SaleRead}
 use Rattle.beet_job_sale_pair.specs.Answering.{agreed_answer, transcript_of}
-use Rattle.beet_job_sale_pair.specs.Ending.{AnswersSales, TellsApart}
+use Rattle.beet_job_sale_pair.specs.Differences.{difference_between, refused_text}
+use Rattle.beet_job_sale_pair.specs.Ending.{AnswersSales}
 use Rattle.beet_job_sale_pair.proofs.SaleAnswers.{agreed-answers, refused-answers}
 use Rattle.beet_job_sale_pair.proofs.answering.answer_both.Goals as goal
 
@@ -33,6 +35,7 @@ returns-in-Ok c =
 pub returns-in-Err : goal.returns-in-Err
 returns-in-Err c =
     let rows = λ (w : SaleRead). bids_of w.sale.rows in
-    subst (λ (w : SaleRead). TellsApart c.args.me (rows w) (bids_of c.args.second.rows) c.refusal.result) c.first.view_is
+    subst (λ (w : SaleRead).
+    TellsApart refused_text (difference_between c.args.me (rows w) (bids_of c.args.second.rows)) c.refuse_sales.result) c.first.view_is
     (refused-answers c.args.me (bids_of c.first.inside.sale.rows) (bids_of c.args.second.rows) c.in-Err.fault
-    c.in-Err.ensures.refused c.refusal.result c.refusal.ensures)
+    c.in-Err.ensures.refused c.refuse_sales.result c.refuse_sales.ensures)

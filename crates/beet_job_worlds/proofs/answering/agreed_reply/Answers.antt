@@ -10,4 +10,4 @@ returns-clause-answer g c =
     replies-agreed c.args.out.now first words c.args.mapped.now (transcript_for first words c.args.me) _ _ _ _ _ _ _ _ c.grid.ensures.value
     c.in_ok-first_run.ensures.finish c.in_ok-first_run.ensures.rounds
     c.in_ok-first_run.ensures.transcript (c.in_ok-second_run.ensures.transcript ∙ c.requires.same) c.in_ok-words.ensures.bytes
-    c.in_ok-files.ensures c.in_ok-equal_reply.ensures
+    c.in_ok-reply.ensures c.in_ok-telling_worlds.ensures

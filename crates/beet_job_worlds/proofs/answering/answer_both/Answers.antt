@@ -35,4 +35,4 @@ returns-in-Ok g c =
 pub returns-in-Err : goal.returns-in-Err
 returns-in-Err g c =
     refused-answers c.args.me c.args.whole.now.book c.args.second.now c.in-Err.fault
-    c.in-Err.ensures.refused c.refusal.result c.refusal.ensures
+    c.in-Err.ensures.refused c.refuse_books.result c.refuse_books.ensures

@@ -12,6 +12,6 @@ open-requires-clause-room g c =
     let first = cores.one.script in
     let few : length (stream_of script.batch_of script.inputs_of script.rounds_of cores c.args.from c.args.to) ≤ script.rounds_of first =
     length-few (setup_of script.batch_of script.inputs_of cores)
-    (bounds_of (script.wires_of first) (script.masks_of first) (script.coefficients_of first))
+    (bounds_of (script.wires_of first) (script.masks_of first) (script.secrets_of first))
     (script.rounds_of first) (script.inputs_of first) c.args.from c.args.to (g.met.S.Script.lawful first) in
-    omega (arith, few, c.max-capacity.ensures, c.rounds.ensures ∙ ap script.rounds_of c.script.ensures)
+    omega (arith, few, c.max-capacity.ensures, c.rounds.ensures.value ∙ ap script.rounds_of c.script.ensures)

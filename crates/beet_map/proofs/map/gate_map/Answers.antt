@@ -15,7 +15,7 @@ alike g c =
     let script = g.S.Script in
     let s = c.args.script.now in
     are_alike (script.batch_of s) (script.rounds_of s) (script.inputs_of s) (script.masks_of s) (script.wires_of s)
-    (script.coefficients_of s) (g.met.S.Script.lawful s)
+    (script.secrets_of s) (g.met.S.Script.lawful s)
     c.args.me c.args.first.now c.args.second.now c.requires.first c.requires.second
     c.in_ok-rounds.ensures.first_elements c.in_ok-rounds.ensures.second_elements
     c.in_ok-rounds.ensures.same c.in_ok-rounds.rounds c.in_ok-rounds.ensures.rounds
@@ -42,11 +42,11 @@ map_numbers-requires-clause-room g c =
     let script = g.S.Script in
     let s = c.args.script.now in
     has_room (script.batch_of s) (script.rounds_of s) (script.inputs_of s) (script.masks_of s) (script.wires_of s)
-    (script.coefficients_of s) (g.met.S.Script.lawful s)
+    (script.secrets_of s) (g.met.S.Script.lawful s)
     c.args.me c.args.first.now c.args.second.now c.requires.first c.requires.second
     c.in_ok-rounds.ensures.first_elements c.in_ok-rounds.ensures.second_elements
     c.in_ok-rounds.ensures.same c.in_ok-rounds.rounds c.in_ok-rounds.ensures.rounds
-    c.in_ok-drawn.drawn (subst (λ n. HasWords (script.coefficients_of s) n) (sym c.in_ok-drawn.ensures.numbers) c.requires.numbers)
+    c.in_ok-drawn.drawn (subst (λ n. HasWords (script.secrets_of s) n) (sym c.in_ok-drawn.ensures.numbers) c.requires.numbers)
 
 pub all_back-requires : goal.all_back-requires
 all_back-requires g c =

@@ -16,7 +16,7 @@ returns-clause-rounds g c =
     (values_of w.inputs) c.in_ok-clear_run.field-0.rounds) c.secrets.view_is
     (rw (c.as_slice-2.ensures.value, c.in_ok-inputs.ensures.values, c.as_slice.ensures.value) at c.in_ok-clear_run.ensures.end) in
     grounds.rounds_are (script.batch_of s) (script.rounds_of s) (script.inputs_of s) (script.masks_of s)
-    (script.wires_of s) (script.coefficients_of s)
+    (script.wires_of s) (script.secrets_of s)
     (g.met.S.Script.lawful s) c.args.secrets.now c.requires c.in_ok-clear_run.field-0.rounds end
 
 pub returns-clause-opened : goal.returns-clause-opened
@@ -31,5 +31,5 @@ returns-clause-opened g c =
     let rounds = returns-clause-rounds g c in
     opened ∙ ap (λ r. (clear_of (script.batch_of s) c.args.secrets.now r).opened) rounds
     ∙ sym (grounds.opened_is (script.batch_of s) (script.rounds_of s) (script.inputs_of s) (script.masks_of s)
-    (script.wires_of s) (script.coefficients_of s)
+    (script.wires_of s) (script.secrets_of s)
     (g.met.S.Script.lawful s) c.args.secrets.now c.requires)

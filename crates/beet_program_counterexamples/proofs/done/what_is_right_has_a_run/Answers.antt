@@ -1,4 +1,4 @@
-use Rattle.beet_program_counterexamples.proofs.DoneRuns.{audit, clear, opened, recorded, rehearse, seal, tally, trial}
+use Rattle.beet_program_counterexamples.proofs.DoneRuns.{audit, clear, five, opened, recorded, rehearse, seal, tally, trial}
 use Rattle.beet_program_counterexamples.proofs.DoneRuns.{watch, witness, worlds}
 use Rattle.beet_program_counterexamples.proofs.done.what_is_right_has_a_run.Goals as goal
 
@@ -10,6 +10,9 @@ returns-clause-clear c = clear
 
 pub returns-clause-watch : goal.returns-clause-watch
 returns-clause-watch c = watch
+
+pub returns-clause-five : goal.returns-clause-five
+returns-clause-five c = five
 
 pub returns-clause-rehearse : goal.returns-clause-rehearse
 returns-clause-rehearse c = rehearse

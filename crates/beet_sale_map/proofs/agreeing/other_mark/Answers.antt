@@ -1,5 +1,5 @@
 use Rattle.std.proofs.Common.{rules, ◌≡◌, ◌≢◌, ◌≤◌, length, arith}
-use Rattle.beet_trades.proofs.Disagreeing.{marks-all, marks-end, marks-more}
+use Rattle.beet_map.proofs.Disagreeing.{marks-all, marks-end, marks-more}
 use Rattle.beet_sale_file.specs.declared.rows.SaleBid.{SaleBid}
 use Rattle.beet_sale_map.proofs.agreeing.other_mark.Goals as goal
 

@@ -1,5 +1,5 @@
 use Rattle.std.proofs.Common.{map}
-use Rattle.beet_trades.proofs.Disagreeing.{SameBefore}
+use Rattle.beet_map.proofs.Disagreeing.{SameBefore}
 use Rattle.beet_sale_file.specs.declared.rows.SaleBid.{SaleBid}
 use Rattle.beet_sale_map.proofs.agreeing.other_mark.Given as goal
 

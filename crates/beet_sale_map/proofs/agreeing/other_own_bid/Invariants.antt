@@ -1,5 +1,5 @@
 use Rattle.std.proofs.Common.{◌≡◌, length}
-use Rattle.beet_trades.specs.Agreement.{SameKnownBefore}
+use Rattle.beet_map.specs.Agreement.{SameKnownBefore}
 use Rattle.beet_sale_file.specs.declared.rows.SaleBid.{SaleBid}
 use Rattle.beet_sale_map.proofs.agreeing.other_own_bid.Given as goal
 

@@ -3,7 +3,7 @@ use Rattle.std.proofs.lemmas.List.{length-map}
 use Rattle.std.proofs.lemmas.List.Elements.{All-get_or}
 use Rattle.beet_words.specs.Words.{accepted}
 use Rattle.beet_turned.proofs.MasksBack.{all-at}
-use Rattle.beet_trades.proofs.Disagreeing.{as-many, get-map, mark-at}
+use Rattle.beet_map.proofs.Disagreeing.{as-many, get-map, mark-at}
 use Rattle.beet_trades.proofs.MappedSoFar.{all-below, all-mapped, mapped-more, none-mapped}
 use Rattle.beet_sale_plan.specs.Outcome.{IsBid}
 use Rattle.beet_sale_file.specs.declared.rows.SaleBid.{SaleBid}

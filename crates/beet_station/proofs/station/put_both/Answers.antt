@@ -10,7 +10,7 @@ use Rattle.beet_station.proofs.station.put_both.Goals as goal
 pub hand_out-requires : goal.hand_out-requires
 hand_out-requires g c =
     let script = g.S.Script in
-    loud script.batch_of script.inputs_of script.rounds_of (bounds_at script.wires_of script.masks_of script.coefficients_of)
+    loud script.batch_of script.inputs_of script.rounds_of (bounds_at script.wires_of script.masks_of script.secrets_of)
     g.met.S.Script.lawful c.args._run.now.value c.args._me c.args.station.now c.requires.tied c.requires.going
 
 -- what is handed out are the messages of the round
@@ -23,14 +23,14 @@ sent g c =
 pub put-requires : goal.put-requires
 put-requires g c =
     let script = g.S.Script in
-    puts-low script.batch_of script.inputs_of script.rounds_of (bounds_at script.wires_of script.masks_of script.coefficients_of)
+    puts-low script.batch_of script.inputs_of script.rounds_of (bounds_at script.wires_of script.masks_of script.secrets_of)
     g.met.S.Script.lawful c.args._run.now.value c.args._me c.args.station.now c.requires.tied c.requires.going _
     (sent g (goal.at.put-requires g c).After-hand_out).to_low
 
 pub put-requires-2 : goal.put-requires-2
 put-requires-2 g c =
     let script = g.S.Script in
-    puts-high script.batch_of script.inputs_of script.rounds_of (bounds_at script.wires_of script.masks_of script.coefficients_of)
+    puts-high script.batch_of script.inputs_of script.rounds_of (bounds_at script.wires_of script.masks_of script.secrets_of)
     g.met.S.Script.lawful c.args._run.now.value c.args._me c.args.station.now c.requires.tied c.requires.going _
     (sent g (goal.at.put-requires-2 g c).After-hand_out).to_high
 
@@ -39,7 +39,7 @@ returns g c =
     let script = g.S.Script in
     let x = c.args.station.now in
     let start = c.args._run.now.value in
-    puts-both script.batch_of script.inputs_of script.rounds_of (bounds_at script.wires_of script.masks_of script.coefficients_of)
+    puts-both script.batch_of script.inputs_of script.rounds_of (bounds_at script.wires_of script.masks_of script.secrets_of)
     g.met.S.Script.lawful start c.args._me x c.requires.tied c.requires.going
     (record {
       core = c.hand_out.new.self;

@@ -71,7 +71,7 @@ tell-requires-clause-few g c =
     let at = (goal.at.tell-requires-clause-few g c).After-behind in
     subst (λ (l : List ℕ). length l ≤ MOST_NUMBERS) (sym (opened g at))
     (opens-few (setup_of script.batch_of script.inputs_of c.args.run.now.value)
-    (bounds_at script.wires_of script.masks_of script.coefficients_of first) (script.rounds_of first)
+    (bounds_at script.wires_of script.masks_of script.secrets_of first) (script.rounds_of first)
     (script.inputs_of first) c.args.station.now.core.round (g.met.S.Script.lawful first) c.put_both.ensures.is_round)
 
 -- the next note that is awaited is the one on the round
@@ -86,7 +86,7 @@ next-note g c =
     tells (setup_of script.batch_of script.inputs_of start)
     (rounds_from script.batch_of script.inputs_of script.rounds_of start) c.args.me x.core.round c.round-round.result
     c.behind.result.now (Awaits (g.K.Sink.due c.args.sink.now))
-    (within script.batch_of script.inputs_of script.rounds_of (bounds_at script.wires_of script.masks_of script.coefficients_of)
+    (within script.batch_of script.inputs_of script.rounds_of (bounds_at script.wires_of script.masks_of script.secrets_of)
     g.met.S.Script.lawful start c.args.me x c.requires.tied c.requires.going)
     c.round-round.ensures (opened g c) c.requires.told
 

@@ -11,7 +11,7 @@ use Rattle.beet_station.proofs.station.serve.Goals as goal
 pub returns-then-ended-clause-ended : goal.returns-then-ended-clause-ended
 returns-then-ended-clause-ended g c =
     let script = g.S.Script in
-    all-passed script.batch_of script.inputs_of script.rounds_of (bounds_at script.wires_of script.masks_of script.coefficients_of)
+    all-passed script.batch_of script.inputs_of script.rounds_of (bounds_at script.wires_of script.masks_of script.secrets_of)
     g.met.S.Script.lawful c.args.run.now.value c.args.me c.loop.station c.loop.invariant.tied (sym c.ended.ensures ∙ c.if-ended.true)
 
 pub returns-then-ended-clause-told : goal.returns-then-ended-clause-told
@@ -22,7 +22,7 @@ returns-then-ended-clause-told g c =
     let rounds = rounds_from script.batch_of script.inputs_of script.rounds_of start in
     let x = c.loop.station.core in
     let last = (ended_at script.batch_of o (all_delivered x.round) x rounds
-    (has-rounds script.batch_of script.inputs_of script.rounds_of (bounds_at script.wires_of script.masks_of script.coefficients_of)
+    (has-rounds script.batch_of script.inputs_of script.rounds_of (bounds_at script.wires_of script.masks_of script.secrets_of)
     g.met.S.Script.lawful start)
     c.loop.invariant.tied.stands.fits).0 (sym c.ended.ensures ∙ c.if-ended.true) in
     subst (Awaits (g.K.Sink.due c.loop.sink)) (no-note o rounds c.args.me x.round last) c.loop.invariant.told

@@ -17,11 +17,11 @@ pub map_from-mapped-requires : goal.map_from-mapped-requires
 map_from-mapped-requires g c =
     let at = (goal.at.map_from-mapped-requires g c).In_ok-inputs in
     subst (λ t. CanMap (g.S.Script.batch_of c.args.script.now) (g.S.Script.rounds_of c.args.script.now)
-    (g.S.Script.inputs_of c.args.script.now) (g.S.Script.masks_of c.args.script.now) (g.S.Script.coefficients_of c.args.script.now)
+    (g.S.Script.inputs_of c.args.script.now) (g.S.Script.masks_of c.args.script.now) (g.S.Script.secrets_of c.args.script.now)
     c.args.me c.args.losses.now (world_with c.in_ok-inputs.inputs.items c.in_ok-inputs.masks) c.args.there.items t)
     (sym (λ i. (c.words.view_is i).coefficients))
     (subst (λ w. CanMap (g.S.Script.batch_of c.args.script.now) (g.S.Script.rounds_of c.args.script.now)
-    (g.S.Script.inputs_of c.args.script.now) (g.S.Script.masks_of c.args.script.now) (g.S.Script.coefficients_of c.args.script.now)
+    (g.S.Script.inputs_of c.args.script.now) (g.S.Script.masks_of c.args.script.now) (g.S.Script.secrets_of c.args.script.now)
     c.args.me c.args.losses.now w c.args.there.items c.args.words.now.coefficients) (sym (same-world g at)) c.requires)
 
 pub returns : goal.returns

@@ -8,7 +8,7 @@ pub loop-round-init : goal.loop-round-init
 loop-round-init g c =
     let script = g.S.Script in
     record {
-      end = c.rounds-round-end.ensures ∙ ap script.rounds_of c.script.ensures;
+      end = c.rounds-round-end.ensures.value ∙ ap script.rounds_of c.script.ensures;
       stand = fresh-stand script.batch_of script.inputs_of script.rounds_of c.args.cores c.requires;
       keeps = λ s. record { me = refl; script = refl; masks = refl; coefficients = refl };
     }
@@ -42,7 +42,7 @@ pub returns-then-ended : goal.returns-then-ended
 returns-then-ended g c =
     let script = g.S.Script in
     let first = c.args.cores.one.script in
-    let bounds = bounds_of (script.wires_of first) (script.masks_of first) (script.coefficients_of first) in
+    let bounds = bounds_of (script.wires_of first) (script.masks_of first) (script.secrets_of first) in
     let law = g.met.S.Script.lawful first in
     let inv = c.loop-round.invariant in
     let over = sym c.ended.ensures ∙ c.if-ended.true in
@@ -55,7 +55,7 @@ pub returns : goal.returns
 returns g c =
     let script = g.S.Script in
     let first = c.args.cores.one.script in
-    let bounds = bounds_of (script.wires_of first) (script.masks_of first) (script.coefficients_of first) in
+    let bounds = bounds_of (script.wires_of first) (script.masks_of first) (script.secrets_of first) in
     let law = g.met.S.Script.lawful first in
     let inv = c.loop-round.invariant in
     let all : c.loop-round._round ≡ script.rounds_of first =

@@ -8,14 +8,14 @@ use Rattle.beet_server.proofs.Delivering.{handed-first}
 
 pub returns-then-ended-clause-fits : goal.returns-then-ended-clause-fits
 returns-then-ended-clause-fits g c =
-    let next = g.S.ScriptOfFive.batch_of in
+    let next = g.S.Script.batch_of in
     let old : Core g.row.S.Denot = record { work = c.self.inside.engine; mail = c.self.inside.mail } in
     subst (λ (v : Core g.row.S.Denot). FitsAfter next v v c.args.m) c.self.view_is
     (after-late next old c.self.invariant.server c.args.m (sym c.ended.ensures ∙ c.if-ended.true))
 
 pub returns-in-Ready-clause-fits : goal.returns-in-Ready-clause-fits
 returns-in-Ready-clause-fits g c =
-    let next = g.S.ScriptOfFive.batch_of in
+    let next = g.S.Script.batch_of in
     let old : Core g.row.S.Denot = record { work = c.self.inside.engine; mail = c.self.inside.mail } in
     let goes = sym c.ended.ensures ∙ c.if-ended.false in
     let quiet = ap (λ (v : Core g.row.S.Denot). is_quiet next v.work) c.self.view_is ∙ c.requires.sent in
@@ -29,7 +29,7 @@ returns-in-Ready-clause-fits g c =
 
 pub returns-in_default : goal.returns-in_default
 returns-in_default g c =
-    let next = g.S.ScriptOfFive.batch_of in
+    let next = g.S.Script.batch_of in
     let old : Core g.row.S.Denot = record { work = c.self.inside.engine; mail = c.self.inside.mail } in
     let new : Core g.row.S.Denot = record { work = c.self.inside.engine; mail = c.offer-verdict.new.self } in
     let goes = sym c.ended.ensures ∙ c.if-ended.false in

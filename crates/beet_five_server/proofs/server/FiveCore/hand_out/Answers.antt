@@ -7,7 +7,7 @@ use Rattle.beet_five_server.proofs.server.FiveCore.hand_out.Goals as goal
 
 pub put_own-requires-clause-wanted : goal.put_own-requires-clause-wanted
 put_own-requires-clause-wanted g c =
-    let next = g.S.ScriptOfFive.batch_of in
+    let next = g.S.Script.batch_of in
     let w = c.self.inside.engine in
     ap (λ m. length m.numbers.items) c.address-own.ensures.own
     ∙ (λ i. length
@@ -17,20 +17,20 @@ put_own-requires-clause-wanted g c =
 
 pub returns-then-ready-clause-tied : goal.returns-then-ready-clause-tied
 returns-then-ready-clause-tied g c =
-    let next = g.S.ScriptOfFive.batch_of in
+    let next = g.S.Script.batch_of in
     subst (λ (v : Core g.row.S.Denot). AreTied next
-    (g.S.ScriptOfFive.rounds_of v.work.script) v.work v.mail) c.self.view_is c.self.invariant
+    (g.S.Script.rounds_of v.work.script) v.work v.mail) c.self.view_is c.self.invariant
 
 pub returns-then-ready-clause-within : goal.returns-then-ready-clause-within
 returns-then-ready-clause-within g c =
-    subst (λ (v : Core g.row.S.Denot). v.work.round < g.S.ScriptOfFive.rounds_of v.work.script) c.self.view_is c.hand_out.ensures.within
+    subst (λ (v : Core g.row.S.Denot). v.work.round < g.S.Script.rounds_of v.work.script) c.self.view_is c.hand_out.ensures.within
 
 pub returns-else-ready-clause-tied : goal.returns-else-ready-clause-tied
 returns-else-ready-clause-tied g c =
-    let next = g.S.ScriptOfFive.batch_of in
+    let next = g.S.Script.batch_of in
     subst (λ (v : Core g.row.S.Denot). AreTied next
-    (g.S.ScriptOfFive.rounds_of v.work.script) v.work v.mail) c.self.view_is c.self.invariant
+    (g.S.Script.rounds_of v.work.script) v.work v.mail) c.self.view_is c.self.invariant
 
 pub returns-else-ready-clause-within : goal.returns-else-ready-clause-within
 returns-else-ready-clause-within g c =
-    subst (λ (v : Core g.row.S.Denot). v.work.round < g.S.ScriptOfFive.rounds_of v.work.script) c.self.view_is c.hand_out.ensures.within
+    subst (λ (v : Core g.row.S.Denot). v.work.round < g.S.Script.rounds_of v.work.script) c.self.view_is c.hand_out.ensures.within

@@ -7,4 +7,4 @@ use Rattle.beet_five_server.proofs.server.FiveCore.received.Goals as goal
 pub returns-clause-passed : goal.returns-clause-passed
 returns-clause-passed g c = λ o x f may lt.
     c.received.ensures ∙ ap (λ (v : Core g.row.S.Denot). numbers_from v.mail c.args.from c.args.round) c.self.view_is
-    ∙ passed-received g.S.ScriptOfFive.batch_of o x _ _ f c.args.from c.args.round may lt
+    ∙ passed-received g.S.Script.batch_of o x _ _ f c.args.from c.args.round may lt

@@ -10,8 +10,8 @@ use Rattle.beet_five_server.proofs.server.FiveCore.start.Goals as goal
 
 pub returns-clause-fits : goal.returns-clause-fits
 returns-clause-fits g c = λ o opens.
-    let next = g.S.ScriptOfFive.batch_of in
-    let rounds = g.S.ScriptOfFive.rounds_of c.args.script in
+    let next = g.S.Script.batch_of in
+    let rounds = g.S.Script.rounds_of c.args.script in
     let start : Core g.row.S.Denot = fresh_core next c.args.me c.args.script c.args.inputs c.args.masks c.args.coefficients rounds in
     let engine : c.start-engine.result ≡ fresh next c.args.me c.args.script c.args.inputs c.args.masks c.args.coefficients =
     rw c.as_slice.ensures at c.start-engine.ensures in

@@ -8,7 +8,7 @@ use Rattle.beet_five_server.proofs.server.FiveCore.turn.Goals as goal
 
 pub returns : goal.returns
 returns g c =
-    let next = g.S.ScriptOfFive.batch_of in
+    let next = g.S.Script.batch_of in
     let w = c.self.inside.engine in
     let b = c.self.inside.mail in
     let work : c.pass.new.self ≡ passing next w (numbers_at b) =

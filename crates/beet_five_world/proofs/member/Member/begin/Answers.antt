@@ -8,7 +8,7 @@ use Rattle.beet_five_world.proofs.member.Member.begin.Goals as goal
 
 pub returns : goal.returns
 returns g c =
-    let next = g.S.ScriptOfFive.batch_of in
+    let next = g.S.Script.batch_of in
     let core = c.args.core in
     let none : handed_rounds core ≡ 0 = λ i. taken (c.requires.round i) (c.requires.handed i) in
     record {

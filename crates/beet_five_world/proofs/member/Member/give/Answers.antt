@@ -10,7 +10,7 @@ use Rattle.beet_five_world.proofs.member.Member.give.Goals as goal
 
 pub hand_out-requires : goal.hand_out-requires
 hand_out-requires g c =
-    let next = g.S.ScriptOfFive.batch_of in
+    let next = g.S.Script.batch_of in
     let old = c.self.inside.core in
     let d = c.deliver-verdict.new.self in
     let k = c.self.invariant in
@@ -20,12 +20,12 @@ hand_out-requires g c =
     record {
       server = subst IsServer (sym same.0) k.server;
       counted = k.counted ∙ sym same.2;
-      fit = subst (λ s. g.S.ScriptOfFive.rounds_of s ≤ vec_capacity c.self.inside.sent) (sym same.1) k.fit;
+      fit = subst (λ s. g.S.Script.rounds_of s ≤ vec_capacity c.self.inside.sent) (sym same.1) k.fit;
     }
 
 pub returns : goal.returns
 returns g c =
-    let next = g.S.ScriptOfFive.batch_of in
+    let next = g.S.Script.batch_of in
     let old = c.self.inside.core in
     let d = c.deliver-verdict.new.self in
     let quiet = ap (λ (v : Seen g.row.S.Denot). is_quiet next v.core.work) c.self.view_is ∙ c.requires in

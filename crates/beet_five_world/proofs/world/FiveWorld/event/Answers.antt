@@ -3,9 +3,9 @@ use Rattle.std.proofs.lemmas.Bool.{both_ways}
 use Rattle.std.proofs.lemmas.Option.{same_Some, slice_get-get_or, slice_get_within}
 use Rattle.beet_delivery.specs.Networks.{Delivered, deliver}
 use Rattle.beet_linear_sharing.specs.Runs.{Setup}
-use Rattle.beet_five_server.specs.Network.{five}
+use Rattle.beet_five_server.specs.Network.{five, rank}
 use Rattle.beet_five_server.specs.declared.mail.FiveMessage.{FiveMessage}
-use Rattle.beet_five_world.specs.Members.{AllFit, IsAt, Seen, rank, triple, verdict_at}
+use Rattle.beet_five_world.specs.Members.{AllFit, IsAt, Seen, triple, verdict_at}
 use Rattle.beet_five_world.specs.declared.world.FiveEvent.TheVariants.{Delivered as DeliveredBy}
 use Rattle.beet_five_world.proofs.WorldFacts.{event-none, event-some, nothing-changes}
 use Rattle.beet_five_world.proofs.world.FiveWorld.event.Given.{Over}
@@ -30,14 +30,14 @@ module _ (g : Over) (c : After-copy_of g) where
 
   -- the servers stand in the run before the event
   stand : (script : g.row.S.Denot) (o : Setup) (rounds : ℕ) (x : Delivered ℕ) →
-      AllFit g.S.ScriptOfFive.batch_of script o rounds x c.args.self.now →
-      AllFit g.S.ScriptOfFive.batch_of script o rounds x c.self.inside.members.items
+      AllFit g.S.Script.batch_of script o rounds x c.args.self.now →
+      AllFit g.S.Script.batch_of script o rounds x c.self.inside.members.items
   stand script o rounds x f =
-      subst (λ (v : List (Seen g.row.S.Denot)). AllFit g.S.ScriptOfFive.batch_of script o rounds x v) (sym c.self.view_is) f
+      subst (λ (v : List (Seen g.row.S.Denot)). AllFit g.S.Script.batch_of script o rounds x v) (sym c.self.view_is) f
 
 pub returns-in-None-clause-fits : goal.returns-in-None-clause-fits
 returns-in-None-clause-fits g c = λ script o rounds x f.
-    let next = g.S.ScriptOfFive.batch_of in
+    let next = g.S.Script.batch_of in
     let at = (goal.at.returns-in-None-clause-fits g c).After-copy_of in
     nothing-changes next script o rounds x c.args.self.now (triple c.args.from c.args.to c.args.round) f
     (event-none next script o rounds x c.self.inside.members.items c.args.from c.args.to c.args.round c.requires.from c.requires.to
@@ -46,7 +46,7 @@ returns-in-None-clause-fits g c = λ script o rounds x f.
 
 pub returns-in-None-clause-sent : goal.returns-in-None-clause-sent
 returns-in-None-clause-sent g c = λ script o rounds x f.
-    let next = g.S.ScriptOfFive.batch_of in
+    let next = g.S.Script.batch_of in
     let at = (goal.at.returns-in-None-clause-sent g c).After-copy_of in
     let none = event-none next script o rounds x c.self.inside.members.items c.args.from c.args.to c.args.round
     c.requires.from c.requires.to (apart g at) (stand g at script o rounds x f)
@@ -55,7 +55,7 @@ returns-in-None-clause-sent g c = λ script o rounds x f.
 
 pub invariant_of-self : goal.invariant_of-self
 invariant_of-self g c =
-    let next = g.S.ScriptOfFive.batch_of in
+    let next = g.S.Script.batch_of in
     let at = (goal.at.invariant_of-self g c).After-copy_of in
     let w = c.self.invariant in
     let sent = c.in-Some.ensures in
@@ -71,7 +71,7 @@ invariant_of-self g c =
 
 pub returns-in-Some-clause-fits : goal.returns-in-Some-clause-fits
 returns-in-Some-clause-fits g c = λ script o rounds x f.
-    let next = g.S.ScriptOfFive.batch_of in
+    let next = g.S.Script.batch_of in
     let at = (goal.at.returns-in-Some-clause-fits g c).After-copy_of in
     let sent = c.in-Some.ensures in
     (event-some next script o rounds x c.self.inside.members.items c.give_at.new.members.items c.args.from c.args.to c.args.round
@@ -80,7 +80,7 @@ returns-in-Some-clause-fits g c = λ script o rounds x f.
 
 pub returns-in-Some-clause-sent : goal.returns-in-Some-clause-sent
 returns-in-Some-clause-sent g c = λ script o rounds x f.
-    let next = g.S.ScriptOfFive.batch_of in
+    let next = g.S.Script.batch_of in
     let at = (goal.at.returns-in-Some-clause-sent g c).After-copy_of in
     let sent = c.in-Some.ensures in
     let was = (event-some next script o rounds x c.self.inside.members.items c.give_at.new.members.items c.args.from c.args.to c.args.round
@@ -97,7 +97,7 @@ returns-in-None-clause-verdict g c = λ sender receiver row m other there to_the
 
 pub returns-in-Some-clause-verdict : goal.returns-in-Some-clause-verdict
 returns-in-Some-clause-verdict g c = λ sender receiver row m other there to_there is_row is_m.
-    let next = g.S.ScriptOfFive.batch_of in
+    let next = g.S.Script.batch_of in
     let at = (goal.at.returns-in-Some-clause-verdict g c).After-copy_of in
     let sent = c.in-Some.ensures in
     let row_is : sent.0 ≡ row =

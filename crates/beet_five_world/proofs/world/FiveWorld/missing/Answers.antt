@@ -2,7 +2,7 @@ use Rattle.std.proofs.Common.{◌≡◌, ◌&&◌, not, nat_lt, true, false, len
 use Rattle.std.specs.Prelude.{if◌then◌else◌}
 use Rattle.beet_five_server.specs.Answers.{Core}
 use Rattle.beet_five_server.specs.Mails.{cell}
-use Rattle.beet_five_server.specs.Missing.{is_missing}
+use Rattle.beet_delivery.specs.Networks.{is_missing}
 use Rattle.beet_five_server.specs.Network.{five}
 use Rattle.beet_five_world.specs.Members.{triple}
 use Rattle.beet_five_world.proofs.MissingFacts.{missing-is, none-own}
@@ -26,7 +26,7 @@ pub returns-clause-missing : goal.returns-clause-missing
 returns-clause-missing g c = λ script o rounds x f.
     let core = c.core.ensures in
     let held = c.holds-came.ensures ∙ ap (λ (k : Core g.row.S.Denot). is_some (cell k.mail.places c.args.round c.args.from)) core.2 in
-    let is = missing-is g.S.ScriptOfFive.batch_of script o rounds x c.args.self.now f c.args.from c.args.to c.args.round
+    let is = missing-is g.S.Script.batch_of script o rounds x c.args.self.now f c.args.from c.args.to c.args.round
     c.requires.from c.requires.to (λ e. c.if-from-to.false e) c.member.result.now core.0 c.member.ensures core.1 in
     c.one_if_missing.ensures ∙ ap (λ b. if b then 1 else 0)
     ((λ i. nat_lt c.args.round (length (c.sent.ensures i)) && not (held i)) ∙ sym is)

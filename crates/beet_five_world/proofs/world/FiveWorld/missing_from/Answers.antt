@@ -1,5 +1,5 @@
 use Rattle.std.proofs.Common.{◌≡◌, ◌≤◌, ◌+◌, ◌∙◌, arith, refl}
-use Rattle.beet_five_server.specs.Missing.{is_missing}
+use Rattle.beet_delivery.specs.Networks.{is_missing}
 use Rattle.beet_five_server.specs.Network.{five}
 use Rattle.beet_five_server.proofs.MailFacts.{by-server}
 use Rattle.beet_five_world.proofs.MissingFacts.{none-own, sum-from}

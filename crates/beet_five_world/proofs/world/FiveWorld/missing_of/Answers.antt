@@ -1,5 +1,5 @@
 use Rattle.std.proofs.Common.{◌+◌, ◌∙◌}
-use Rattle.beet_five_server.specs.Missing.{is_missing}
+use Rattle.beet_delivery.specs.Networks.{is_missing}
 use Rattle.beet_five_server.specs.Network.{five}
 use Rattle.beet_five_world.proofs.MissingFacts.{sum-of}
 use Rattle.beet_five_world.proofs.world.FiveWorld.missing_of.Goals as goal

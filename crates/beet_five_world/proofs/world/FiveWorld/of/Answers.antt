@@ -18,19 +18,19 @@ pub begin-requires-clause-round : goal.begin-requires-clause-round
 begin-requires-clause-round g c =
     let all = ap (λ (l : List (Core g.row.S.Denot)). c.loop-core.yielded ++ l) (sym c.in-Some.ensures.steps.0)
     ∙ c.loop-core.invariant.rest in
-    (unused g.S.ScriptOfFive.batch_of g.S.ScriptOfFive.rounds_of c.args.cores.items c.requires c.loop-core.yielded
+    (unused g.S.Script.batch_of g.S.Script.rounds_of c.args.cores.items c.requires c.loop-core.yielded
     (into_iter_items c.next.new.self) c.in-Some.core all).1
 
 pub begin-requires-clause-handed : goal.begin-requires-clause-handed
 begin-requires-clause-handed g c =
     let all = ap (λ (l : List (Core g.row.S.Denot)). c.loop-core.yielded ++ l) (sym c.in-Some.ensures.steps.0)
     ∙ c.loop-core.invariant.rest in
-    (unused g.S.ScriptOfFive.batch_of g.S.ScriptOfFive.rounds_of c.args.cores.items c.requires c.loop-core.yielded
+    (unused g.S.Script.batch_of g.S.Script.rounds_of c.args.cores.items c.requires c.loop-core.yielded
     (into_iter_items c.next.new.self) c.in-Some.core all).2
 
 pub loop-core-preserved : goal.loop-core-preserved
 loop-core-preserved g c =
-    let next = g.S.ScriptOfFive.batch_of in
+    let next = g.S.Script.batch_of in
     let inv = c.loop-core.invariant in
     let steps = c.in-Some.ensures.steps in
     let rest = into_iter_items c.next.new.self in
@@ -46,16 +46,16 @@ loop-core-preserved g c =
 
 -- all cores began
 module _ (g : Over) (c : After-drop-core-iterator-2 g) where
-  all-begun : HaveBegun g.S.ScriptOfFive.batch_of c.args.cores.items c.loop-core.members.items
+  all-begun : HaveBegun g.S.Script.batch_of c.args.cores.items c.loop-core.members.items
   all-begun =
       let inv = c.loop-core.invariant in
       let empty : into_iter_items c.loop-core.core-iterator ≡ [] = nil_from_length _ (sym inv.left ∙ c.in-None.ensures.steps.0) in
       let all = sym (append-nil c.loop-core.yielded) ∙ rw empty at inv.rest in
-      subst (λ (l : List (Core g.row.S.Denot)). HaveBegun g.S.ScriptOfFive.batch_of l c.loop-core.members.items) all inv.begun
+      subst (λ (l : List (Core g.row.S.Denot)). HaveBegun g.S.Script.batch_of l c.loop-core.members.items) all inv.begun
 
 pub invariant_of-result : goal.invariant_of-result
 invariant_of-result g c =
-    let of_script = g.S.ScriptOfFive in
+    let of_script = g.S.Script in
     let at = (goal.at.invariant_of-result g c).After-drop-core-iterator-2 in
     let cores = c.args.cores.items in
     let fresh = c.requires in
@@ -63,7 +63,7 @@ invariant_of-result g c =
     let most = of_script.rounds_of first in
     let o = their_setup of_script.batch_of of_script.rounds_of cores fresh in
     let bounds = bounds_of (of_script.wires_of first) (of_script.masks_of first) (of_script.secrets_of first) in
-    let has = (lawful-rounds five_servers o bounds 5 (of_script.inputs_of first) most (g.met.S.ScriptOfFive.lawful first)).0 in
+    let has = (lawful-rounds five_servers o bounds 5 (of_script.inputs_of first) most (g.met.S.Script.lawful first)).0 in
     record {
       script = first;
       o = o;
@@ -76,5 +76,5 @@ invariant_of-result g c =
 pub returns : goal.returns
 returns g c = λ script o rounds has all.
     let at = (goal.at.returns g c).After-drop-core-iterator-2 in
-    begun-fit g.S.ScriptOfFive.batch_of script o rounds nothing c.args.cores.items c.loop-core.members.items has c.requires.count
+    begun-fit g.S.Script.batch_of script o rounds nothing c.args.cores.items c.loop-core.members.items has c.requires.count
     (all-begun g at) all

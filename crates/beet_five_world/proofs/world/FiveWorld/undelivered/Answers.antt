@@ -6,7 +6,7 @@ pub returns-clause-count : goal.returns-clause-count
 returns-clause-count g c = λ script o rounds x f.
     let b = c.behind-behind.ensures in
     (λ i. c.missing_of.ensures.missing script o rounds x f i + c.missing_of-2.ensures.missing script o rounds x f i)
-    ∙ sym (two-rounds g.S.ScriptOfFive.batch_of script o rounds x c.args.self.now f c.behind-behind.result
+    ∙ sym (two-rounds g.S.Script.batch_of script o rounds x c.args.self.now f c.behind-behind.result
     b.passed.1 b.passed.0 b.passed.2 b.passed.3 b.passed.4 b.least)
 
 pub missing_of-requires : goal.missing_of-requires

@@ -1,72 +1,109 @@
-use Rattle.std.proofs.Common.{◌≡◌, ◌+◌, ℕ, List, length, length-append, sym, ap, subst, ◌∙◌, arith, true, false}
-use Rattle.beet_gates.specs.Clear.{with_lets, is_end}
-use Rattle.beet_gates.specs.Scripts.{revealed}
+use Rattle.std.proofs.Common.{◌≡◌, ◌+◌, ◌++◌, ℕ, List, None, Option, Some, length, sym, ap, ◌∙◌, true, false}
+use Rattle.beet_field.specs.declared.point.Point.TheVariants.{One, Two, Three}
+use Rattle.beet_gates.specs.Clear.{is_end, with_lets}
+use Rattle.beet_gates.specs.Scripts.{size_of}
+use Rattle.beet_gates.specs.declared.Act.{Act}
 use Rattle.beet_gates.specs.declared.Batch.{Batch}
-use Rattle.beet_server.specs.Steps.{Work, batch_of}
-use Rattle.beet_sharing.specs.Steps.{numbers_opened}
-use Rattle.beet_server.proofs.Soundness.{next-lets, next-room, passes-sound}
+use Rattle.beet_round.specs.Sides.{side_of}
+use Rattle.beet_round.specs.declared.sides.Side.{Side}
+use Rattle.beet_round.specs.declared.sides.Side.TheVariants.{Low, High}
+use Rattle.beet_sharing.specs.Steps.{numbers_opened, points_given}
+use Rattle.beet_server.specs.Sound.{if_handed}
+use Rattle.beet_server.specs.Steps.{Work, at_side, batch_of, passing}
+use Rattle.beet_server.proofs.Givings.{numbers-are, points-are}
 use Rattle.beet_server.proofs.engine.Engine.pass.Given.{Over}
-use Rattle.beet_server.proofs.engine.Engine.pass.Goals.{After-absorb}
+use Rattle.beet_server.proofs.engine.Engine.pass.Goals.{After-of_sender-three}
 use Rattle.beet_server.proofs.engine.Engine.pass.Goals as goal
 
--- what the round has brought
-module _ (g : Over) (c : After-absorb g) where
+-- one of three lists of this length
+side-length : (o : Option Side) (own low high : List ℕ) (n : ℕ) → length own ≡ n → length low ≡ n → length high ≡ n →
+    length (at_side o own low high) ≡ n
+side-length None own low high n a b c = a
+side-length (Some Low) own low high n a b c = b
+side-length (Some High) own low high n a b c = c
+
+-- what came of each sender
+module _ (g : Over) (c : After-of_sender-three g) where
   is-handed : c.self.inside.handed ≡ true
   is-handed = ap (λ (w : Work g.row.S.Denot). w.handed) c.self.view_is ∙ c.requires.handed
 
-  goes-on : is_end c.self.inside.batch.act ≡ false
-  goes-on =
-      ap (λ (b : Batch). is_end b.act) c.self.invariant.0.coming
-      ∙ ap (λ (w : Work g.row.S.Denot). is_end (batch_of g.S.Script.batch_of w).act) c.self.view_is
-      ∙ c.requires.goes
+  coming : c.self.inside.batch.act ≡ (g.S.Script.batch_of c.self.inside.script c.self.inside.round c.self.inside.opened.items).act
+  coming = ap (λ (b : Batch). b.act) c.self.invariant.0.coming
 
-  abbrev new_numbers : List ℕ
-  new_numbers = numbers_opened c.self.inside.batch.act c.of_sender-one.result.now c.of_sender-two.result.now c.of_sender-three.result.now
+  same : c.self.inside.batch.act ≡ (batch_of g.S.Script.batch_of c.args.self.now).act
+  same = coming ∙ ap (λ (w : Work g.row.S.Denot). (batch_of g.S.Script.batch_of w).act) c.self.view_is
 
-  count : length new_numbers ≡ revealed c.self.inside.batch.act
-  count =
-      omega (arith, ap length c.absorb.ensures.opened, length-append c.self.inside.opened.items new_numbers, c.absorb.ensures.opened_count)
+  own-length : length c.as_slice-own.result.now ≡ size_of c.self.inside.batch.act
+  own-length = ap length c.as_slice-own.ensures.value ∙ c.self.invariant.1
+      ∙ ap (λ b. if_handed b (size_of c.self.inside.batch.act)) is-handed
 
-pub refill-requires : goal.refill-requires
-refill-requires g c =
-    let after = (goal.at.refill-requires g c).After-absorb in
-    subst (λ opened. g.S.Script.is_at c.self.inside.script (c.self.inside.round + 1) opened c.self.inside.place)
-    (sym (c.as_slice.ensures.value ∙ c.absorb.ensures.opened))
-    (g.met.S.Script.goes_on c.self.inside.script c.self.inside.round
-    (c.self.inside.round + 1) c.self.inside.opened.items (new_numbers g after)
-    c.self.inside.place c.self.invariant.2 (omega arith))
+  of-side : (o : Option Side) →
+      length (at_side o c.as_slice-own.result.now c.args.low.now c.args.high.now) ≡ size_of c.self.inside.batch.act
+  of-side o = side-length o _ _ _ (size_of c.self.inside.batch.act) own-length (c.requires.low ∙ ap size_of (sym same))
+      (c.requires.high ∙ ap size_of (sym same))
 
-pub append_lets-requires-clause-below : goal.append_lets-requires-clause-below
-append_lets-requires-clause-below g c =
-    let after = (goal.at.append_lets-requires-clause-below g c).After-absorb in
-    let batch_is = c.refill.ensures.batch
-    ∙ ap (λ l. g.S.Script.batch_of c.self.inside.script (c.self.inside.round + 1) l) c.as_slice.ensures.value in
-    let lets_are = c.as_slice-2.ensures.value ∙ ap (λ (b : Batch). b.lets.items) batch_is in
-    rw lets_are (next-lets 3 1 _ _ _ _ _ _ _ _ _ _ _ _ c.self.invariant.0 (is-handed g after) (goes-on g after) _ _
-    (new_numbers g after) c.absorb.ensures.wires_count
-    c.absorb.ensures.opened (count g after))
+  one-length : length c.of_sender-one.result.now ≡ size_of c.self.inside.batch.act
+  one-length = ap length c.of_sender-one.ensures ∙ of-side (side_of c.self.inside.me One)
 
-pub append_lets-requires-clause-room : goal.append_lets-requires-clause-room
-append_lets-requires-clause-room g c =
-    let after = (goal.at.append_lets-requires-clause-room g c).After-absorb in
-    let batch_is = c.refill.ensures.batch
-    ∙ ap (λ l. g.S.Script.batch_of c.self.inside.script (c.self.inside.round + 1) l) c.as_slice.ensures.value in
-    let lets_are = c.as_slice-2.ensures.value ∙ ap (λ (b : Batch). b.lets.items) batch_is in
-    rw (lets_are, c.absorb.ensures.wires_capacity)
-    (next-room 3 1 _ _ _ _ _ _ _ _ _ _ _ _ c.self.invariant.0 (is-handed g after) (goes-on g after) _ _
-    (new_numbers g after) c.absorb.ensures.wires_count
-    c.absorb.ensures.opened (count g after))
+  two-length : length c.of_sender-two.result.now ≡ size_of c.self.inside.batch.act
+  two-length = ap length c.of_sender-two.ensures ∙ of-side (side_of c.self.inside.me Two)
+
+  three-length : length c.of_sender-three.result.now ≡ size_of c.self.inside.batch.act
+  three-length = ap length c.of_sender-three.ensures ∙ of-side (side_of c.self.inside.me Three)
+
+pub pass_round-requires : goal.pass_round-requires
+pass_round-requires g c =
+    let after = (goal.at.pass_round-requires g c).After-of_sender-three in
+    let e = c.self.inside in
+    record {
+      goes = ap is_end (same g after) ∙ c.requires.goes;
+      even = (two-length g after ∙ sym (one-length g after), three-length g after ∙ sym (one-length g after));
+      count = one-length g after;
+      place = c.self.invariant.2;
+      sound = (1, e.tapes.masks, e.tapes.coefficients, rw (is-handed g after) at c.self.invariant.0);
+    }
+
+pub returns-clause-work : goal.returns-clause-work
+returns-clause-work g c =
+    let after = (goal.at.returns-clause-work g c).After-of_sender-three in
+    let e = c.self.inside in
+    let next = g.S.Script.batch_of in
+    let low = c.args.low.now in
+    let high = c.args.high.now in
+    let one = c.of_sender-one.result.now in
+    let two = c.of_sender-two.result.now in
+    let three = c.of_sender-three.result.now in
+    let act = (next e.script e.round e.opened.items).act in
+    let own = c.as_slice-own.ensures.value in
+    let of_one = c.of_sender-one.ensures ∙ ap (λ l. at_side (side_of e.me One) l low high) own in
+    let of_two = c.of_sender-two.ensures ∙ ap (λ l. at_side (side_of e.me Two) l low high) own in
+    let of_three = c.of_sender-three.ensures ∙ ap (λ l. at_side (side_of e.me Three) l low high) own in
+    let points = points-are one two three e.batch.act (one-length g after)
+    ∙ ap (λ (a : Act). points_given a one two three) (coming g after)
+    ∙ (λ i. points_given act (of_one i) (of_two i) (of_three i)) in
+    let numbers = numbers-are one two three e.batch.act (one-length g after)
+    ∙ ap (λ (a : Act). numbers_opened a one two three) (coming g after)
+    ∙ (λ i. numbers_opened act (of_one i) (of_two i) (of_three i)) in
+    let opened = c.pass_round.ensures.opened ∙ ap (λ l. e.opened.items ++ l) numbers in
+    let wires = c.pass_round.ensures.wires
+    ∙ (λ i. with_lets (e.wires.items ++ points i) (next e.script (e.round + 1) (opened i)).lets.items) in
+    (λ i. record {
+      me = e.me;
+      script = e.script;
+      masks = e.tapes.masks;
+      coefficients = e.tapes.coefficients;
+      round = e.round + 1;
+      wires = wires i;
+      opened = opened i;
+      own = c.clear.ensures i;
+      handed = false;
+    }) ∙ ap (λ (w : Work g.row.S.Denot). passing next w low high) c.self.view_is
 
 pub invariant_of-self : goal.invariant_of-self
 invariant_of-self g c =
-    let after = (goal.at.invariant_of-self g c).After-absorb in
-    let batch_is = c.refill.ensures.batch
-    ∙ ap (λ l. g.S.Script.batch_of c.self.inside.script (c.self.inside.round + 1) l) c.as_slice.ensures.value in (
-      rw (c.append_lets.ensures.capacity, c.absorb.ensures.wires_capacity, c.absorb.ensures.opened_capacity)
-          (passes-sound 3 1 _ _ _ _ _ _ _ _ _ _ _ _ c.self.invariant.0 (is-handed g after) (goes-on g after) _ _
-          (new_numbers g after) c.absorb.ensures.wires_count
-          c.absorb.ensures.opened (count g after)
-          _ _ batch_is (c.append_lets.ensures.wires ∙ ap (λ l. with_lets c.absorb.new.wires.items l) c.as_slice-2.ensures.value)),
+    let after = (goal.at.invariant_of-self g c).After-of_sender-three in
+    let e = c.self.inside in (
+      c.pass_round.ensures.sound 1 e.tapes.masks e.tapes.coefficients (rw (is-handed g after) at c.self.invariant.0),
       ap length c.clear.ensures,
-      rw c.as_slice.ensures.value at c.refill.ensures.place,
+      c.pass_round.ensures.place,
     )

@@ -12,7 +12,7 @@ returns g c =
     let next = script.batch_of in
     let w : World g.row.S.Denot = record { start = c.self.inside.start.value; marks = c.self.inside.marks.items } in
     let first = w.start.one.script in
-    let bounds = bounds_of (script.wires_of first) (script.masks_of first) (script.coefficients_of first) in
+    let bounds = bounds_of (script.wires_of first) (script.masks_of first) (script.secrets_of first) in
     let law = g.met.S.Script.lawful first in
     let cores = c.self.inside.cores in
     let sent = c.self.inside.sent in

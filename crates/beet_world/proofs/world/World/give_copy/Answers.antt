@@ -1,15 +1,16 @@
-use Rattle.std.proofs.Common.{◌≡◌, ◌<◌, true≢false, inl, inr, arith, refl, sym, ◌∙◌, ap, subst, length}
+use Rattle.std.proofs.Common.{◌<◌, true≢false, inl, inr, arith, refl, sym, subst, length}
 use Rattle.std.proofs.lemmas.Bool.{cases_lt}
 use Rattle.beet_field.specs.Trio.{member}
 use Rattle.beet_gates.specs.Scripts.{Standing, bounds_of}
-use Rattle.beet_delivery.specs.Events.{Triple, deliver}
+use Rattle.beet_delivery.specs.Events.{Triple}
 use Rattle.beet_delivery.proofs.NetworkFacts.{deliver_unsent}
 use Rattle.beet_delivery.proofs.ThreeServers.{three-is}
-use Rattle.beet_world.specs.Happens.{event_of}
+use Rattle.beet_world.specs.Happens.{HasHappened}
 use Rattle.beet_world.specs.Worlds.{World, delivered_in, rounds_in}
 use Rattle.beet_world.specs.declared.world.Event.TheVariants.{Delivered as DeliveredBy, NotSent}
 use Rattle.beet_world.proofs.Delivered.{back_side, delivered, gives, holds-after, mark-within, may-take, not-sent-event}
 use Rattle.beet_world.proofs.Delivered.{not-sent-to, told-event}
+use Rattle.beet_world.proofs.MarkFacts.{with_mark}
 use Rattle.beet_world.proofs.world.World.give_copy.Given.{Over}
 use Rattle.beet_world.proofs.world.World.give_copy.Goals.{After-sent_message, In-Some}
 use Rattle.beet_world.proofs.world.World.give_copy.Goals as goal
@@ -21,7 +22,7 @@ module _ (g : Over) (c : After-sent_message g) where
   abbrev limits : Standing
   limits =
       let first = seen.start.one.script in
-      bounds_of (g.S.Script.wires_of first) (g.S.Script.masks_of first) (g.S.Script.coefficients_of first)
+      bounds_of (g.S.Script.wires_of first) (g.S.Script.masks_of first) (g.S.Script.secrets_of first)
 
   abbrev asked : Triple
   asked = record { from = c.args.from; to = c.args.to; round = c.args.round }
@@ -33,27 +34,23 @@ sent-there g c = elim (cases_lt c.args.round (length (member c.self.inside.sent 
   | inr past ↦ absurd (true≢false (c.in-Some.ensures.none.1 past))
 ]
 
-pub returns-in_default-clause-event : goal.returns-in_default-clause-event
-returns-in_default-clause-event g c =
+pub returns-in_default : goal.returns-in_default
+returns-in_default g c =
     let script = g.S.Script in
-    let asks = (goal.at.returns-in_default-clause-event g c).After-sent_message in
-    subst (λ (v : World g.row.S.Denot). NotSent ≡ event_of
-    (rounds_in script.batch_of script.inputs_of script.rounds_of v) (delivered_in v) (asked g asks)) c.self.view_is
-    (not-sent-event script.batch_of script.inputs_of script.rounds_of (limits g asks) (seen g asks) c.self.inside.cores c.self.inside.sent
-    (g.met.S.Script.lawful _) c.self.invariant c.args.from c.args.to c.args.side c.args.round c.requires
-    (c.in_default.ensures.none.0 refl))
-
-pub returns-in_default-clause-delivered : goal.returns-in_default-clause-delivered
-returns-in_default-clause-delivered g c =
-    let script = g.S.Script in
-    let asks = (goal.at.returns-in_default-clause-delivered g c).After-sent_message in
-    subst (λ (v : World g.row.S.Denot). delivered_in v ≡ deliver
-    (rounds_in script.batch_of script.inputs_of script.rounds_of v) (delivered_in v) (asked g asks)) c.self.view_is
-    (sym (deliver_unsent three-is (rounds_in script.batch_of script.inputs_of script.rounds_of (seen g asks))
-    (delivered_in (seen g asks)) (asked g asks)
-    (not-sent-to script.batch_of script.inputs_of script.rounds_of (limits g asks) (seen g asks) c.self.inside.cores c.self.inside.sent
-    (g.met.S.Script.lawful _) c.self.invariant c.args.from c.args.to c.args.side c.args.round c.requires
-    (c.in_default.ensures.none.0 refl))))
+    let next = script.batch_of in
+    let asks = (goal.at.returns-in_default g c).After-sent_message in
+    let none = c.in_default.ensures.none.0 refl in
+    subst (λ (v : World g.row.S.Denot). HasHappened next script.inputs_of script.rounds_of v (asked g asks) NotSent v) c.self.view_is
+    (record {
+      delivered = sym (deliver_unsent three-is (rounds_in next script.inputs_of script.rounds_of (seen g asks))
+          (delivered_in (seen g asks)) (asked g asks)
+          (not-sent-to next script.inputs_of script.rounds_of (limits g asks) (seen g asks) c.self.inside.cores c.self.inside.sent
+          (g.met.S.Script.lawful _) c.self.invariant c.args.from c.args.to c.args.side c.args.round c.requires none));
+      start = refl;
+      told = not-sent-event next script.inputs_of script.rounds_of (limits g asks) (seen g asks) c.self.inside.cores c.self.inside.sent
+          (g.met.S.Script.lawful _) c.self.invariant c.args.from c.args.to c.args.side c.args.round c.requires none;
+      unchanged = λ e. refl;
+    })
 
 pub give_to-verdict-requires : goal.give_to-verdict-requires
 give_to-verdict-requires g c =
@@ -88,30 +85,27 @@ invariant_of-self g c =
     c.in-Some.message c.in-Some.ensures.message c.give_to-verdict.new.cores c.give_to-verdict.new.sent c.give_to-verdict.result
     v.others v.took.capacity v.took.keeps v.took.quiet given)
 
-pub returns-clause-delivered : goal.returns-clause-delivered
-returns-clause-delivered g c =
+pub returns : goal.returns
+returns g c =
     let script = g.S.Script in
-    let asks = (goal.at.returns-clause-delivered g c).After-sent_message in
-    let is = delivered script.batch_of script.inputs_of script.rounds_of (limits g asks)
-    (seen g asks) c.self.inside.cores c.self.inside.sent
-    (g.met.S.Script.lawful _) c.self.invariant c.args.from c.args.side c.args.round
-    (sent-there g (goal.at.returns-clause-delivered g c).In-Some)
-    c.args.to c.requires c.in-Some.message c.in-Some.ensures.message in
-    rw c.mark_place.ensures
-    (is ∙ ap (λ (v : World g.row.S.Denot). deliver (rounds_in script.batch_of script.inputs_of script.rounds_of v)
-    (delivered_in v) (asked g asks)) c.self.view_is)
-
-pub returns-clause-event : goal.returns-clause-event
-returns-clause-event g c =
-    let script = g.S.Script in
-    let asks = (goal.at.returns-clause-event g c).After-sent_message in
-    let there = sent-there g (goal.at.returns-clause-event g c).In-Some in
-    let may = gives script.batch_of script.inputs_of script.rounds_of (limits g asks) (seen g asks) c.self.inside.cores c.self.inside.sent
+    let next = script.batch_of in
+    let asks = (goal.at.returns g c).After-sent_message in
+    let there = sent-there g (goal.at.returns g c).In-Some in
+    let may = gives next script.inputs_of script.rounds_of (limits g asks) (seen g asks) c.self.inside.cores c.self.inside.sent
     (g.met.S.Script.lawful _) c.self.invariant c.args.from c.args.side c.args.round there c.args.to c.requires
     c.in-Some.message c.in-Some.ensures.message in
     let given = c.give_to-verdict.ensures.given _ _ _ (back_side c.args.from c.args.side).0 c.args.round may in
-    subst (λ (v : World g.row.S.Denot). DeliveredBy c.give_to-verdict.result ≡ event_of
-    (rounds_in script.batch_of script.inputs_of script.rounds_of v) (delivered_in v) (asked g asks)) c.self.view_is
-    (told-event script.batch_of script.inputs_of script.rounds_of (limits g asks) (seen g asks) c.self.inside.cores c.self.inside.sent
-    (g.met.S.Script.lawful _) c.self.invariant c.args.from c.args.side c.args.round there c.args.to c.requires
-    c.in-Some.message c.in-Some.ensures.message c.give_to-verdict.result given.told)
+    rw c.mark_place.ensures
+    (subst (λ (v : World g.row.S.Denot). HasHappened next script.inputs_of script.rounds_of v (asked g asks)
+    (DeliveredBy c.give_to-verdict.result)
+    (record { start = c.self.inside.start.value; marks = with_mark c.self.inside.marks.items c.args.from c.args.side c.args.round }))
+    c.self.view_is (record {
+      delivered = delivered next script.inputs_of script.rounds_of (limits g asks) (seen g asks) c.self.inside.cores c.self.inside.sent
+          (g.met.S.Script.lawful _) c.self.invariant c.args.from c.args.side c.args.round there c.args.to c.requires
+          c.in-Some.message c.in-Some.ensures.message;
+      start = refl;
+      told = told-event next script.inputs_of script.rounds_of (limits g asks) (seen g asks) c.self.inside.cores c.self.inside.sent
+          (g.met.S.Script.lawful _) c.self.invariant c.args.from c.args.side c.args.round there c.args.to c.requires
+          c.in-Some.message c.in-Some.ensures.message c.give_to-verdict.result given.told;
+      unchanged = λ e. cc e;
+    }))

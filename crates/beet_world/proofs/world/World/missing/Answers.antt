@@ -5,7 +5,8 @@ use Rattle.beet_field.specs.Trio.{member}
 use Rattle.beet_gates.specs.Scripts.{Standing, bounds_of}
 use Rattle.beet_round.specs.declared.message.RoundMessage.{RoundMessage}
 use Rattle.beet_world.specs.Marks.{mark_at}
-use Rattle.beet_world.specs.Missing.{is_missing, one_if, to_side}
+use Rattle.beet_delivery.specs.Events.{is_missing}
+use Rattle.beet_world.specs.Missing.{one_if, to_side}
 use Rattle.beet_world.specs.Worlds.{World, delivered_in, rounds_in}
 use Rattle.beet_world.proofs.Delivered.{in-marks, is-marked, is-unmarked, not-missing}
 use Rattle.beet_world.proofs.world.World.missing.Given.{Over}
@@ -19,7 +20,7 @@ module _ (g : Over) (c : After-len g) where
   abbrev limits : Standing
   limits =
       let first = seen.start.one.script in
-      bounds_of (g.S.Script.wires_of first) (g.S.Script.masks_of first) (g.S.Script.coefficients_of first)
+      bounds_of (g.S.Script.wires_of first) (g.S.Script.masks_of first) (g.S.Script.secrets_of first)
 
   long : c.len.result ≡ length (member c.self.inside.sent c.args.from).items
   long =

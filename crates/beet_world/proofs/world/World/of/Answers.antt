@@ -14,17 +14,17 @@ use Rattle.beet_world.proofs.world.World.of.Goals as goal
 pub hand_out-requires : goal.hand_out-requires
 hand_out-requires g c =
     has-room g.S.Script.batch_of g.S.Script.inputs_of g.S.Script.rounds_of c.args.cores.one _ c.requires.one.1 (c.in-Ok.ensures.none One)
-    (omega (arith, c.in-Ok.ensures.capacity One, c.rounds.ensures, ap g.S.Script.rounds_of c.script.ensures))
+    (omega (arith, c.in-Ok.ensures.capacity One, c.rounds.ensures.value, ap g.S.Script.rounds_of c.script.ensures))
 
 pub hand_out-requires-2 : goal.hand_out-requires-2
 hand_out-requires-2 g c =
-    let rounds = c.rounds.ensures ∙ ap g.S.Script.rounds_of (c.script.ensures ∙ sym c.requires.script_two) in
+    let rounds = c.rounds.ensures.value ∙ ap g.S.Script.rounds_of (c.script.ensures ∙ sym c.requires.script_two) in
     has-room g.S.Script.batch_of g.S.Script.inputs_of g.S.Script.rounds_of c.args.cores.two _ c.requires.two.1 (c.in-Ok.ensures.none Two)
     (omega (arith, c.in-Ok.ensures.capacity Two, rounds))
 
 pub hand_out-requires-3 : goal.hand_out-requires-3
 hand_out-requires-3 g c =
-    let rounds = c.rounds.ensures ∙ ap g.S.Script.rounds_of (c.script.ensures ∙ sym c.requires.script_three) in
+    let rounds = c.rounds.ensures.value ∙ ap g.S.Script.rounds_of (c.script.ensures ∙ sym c.requires.script_three) in
     has-room g.S.Script.batch_of g.S.Script.inputs_of g.S.Script.rounds_of c.args.cores.three _ c.requires.three.1
     (c.in-Ok.ensures.none Three) (omega (arith, c.in-Ok.ensures.capacity Three, rounds))
 
@@ -36,7 +36,7 @@ invariant_of-result g c =
     let first = start.one.script in
     let f = c.requires in
     let o = setup_of next script.inputs_of start in
-    let bounds = bounds_of (script.wires_of first) (script.masks_of first) (script.coefficients_of first) in
+    let bounds = bounds_of (script.wires_of first) (script.masks_of first) (script.secrets_of first) in
     let h = (lawful-rounds o bounds (script.rounds_of first) (script.inputs_of first) (g.met.S.Script.lawful first)).0 in
     let cores : Trio (Core g.row.S.Denot) =
     record { one = c.hand_out.new.core; two = c.hand_out-2.new.core; three = c.hand_out-3.new.core } in
@@ -50,7 +50,7 @@ invariant_of-result g c =
     let one = c.hand_out.ensures in
     let two = c.hand_out-2.ensures in
     let three = c.hand_out-3.ensures in
-    let rounds : c.rounds.result ≡ script.rounds_of first = c.rounds.ensures ∙ ap script.rounds_of c.script.ensures in
+    let rounds : c.rounds.result ≡ script.rounds_of first = c.rounds.ensures.value ∙ ap script.rounds_of c.script.ensures in
     let marks : c.in-Ok.room.1.items ≡ unmarked (script.rounds_of first) = c.in-Ok.ensures.marks ∙ ap unmarked rounds in
     let out = by_point (λ s. HasHandedOut next script.inputs_of script.rounds_of (member start s) (member cores s) (member sent s))
     (handed-out next script.inputs_of script.rounds_of _ _ _ _ _ (c.in-Ok.ensures.none One) one.took one.fits one.sends one.going)

@@ -13,7 +13,7 @@ returns-then-delivered-clause-event g c =
     let script = g.S.Script in
     let seen : World g.row.S.Denot = record { start = c.self.inside.start.value; marks = c.self.inside.marks.items } in
     let first = seen.start.one.script in
-    let limits = bounds_of (script.wires_of first) (script.masks_of first) (script.coefficients_of first) in
+    let limits = bounds_of (script.wires_of first) (script.masks_of first) (script.secrets_of first) in
     let marked : slice_index_or c.self.inside.marks.items (mark_at c.args.from c.args.side c.args.round) false ≡ true = search rules in
     let told = told-again script.batch_of script.inputs_of script.rounds_of limits seen c.self.inside.cores c.self.inside.sent
     (g.met.S.Script.lawful _) c.self.invariant c.args.from c.args.to c.args.side c.args.round c.requires.side marked

@@ -1,5 +1,0 @@
-use Rattle.beet_five_plan.proofs.FiveFacts.{book-ends}
-use Rattle.beet_five_plan.proofs.five_book_law.Goals as goal
-
-pub returns : goal.returns
-returns c = book-ends

@@ -1,0 +1,5 @@
+mod SeenCores
+mod FewMapped
+mod DifferenceForTwo
+mod BookAnswers
+mod JobSteps
