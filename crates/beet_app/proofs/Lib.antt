@@ -1,3 +1,4 @@
 pub mod Running
 pub mod Showing
 mod Tables
+pub mod TwoServers

@@ -6,9 +6,12 @@ use Rattle.beet_field.specs.declared.point.Point.{Point}
 use Rattle.beet_store.specs.Files.{File, Told, bytes_of}
 use Rattle.beet_store.specs.Desks.{DeskTold, Given, LeavesGiven, Replaced, Say}
 use Rattle.beet_words.specs.Bundles.{bundle_bytes}
+use Rattle.beet_bids.specs.Books.{Book}
+use Rattle.beet_view.specs.BookViews.{transcript_for}
 use Rattle.beet_errand.specs.Errands.{Answer, Step}
 use Rattle.beet_errand.specs.Fetches.{IsDone}
 use Rattle.beet_errand.specs.Tasks.{LeavesShown, ShowsRead, ToShow}
+use Rattle.beet_errand.specs.Worlds.{equal_text, files_of_worlds}
 use Rattle.beet_errand.specs.declared.answer.OwnRefusal.{OwnRefusal}
 use Rattle.beet_errand.specs.declared.answer.OwnRefusal.TheVariants.{OfWorlds, OfAudit}
 use Rattle.beet_errand.specs.declared.answer.Refusal.TheVariants.{Own}
@@ -17,14 +20,22 @@ use Rattle.beet_errand.proofs.Statuses.{not_done}
 use Rattle.beet_job_worlds.specs.Answering.{ShowsTheSame, worlds_text}
 use Rattle.beet_job_worlds.specs.Ending.{compared_errand}
 use Rattle.beet_job_worlds.specs.Reading.{Both, both_errand, first_book, second_book, words_read}
+use Rattle.beet_five_load.specs.FiveLoading.{FiveRead}
+use Rattle.beet_five_view.specs.JointBooks.{joint_transcript}
+use Rattle.beet_five_view.specs.JointViews.{joint_bytes}
+use Rattle.beet_five_view.specs.WordsFiles.{words_bytes}
+use Rattle.beet_five_run.specs.FiveOutcomes.{cleared_by_five}
+use Rattle.beet_job_five_worlds.specs.Answering.{ShowsTheSameForTwo}
+use Rattle.beet_job_five_worlds.specs.Ending.{compared_errand as compared_for_two}
+use Rattle.beet_job_five_worlds.specs.Reading.{both_errand as both_of_five, second_book as second_of_five}
 use Rattle.beet_audit.specs.OneRuns.{OneRun}
 use Rattle.beet_audit.specs.declared.fault.AuditFault.{AuditFault}
 use Rattle.beet_job_audit.specs.Ending.{TellsFinding, audit_answer}
 use Rattle.beet_job_audit.specs.Reading.{read_errand}
 use Rattle.beet_job_audit.specs.declared.reading.ReadViews.{ReadViews}
-use Rattle.beet_app.specs.Jobs.{Job, Answering, Comparing, Auditing}
+use Rattle.beet_app.specs.Jobs.{Job, Answering, Comparing, ComparingForTwo, Auditing}
 use Rattle.beet_app.specs.Doing.{task_of}
-use Rattle.beet_app.specs.Showing.{HoldsBoth, HoldsOneRun, LeavesRead, Shows}
+use Rattle.beet_app.specs.Showing.{HoldsBoth, HoldsOneRun, HoldsSame, HoldsWorldsForTwo, LeavesRead, Shows}
 
 -- a file is put and taken, and what follows stands on what it left
 put_then : (given : Given) (now : Option Given) (file : File) (files : List File) (text : List ℕ) (P : Type 0) →
@@ -95,31 +106,60 @@ left step shows holds each own read old now desk desk_now (answer, w, done, give
       go (Some given) (Some after) all =
           record { value = w.value; read = w.read; held = each w.value answer given (Some after) w.shown done all }
 
+-- what holds of what the desk was given leads to more
+more : (P Q : Given → Type 0) (now : Option Given) → ((given : Given) → P given → Q given) → IsSomeAnd now P → IsSomeAnd now Q
+more P Q None f h = absurd h
+more P Q (Some now) f h = f now h
+
 -- the files of an answer that shows both worlds stand
+both_stand : (out first second words text : List ℕ) (answer : Answer) (given : Given) (given_now : Option Given) →
+    answer.files ≡ files_of_worlds out first second words → answer.text ≡ text → first ≡ second →
+    LeavesAll (Some given) given_now answer.files answer.text (Ok tt) →
+    IsSomeAnd given_now (HoldsSame out first second words text given)
+both_stand out first second words text answer given given_now files said same g =
+    more (Hold (out ++ codes ".first", first) (out ++ codes ".second", second) (out ++ codes ".words", words) text given)
+    (HoldsSame out first second words text given) given_now (λ now h. record {
+      first_file = h.one;
+      second_file = h.two;
+      same = same;
+      words_file = h.three;
+      said = h.said;
+    })
+    (three_stand _ _ _ _ given given_now (first-second out) (first-words out) (second-words out) (rw (files, said) at g))
+
 worlds_stand : (s : Point) (out : List ℕ) (both : Both) (answer : Answer) (given : Given) (given_now : Option Given) →
     ShowsTheSame s out (first_book both) (words_read both) (second_book both) answer →
     LeavesAll (Some given) given_now answer.files answer.text (Ok tt) → IsSomeAnd given_now (HoldsBoth s out both given)
 worlds_stand s out both answer given given_now w g =
-    go given_now (three_stand _ _ _ _ given given_now (first-second out) (first-words out) (second-words out) (rw w.is at g)) where
-      Held : Given → Type 0
-      Held n =
-          Hold (out ++ codes ".first", w.seen) (out ++ codes ".second", w.seen) (out ++ codes ".words", bundle_bytes w.second_words)
-          (worlds_text (first_book both) (words_read both)) given n
+    let one = transcript_for (first_book both) (words_read both) s in
+    let other = transcript_for (second_book both) w.second_words s in
+    let words = bundle_bytes w.second_words in
+    let text = worlds_text (first_book both) (words_read both) in
+    more (HoldsSame out one other words text given) (HoldsBoth s out both given) given_now (λ now h. record {
+      agree = w.agree;
+      second_words = w.second_words;
+      mapped = w.mapped;
+      only = w.only;
+      back = w.back;
+      held = h;
+    })
+    (both_stand out one other words text answer given given_now
+    (ap (λ (a : Answer). a.files) w.is ∙ (λ i. files_of_worlds out (sym w.first_seen i) (sym w.second_seen i) words))
+    (ap (λ (a : Answer). a.text) w.is) (w.first_seen ∙ sym w.second_seen) g)
 
-      go : (n : Option Given) → IsSomeAnd n Held → IsSomeAnd n (HoldsBoth s out both given)
-      go None h = absurd h
-      go (Some n) h = record {
-        agree = w.agree;
-        second_words = w.second_words;
-        mapped = w.mapped;
-        only = w.only;
-        back = w.back;
-        first_file = h.one ∙ ap Some (sym w.first_seen);
-        second_file = h.two ∙ ap Some (sym w.second_seen);
-        same = w.first_seen ∙ sym w.second_seen;
-        words_file = h.three;
-        said = h.said;
-      }
+two_stand : (a b : ℕ) (out : List ℕ) (first : FiveRead) (second : Book) (answer : Answer) (given : Given)
+    (given_now : Option Given) → ShowsTheSameForTwo a b out first second answer →
+    LeavesAll (Some given) given_now answer.files answer.text (Ok tt) →
+    IsSomeAnd given_now (HoldsWorldsForTwo a b out first second given)
+two_stand a b out first second answer given given_now w g =
+    let one = joint_transcript a b first.book first.words in
+    let other = joint_transcript a b second w.second_words in
+    let words = words_bytes w.second_words in
+    let text = (cleared_by_five first).text ++ equal_text in
+    more (HoldsSame out one other words text given) (HoldsWorldsForTwo a b out first second given) given_now
+    (λ now h. record { agree = w.agree; second_words = w.second_words; pair = w.pair; held = h })
+    (both_stand out one other words text answer given given_now (ap (λ (a : Answer). a.files) w.is)
+    (ap (λ (a : Answer). a.text) w.is) (ap joint_bytes (sym w.views)) g)
 
 -- an answer that tells that nothing is wrong is said, and puts no file
 one_run_said : (read : ReadViews) (found : Option AuditFault) →
@@ -147,6 +187,13 @@ run_shows (Some (Comparing auction servers first second s out)) old now desk des
     (λ both before after. HoldsBoth s out both before after)
     (λ both answer given given_now w done g. worlds_stand s out both answer given given_now w g)
     OfWorlds (compared_errand auction servers first second s) old now desk desk_now l
+run_shows (Some (ComparingForTwo auction servers first second two out)) old now desk desk_now l =
+    left (both_of_five auction servers first second)
+    (λ both answer. ShowsTheSameForTwo two.0 two.1 out both.first (second_of_five both) answer)
+    (λ both before after. HoldsWorldsForTwo two.0 two.1 out both.first (second_of_five both) before after)
+    (λ both answer given given_now w done g.
+    two_stand two.0 two.1 out both.first (second_of_five both) answer given given_now w g)
+    OfWorlds (compared_for_two auction servers first second two.0 two.1) old now desk desk_now l
 run_shows (Some (Auditing auction one two three)) old now desk desk_now l =
     left (read_errand auction one two three) (λ read answer. TellsFinding read answer)
     (λ read before after. HoldsOneRun read before after)

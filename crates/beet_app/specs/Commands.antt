@@ -11,11 +11,12 @@ use Rattle.beet_job_envelopes.specs.SourceWords.{named_source}
 use Rattle.beet_job_trial.specs.Sizes.{AreSizes}
 use Rattle.beet_job_trial.specs.Trial.{trial_errand}
 use Rattle.beet_job_five.specs.Five.{five_errand}
-use Rattle.beet_app.specs.Jobs.{Job, Answering, Comparing, Auditing}
+use Rattle.beet_app.specs.Jobs.{Job, Answering, Comparing, ComparingForTwo, Auditing}
 use Rattle.beet_app.specs.declared.commands.Command.{Command}
 use Rattle.beet_app.specs.declared.commands.Command.TheVariants.{Tally, Clear, Watch, Rehearse, Record, Audit, Worlds}
 use Rattle.beet_app.specs.declared.commands.Command.TheVariants.{Seal, Open, Witness, Trial}
-use Rattle.beet_load.specs.declared.files.AuctionFiles.{AuctionFiles}
+use Rattle.beet_app.specs.declared.five.FiveCommand.{FiveCommand}
+use Rattle.beet_app.specs.declared.five.FiveCommand.TheVariants.{Five, FiveWorlds}
 
 -- the job of a command with these words
 abbrev pub job_for : Command → Job
@@ -50,6 +51,8 @@ HasSizes (Open files) = Unit {0}
 HasSizes (Witness files out) = Unit {0}
 HasSizes (Trial bidders prices) = AreSizes bidders prices
 
--- the job of a command among five servers with these files
-abbrev pub five_job_for : AuctionFiles → Job
-five_job_for files = Answering (five_errand files.auction.now files.servers.now files.book.now)
+-- the job of a command among five servers with these words
+abbrev pub five_job_for : FiveCommand → Job
+five_job_for (Five files) = Answering (five_errand files.auction.now files.servers.now files.book.now)
+five_job_for (FiveWorlds files two) =
+    ComparingForTwo files.auction.now files.servers.now files.first.now files.second.now (two.a, two.b) files.out.now

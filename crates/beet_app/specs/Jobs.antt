@@ -1,11 +1,11 @@
 -- The table of commands: a row for each, with its words and the job that they name.
 use Rattle.std.specs.Prelude.{ℕ, List, [], ◌∷◌, Bool, false, Option, Some, None, option_map, ◌&&◌, ◌||◌, codes}
-use Rattle.std.specs.Prelude.{if◌then◌else◌}
+use Rattle.std.specs.Prelude.{if◌then◌else◌, bytes_eq, nat_lt, option_and_then}
 use Rattle.beet_field.specs.Point.{server_of}
 use Rattle.beet_field.specs.declared.point.Point.{Point}
 use Rattle.beet_forms.specs.Names.{is_name_of}
 use Rattle.beet_errand.specs.Errands.{Errand}
-use Rattle.beet_command.specs.Lines.{Words, WithTwo, WithThree, WithFour, WithSix, words_in}
+use Rattle.beet_command.specs.Lines.{Words, WithTwo, WithThree, WithFour, WithSix, WithSeven, words_in}
 use Rattle.beet_command.specs.Words.{are_names, is_word}
 use Rattle.beet_job_tally.specs.Tally.{tally_errand}
 use Rattle.beet_job_clear.specs.Clear.{clear_errand}
@@ -20,11 +20,12 @@ use Rattle.beet_job_trial.specs.Sizes.{sizes_of}
 use Rattle.beet_job_trial.specs.Trial.{trial_errand}
 use Rattle.beet_job_five.specs.Five.{five_errand}
 
--- a job: it has an errand, which ends with its answer; or it compares two worlds, with the words of the second as they
--- are mapped; or it tells what is found in an auction and three transcripts
+-- a job: it has an errand, which ends with its answer; or it compares two worlds for one server of three or for two of
+-- five, with the words of the second as they are mapped; or it tells what is found in an auction and three transcripts
 pub data Job : Type 0 where
   Answering : Errand → Job
   Comparing : List ℕ → List ℕ → List ℕ → List ℕ → Point → List ℕ → Job
+  ComparingForTwo : List ℕ → List ℕ → List ℕ → List ℕ → ℕ × ℕ → List ℕ → Job
   Auditing : List ℕ → List ℕ → List ℕ → List ℕ → Job
 
 -- the job of a command with two words
@@ -86,9 +87,36 @@ five_job_of_three command auction servers book =
     then Some (Answering (five_errand auction servers book))
     else None
 
+-- the server of five of a digit, or none where the text is no server's
+abbrev pub server_of_five : List ℕ → Option ℕ
+server_of_five text =
+    if bytes_eq text (codes "1") then Some 1
+    else if bytes_eq text (codes "2") then Some 2
+    else if bytes_eq text (codes "3") then Some 3
+    else if bytes_eq text (codes "4") then Some 4
+    else if bytes_eq text (codes "5") then Some 5
+    else None
+
+-- two servers, if the first is below the second
+abbrev pub in_order : ℕ → ℕ → Option (ℕ × ℕ)
+in_order a b = if nat_lt a b then Some (a, b) else None
+
+-- the two servers of five of two digits, of which the first is below the second
+abbrev pub two_of_five : List ℕ → List ℕ → Option (ℕ × ℕ)
+two_of_five one other =
+    option_and_then (λ a. option_and_then (in_order a) (server_of_five other)) (server_of_five one)
+
+-- the job of a command among five servers with seven words, of which the fifth and the sixth are numbers of servers
+abbrev pub five_job_of_seven : List ℕ → List ℕ → List ℕ → List ℕ → List ℕ → List ℕ → List ℕ → List ℕ → Option Job
+five_job_of_seven command auction servers first second one other out =
+    if is_word command (codes "five_worlds") && are_names (auction ∷ servers ∷ first ∷ second ∷ out ∷ [])
+    then option_map (λ two. ComparingForTwo auction servers first second two out) (two_of_five one other)
+    else None
+
 -- the job that the words of a command among five servers name
 abbrev pub five_job_in : Words → Option Job
 five_job_in (WithThree command a b c) = five_job_of_three command a b c
+five_job_in (WithSeven command a b c d e f g) = five_job_of_seven command a b c d e f g
 five_job_in words = None
 
 abbrev pub five_job_of : List (List ℕ) → Option Job

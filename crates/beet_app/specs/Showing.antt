@@ -11,12 +11,28 @@ use Rattle.beet_job_worlds.specs.Answering.{worlds_text}
 use Rattle.beet_view.specs.BookViews.{transcript_for}
 use Rattle.beet_errand.specs.Errands.{Step}
 use Rattle.beet_errand.specs.Fetches.{IsRead}
+use Rattle.beet_errand.specs.Worlds.{equal_text}
 use Rattle.beet_job_worlds.specs.Reading.{Both, both_errand, first_book, second_book, words_read}
+use Rattle.beet_five_dealing.specs.FiveWords.{FiveWords}
+use Rattle.beet_five_load.specs.FiveLoading.{FiveRead}
+use Rattle.beet_five_map.specs.FiveWorlds.{Agree as AgreeForTwo, AreOnePair}
+use Rattle.beet_five_view.specs.JointBooks.{joint_transcript}
+use Rattle.beet_five_view.specs.WordsFiles.{words_bytes}
+use Rattle.beet_five_run.specs.FiveOutcomes.{cleared_by_five}
+use Rattle.beet_job_five_worlds.specs.Reading.{both_errand as both_of_five, second_book as second_of_five}
 use Rattle.beet_audit.specs.OneRuns.{OneRun}
 use Rattle.beet_job_audit.specs.Ending.{run_answer}
 use Rattle.beet_job_audit.specs.Reading.{read_errand}
 use Rattle.beet_job_audit.specs.declared.reading.ReadViews.{ReadViews}
-use Rattle.beet_app.specs.Jobs.{Job, Answering, Comparing, Auditing}
+use Rattle.beet_app.specs.Jobs.{Job, Answering, Comparing, ComparingForTwo, Auditing}
+
+-- the desk holds what was seen in either world, which is the same, and words; and a text was said
+pub record HoldsSame (out first second words text : List ℕ) (given now : Given) : Type 0 where
+  pub first_file : bytes_of now.files (out ++ codes ".first") ≡ Some first
+  pub second_file : bytes_of now.files (out ++ codes ".second") ≡ Some second
+  pub same : first ≡ second
+  pub words_file : bytes_of now.files (out ++ codes ".words") ≡ Some words
+  pub said : now.said ≡ given.said ++ text
 
 -- two books agree for a server, and there are words of the second world that are mapped from those of the first; no
 -- others are, and they are mapped from no others. The desk holds what the server sees of the first book with its words,
@@ -28,16 +44,22 @@ pub record HoldsWorlds (s : Point) (out : List ℕ) (first : Book) (words : Word
   pub mapped : Mapped s first words second second_words
   pub only : IsOnlySecond s first words second second_words
   pub back : IsOnlyFirst s first words second second_words
-  pub first_file : bytes_of now.files (out ++ codes ".first") ≡ Some (transcript_for first words s)
-  pub second_file : bytes_of now.files (out ++ codes ".second") ≡ Some (transcript_for second second_words s)
-  pub same : transcript_for first words s ≡ transcript_for second second_words s
-  pub words_file : bytes_of now.files (out ++ codes ".words") ≡ Some (bundle_bytes second_words)
-  pub said : now.said ≡ given.said ++ worlds_text first words
+  pub held : HoldsSame out (transcript_for first words s) (transcript_for second second_words s)
+      (bundle_bytes second_words) (worlds_text first words) given now
 
 -- the desk holds both worlds of the books that are read
 abbrev pub HoldsBoth : Point → List ℕ → Both → Given → Given → Type 0
 HoldsBoth s out both given now =
     HoldsWorlds s out (first_book both) (words_read both) (second_book both) given now
+
+-- the same for servers a and b of five together
+pub record HoldsWorldsForTwo (a b : ℕ) (out : List ℕ) (first : FiveRead) (second : Book) (given now : Given) :
+    Type 0 where
+  pub agree : AgreeForTwo a b first.book second
+  pub second_words : FiveWords
+  pub pair : AreOnePair a b first.book first.words second second_words
+  pub held : HoldsSame out (joint_transcript a b first.book first.words) (joint_transcript a b second second_words)
+      (words_bytes second_words) ((cleared_by_five first).text ++ equal_text) given now
 
 -- three transcripts are of one run; how it ended was said, and no file is another
 pub record HoldsOneRun (read : ReadViews) (given now : Given) : Type 0 where
@@ -59,12 +81,17 @@ LeavesRead step holds old now None given_now = Unit {0}
 LeavesRead step holds old now (Some given) given_now =
     IsSomeAnd given_now (λ after. HoldsRead step holds old now given after)
 
--- a run of the job has left that: of two books that were read both worlds; of transcripts, that they are of one run
+-- a run of the job has left that: of two books that were read both worlds, for one server of three or for two of five;
+-- of transcripts, that they are of one run
 abbrev pub Shows : Option Job → Told → Told → Option Given → Option Given → Type 0
 Shows None old now given given_now = Unit {0}
 Shows (Some (Answering errand)) old now given given_now = Unit {0}
 Shows (Some (Comparing auction servers first second s out)) old now given given_now =
     LeavesRead (both_errand auction servers first second) (λ both before after. HoldsBoth s out both before after)
+    old now given given_now
+Shows (Some (ComparingForTwo auction servers first second two out)) old now given given_now =
+    LeavesRead (both_of_five auction servers first second)
+    (λ both before after. HoldsWorldsForTwo two.0 two.1 out both.first (second_of_five both) before after)
     old now given given_now
 Shows (Some (Auditing auction one two three)) old now given given_now =
     LeavesRead (read_errand auction one two three) (λ read before after. HoldsOneRun read before after)

@@ -1,17 +1,18 @@
 //! Reading the words of a command.
 
-ghost use Rattle.std.specs.Prelude.{◌≡◌, IfSome, map, option_map, string_bytes};
+ghost use Rattle.std.specs.Prelude.{[], ◌∷◌, ◌≡◌, IfSome, map, option_map, string_bytes};
 ghost use Rattle.beet_app.specs.Commands.{HasSizes, job_for};
 ghost use Rattle.beet_app.specs.Jobs.{job_in, job_of_four, job_of_six, job_of_three, job_of_two};
 ghost use Rattle.beet_command.specs.Lines.{words_in};
+ghost use Rattle.beet_command.specs.Words.{are_names};
 
+use beet_book_differences::WorldsFiles;
 use beet_command::{Line, is_file, read_line};
 use beet_field::Point;
 use beet_gathering::ListFiles;
 use beet_job_audit::AuditFiles;
 use beet_job_envelopes::{SealFiles, SourceWord, read_source_word};
 use beet_job_trial::numbers_of_words;
-use beet_job_worlds::WorldsFiles;
 use beet_load::AuctionFiles;
 
 /// A command with its words. Those that stand for files are names.
@@ -28,6 +29,25 @@ pub(crate) enum Command<'a> {
     Open(ListFiles<'a>),
     Witness(ListFiles<'a>, &'a str),
     Trial { bidders: u32, prices: u32 },
+}
+
+/// Whether the words for the files of an auction are names.
+pub(crate) fn are_auction(files: &AuctionFiles<'_>) -> bool
+    ensures { result ≡ are_names (files.now.auction.now ∷ files.now.servers.now ∷ files.now.book.now ∷ []) }
+{
+    is_file(files.auction) && is_file(files.servers) && is_file(files.book)
+}
+
+/// Whether the words for the files of two worlds are names.
+pub(crate) fn are_worlds(files: &WorldsFiles<'_>) -> bool
+    ensures { result ≡ are_names (files.now.auction.now ∷ files.now.servers.now ∷ files.now.first.now
+        ∷ files.now.second.now ∷ files.now.out.now ∷ []) }
+{
+    is_file(files.auction)
+        && is_file(files.servers)
+        && is_file(files.first)
+        && is_file(files.second)
+        && is_file(files.out)
 }
 
 /// The command of a name with two words.
@@ -49,34 +69,22 @@ fn with_two<'a>(name: &str, first: &'a str, second: &'a str) -> Option<Command<'
 }
 
 /// The command of a name with three files.
-fn with_three<'a>(
-    name: &str,
-    auction: &'a str,
-    servers: &'a str,
-    third: &'a str,
-) -> Option<Command<'a>>
-    ensures job { option_map job_for result ≡ job_of_three name.now auction.now servers.now third.now }
+fn with_three<'a>(name: &str, files: AuctionFiles<'a>) -> Option<Command<'a>>
+    ensures job { option_map job_for result
+        ≡ job_of_three name.now files.entry.auction.now files.entry.servers.now files.entry.book.now }
     ensures sizes { IfSome result HasSizes }
 {
-    if !(is_file(auction) && is_file(servers) && is_file(third)) {
+    if !are_auction(&files) {
         None
     } else if name == "clear" {
-        Some(Command::Clear(AuctionFiles {
-            auction,
-            servers,
-            book: third,
-        }))
+        Some(Command::Clear(files))
     } else if name == "watch" {
-        Some(Command::Watch(AuctionFiles {
-            auction,
-            servers,
-            book: third,
-        }))
+        Some(Command::Watch(files))
     } else if name == "open" {
         Some(Command::Open(ListFiles {
-            auction,
-            servers,
-            list: third,
+            auction: files.auction,
+            servers: files.servers,
+            list: files.book,
         }))
     } else {
         None
@@ -139,37 +147,18 @@ fn with_four<'a>(
     }
 }
 
-/// The command of a name with six words, of which the fifth is a server's number.
-fn with_six<'a>(
-    name: &str,
-    auction: &'a str,
-    servers: &'a str,
-    first: &'a str,
-    second: &'a str,
-    server: &str,
-    out: &'a str,
-) -> Option<Command<'a>>
-    ensures job { option_map job_for result
-        ≡ job_of_six name.now auction.now servers.now first.now second.now server.now out.now }
+/// The command of a name with the files of two worlds and a server's number.
+fn with_six<'a>(name: &str, files: WorldsFiles<'a>, server: &str) -> Option<Command<'a>>
+    ensures job { option_map job_for result ≡ job_of_six name.now files.entry.auction.now files.entry.servers.now
+        files.entry.first.now files.entry.second.now server.now files.entry.out.now }
     ensures sizes { IfSome result HasSizes }
 {
-    let named = is_file(auction)
-        && is_file(servers)
-        && is_file(first)
-        && is_file(second)
-        && is_file(out);
-    if !(name == "worlds" && named) {
-        return None;
+    if name == "worlds" && are_worlds(&files) {
+        let server = Point::of_digit(server.as_bytes())?;
+        Some(Command::Worlds(files, server))
+    } else {
+        None
     }
-    let server = Point::of_digit(server.as_bytes())?;
-    let files = WorldsFiles {
-        auction,
-        servers,
-        first,
-        second,
-        out,
-    };
-    Some(Command::Worlds(files, server))
 }
 
 /// The command that the words name, if they name one.
@@ -179,9 +168,25 @@ pub(crate) fn read_command(words: &[String]) -> Option<Command<'_>>
 {
     match read_line(words) {
         Line::Two(name, a, b) => with_two(name, a, b),
-        Line::Three(name, a, b, c) => with_three(name, a, b, c),
+        Line::Three(name, auction, servers, book) => {
+            let files = AuctionFiles {
+                auction,
+                servers,
+                book,
+            };
+            with_three(name, files)
+        }
         Line::Four(name, a, b, c, d) => with_four(name, a, b, c, d),
-        Line::Six(name, a, b, c, d, e, f) => with_six(name, a, b, c, d, e, f),
+        Line::Six(name, auction, servers, first, second, server, out) => {
+            let files = WorldsFiles {
+                auction,
+                servers,
+                first,
+                second,
+                out,
+            };
+            with_six(name, files, server)
+        }
         _ => None,
     }
 }

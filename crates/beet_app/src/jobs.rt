@@ -42,7 +42,7 @@ fn do_job<S: Shelf, R: Threads + Wait + Clock + Sync, G: Gate>(
         Command::Watch(files) => watch(rt, alloc, shelf, &files),
         Command::Rehearse(files, schedule) => rehearse(alloc, shelf, &files, schedule),
         Command::Record(files, out) => record(rt, alloc, shelf, &files, out, gate),
-        Command::Audit(files) => audit_files(alloc, shelf, &files),
+        Command::Audit(files) => audit_files(rt, alloc, shelf, &files),
         Command::Worlds(files, server) => worlds(rt, alloc, shelf, &files, server),
         Command::Seal(files, source) => seal_bid(alloc, shelf, &files, source),
         Command::Open(files) => open_envelopes(rt, alloc, shelf, &files, gate),

@@ -36,15 +36,18 @@ use std::time::Clock;
 /// - `open AUCTION SERVERS LIST` runs the auction of the envelopes that a list names.
 /// - `witness AUCTION SERVERS LIST OUT` does the same, and writes what each server has seen of it as `record` does.
 /// - `five AUCTION SERVERS BOOK` runs the auction of a book among five servers.
+/// - `five_worlds AUCTION SERVERS BOOK1 BOOK2 A B OUT` writes what servers `A` and `B` of five see together in the runs
+///   of two books, as `worlds` does for one server of three; `A` is below `B`.
 /// - `trial BIDDERS PRICES` runs the auction of a book that is made by a rule, of 0 to 2,000 bidders and 1 to 4,096
 ///   prices.
 ///
 /// Answers the exit status: 0 where the job is done; 1 for want of memory, and then nothing is said; 2 where the words
 /// name no job; 3 where a file cannot be fetched; 4 where a file or the text is not taken; 5 for a file that is too
 /// long, breaks its format or breaks a limit of the job; 6 where a run, or in `rehearse` a server, has ended with the
-/// third rejected mask, which is said with the job's text; 7 where two books do not agree for a server; 8 where three
-/// transcripts are not those of one run; 9 for a bidder or a server whose tape holds too few words. At 2, 3, 5, 7, 8
-/// and 9 the line that tells the cause is said, and no file is put. The text is said after all files were put.
+/// third rejected mask, which is said with the job's text; 7 where two books do not agree for a server, or for two of
+/// five; 8 where three transcripts are not those of one run; 9 for a bidder or a server whose tape holds too few words.
+/// At 2, 3, 5, 7, 8 and 9 the line that tells the cause is said, and no file is put. The text is said after all files
+/// were put.
 ///
 /// In `clear`, `watch`, `record`, `open`, `witness` and `trial` three servers run at the same time. Each meets the gate
 /// once in each round, before it puts its messages of the round; in `watch` there is no gate. So `run` may wait, and
@@ -63,7 +66,8 @@ pub fn run<S: Shelf, K: Desk, R: Threads + Wait + Clock + Sync, G: Gate>(
     ensures does { DoesRun (task_of (job_of (map string_bytes words.now))) (S.seen shelf.old) (S.seen shelf.new)
         (K.seen desk.old) (K.seen desk.new) result }
 
-    // Two worlds that were compared are shown to look the same to the server, and three transcripts to be of one run.
+    // Two worlds that were compared are shown to look the same to the server, or to two of five, and three transcripts
+    // to be of one run.
     ensures shows { (result ≡ 0) ⊎ (result ≡ 6) → Shows (job_of (map string_bytes words.now))
         (S.seen shelf.old).told (S.seen shelf.new).told (K.seen desk.old).told.given (K.seen desk.new).told.given }
 {

@@ -49,7 +49,7 @@ use Rattle.beet_errand.specs.declared.answer.Refusal.{Refusal}
 use Rattle.beet_errand.specs.declared.answer.Refusal.TheVariants.{ReadFault, BadFile, TooFewWords}
 use Rattle.beet_errand.specs.declared.answer.Status.TheVariants.{Refused}
 use Rattle.beet_load.specs.Limits.{over_product}
-use Rattle.beet_five_load.specs.FiveLoading.{five_loaded_errand, five_rest_errand, read_with}
+use Rattle.beet_five_load.specs.FiveLoading.{five_limited_errand, five_loaded_errand, five_rest_errand, read_with}
 use Rattle.beet_five_load.specs.FiveServerFiles.{five_seeds_of}
 use Rattle.beet_five_load.specs.FiveServers.{lists_of, servers_errand as five_servers_errand}
 use Rattle.beet_five_load.specs.FiveSettings.{FiveSetting, five_setting_errand, tree_gates, with_chains}
@@ -255,6 +255,12 @@ module _ (out : List ℕ) where
   unfolding five_loaded_errand
   five-well auction servers book next h =
       five-setting-well auction servers book _ (λ setting. five-rest-well setting next h)
+
+  pub five-limited-well : (auction servers book : List ℕ) → StepsWell (five_limited_errand auction servers book)
+  unfolding five_limited_errand
+  five-limited-well auction servers book next h =
+      five-setting-well auction servers book _ (λ setting.
+      product-well book setting.grid (length setting.entries) _ (five-rest-well setting next h))
 
   bids-well : (grid : Grid) (read : List Bidder) (entries : List Entry) → StepsWell (bids_errand grid read entries)
   bids-well grid read [] next h = h read

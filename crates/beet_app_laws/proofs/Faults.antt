@@ -1,5 +1,5 @@
 -- What two books differ in, and what an audit finds, is no want of memory.
-use Rattle.std.proofs.Common.{◌≡◌, inl, inr, ℕ, Option, Some, IfSome, refl}
+use Rattle.std.proofs.Common.{◌≡◌, inl, inr, ℕ, Bool, Option, Some, IfSome, refl}
 use Rattle.std.specs.Prelude.{◌+◌, List, length, slice_index}
 use Rattle.beet_field.specs.Trio.{member}
 use Rattle.beet_field.specs.declared.point.Point.{Point}
@@ -15,8 +15,8 @@ use Rattle.beet_view.specs.Views.{Viewed}
 use Rattle.beet_two_books.specs.declared.agreeing.MapFault.{MapFault}
 use Rattle.beet_two_books.specs.declared.agreeing.MapFault.TheVariants.{ShapeDiffers, OwnBidsDiffer, OutcomesDiffer}
 use Rattle.beet_differences.proofs.Told.{ends-have, first-has}
-use Rattle.beet_job_worlds.specs.Differences.{difference_between, refused_text, same_outcome}
-use Rattle.beet_job_worlds.specs.Ending.{IsLineOf}
+use Rattle.beet_book_differences.specs.Differences.{difference_for, refused_text, same_outcome}
+use Rattle.beet_book_differences.specs.Refusals.{IsLineOf}
 use Rattle.beet_audit.specs.Audits.{Finds, Header, Known, Lines, Message, MessageFrom, Monotone, OneBidder}
 use Rattle.beet_audit.specs.Audits.{RoundMessages, Rounds, Tapes, held_from, points_of_bidder, rounds_of, run_of}
 use Rattle.beet_audit.specs.Verdicts.{EachBelow, EachServer, InTurn}
@@ -31,8 +31,8 @@ use Rattle.beet_audit.specs.declared.fault.Side.TheVariants.{Buy, Sell}
 abbrev pub HasLine : MapFault → Type 0
 HasLine fault = IsLineOf fault (refused_text fault)
 
-pub difference-line : (s : Point) (first second : Book) → IfSome (difference_between s first second) HasLine
-difference-line s first second =
+pub difference-line : (knows : Option Point → Bool) (first second : Book) → IfSome (difference_for knows first second) HasLine
+difference-line knows first second =
     first-has ShapeDiffers OwnBidsDiffer HasLine _ _ _ (λ n. refl) (λ n. refl)
     (ends-have HasLine same_outcome OutcomesDiffer (outcome_of first) (outcome_of second) refl)
 

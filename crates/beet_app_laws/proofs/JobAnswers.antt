@@ -30,11 +30,16 @@ use Rattle.beet_farmer.specs.declared.list_file.TheConstants.{LIST_LIMIT}
 use Rattle.beet_forms.specs.declared.faults.TheConstants.{LONGEST_FILE}
 use Rattle.beet_plan.specs.Auction.{auction_over}
 use Rattle.beet_plan.specs.Kept.{words_kept}
+use Rattle.beet_view.specs.BookViews.{names}
 use Rattle.beet_view.specs.Transcripts.{view_in}
 use Rattle.beet_world.specs.Schedules.{schedule_of}
 use Rattle.beet_world.specs.declared.schedule.TheConstants.{SCHEDULE_LIMIT}
+use Rattle.beet_two_books.specs.Agreement.{is_known}
 use Rattle.beet_two_books.specs.declared.agreeing.MapFault.{MapFault}
-use Rattle.beet_errand.specs.Errands.{Answer, Errand, Ends, bad_file, reads}
+use Rattle.beet_differences.specs.Comparing.{compared}
+use Rattle.beet_five_map.specs.FiveWorlds.{watching}
+use Rattle.beet_five_load.specs.FiveLoading.{FiveRead}
+use Rattle.beet_errand.specs.Errands.{Answer, Errand, Ends, Step, bad_file, reads}
 use Rattle.beet_errand.specs.Fetches.{IsDone}
 use Rattle.beet_errand.specs.declared.answer.OwnRefusal.TheVariants.{OfWorlds, OfAudit}
 use Rattle.beet_errand.specs.declared.answer.Refusal.TheVariants.{BadFile, Own}
@@ -60,8 +65,8 @@ use Rattle.beet_job_trial.specs.Rules.{trial_book, trial_farmers, trial_grid, tr
 use Rattle.beet_job_trial.specs.Sizes.{sizes_of}
 use Rattle.beet_job_trial.specs.Trial.{trial_errand}
 use Rattle.beet_job_worlds.specs.Answering.{ShowsTheSame}
-use Rattle.beet_job_worlds.specs.Differences.{difference_between}
-use Rattle.beet_job_worlds.specs.Ending.{compared_errand, unless_differing}
+use Rattle.beet_book_differences.specs.Differences.{refused_text}
+use Rattle.beet_job_worlds.specs.Ending.{compared_errand, difference_read, unless_differing}
 use Rattle.beet_job_worlds.specs.Reading.{Both, both_errand, first_book, second_book, words_read}
 use Rattle.beet_audit.specs.Audits.{Finds, recombined_book}
 use Rattle.beet_audit.specs.declared.fault.AuditFault.{AuditFault}
@@ -71,16 +76,21 @@ use Rattle.beet_job_audit.specs.declared.reading.ReadViews.{ReadViews}
 use Rattle.beet_coalition.specs.Lists.{at_server}
 use Rattle.beet_five_auction.specs.FiveEndings.{book_finish as five_finish}
 use Rattle.beet_job_five.specs.Five.{five_errand}
+use Rattle.beet_job_five_worlds.specs.Answering.{ShowsTheSameForTwo}
+use Rattle.beet_job_five_worlds.specs.Ending.{compared_errand as compared_for_two, difference_for_two}
+use Rattle.beet_job_five_worlds.specs.Reading.{BothOfFive, both_errand as both_of_five, second_book as second_of_five}
 use Rattle.beet_command.specs.Lines.{words_in}
 use Rattle.beet_command.specs.Words.{are_names, is_word}
-use Rattle.beet_app.specs.Jobs.{Job, Answering, Comparing, Auditing, job_of, job_of_two}
-use Rattle.beet_app.specs.Jobs.{five_job_of, five_job_of_three, is_of_five, job_in, job_of_three, job_of_four, job_of_six}
+use Rattle.beet_app.specs.Jobs.{Job, Answering, Comparing, ComparingForTwo, Auditing, job_of, job_of_two}
+use Rattle.beet_app.specs.Jobs.{five_job_of, five_job_of_seven, five_job_of_three, is_of_five, job_in, job_of_three, job_of_four}
+use Rattle.beet_app.specs.Jobs.{job_of_six, two_of_five}
 use Rattle.beet_app.specs.Jobs.{seal_of}
 use Rattle.beet_forms.specs.Names.{is_name_of}
 use Rattle.beet_app_laws.specs.Leavings.{last_word}
 use Rattle.beet_app_laws.proofs.Faults.{HasLine, difference-line, finds-never}
 use Rattle.beet_app_laws.proofs.Answers.{EndsWell, IsAnswer, StepsWell, all-words-well, bidders-well, curves-well}
-use Rattle.beet_app_laws.proofs.Answers.{either, enough-well, five-well, limited-well, loaded-well, product-well, reads-well}
+use Rattle.beet_app_laws.proofs.Answers.{either, enough-well, five-limited-well, five-well, limited-well, loaded-well}
+use Rattle.beet_app_laws.proofs.Answers.{product-well, reads-well}
 use Rattle.beet_app_laws.proofs.Answers.{refused-well}
 use Rattle.beet_app_laws.proofs.Answers.{servers-enough, words-well}
 
@@ -199,6 +209,12 @@ module _ (out : List ℕ) where
   differing-well None t next h = h
   differing-well (Some difference) t next h = refused-well out (Own OfWorlds) _ (difference, t)
 
+  -- two worlds that are read go on, or are refused by the line of what tells them apart
+  unless-apart-well : {A : Type 0} (step : Step A) (difference : A → Option MapFault) → StepsWell out step →
+      ((both : A) → IfSome (difference both) HasLine) → StepsWell out (compared refused_text difference step)
+  unless-apart-well step difference read lines next h =
+      read _ (λ both. differing-well (difference both) (lines both) (next both) (h both))
+
   both-well : (auction servers first second : List ℕ) → StepsWell out (both_errand auction servers first second)
   unfolding both_errand
   both-well auction servers first second next h =
@@ -206,10 +222,23 @@ module _ (out : List ℕ) where
 
   pub compared-well : (auction servers first second : List ℕ) (s : Point) →
       StepsWell out (compared_errand auction servers first second s)
-  compared-well auction servers first second s next h =
-      both-well auction servers first second _
-      (λ both. differing-well (difference_between s (first_book both) (second_book both))
-      (difference-line s (first_book both) (second_book both)) (next both) (h both))
+  compared-well auction servers first second s =
+      unless-apart-well (both_errand auction servers first second) (difference_read s)
+      (both-well auction servers first second)
+      (λ both. difference-line (λ mark. names mark s) (first_book both) (second_book both))
+
+  both-of-five-well : (auction servers first second : List ℕ) → StepsWell out (both_of_five auction servers first second)
+  unfolding both_of_five
+  both-of-five-well auction servers first second next h =
+      five-limited-well out auction servers first _ (λ one. curves-well out second one.book.grid _ (λ bidders. h _))
+
+  pub compared-for-two-well : (auction servers first second : List ℕ) (a b : ℕ) →
+      StepsWell out (compared_for_two auction servers first second a b)
+  compared-for-two-well auction servers first second a b =
+      unless-apart-well (both_of_five auction servers first second)
+      (λ (both : BothOfFive). difference_for_two a b both.first.book (second_of_five both))
+      (both-of-five-well auction servers first second)
+      (λ both. difference-line (is_known (watching a b)) both.first.book (second_of_five both))
 
   pub read-well : (auction one two three : List ℕ) → StepsWell out (read_errand auction one two three)
   unfolding read_errand
@@ -225,6 +254,7 @@ module _ (out : List ℕ) where
   JobEndsWell None = Unit {0}
   JobEndsWell (Some (Answering errand)) = EndsWell out errand
   JobEndsWell (Some (Comparing auction servers first second s name)) = name ≡ out
+  JobEndsWell (Some (ComparingForTwo auction servers first second two name)) = name ≡ out
   JobEndsWell (Some (Auditing auction one two three)) = Unit {0}
 
   choice : (b : Bool) (one other : Option Job) → JobEndsWell one → JobEndsWell other →
@@ -366,11 +396,30 @@ module _ (out : List ℕ) where
       (Some (Answering (five_errand auction servers book))) None
       (five-ends-well auction servers book) tt
 
+  two-named : (auction servers first second : List ℕ) (two : Option (ℕ × ℕ)) →
+      JobEndsWell (option_map (λ s. ComparingForTwo auction servers first second s out) two)
+  two-named auction servers first second None = tt
+  two-named auction servers first second (Some two) = refl
+
+  five-seven-well : (command auction servers first second one other : List ℕ) →
+      JobEndsWell (five_job_of_seven command auction servers first second one other out)
+  five-seven-well command auction servers first second one other =
+      choice (is_word command (codes "five_worlds") && are_names (auction ∷ servers ∷ first ∷ second ∷ out ∷ []))
+      (option_map (λ two. ComparingForTwo auction servers first second two out) (two_of_five one other)) None
+      (two-named auction servers first second (two_of_five one other)) tt
+
   -- the answer that shows two worlds is done
   pub shown-well : (s : Point) (both : Both) (answer : Answer) →
       ShowsTheSame s out (first_book both) (words_read both) (second_book both) answer → IsAnswer out answer
   shown-well s both answer w =
       let end = book_finish (first_book both) (words_read both).masks in
+      let is : answer.status ≡ status_of end = ap (λ (a : Answer). a.status) w.is in
+      inl (subst IsDone (sym is) (status-done end), inr (inr (ap (λ (a : Answer). map (λ file. file.0) a.files) w.is)))
+
+  pub shown-for-two-well : (a b : ℕ) (both : BothOfFive) (answer : Answer) →
+      ShowsTheSameForTwo a b out both.first (second_of_five both) answer → IsAnswer out answer
+  shown-for-two-well a b both answer w =
+      let end = five_finish both.first.book (at_server both.first.words.masks) in
       let is : answer.status ≡ status_of end = ap (λ (a : Answer). a.status) w.is in
       inl (subst IsDone (sym is) (status-done end), inr (inr (ap (λ (a : Answer). map (λ file. file.0) a.files) w.is)))
 
@@ -414,7 +463,7 @@ five-servers (command ∷ a ∷ b ∷ c ∷ []) = five-three-well c command a b 
 five-servers (command ∷ a ∷ b ∷ c ∷ d ∷ []) = tt
 five-servers (command ∷ a ∷ b ∷ c ∷ d ∷ e ∷ []) = tt
 five-servers (command ∷ a ∷ b ∷ c ∷ d ∷ e ∷ f ∷ []) = tt
-five-servers (command ∷ a ∷ b ∷ c ∷ d ∷ e ∷ f ∷ g ∷ []) = tt
+five-servers (command ∷ a ∷ b ∷ c ∷ d ∷ e ∷ f ∷ g ∷ []) = five-seven-well g command a b c d e f
 five-servers words = tt
 
 -- the job that words name ends so

@@ -32,13 +32,20 @@ use Rattle.beet_job_audit.specs.Reading.{read_errand}
 use Rattle.beet_job_audit.specs.declared.reading.ReadViews.{ReadViews}
 use Rattle.beet_two_books.specs.declared.agreeing.MapFault.{MapFault}
 use Rattle.beet_job_worlds.specs.Answering.{ShowsTheSame}
-use Rattle.beet_job_worlds.specs.Differences.{difference_between}
-use Rattle.beet_job_worlds.specs.Ending.{ShowsWorlds, compared_errand, unless_differing}
+use Rattle.beet_book_differences.specs.Differences.{refused_text}
+use Rattle.beet_job_worlds.specs.Ending.{ShowsWorlds, compared_errand, difference_read, unless_differing}
 use Rattle.beet_job_worlds.specs.Reading.{Both, both_errand, first_book, second_book, words_read}
 use Rattle.beet_job_worlds.proofs.DifferenceFacts.{no-difference}
-use Rattle.beet_app.specs.Jobs.{Job, Answering, Comparing, Auditing, job_of}
+use Rattle.beet_coalition.specs.Lists.{at_server}
+use Rattle.beet_differences.specs.Comparing.{compared}
+use Rattle.beet_five_auction.specs.FiveEndings.{book_finish as five_finish}
+use Rattle.beet_job_five_worlds.specs.Answering.{ShowsTheSameForTwo}
+use Rattle.beet_job_five_worlds.specs.Ending.{ShowsFiveWorlds, compared_errand as compared_for_two, difference_for_two}
+use Rattle.beet_job_five_worlds.specs.Reading.{BothOfFive, both_errand as both_of_five, second_book as second_of_five}
+use Rattle.beet_job_five_worlds.proofs.DifferenceForTwo.{no-difference as none-for-two}
+use Rattle.beet_app.specs.Jobs.{Job, Answering, Comparing, ComparingForTwo, Auditing, job_of}
 use Rattle.beet_app_laws.specs.Calls.{Call, IsOf, RunsJob, RunsJobOf}
-use Rattle.beet_app_laws.specs.Dues.{EndsAsDue, IsDue, IsDueOfAudit, IsDueOfViews, status_of_first}
+use Rattle.beet_app_laws.specs.Dues.{EndsAsDue, IsDue, IsDueOfAudit, IsDueOfViews, status_of_first, status_of_first_of_five}
 
 module _ (files : List File) where
   -- an answer of these files leads on to the same answer
@@ -209,36 +216,29 @@ pub passed : (difference : Option MapFault) (next : Errand) (P : Errand → Type
 passed None next P e h = h
 passed (Some fault) next P e h = absurd cc
 
-module _ (auction servers first second : List ℕ) (s : Point) (out : List ℕ) (files : List File) (told told_now : Told)
+-- two worlds are read and compared, and they go on to this status of a run
+module _ {A : Type 0} (step : Step A) (difference : A → Option MapFault) (end : A → Status)
+    (ends : (both : A) → IsDone (end both)) (files : List File) (told told_now : Told)
     (from : FromFiles files told told_now) where
-  abbrev after_both : Both → Errand
-  after_both both = answers (status_of_first both) []
+  abbrev after_both : A → Errand
+  after_both both = answers (end both) []
 
-  both-end : (both : Both) → difference_between s (first_book both) (second_book both) ≡ None →
-      Went told told_now (compared_errand auction servers first second s after_both)
-      (unless_differing (difference_between s (first_book both) (second_book both)) (after_both both)) →
-      Went told told_now (compared_errand auction servers first second s after_both) (after_both both)
-  both-end both none w =
-      passed (difference_between s (first_book both) (second_book both)) (after_both both)
-      (Went told told_now (compared_errand auction servers first second s after_both)) none w
+  -- if there is no difference between them, that is the status of an answer that shows them
+  worlds-due : (both : A) (answer : Answer) (due : Status) → IsRead told told_now step both → difference both ≡ None →
+      answer.status ≡ end both → due ≡ (answer_over files (compared refused_text difference step after_both)).status →
+      due ≡ answer.status
+  worlds-due both answer due read none is-end is =
+      go (went-end files told told_now from _ (text_answer (end both) []) went) where
+        went : Went told told_now (compared refused_text difference step after_both) (after_both both)
+        went = passed (difference both) (after_both both)
+            (Went told told_now (compared refused_text difference step after_both)) none
+            (read (λ both. unless_differing (difference both) (after_both both)))
 
-  worlds-due : (both : Both) (answer : Answer) (due : Status) →
-      IsRead told told_now (both_errand auction servers first second) both →
-      ShowsTheSame s out (first_book both) (words_read both) (second_book both) answer →
-      due ≡ (answer_over files (compared_errand auction servers first second s after_both)).status → due ≡ answer.status
-  worlds-due both answer due read w is =
-      go (went-end files told told_now from _ (text_answer (status_of_first both) []) went) where
-        went : Went told told_now (compared_errand auction servers first second s after_both) (after_both both)
-        went = both-end both (no-difference s (first_book both) (second_book both) w.agree)
-            (read
-            (λ both. unless_differing (difference_between s (first_book both) (second_book both)) (after_both both)))
-
-        go : (status_of_first both ≡ Refused ReadFault) ⊎ (answer_over files
-            (compared_errand auction servers first second s after_both) ≡ text_answer (status_of_first both) []) →
+        go : (end both ≡ Refused ReadFault)
+            ⊎ (answer_over files (compared refused_text difference step after_both) ≡ text_answer (end both) []) →
             due ≡ answer.status
-        go (inl e) = absurd
-            (not_done ReadFault (subst IsDone e (status-done (book_finish (first_book both) (words_read both).masks))))
-        go (inr e) = is ∙ ap (λ (a : Answer). a.status) e ∙ sym (ap (λ (a : Answer). a.status) w.is)
+        go (inl e) = absurd (not_done ReadFault (subst IsDone e (ends both)))
+        go (inr e) = is ∙ ap (λ (a : Answer). a.status) e ∙ sym is-end
 
 module _ (auction one two three : List ℕ) (files : List File) (told told_now : Told)
     (from : FromFiles files told told_now) where
@@ -278,8 +278,19 @@ module _ (files : List File) (call : Call) (from : IsOf files call) (due : Statu
   job-led (Some (Comparing auction servers first second s out)) r is =
       shows-led OfWorlds (compared_errand auction servers first second s)
       (ShowsWorlds auction servers first second s out) (λ both. answers (status_of_first both) []) is
-      (λ answer w. worlds-due auction servers first second s out files call.shelf call.shelf_now from w.value answer due
-      w.read w.shown is) r
+      (λ answer w. worlds-due (both_errand auction servers first second) (difference_read s) status_of_first
+      (λ both. status-done (book_finish (first_book both) (words_read both).masks)) files call.shelf call.shelf_now from
+      w.value answer due w.read (no-difference s (first_book w.value) (second_book w.value) w.shown.agree)
+      (ap (λ (a : Answer). a.status) w.shown.is) is) r
+  job-led (Some (ComparingForTwo auction servers first second two out)) r is =
+      shows-led OfWorlds (compared_for_two auction servers first second two.0 two.1)
+      (ShowsFiveWorlds auction servers first second two.0 two.1 out) (λ both. answers (status_of_first_of_five both) []) is
+      (λ answer w. worlds-due (both_of_five auction servers first second)
+      (λ (both : BothOfFive). difference_for_two two.0 two.1 both.first.book (second_of_five both)) status_of_first_of_five
+      (λ both. status-done (five_finish both.first.book (at_server both.first.words.masks))) files call.shelf
+      call.shelf_now from w.value answer due w.read
+      (none-for-two two.0 two.1 w.value.first.book (second_of_five w.value) w.shown.agree)
+      (ap (λ (a : Answer). a.status) w.shown.is) is) r
   job-led (Some (Auditing auction one two three)) r is =
       shows-led OfAudit (read_errand auction one two three) (ShowsAudit auction one two three)
       (λ read. answers due []) is.read
@@ -305,6 +316,10 @@ module _ (files : List File) (call : Call) (e : call.shelf.files ≡ Some files)
   job-from (Some (Comparing auction servers first second s out)) r =
       shows-from OfWorlds (compared_errand auction servers first second s) (both_errand auction servers first second)
       (λ both answer. ShowsTheSame s out (first_book both) (words_read both) (second_book both) answer) r
+  job-from (Some (ComparingForTwo auction servers first second two out)) r =
+      shows-from OfWorlds (compared_for_two auction servers first second two.0 two.1)
+      (both_of_five auction servers first second)
+      (λ both answer. ShowsTheSameForTwo two.0 two.1 out both.first (second_of_five both) answer) r
   job-from (Some (Auditing auction one two three)) r =
       shows-from OfAudit (read_errand auction one two three) (read_errand auction one two three) TellsFinding r
 

@@ -22,15 +22,17 @@ use Rattle.beet_errand.specs.declared.answer.Status.TheVariants.{WriteFault, Ref
 use Rattle.beet_errand.proofs.Statuses.{not_done, same_end}
 use Rattle.beet_errand.proofs.Putting.{LeavesAll, leaves_all}
 use Rattle.beet_app.specs.Doing.{task_of}
-use Rattle.beet_app.specs.Jobs.{Job, Answering, Comparing, Auditing, job_of}
+use Rattle.beet_app.specs.Jobs.{Job, Answering, Comparing, ComparingForTwo, Auditing, job_of}
 use Rattle.beet_job_worlds.specs.Ending.{ShowsWorlds, compared_errand, worlds_task}
+use Rattle.beet_job_five_worlds.specs.Ending.{ShowsFiveWorlds, compared_errand as compared_for_two, five_worlds_task}
 use Rattle.beet_job_audit.specs.Ending.{ShowsAudit}
 use Rattle.beet_job_audit.specs.Reading.{read_errand}
 use Rattle.beet_app_laws.specs.Calls.{Call, RunsJobOf}
 use Rattle.beet_app_laws.specs.Leavings.{AreOutputs, EndsShort, IsRefusal, LeavesBy, SaysNothing, last_word}
 use Rattle.beet_app_laws.specs.Refusals.{IsLineOf}
 use Rattle.beet_app_laws.proofs.Answers.{EndsWell, IsAnswer, StepsWell, refused-well, went-well}
-use Rattle.beet_app_laws.proofs.JobAnswers.{JobEndsWell, audited-well, compared-well, job-well, read-well, shown-well}
+use Rattle.beet_app_laws.proofs.JobAnswers.{JobEndsWell, audited-well, compared-for-two-well, compared-well, job-well, read-well}
+use Rattle.beet_app_laws.proofs.JobAnswers.{shown-for-two-well, shown-well}
 
 -- no other end has the status of a refusal
 no-refusal : (end : Status) (status : ℕ) → status ≡ code_of end → ((refusal : Refusal) → end ≡ IsRefused refusal → ⊥) →
@@ -187,6 +189,13 @@ module _ (out : List ℕ) (call : Call) where
       (compared-well out auction servers first second s)
       (λ answer shown. shown-well out s shown.value answer shown.shown)
       (subst (λ n. RunsTask (worlds_task auction servers first second s n) told told_now call.desk call.desk_now call.status) w r)
+  job-left (Some (ComparingForTwo auction servers first second two name)) told told_now w r =
+      shows-left OfWorlds (compared_for_two auction servers first second two.0 two.1)
+      (ShowsFiveWorlds auction servers first second two.0 two.1 out) told told_now
+      (compared-for-two-well out auction servers first second two.0 two.1)
+      (λ answer shown. shown-for-two-well out two.0 two.1 shown.value answer shown.shown)
+      (subst (λ n. RunsTask (five_worlds_task auction servers first second two.0 two.1 n) told told_now call.desk
+      call.desk_now call.status) w r)
   job-left (Some (Auditing auction one two three)) told told_now w r =
       shows-left OfAudit (read_errand auction one two three) (ShowsAudit auction one two three) told told_now
       (read-well out auction one two three) (λ answer shown. audited-well out shown.value answer shown.shown) r

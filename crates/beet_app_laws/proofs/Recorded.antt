@@ -19,9 +19,12 @@ use Rattle.beet_errand.proofs.Statuses.{same_end}
 use Rattle.beet_job_worlds.specs.Answering.{ShowsTheSame}
 use Rattle.beet_job_worlds.specs.Ending.{compared_errand}
 use Rattle.beet_job_worlds.specs.Reading.{both_errand, first_book, second_book, words_read}
+use Rattle.beet_job_five_worlds.specs.Answering.{ShowsTheSameForTwo}
+use Rattle.beet_job_five_worlds.specs.Ending.{compared_errand as compared_for_two}
+use Rattle.beet_job_five_worlds.specs.Reading.{both_errand as both_of_five, second_book as second_of_five}
 use Rattle.beet_job_audit.specs.Ending.{TellsFinding}
 use Rattle.beet_job_audit.specs.Reading.{read_errand}
-use Rattle.beet_app.specs.Jobs.{Job, Answering, Comparing, Auditing, job_of}
+use Rattle.beet_app.specs.Jobs.{Job, Answering, Comparing, ComparingForTwo, Auditing, job_of}
 use Rattle.beet_app_laws.specs.Calls.{Call, RunsJob, RunsJobOf}
 use Rattle.beet_app_laws.specs.Recorded.{LeadsJob, LeadsToShow, LeadsToStop, RecordsBy, RecordsJob}
 
@@ -159,6 +162,10 @@ module _ (call : Call) (one : call.status ≢ 1) (four : call.status ≢ 4) wher
   of-job (Some (Comparing auction servers first second s out)) r =
       showing OfWorlds (compared_errand auction servers first second s) (both_errand auction servers first second)
       (λ both answer. ShowsTheSame s out (first_book both) (words_read both) (second_book both) answer) r
+  of-job (Some (ComparingForTwo auction servers first second two out)) r =
+      showing OfWorlds (compared_for_two auction servers first second two.0 two.1)
+      (both_of_five auction servers first second)
+      (λ both answer. ShowsTheSameForTwo two.0 two.1 out both.first (second_of_five both) answer) r
   of-job (Some (Auditing auction one two three)) r =
       showing OfAudit (read_errand auction one two three) (read_errand auction one two three) TellsFinding r
 

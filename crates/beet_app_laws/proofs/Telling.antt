@@ -22,6 +22,10 @@ use Rattle.beet_load.specs.Loading.{AuctionWithBidders}
 use Rattle.beet_load.specs.Servers.{ServerWords}
 use Rattle.beet_job_audit.specs.declared.reading.ReadViews.{ReadViews}
 use Rattle.beet_job_worlds.specs.Reading.{Both}
+use Rattle.beet_bids.specs.Books.{Book}
+use Rattle.beet_five_dealing.specs.FiveWords.{FiveWords}
+use Rattle.beet_five_load.specs.FiveLoading.{FiveRead}
+use Rattle.beet_job_five_worlds.specs.Reading.{BothOfFive}
 use Rattle.beet_errand.specs.Overs.{ReadsTo}
 
 -- no list of numbers tells these apart
@@ -192,6 +196,27 @@ told-both a b h =
     let first = part told-loaded (λ (x : Both). x.first) a b h in
     let second = part (told-each told-bidder) (λ (x : Both). x.second) a b h in
     λ i. record { first = first i; second = second i }
+
+told-book : IsTold Book
+told-book a b h =
+    let grid = part told-grid (λ (x : Book). x.grid) a b h in
+    let bidders = part (told-each told-bidder) (λ (x : Book). x.bidders) a b h in
+    λ i. record { grid = grid i; bidders = bidders i }
+
+told-five-words : IsTold FiveWords
+told-five-words a b h =
+    let masks = part (told-each told-list) (λ (w : FiveWords). w.masks) a b h in
+    let coefficients = part (told-each told-list) (λ (w : FiveWords). w.coefficients) a b h in
+    let bidders = part (told-each told-list) (λ (w : FiveWords). w.bidders) a b h in
+    λ i. record { masks = masks i; coefficients = coefficients i; bidders = bidders i }
+
+-- two books that are read among five servers
+pub told-both-of-five : IsTold BothOfFive
+told-both-of-five a b h =
+    let book = part told-book (λ (x : BothOfFive). x.first.book) a b h in
+    let words = part told-five-words (λ (x : BothOfFive). x.first.words) a b h in
+    let second = part (told-each told-bidder) (λ (x : BothOfFive). x.second) a b h in
+    λ i. record { first = record { book = book i; words = words i }; second = second i }
 
 module _ {A : Type 0} (files : List File) (step : Step A) (a b : A) (ra : ReadsTo files step a)
     (rb : ReadsTo files step b) where

@@ -14,13 +14,20 @@ use Rattle.beet_audit.specs.OneRuns.{OneRun}
 use Rattle.beet_job_audit.specs.Ending.{run_answer}
 use Rattle.beet_job_audit.specs.Reading.{read_errand}
 use Rattle.beet_job_audit.specs.declared.reading.ReadViews.{ReadViews}
+use Rattle.beet_five_run.specs.FiveOutcomes.{cleared_by_five}
+use Rattle.beet_job_five_worlds.specs.Ending.{compared_errand as compared_for_two}
+use Rattle.beet_job_five_worlds.specs.Reading.{BothOfFive}
 use Rattle.beet_job_worlds.specs.Ending.{compared_errand}
 use Rattle.beet_job_worlds.specs.Reading.{Both, first_book, words_read}
-use Rattle.beet_app.specs.Jobs.{Job, Answering, Comparing, Auditing}
+use Rattle.beet_app.specs.Jobs.{Job, Answering, Comparing, ComparingForTwo, Auditing}
 
 -- how the run of the first book ends
 abbrev pub status_of_first : Both → Status
 status_of_first both = status_of (book_finish (first_book both) (words_read both).masks)
+
+-- and how it ends among five servers
+abbrev pub status_of_first_of_five : BothOfFive → Status
+status_of_first_of_five both = (cleared_by_five both.first).status
 
 -- three transcripts that are read lead to the end of their run if they are of one, and to their refusal if they are
 -- not
@@ -35,13 +42,16 @@ pub record IsDueOfAudit (files : List File) (auction one two three : List ℕ) (
   pub views : (read : ReadViews) → ReadsTo files (read_errand auction one two three) read → IsDueOfViews read due
 
 -- the files lead a job to this status: that of the answer of its errand. Where two books are read, it is that of the
--- first run if they agree for the server, and that of their refusal if they do not
+-- first run if they agree for the server, or for the two of five, and that of their refusal if they do not
 abbrev pub IsDue : List File → Option Job → Status → Type 0
 IsDue files None due = due ≡ Refused Usage
 IsDue files (Some (Answering errand)) due = due ≡ (answer_over files errand).status
 IsDue files (Some (Comparing auction servers first second s out)) due =
     due ≡ (answer_over files
     (compared_errand auction servers first second s (λ both. answers (status_of_first both) []))).status
+IsDue files (Some (ComparingForTwo auction servers first second two out)) due =
+    due ≡ (answer_over files (compared_for_two auction servers first second two.0 two.1
+    (λ both. answers (status_of_first_of_five both) []))).status
 IsDue files (Some (Auditing auction one two three)) due = IsDueOfAudit files auction one two three due
 
 -- a run ends with the status that is due, unless memory ran out, a file could not be fetched or a call of the desk

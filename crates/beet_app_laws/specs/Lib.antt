@@ -1,4 +1,5 @@
 pub mod Calls
+pub mod Tables
 pub mod Refusals
 pub mod Leavings
 pub mod Dues

@@ -10,9 +10,12 @@ use Rattle.beet_errand.specs.declared.answer.Refusal.TheVariants.{Usage}
 use Rattle.beet_job_worlds.specs.Answering.{ShowsTheSame}
 use Rattle.beet_job_worlds.specs.Ending.{compared_errand}
 use Rattle.beet_job_worlds.specs.Reading.{both_errand, first_book, second_book, words_read}
+use Rattle.beet_job_five_worlds.specs.Answering.{ShowsTheSameForTwo}
+use Rattle.beet_job_five_worlds.specs.Ending.{compared_errand as compared_for_two}
+use Rattle.beet_job_five_worlds.specs.Reading.{both_errand as both_of_five, second_book as second_of_five}
 use Rattle.beet_job_audit.specs.Ending.{TellsFinding}
 use Rattle.beet_job_audit.specs.Reading.{read_errand}
-use Rattle.beet_app.specs.Jobs.{Job, Answering, Comparing, Auditing}
+use Rattle.beet_app.specs.Jobs.{Job, Answering, Comparing, ComparingForTwo, Auditing}
 use Rattle.beet_app_laws.specs.Calls.{Call}
 
 -- these fetches lead through a step to a value, whatever comes next, and the answer shows this of it
@@ -36,6 +39,10 @@ LeadsJob (Some (Comparing auction servers book1 book2 s out)) fetches answer =
     LeadsToShow (both_errand auction servers book1 book2)
     (λ both answer. ShowsTheSame s out (first_book both) (words_read both) (second_book both) answer) fetches answer
     ⊎ LeadsToStop (compared_errand auction servers book1 book2 s) fetches answer
+LeadsJob (Some (ComparingForTwo auction servers book1 book2 two out)) fetches answer =
+    LeadsToShow (both_of_five auction servers book1 book2)
+    (λ both answer. ShowsTheSameForTwo two.0 two.1 out both.first (second_of_five both) answer) fetches answer
+    ⊎ LeadsToStop (compared_for_two auction servers book1 book2 two.0 two.1) fetches answer
 LeadsJob (Some (Auditing auction one two three)) fetches answer =
     LeadsToShow (read_errand auction one two three) TellsFinding fetches answer
     ⊎ LeadsToStop (read_errand auction one two three) fetches answer

@@ -8,7 +8,7 @@ use Rattle.beet_errand.specs.declared.answer.Refusal.{Refusal}
 use Rattle.beet_errand.specs.declared.answer.Refusal.TheVariants.{Usage, ReadFault, BadFile, TooFewWords, Own}
 use Rattle.beet_load.specs.WordTexts.{too_few_text, server_short_text}
 use Rattle.beet_two_books.specs.declared.agreeing.MapFault.{MapFault}
-use Rattle.beet_job_worlds.specs.Ending.{IsLineOf as IsLineFor}
+use Rattle.beet_book_differences.specs.Refusals.{IsLineOf as IsLineFor}
 use Rattle.beet_audit.specs.declared.fault.AuditFault.{AuditFault}
 use Rattle.beet_audit.specs.declared.fault.AuditFault.TheVariants.{OutOfMemory as MemoryOut}
 use Rattle.beet_job_audit.specs.Refusals.{fault_text}

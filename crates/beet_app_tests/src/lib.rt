@@ -4,16 +4,4 @@
 #![tactic(auto)]
 
 #[cfg(test)]
-mod meeting;
-#[cfg(test)]
-mod refused;
-#[cfg(test)]
-mod sales;
-#[cfg(test)]
-mod sessions;
-#[cfg(test)]
-mod sources;
-#[cfg(test)]
 mod tests;
-#[cfg(test)]
-mod transcript;

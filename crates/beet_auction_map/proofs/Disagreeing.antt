@@ -4,7 +4,7 @@ use Rattle.beet_field.specs.declared.point.Point.{Point}
 use Rattle.beet_bids.specs.Books.{Book}
 use Rattle.beet_two_books.specs.Agreement.{Agree, AgreeFor}
 use Rattle.beet_two_books.specs.Disagreement.{KnownDiffersAt, RefusesFor}
-use Rattle.beet_auction_map.specs.Disagreement.{Refuses, RefusesMap}
+use Rattle.beet_auction_map.specs.Disagreement.{Refuses}
 use Rattle.beet_two_books.specs.declared.agreeing.MapFault.{MapFault}
 use Rattle.beet_two_books.specs.declared.agreeing.MapFault.TheVariants.{ShapeDiffers, OwnBidsDiffer, OutcomesDiffer, OutOfMemory}
 
@@ -27,10 +27,3 @@ module _ (knows : Point → Bool) (me : Point) (alone : (s : Point) → knows s 
       (marks, (n, e, subst (λ s. KnownDiffersAt s first.bidders second.bidders n) (alone d.server d.is_known) d.here))
   refuses-one (OutcomesDiffer one other) (marks, own, r) = (marks, own me here, r)
   refuses-one OutOfMemory r = absurd r
-
--- books that are refused are not mapped
-pub refused-map : (s : Point) (first second : Book) (fault : MapFault) → Refuses s first second fault → RefusesMap s first second fault
-refused-map s first second (ShapeDiffers n) r = r
-refused-map s first second (OwnBidsDiffer n) r = r
-refused-map s first second (OutcomesDiffer one other) r = r
-refused-map s first second OutOfMemory r = absurd r

@@ -1,14 +1,14 @@
 -- All that is said of the words of the second world.
-use Rattle.std.specs.Prelude.{◌≡◌, ℕ, List, All, length}
+use Rattle.std.specs.Prelude.{◌≡◌, ℕ, List, map}
 use Rattle.beet_field.specs.declared.point.Point.{Point}
 use Rattle.beet_words.specs.Bundles.{Words}
-use Rattle.beet_words.specs.Words.{IsWord}
 use Rattle.beet_bids.specs.Books.{Book}
 use Rattle.beet_delivery.specs.Events.{Triple}
 use Rattle.beet_sharing.specs.Runs.{HasRounds}
+use Rattle.beet_trades.specs.ListsMapped.{ListsMapped}
 use Rattle.beet_two_books.specs.Agreement.{Agree}
 use Rattle.beet_auction_map.specs.Enough.{AreEnough}
-use Rattle.beet_auction_map.specs.MappedBidders.{BiddersMapped}
+use Rattle.beet_auction_map.specs.MappedBidders.{party_of}
 use Rattle.beet_auction_map.specs.MappedWords.{IsOnlyFirst, IsOnlySecond, Mapped}
 use Rattle.beet_auction.specs.Setups.{setup_for, rounds_for}
 use Rattle.beet_auction_map.specs.Moments.{SameAfter}
@@ -30,10 +30,7 @@ pub record HasBidders (s : Point) (first : Book) (words : Words) (second : Book)
     Type 0 where
   pub enough : AreEnough first words
   pub agree : Agree s first second
-  pub count : length bidders ≡ length words.bidders
-  pub mapped : BiddersMapped s first.bidders words.bidders second.bidders bidders
-  pub below : All (λ list. All IsWord list) words.bidders
-  pub below' : All (λ list. All IsWord list) bidders
+  pub bidders_mapped : ListsMapped s (map party_of first.bidders) (map party_of second.bidders) words.bidders bidders
 
 -- words of two worlds: mapped in the one way there is, enough for the second book, and server s cannot tell which is
 -- which

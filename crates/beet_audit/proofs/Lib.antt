@@ -1,5 +1,6 @@
 pub mod VerdictFacts
 pub mod PointFacts
+pub mod PartFacts
 pub mod BidFacts
 pub mod RoundFacts
 pub mod OneRunFacts

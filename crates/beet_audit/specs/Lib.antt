@@ -1,3 +1,4 @@
 pub mod Verdicts
 pub mod Audits
 pub mod OneRuns
+pub mod Parts

@@ -27,6 +27,8 @@ use beet_search::AuctionScript;
 use beet_server::ServerCore;
 use beet_view::View;
 use std::alloc::Global;
+use std::marker::Sync;
+use std::thread::Threads;
 
 /// How the run of three views ended, and after how many rounds.
 #[derive(Clone, Copy, PartialEq, Eq, Debug)]
@@ -60,10 +62,15 @@ fn compare(
 /// Whether three views are those of servers 1, 2 and 3 in one run of the auction over the grid, or the first thing that
 /// is wrong.
 ///
-/// First the headers are compared, then each bidder is looked at, and then the tapes are counted. Then three servers
-/// run the auction again on the points and the tapes of the views, and the rounds and the messages of the views are
-/// compared with those of this run.
-pub fn audit(alloc: Global, grid: &Grid, views: &Trio<View>) -> Result<Audited, AuditFault>
+/// First the headers are compared, then each bidder is looked at, by a thread for each processor, and then the tapes
+/// are counted. Then three servers run the auction again on the points and the tapes of the views, and the rounds and
+/// the messages of the views are compared with those of this run.
+pub fn audit<R: Threads + Sync>(
+    rt: &R,
+    alloc: Global,
+    grid: &Grid,
+    views: &Trio<View>,
+) -> Result<Audited, AuditFault>
     ensures found { Judges (Finds grid.now views.now) result }
     ensures one_run { MatchResult result (λ audited. OneRun grid.now views.now)
         (λ fault. fault ≢ Memory → OneRun grid.now views.now → ⊥) }
@@ -73,7 +80,7 @@ pub fn audit(alloc: Global, grid: &Grid, views: &Trio<View>) -> Result<Audited, 
         ≡ book_rounds (recombined_book grid.now views.now) (of_each (λ view. view.masks) views.now)) }
 {
     check_headers(grid, views)?;
-    check_bidders(alloc, grid, views)?;
+    check_bidders(rt, alloc, grid, views)?;
     check_tapes(grid, views)?;
     let cores = run_again(alloc, grid, views)?;
     let audited = compare(views, &cores);

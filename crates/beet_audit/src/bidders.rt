@@ -1,6 +1,6 @@
 //! Whether each bidder of three views bids a curve.
 
-ghost use Rattle.std.specs.Prelude.{◌≡◌, ◌<◌, ◌≤◌, ◌*◌, ℕ, IfOk, length};
+ghost use Rattle.std.specs.Prelude.{◌≡◌, ◌<◌, ◌≤◌, ◌*◌, ◌+◌, ℕ, IfOk, length};
 ghost use Rattle.beet_field.specs.Trio.{member};
 ghost use Rattle.beet_field.specs.declared.point.Point.{Point};
 ghost use Rattle.beet_shamir.specs.Line.{AreElements};
@@ -9,6 +9,7 @@ ghost use Rattle.beet_bids.specs.declared.grid.TheConstants.{MOST_PRICES};
 ghost use Rattle.beet_book.specs.Totals.{points_on};
 ghost use Rattle.beet_view.specs.Views.{IsView};
 ghost use Rattle.beet_audit.specs.Audits.{HasPoints, HaveElements, HeaderFits, OneBidder, points_of_bidder};
+ghost use Rattle.beet_audit.specs.Parts.{CanJudge, JudgesPart};
 ghost use Rattle.beet_audit.specs.Verdicts.{EachBelow, Judges};
 
 use crate::curves::{check_lines, check_monotone};
@@ -16,8 +17,11 @@ use crate::fault::{AuditFault, Side};
 use crate::knowing::check_known;
 use beet_bids::Grid;
 use beet_field::Trio;
+use beet_parts::{Parts, in_parts};
 use beet_view::View;
 use std::alloc::Global;
+use std::marker::Sync;
+use std::thread::Threads;
 
 /// Refuses a bidder at the first thing that is wrong with it.
 fn check_bidder(
@@ -42,8 +46,77 @@ fn check_bidder(
     Ok(())
 }
 
+/// Refuses the first of so many bidders from one on with which something is wrong.
+fn check_in_order(
+    alloc: Global,
+    grid: &Grid,
+    views: &Trio<View>,
+    from: usize,
+    count: usize,
+) -> Result<(), AuditFault>
+    requires { CanJudge grid.now views.now from count }
+    ensures bidders { Judges (EachBelow count (λ k. OneBidder grid.now.prices views.now (from + k))) result }
+    ensures elements { IfOk result (λ done. (k : ℕ) → k < count → (n : ℕ) → n < 2 * grid.now.prices
+        → AreElements (points_on (points_of_bidder views.now (from + k)) n)) }
+{
+    let prices = grid.prices();
+    for place in 0..count {
+        check_bidder(alloc, views, (from + place) as u32, prices)?;
+    }
+    Ok(())
+}
+
+/// The bidders of three views over a grid.
+#[derive(Drop)]
+struct Bidders<'a> {
+    grid: &'a Grid,
+    views: &'a Trio<View>,
+}
+
+impl Parts<(), Result<(), AuditFault>> for Bidders<'_> {
+    ghost use Rattle.beet_audit.specs.Parts.{CanJudge, JudgesPart, judge-splits};
+
+    ghost can = { λ s from count own. CanJudge s.grid.now s.views.now from count };
+
+    ghost does = { λ s from count old new result. JudgesPart s.grid.now s.views.now from count result };
+
+    ghost splits = { λ s from few rest front back least. judge-splits s.grid.now s.views.now from few rest };
+
+    fn in_order(
+        &self,
+        alloc: Global,
+        from: usize,
+        count: usize,
+        _own: &mut [()],
+    ) -> Result<(), AuditFault> {
+        check_in_order(alloc, self.grid, self.views, from, count)
+    }
+
+    fn join(
+        &self,
+        few: Result<(), AuditFault>,
+        rest: Result<(), AuditFault>,
+    ) -> Result<(), AuditFault> {
+        few.and(rest)
+    }
+}
+
+/// Refuses the first of so many bidders with which something is wrong. They are judged by a thread for each processor.
+fn check_in_parts<R: Threads + Sync>(
+    rt: &R,
+    alloc: Global,
+    bidders: &Bidders<'_>,
+    count: usize,
+) -> Result<(), AuditFault>
+    requires can { CanJudge bidders.now.grid.now bidders.now.views.now 0 count }
+    ensures { JudgesPart bidders.now.grid.now bidders.now.views.now 0 count result }
+{
+    in_parts(rt, alloc, bidders, count, &mut [])
+}
+
 /// Refuses the first bidder with which something is wrong.
-pub(crate) fn check_bidders(
+pub(crate) fn check_bidders<R: Threads + Sync>(
+    rt: &R,
     alloc: Global,
     grid: &Grid,
     views: &Trio<View>,
@@ -53,10 +126,6 @@ pub(crate) fn check_bidders(
     ensures bidders { Judges (EachBelow (length views.now.one.bidders) (OneBidder grid.now.prices views.now)) result }
     ensures elements { IfOk result (λ done. HaveElements grid.now views.now) }
 {
-    let prices = grid.prices();
-    let count = views.one.bidders().len() as u32;
-    for bidder in 0..count {
-        check_bidder(alloc, views, bidder, prices)?;
-    }
-    Ok(())
+    let count = views.one.bidders().len();
+    check_in_parts(rt, alloc, &Bidders { grid, views }, count)
 }

@@ -3,28 +3,4 @@
 #![tactic(auto)]
 
 #[cfg(test)]
-mod bids;
-#[cfg(test)]
-mod book;
-#[cfg(test)]
-mod farmer;
-#[cfg(test)]
-mod field;
-#[cfg(test)]
-mod forms;
-#[cfg(test)]
-mod longest;
-#[cfg(test)]
-mod notice;
-#[cfg(test)]
-mod parts;
-#[cfg(test)]
-mod printing;
-#[cfg(test)]
-mod sale;
-#[cfg(test)]
-mod samples;
-#[cfg(test)]
-mod store;
-#[cfg(test)]
-mod words;
+mod tests;

@@ -1,4 +1,2 @@
-mod Standing
-mod Counts
 pub mod Named
 pub mod Reading

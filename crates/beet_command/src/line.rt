@@ -1,6 +1,6 @@
 //! The words of a command, by their count.
 
-ghost use Rattle.std.specs.Prelude.{◌≡◌, map, string_bytes};
+ghost use Rattle.std.specs.Prelude.{[], ◌≡◌, ◌<◌, get_or, length, map, string_bytes};
 ghost use Rattle.beet_command.specs.Lines.{words_in, words_read};
 
 /// A command and the words after it, of which there are as many as the name says.
@@ -16,46 +16,54 @@ pub enum Line<'a> {
     Other,
 }
 
+/// The word at a place.
+fn at(words: &[String], place: usize) -> &str
+    requires { place < length words.now }
+    ensures { result.now ≡ get_or (map string_bytes words.now) place [] }
+{
+    words[place].as_str()
+}
+
 /// The command and its words, by their count.
 pub fn read_line(words: &[String]) -> Line<'_>
     ensures { words_read result ≡ words_in (map string_bytes words.now) }
 {
-    match words {
-        [name, a, b] => Line::Two(name.as_str(), a.as_str(), b.as_str()),
-        [name, a, b, c] => Line::Three(name.as_str(), a.as_str(), b.as_str(), c.as_str()),
-        [name, a, b, c, d] => Line::Four(
-            name.as_str(),
-            a.as_str(),
-            b.as_str(),
-            c.as_str(),
-            d.as_str(),
+    match words.len() {
+        3 => Line::Two(at(words, 0), at(words, 1), at(words, 2)),
+        4 => Line::Three(at(words, 0), at(words, 1), at(words, 2), at(words, 3)),
+        5 => Line::Four(
+            at(words, 0),
+            at(words, 1),
+            at(words, 2),
+            at(words, 3),
+            at(words, 4),
         ),
-        [name, a, b, c, d, e] => Line::Five(
-            name.as_str(),
-            a.as_str(),
-            b.as_str(),
-            c.as_str(),
-            d.as_str(),
-            e.as_str(),
+        6 => Line::Five(
+            at(words, 0),
+            at(words, 1),
+            at(words, 2),
+            at(words, 3),
+            at(words, 4),
+            at(words, 5),
         ),
-        [name, a, b, c, d, e, f] => Line::Six(
-            name.as_str(),
-            a.as_str(),
-            b.as_str(),
-            c.as_str(),
-            d.as_str(),
-            e.as_str(),
-            f.as_str(),
+        7 => Line::Six(
+            at(words, 0),
+            at(words, 1),
+            at(words, 2),
+            at(words, 3),
+            at(words, 4),
+            at(words, 5),
+            at(words, 6),
         ),
-        [name, a, b, c, d, e, f, g] => Line::Seven(
-            name.as_str(),
-            a.as_str(),
-            b.as_str(),
-            c.as_str(),
-            d.as_str(),
-            e.as_str(),
-            f.as_str(),
-            g.as_str(),
+        8 => Line::Seven(
+            at(words, 0),
+            at(words, 1),
+            at(words, 2),
+            at(words, 3),
+            at(words, 4),
+            at(words, 5),
+            at(words, 6),
+            at(words, 7),
         ),
         _ => Line::Other,
     }

@@ -39,8 +39,11 @@ use Rattle.beet_world.specs.Worlds.{named_in}
 use Rattle.beet_world.specs.declared.schedule.Delivery.{Delivery}
 use Rattle.beet_world.specs.declared.schedule.TheConstants.{SCHEDULE_LIMIT}
 use Rattle.beet_two_books.specs.declared.agreeing.MapFault.{MapFault}
-use Rattle.beet_errand.specs.Errands.{Errand, answers, bad_file, reads}
+use Rattle.beet_errand.specs.Errands.{Errand, Step, answers, bad_file, reads}
+use Rattle.beet_errand.specs.Overs.{ReadsTo}
+use Rattle.beet_errand.specs.declared.answer.Status.{Status}
 use Rattle.beet_errand.specs.declared.answer.Status.TheVariants.{Done, MasksSpent as Spent}
+use Rattle.beet_differences.specs.Comparing.{compared}
 use Rattle.beet_load.specs.Counts.{counts_of, words_wanted}
 use Rattle.beet_load.specs.Wanted.{wanted_of}
 use Rattle.beet_load.specs.Farmers.{farmers_errand}
@@ -70,17 +73,20 @@ use Rattle.beet_weights.specs.Quadratics.{of_five}
 use Rattle.beet_coalition.specs.Lists.{at_server}
 use Rattle.beet_five_load.specs.FiveLoading.{five_loaded_errand}
 use Rattle.beet_job_five.specs.Five.{five_errand}
-use Rattle.beet_job_worlds.specs.Differences.{difference_between}
-use Rattle.beet_job_worlds.specs.Ending.{compared_errand, unless_differing}
-use Rattle.beet_job_worlds.specs.Reading.{Both, both_errand, first_book, second_book, words_read}
+use Rattle.beet_book_differences.specs.Differences.{refused_text}
+use Rattle.beet_job_worlds.specs.Ending.{compared_errand, difference_read, unless_differing}
+use Rattle.beet_job_worlds.specs.Reading.{both_errand, first_book, second_book, words_read}
 use Rattle.beet_job_worlds.proofs.DifferenceFacts.{no-difference}
+use Rattle.beet_job_five_worlds.specs.Ending.{compared_errand as compared_for_two, difference_for_two}
+use Rattle.beet_job_five_worlds.specs.Reading.{BothOfFive, both_errand as both_of_five, second_book as second_of_five}
+use Rattle.beet_job_five_worlds.proofs.DifferenceForTwo.{no-difference as none-for-two}
 use Rattle.beet_command.specs.Words.{are_names}
-use Rattle.beet_app.specs.Jobs.{Answering, Auditing, Comparing, Job, job_of, seal_of}
+use Rattle.beet_app.specs.Jobs.{Answering, Auditing, Comparing, ComparingForTwo, Job, job_of, seal_of, two_of_five}
 use Rattle.beet_app_laws.specs.Calls.{Call}
 use Rattle.beet_app_laws.specs.Dues.{IsDue}
-use Rattle.beet_app_laws.specs.Dues.{status_of_first}
+use Rattle.beet_app_laws.specs.Dues.{status_of_first, status_of_first_of_five}
 use Rattle.beet_completeness_laws.specs.Complete.{CanAudit, CanCompare, CanOpen, CanRehearse, CanClear, CanSeal, CanTally}
-use Rattle.beet_completeness_laws.specs.Complete.{CanRunFive, CanRunTrial, CanWitness, MasksSufficeFor}
+use Rattle.beet_completeness_laws.specs.Complete.{CanCompareForTwo, CanRunFive, CanRunTrial, CanWitness, MasksSufficeFor}
 use Rattle.beet_completeness_laws.specs.WithoutFault.{IsDoneOrShort, RunsWithoutFault}
 use Rattle.beet_completeness_laws.proofs.Audits.{audit-done}
 use Rattle.beet_completeness_laws.proofs.Leading.{IsDoneOver, book-done, book-ends, done-or-short, passes, passes-both}
@@ -234,17 +240,34 @@ module _ (files : List File) where
 
   -- ---- two worlds
 
+  -- two worlds that are read, with no difference between them, go on to the status of a run that is done
+  going-on : {A : Type 0} (step : Step A) (difference : A → Option MapFault) (end : A → Status) (both : A) →
+      ReadsTo files step both → difference both ≡ None → Done ≡ end both →
+      IsDoneOver files (compared refused_text difference step (λ both. answers (end both) []))
+  going-on step difference end both read none done =
+      then-done files step both _ read (
+      passes-done files (unless_differing (difference both)) (answers (end both) [])
+      (ap (λ (d : Option MapFault). unless_differing d (answers (end both) [])) none) done)
+
   pub compared-done : (auction servers list1 list2 server : List ℕ)
       (can : CanCompare files auction servers list1 list2 server) →
       IsDoneOver files (compared_errand auction servers list1 list2 can.s (λ both. answers (status_of_first both) []))
   compared-done auction servers list1 list2 server can =
-      let both : Both = can.both in
-      let difference = difference_between can.s (first_book both) (second_book both) in
-      then-done files (both_errand auction servers list1 list2) both _ can.both_read (
-      passes-done files (unless_differing difference) (answers (status_of_first both) [])
-      (ap (λ (d : Option MapFault). unless_differing d (answers (status_of_first both) []))
-      (no-difference can.s (first_book both) (second_book both) can.agree))
-      (book-done (first_book both) (words_read both).masks can.masks))
+      let first = first_book can.both in
+      going-on (both_errand auction servers list1 list2) (difference_read can.s) status_of_first can.both can.both_read
+      (no-difference can.s first (second_book can.both) can.agree) (book-done first (words_read can.both).masks can.masks)
+
+  pub compared-for-two-done : (auction servers list1 list2 one other : List ℕ)
+      (can : CanCompareForTwo files auction servers list1 list2 one other) →
+      IsDoneOver files
+      (compared_for_two auction servers list1 list2 can.two.0 can.two.1 (λ both. answers (status_of_first_of_five both) []))
+  compared-for-two-done auction servers list1 list2 one other can =
+      let first = can.both.first in
+      going-on (both_of_five auction servers list1 list2)
+      (λ (both : BothOfFive). difference_for_two can.two.0 can.two.1 both.first.book (second_of_five both))
+      status_of_first_of_five can.both can.both_read
+      (none-for-two can.two.0 can.two.1 first.book (second_of_five can.both) can.agree)
+      (search-done first.book (mask_among (of_five (at_server first.words.masks))) can.masks)
 
 -- ---- jobs
 
@@ -350,3 +373,13 @@ module _ (files : List File) (call : Call) where
       (passes (are_names (auction ∷ servers ∷ list1 ∷ list2 ∷ out ∷ []))
       (option_map job_at (server_of server)) w.job w.named ∙ ap (option_map job_at) can.server_is)
       (compared-done files auction servers list1 list2 server can)
+
+  pub five_worlds : (auction servers list1 list2 one other out : List ℕ) →
+      RunsWithoutFault files (codes "five_worlds" ∷ auction ∷ servers ∷ list1 ∷ list2 ∷ one ∷ other ∷ out ∷ []) call →
+      CanCompareForTwo files auction servers list1 list2 one other → IsDoneOrShort call
+  five_worlds auction servers list1 list2 one other out w can =
+      let job_of_two : ℕ × ℕ → Job = λ two. ComparingForTwo auction servers list1 list2 two out in
+      done-or-short files _ call w (Some (job_of_two can.two))
+      (passes (are_names (auction ∷ servers ∷ list1 ∷ list2 ∷ out ∷ []))
+      (option_map job_of_two (two_of_five one other)) w.job w.named ∙ ap (option_map job_of_two) can.two_are)
+      (compared-for-two-done files auction servers list1 list2 one other can)

@@ -29,6 +29,9 @@ use Rattle.beet_job_trial.specs.Sizes.{sizes_of}
 use Rattle.beet_weights.specs.Quadratics.{of_five}
 use Rattle.beet_coalition.specs.Lists.{at_server}
 use Rattle.beet_five_load.specs.FiveLoading.{FiveRead, five_loaded_errand}
+use Rattle.beet_five_map.specs.FiveWorlds.{Agree as AgreeForTwo}
+use Rattle.beet_job_five_worlds.specs.Reading.{BothOfFive, both_errand as both_of_five, second_book as second_of_five}
+use Rattle.beet_app.specs.Jobs.{two_of_five}
 use Rattle.beet_audit.specs.Audits.{recombined_book}
 use Rattle.beet_audit.specs.OneRuns.{OneRun}
 use Rattle.beet_job_audit.specs.Reading.{read_errand}
@@ -61,12 +64,16 @@ pub record CanClear (files : List File) (step : Step AuctionWithBidders) : Type 
   pub loaded_read : ReadsTo files step loaded
   pub masks : MasksSufficeFor (book_with loaded.grid loaded.farmers) (masks_of loaded.servers)
 
+-- so do the masks of five servers for the auction that is read
+abbrev pub MasksSufficeAmongFive : FiveRead → Type 0
+MasksSufficeAmongFive read =
+    Suffice read.book.grid.prices (clearing_place read.book) (mask_among (of_five (at_server read.words.masks)))
+
 -- `five`: an auction among five servers is read with their words and its book, and their masks suffice
 pub record CanRunFive (files : List File) (auction servers book : List ℕ) : Type 0 where
   pub read : FiveRead
   pub is_read : ReadsTo files (five_loaded_errand auction servers book) read
-  pub masks : Suffice read.book.grid.prices (clearing_place read.book)
-      (mask_among (of_five (at_server read.words.masks)))
+  pub masks : MasksSufficeAmongFive read
 
 -- `rehearse`: an auction is read as for `clear`, its masks suffice, and a schedule is read
 pub record CanRehearse (files : List File) (auction servers book name : List ℕ) (loaded : AuctionWithBidders)
@@ -110,6 +117,16 @@ pub record CanCompare (files : List File) (auction servers book1 book2 server : 
   pub both_read : ReadsTo files (both_errand auction servers book1 book2) both
   pub agree : Agree s (first_book both) (second_book both)
   pub masks : MasksSufficeFor (first_book both) (words_read both).masks
+
+-- `five_worlds`: two books are read among five servers, they agree for the two that the words name, and the masks
+-- suffice
+pub record CanCompareForTwo (files : List File) (auction servers book1 book2 one other : List ℕ) : Type 0 where
+  pub two : ℕ × ℕ
+  pub two_are : two_of_five one other ≡ Some two
+  pub both : BothOfFive
+  pub both_read : ReadsTo files (both_of_five auction servers book1 book2) both
+  pub agree : AgreeForTwo two.0 two.1 both.first.book (second_of_five both)
+  pub masks : MasksSufficeAmongFive both.first
 
 -- `audit`: three transcripts are read that are of one run, and its masks suffice
 pub record CanAudit (files : List File) (auction one two three : List ℕ) : Type 0 where

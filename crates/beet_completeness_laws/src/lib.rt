@@ -21,8 +21,9 @@ ghost use Rattle.beet_job_rehearse.specs.Standings.{ended_alike};
 ghost use Rattle.beet_job_rehearse.specs.StandingTexts.{rehearsal_text};
 ghost use Rattle.beet_app_laws.specs.Calls.{Call, Says};
 ghost use Rattle.beet_app_laws.specs.Held.{IsHeld};
-ghost use Rattle.beet_completeness_laws.specs.Complete.{CanAudit, CanCompare, CanOpen, CanRehearse, CanClear, CanSeal};
-ghost use Rattle.beet_completeness_laws.specs.Complete.{CanRunFive, CanRunTrial, CanTally, CanWitness};
+ghost use Rattle.beet_completeness_laws.specs.Complete.{CanAudit, CanCompare, CanCompareForTwo, CanOpen, CanRehearse};
+ghost use Rattle.beet_completeness_laws.specs.Complete.{CanClear, CanRunFive, CanRunTrial, CanSeal, CanTally};
+ghost use Rattle.beet_completeness_laws.specs.Complete.{CanWitness};
 ghost use Rattle.beet_completeness_laws.specs.Kinds.{FileKind, ValueOf};
 ghost use Rattle.beet_completeness_laws.specs.WithoutFault.{IsDoneOrShort, RunsWithoutFault};
 
@@ -72,6 +73,10 @@ pub fn what_is_right_is_done()
     ensures worlds { (files : List File) (auction servers book1 book2 server out : List ℕ) (call : Call) →
         RunsWithoutFault files (codes "worlds" ∷ auction ∷ servers ∷ book1 ∷ book2 ∷ server ∷ out ∷ []) call →
         CanCompare files auction servers book1 book2 server → IsDoneOrShort call }
+    ensures five_worlds { (files : List File) (auction servers book1 book2 one other out : List ℕ) (call : Call) →
+        RunsWithoutFault files
+        (codes "five_worlds" ∷ auction ∷ servers ∷ book1 ∷ book2 ∷ one ∷ other ∷ out ∷ []) call →
+        CanCompareForTwo files auction servers book1 book2 one other → IsDoneOrShort call }
     ensures audit { (files : List File) (auction one two three : List ℕ) (call : Call) →
         RunsWithoutFault files (codes "audit" ∷ auction ∷ one ∷ two ∷ three ∷ []) call →
         CanAudit files auction one two three → IsDoneOrShort call }

@@ -8,4 +8,5 @@ pub mod FewWords
 pub mod OtherEnvelopes
 pub mod TwoBooks
 pub mod OneServer
+pub mod TwoOfFive
 pub mod Premises

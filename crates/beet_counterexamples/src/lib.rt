@@ -4,9 +4,11 @@
 //! There is no code here: the laws are contracts of functions that do nothing.
 #![tactic(auto)]
 
+mod five;
 mod headline;
 mod instances;
 
+pub use five::{the_premises_of_five_are_met, two_of_five_are_told_no_bid};
 pub use headline::{
     a_finish_tells_the_outcome, all_ends_are_alike_by_definition, no_other_count_or_rounds,
     one_server_is_told_no_bid, only_books_that_agree_look_the_same,

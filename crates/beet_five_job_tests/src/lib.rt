@@ -4,8 +4,4 @@
 #![tactic(auto)]
 
 #[cfg(test)]
-mod five;
-#[cfg(test)]
-mod servers;
-#[cfg(test)]
-mod worlds;
+mod tests;

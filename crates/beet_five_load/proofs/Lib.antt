@@ -1,4 +1,5 @@
 pub mod FiveSteps
+pub mod RestSteps
 pub mod SeedRows
 pub mod Gating
 pub mod ReadServers

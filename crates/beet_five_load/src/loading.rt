@@ -9,7 +9,7 @@ ghost use Rattle.beet_five_load.specs.FiveDealing.{AreDealt};
 ghost use Rattle.beet_five_load.specs.FiveLoading.{IsFiveKeptOf, five_loaded_errand, five_rest_errand};
 ghost use Rattle.beet_five_load.specs.FiveWants.{wanted_of_five};
 
-use crate::servers::read_seeded_servers;
+use crate::servers::read_servers;
 use crate::setting::{FiveSetting, read_five_setting};
 use crate::wanted::five_wants;
 use beet_bids::Grid;
@@ -82,8 +82,7 @@ fn load_rest<S: Shelf>(
     ensures { ReadsFor IsFiveKeptOf (S.seen shelf.old) (S.seen shelf.new) (five_rest_errand setting.now) result }
 {
     let grid = setting.grid;
-    let wanted = five_wants(&grid);
-    let servers = read_seeded_servers(alloc, shelf, &wanted, setting.seeds.as_slice())?;
+    let servers = read_servers(alloc, shelf, setting)?;
     let totals = deal_farmers(alloc, shelf, &grid, setting.entries.as_slice());
     let (servers, totals) = beside(servers, totals)?;
     let (servers, inputs) = beside(servers, totals.inputs(alloc))?;

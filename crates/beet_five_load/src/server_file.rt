@@ -74,13 +74,11 @@ fn read_seeds(rows: &[Row]) -> Result<Seeds, ReadFault>
     if have_bundle(rows) {
         return Err(ReadFault::at_row(2, BAD_SOURCE));
     }
-    Ok([
-        seed_at(rows, 2, b"1")?,
-        seed_at(rows, 3, b"2")?,
-        seed_at(rows, 4, b"3")?,
-        seed_at(rows, 5, b"4")?,
-        seed_at(rows, 6, b"5")?,
-    ])
+    let mut seeds = [[0; 32]; 5];
+    for i in 0..5 {
+        seeds[i] = seed_at(rows, i as u32 + 2, &[b'1' + i as u8])?;
+    }
+    Ok(seeds)
 }
 
 /// Whether the first of the rows is the header.

@@ -4,7 +4,10 @@ ghost use Rattle.std.specs.Prelude.{◌≡◌, ◌≤◌, ◌++◌, ◌∷◌, [
 ghost use Rattle.beet_errand.specs.Fetches.{Reads, ReadsFor};
 ghost use Rattle.beet_load.specs.Servers.{server_errand};
 ghost use Rattle.beet_five_load.specs.FiveServers.{AreServing, CanServe, servers_errand};
+ghost use Rattle.beet_five_load.specs.FiveWants.{counts_of_five, wanted_of_five};
 
+use crate::setting::FiveSetting;
+use crate::wanted::five_wants;
 use beet_book::ServerSource;
 use beet_errand::Stop;
 use beet_load::{ServerWords, Wanted, read_server};
@@ -77,7 +80,7 @@ fn read_seeded<S: Shelf>(
 }
 
 /// The words of the servers with these seeds, in order.
-pub(crate) fn read_seeded_servers<S: Shelf>(
+fn read_seeded_servers<S: Shelf>(
     alloc: Global,
     shelf: &mut S,
     wanted: &Wanted,
@@ -93,4 +96,18 @@ pub(crate) fn read_seeded_servers<S: Shelf>(
         lists.push(words)?;
     }
     Ok(lists)
+}
+
+/// The words of the servers of a setting.
+pub(crate) fn read_servers<S: Shelf>(
+    alloc: Global,
+    shelf: &mut S,
+    setting: &FiveSetting,
+) -> Result<ServerLists, Stop>
+    ensures { ReadsFor (AreServing (counts_of_five setting.now.grid) setting.now.seeds)
+        (S.seen shelf.old) (S.seen shelf.new)
+        (servers_errand (wanted_of_five setting.now.grid) [] setting.now.seeds) result }
+{
+    let wanted = five_wants(&setting.grid);
+    read_seeded_servers(alloc, shelf, &wanted, setting.seeds.as_slice())
 }

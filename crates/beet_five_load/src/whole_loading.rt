@@ -13,7 +13,7 @@ ghost use Rattle.beet_five_load.specs.FiveServers.{CanServeAll};
 ghost use Rattle.beet_five_load.specs.FiveWants.{counts_of_five};
 ghost use Rattle.beet_five_load.specs.FiveWholes.{read_of};
 
-use crate::servers::{ServerLists, read_seeded_servers};
+use crate::servers::{ServerLists, read_servers};
 use crate::setting::{FiveSetting, read_five_setting};
 use crate::wanted::five_wants;
 use crate::whole::FiveWhole;
@@ -66,9 +66,9 @@ fn load_whole_rest<S: Shelf>(
     requires within { length setting.now.entries * setting.now.grid.prices ≤ MOST_PRODUCT }
     ensures { Reads read_of (S.seen shelf.old) (S.seen shelf.new) (five_rest_errand setting.now) result }
 {
+    let servers = read_servers(alloc, shelf, setting)?;
     let grid = &setting.grid;
     let wanted = five_wants(grid);
-    let servers = read_seeded_servers(alloc, shelf, &wanted, setting.seeds.as_slice())?;
     let entries = setting.entries.as_slice();
     let farmers = read_farmers(alloc, shelf, &wanted, grid, None, entries);
     let (servers, farmers) = beside(servers, farmers)?;

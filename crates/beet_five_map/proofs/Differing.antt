@@ -1,23 +1,16 @@
--- A refusal of books for two servers.
+-- A refusal of books for two servers, by the servers that watch.
 use Rattle.std.proofs.Common.{◌≡◌, ℕ, Bool, subst}
 use Rattle.beet_field.specs.declared.point.Point.{Point}
 use Rattle.beet_bids.specs.Books.{Book}
 use Rattle.beet_two_books.specs.Disagreement.{RefusesFor}
 use Rattle.beet_two_books.specs.declared.agreeing.MapFault.{MapFault}
-use Rattle.beet_two_books.specs.declared.agreeing.MapFault.TheVariants.{ShapeDiffers, OwnBidsDiffer, OutcomesDiffer, OutOfMemory}
+use Rattle.beet_two_books.proofs.Refused.{refused-map}
 use Rattle.beet_five_map.specs.FiveDisagreement.{Refuses}
-use Rattle.beet_five_map.specs.FiveWorlds.{watching}
+use Rattle.beet_five_map.specs.FiveWorlds.{Agree, watching}
 
-refused : (a b : ℕ) (first second : Book) (fault : MapFault) → RefusesFor (watching a b) first second fault →
-    Refuses a b first second fault
-refused a b first second (ShapeDiffers bidder) r = r
-refused a b first second (OwnBidsDiffer bidder) r = r
-refused a b first second (OutcomesDiffer one other) r = r
-refused a b first second OutOfMemory r = absurd r
-
--- by the servers that watch
 pub refused-for : (a b : ℕ) (knows : Point → Bool) → ((s : Point) → knows s ≡ watching a b s) → (first second : Book) (fault : MapFault) →
     RefusesFor knows first second fault → Refuses a b first second fault
 refused-for a b knows same first second fault r =
     let is : knows ≡ watching a b = λ i s. same s i in
-    refused a b first second fault (subst (λ test. RefusesFor test first second fault) is r)
+    refused-map (Agree a b first second) (RefusesFor (watching a b) first second) (λ never. never) fault
+    (subst (λ test. RefusesFor test first second fault) is r)

@@ -2,9 +2,9 @@
 
 ghost use Rattle.std.specs.Prelude.{◌≡◌, ◌≤◌, ◌*◌, All, IfOk, length, slice_index};
 ghost use Rattle.beet_words.specs.Words.{IsWord, accepted};
-ghost use Rattle.beet_bids.specs.Curves.{IsOfGrid, quantity};
+ghost use Rattle.beet_bids.specs.Curves.{quantity};
 ghost use Rattle.beet_book.specs.Farmers.{farmers_of};
-ghost use Rattle.beet_two_books.specs.Agreement.{marks_of};
+ghost use Rattle.beet_two_books.specs.Agreement.{AreOnePlace, marks_of};
 ghost use Rattle.beet_linear_sharing.specs.Schemes.{five_servers};
 ghost use Rattle.beet_coalition.specs.Moved.{WordsMoved};
 ghost use Rattle.beet_coalition.specs.Watchers.{two_watch};
@@ -12,10 +12,10 @@ ghost use Rattle.beet_five_dealing.specs.FiveWords.{AllAccepted};
 ghost use Rattle.beet_five_map.specs.PairsMoved.{PairsMoved};
 ghost use Rattle.beet_five_map.specs.FiveWorlds.{BidderMapped, BiddersMapped, is_own as is_known};
 
-use beet_bids::{Bidder, Book, Curve, Grid};
+use beet_bids::{Bidder, Book};
 use beet_coalition_map::{Watchers, move_pair};
 use beet_field::Fe;
-use beet_two_books::{pair_at, quantities_of};
+use beet_two_books::{BidderPair, pair_at, quantities_of_both};
 use beet_words::{WordList, numbers_in, put_back};
 use std::alloc::{AllocError, Global};
 
@@ -64,48 +64,24 @@ fn move_words(
     put_back(alloc, list, numbers.as_slice())
 }
 
-/// The words that hide the quantities of the second curve, so that the two servers hold the shares of the first.
-fn move_curve(
-    alloc: Global,
-    two: Watchers,
-    grid: &Grid,
-    first: &Curve,
-    second: &Curve,
-    words: &WordList,
-) -> Result<WordList, AllocError>
-    requires first { IsOfGrid grid.now first.now }
-    requires second { IsOfGrid grid.now second.now }
-    requires enough { 2 * (2 * grid.now.prices) ≤ length (accepted words.now) }
-    ensures { IfOk result (WordsMoved five_servers (two_watch two.a two.b) (2 * grid.now.prices) (quantity first.now)
-        (quantity second.now) words.now) }
-{
-    let was = quantities_of(alloc, grid, first)?;
-    let becomes = quantities_of(alloc, grid, second)?;
-    move_words(alloc, two, was.as_slice(), becomes.as_slice(), words)
-}
-
-/// The words of a bidder in the second world.
+/// The words of the first bidder of a pair in the second world.
 fn words_in_second(
     alloc: Global,
     two: Watchers,
-    grid: &Grid,
-    first: &Bidder,
-    second: &Bidder,
+    pair: &BidderPair<'_>,
     words: &WordList,
 ) -> Result<WordList, AllocError>
-    requires mark { second.now.known ≡ first.now.known }
-    requires first { IsOfGrid grid.now first.now.curve }
-    requires second { IsOfGrid grid.now second.now.curve }
-    requires enough { 2 * (2 * grid.now.prices) ≤ length (accepted words.now) }
-    ensures { IfOk result (λ mapped. BidderMapped two.a two.b grid.now.prices
-        (record { bidder = first.now; words = words.now })
-        (record { bidder = second.now; words = mapped })) }
+    requires pair { AreOnePlace pair.now.grid.now pair.now.first.now pair.now.second.now }
+    requires enough { 2 * (2 * pair.now.grid.now.prices) ≤ length (accepted words.now) }
+    ensures { IfOk result (λ mapped. BidderMapped two.a two.b pair.now.grid.now.prices
+        (record { bidder = pair.now.first.now; words = words.now })
+        (record { bidder = pair.now.second.now; words = mapped })) }
 {
-    if is_own(two, first) {
-        words.copy(alloc)
-    } else {
-        move_curve(alloc, two, grid, &first.curve, &second.curve, words)
+    if is_own(two, pair.first) {
+        return words.copy(alloc);
     }
+    let (was, becomes) = quantities_of_both(alloc, pair)?;
+    move_words(alloc, two, was.as_slice(), becomes.as_slice(), words)
 }
 
 /// The bidders' words of the second world, with which the two servers hold the same shares as with these in the first.
@@ -125,11 +101,10 @@ pub(crate) fn map_bidders(
         (farmers_of first.now.bidders words.now) (farmers_of second.now.bidders mapped.items)) }
     ensures below { IfOk result (λ mapped. All (λ list. All IsWord list) mapped.items) }
 {
-    let grid = first.grid();
     let mut mapped = Vec::with_capacity(alloc, words.len())?;
     for i in 0..words.len() {
-        let (one, other) = pair_at(grid, first, second, i);
-        let list = words_in_second(alloc, two, grid, one, other, &words[i])?;
+        let pair = pair_at(first, second, i);
+        let list = words_in_second(alloc, two, &pair, &words[i])?;
         // A list holds words.
         let _below = list.as_slice();
         mapped.push(list)?;

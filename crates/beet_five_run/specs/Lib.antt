@@ -1,1 +1,2 @@
 pub mod FiveRuns
+pub mod FiveOutcomes

@@ -2,6 +2,4 @@
 #![tactic(auto)]
 
 #[cfg(test)]
-mod servers;
-#[cfg(test)]
-mod world;
+mod tests;

@@ -95,59 +95,51 @@ fn push_hidden(
     Ok(())
 }
 
-/// Appends a server's shares of the quantities of a bidder, which its words hide.
-fn push_shares(
-    alloc: Global,
-    file: &mut Vec<u8>,
+/// A bidder over a grid, who deals by these words, at a server.
+#[derive(Clone, Copy)]
+struct BidderAt<'a> {
     server: u32,
-    grid: &Grid,
-    bidder: &Bidder,
-    words: &WordList,
-) -> Result<(), AllocError>
-    requires { IsOfGrid grid.now bidder.now.curve }
-    ensures { OnOk result (file.new.items ≡ file.old.items ++ numbers_bytes
-        (each (share_for (record { bidder = bidder.now; words = words.now }) server) (2 * grid.now.prices))) }
+    grid: &'a Grid,
+    bidder: &'a Bidder,
+    words: &'a WordList,
+}
+
+/// Appends the server's shares of the quantities of a bidder, which its words hide.
+fn push_shares(alloc: Global, file: &mut Vec<u8>, at: &BidderAt<'_>) -> Result<(), AllocError>
+    requires { IsOfGrid at.now.grid.now at.now.bidder.now.curve }
+    ensures { OnOk result (file.new.items ≡ file.old.items ++ numbers_bytes (each
+        (share_for (record { bidder = at.now.bidder.now; words = at.now.words.now }) at.now.server)
+        (2 * at.now.grid.now.prices))) }
 {
-    let values = quantities_of(alloc, grid, &bidder.curve)?;
-    let numbers = numbers_in(alloc, words.as_slice())?;
-    push_hidden(file, server, &values, &numbers)
+    let values = quantities_of(alloc, at.grid, &at.bidder.curve)?;
+    let numbers = numbers_in(alloc, at.words.as_slice())?;
+    push_hidden(file, at.server, &values, &numbers)
 }
 
 /// Appends the curve and the words of a bidder, if the server knows it.
-fn push_own(
-    file: &mut Vec<u8>,
-    server: u32,
-    bidder: &Bidder,
-    words: &WordList,
-) -> Result<(), AllocError>
+fn push_own(file: &mut Vec<u8>, at: &BidderAt<'_>) -> Result<(), AllocError>
     ensures { OnOk result (file.new.items ≡ file.old.items
-        ++ own_bytes (own_at server (record { bidder = bidder.now; words = words.now }))) }
+        ++ own_bytes (own_at at.now.server (record { bidder = at.now.bidder.now; words = at.now.words.now }))) }
 {
-    let knows = mark_of(bidder.known) == server as u64;
+    let knows = mark_of(at.bidder.known) == at.server as u64;
     if knows {
-        push_numbers(file, bidder.curve.bought())?;
-        push_numbers(file, bidder.curve.sold())?;
-        push_list(file, words)?;
+        push_numbers(file, at.bidder.curve.bought())?;
+        push_numbers(file, at.bidder.curve.sold())?;
+        push_list(file, at.words)?;
     }
     Ok(())
 }
 
-/// Appends a bidder as a server sees it.
-fn push_bidder(
-    alloc: Global,
-    file: &mut Vec<u8>,
-    server: u32,
-    grid: &Grid,
-    bidder: &Bidder,
-    words: &WordList,
-) -> Result<(), AllocError>
-    requires { IsOfGrid grid.now bidder.now.curve }
-    ensures { OnOk result (file.new.items ≡ file.old.items
-        ++ seen_bytes (seen_at grid.now.prices server (record { bidder = bidder.now; words = words.now }))) }
+/// Appends a bidder as the server sees it.
+fn push_bidder(alloc: Global, file: &mut Vec<u8>, at: &BidderAt<'_>) -> Result<(), AllocError>
+    requires { IsOfGrid at.now.grid.now at.now.bidder.now.curve }
+    ensures { OnOk result (file.new.items ≡ file.old.items ++ seen_bytes
+        (seen_at at.now.grid.now.prices at.now.server
+        (record { bidder = at.now.bidder.now; words = at.now.words.now }))) }
 {
-    push_number(file, mark_of(bidder.known))?;
-    push_shares(alloc, file, server, grid, bidder, words)?;
-    push_own(file, server, bidder, words)
+    push_number(file, mark_of(at.bidder.known))?;
+    push_shares(alloc, file, at)?;
+    push_own(file, at)
 }
 
 /// Appends the bidders of a book, who deal by these words, as a server sees them.
@@ -164,7 +156,13 @@ fn push_bidders(
 {
     let bidders = book.bidders();
     for k in 0..bidders.len() {
-        push_bidder(alloc, file, server, book.grid(), &bidders[k], &words[k])?;
+        let at = BidderAt {
+            server,
+            grid: book.grid(),
+            bidder: &bidders[k],
+            words: &words[k],
+        };
+        push_bidder(alloc, file, &at)?;
     }
     Ok(())
 }

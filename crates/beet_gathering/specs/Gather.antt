@@ -1,5 +1,5 @@
--- What is read of the bidders of a list: three envelopes of each.
-use Rattle.std.specs.Prelude.{◌≡◌, ℕ, List, [], ◌∷◌, ◌++◌, length}
+-- What is read of the bidders of a list: three envelopes of each, behind the words of the servers.
+use Rattle.std.specs.Prelude.{◌≡◌, ℕ, List, [], ◌∷◌, ◌++◌, None, length}
 use Rattle.beet_field.specs.declared.point.Point.TheVariants.{One, Two, Three}
 use Rattle.beet_field.specs.declared.trio.Trio.{Trio}
 use Rattle.beet_bids.specs.Grids.{Grid}
@@ -11,7 +11,9 @@ use Rattle.beet_farmer.specs.declared.list_file.ListEntry.{ListEntry}
 use Rattle.beet_errand.specs.Errands.{Step, gives, reads, ◌>>=◌}
 use Rattle.beet_farmer.specs.declared.envelope.TheConstants.{ENVELOPE_LIMIT}
 use Rattle.beet_farmer.specs.declared.list_file.TheConstants.{LIST_LIMIT}
+use Rattle.beet_load.specs.Servers.{ServerWords, all_words_errand}
 use Rattle.beet_load.specs.Settings.{auction_and_servers}
+use Rattle.beet_load.specs.Wanted.{wanted_of}
 
 -- the grid of an auction, where the words of its servers come from, and the entries of its list
 abbrev pub listed_errand : List ℕ → List ℕ → List ℕ → Step (Grid × Servers × List ListEntry)
@@ -34,6 +36,13 @@ bidders_errand grid read [] = gives read
 bidders_errand grid read (entry ∷ entries) = do
   points ← envelopes_errand grid entry.envelopes
   bidders_errand grid (read ++ points ∷ []) entries
+
+-- the words of the servers, and then the points of the bidders; a bundle may have any number of bidders
+abbrev pub sealed_errand : Grid → Servers → List ListEntry → Step (Trio ServerWords × List (Trio (List ℕ)))
+sealed_errand grid sources entries = do
+  words ← all_words_errand (wanted_of None grid) None sources
+  bidders ← bidders_errand grid [] entries
+  gives (words.servers, bidders)
 
 -- the points of bidders, one for each of these entries, are taken
 pub record HasGathered {T : Type 0} (has_taken : Grid → List (Trio (List ℕ)) → T → Type 0) (grid : Grid)

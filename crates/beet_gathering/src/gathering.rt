@@ -1,4 +1,4 @@
-//! Reading the envelopes of the bidders of a list, and handing on their points.
+//! Reading the words of the servers and the envelopes of the bidders of a list, whose points are handed on.
 
 ghost use Rattle.std.specs.Prelude.{◌≡◌, ◌*◌, ◌++◌, ◌∷◌, [], ℕ, IfOk, List, OnOk, length};
 ghost use Rattle.beet_field.specs.declared.trio.Trio.{Trio as Each};
@@ -6,14 +6,18 @@ ghost use Rattle.beet_book.specs.Dealing.{HasLengths};
 ghost use Rattle.beet_farmer.specs.Envelopes.{envelope_of};
 ghost use Rattle.beet_errand.specs.Errands.{reads};
 ghost use Rattle.beet_errand.specs.Fetches.{Reads, ReadsFor};
-ghost use Rattle.beet_gathering.specs.Gather.{HasGathered, bidders_errand, envelopes_errand};
+ghost use Rattle.beet_load.specs.Counts.{counts_of};
+ghost use Rattle.beet_load.specs.Servers.{HaveEnough};
+ghost use Rattle.beet_gathering.specs.Gather.{HasGathered, bidders_errand, envelopes_errand, sealed_errand};
 ghost use Rattle.beet_farmer.specs.declared.envelope.TheConstants.{ENVELOPE_LIMIT};
 
 use beet_bids::Grid;
-use beet_book::{Dealt, Totals};
+use beet_book::{Dealt, Servers, Totals};
 use beet_errand::{Stop, fetch_file, judge};
 use beet_farmer::{ENVELOPE_LIMIT, Envelope, ListEntry, read_envelope};
 use beet_field::{Point, Trio};
+use beet_forms::beside;
+use beet_load::{AllWords, ServerWords, auction_wants, read_words};
 use beet_store::Shelf;
 use std::alloc::{AllocError, Global};
 
@@ -99,7 +103,7 @@ impl Gathers for Totals {
 }
 
 /// Reads the envelopes of each bidder in order, and hands on the points.
-pub fn gather_bidders<S: Shelf, B: Gathers>(
+fn gather_bidders<S: Shelf, B: Gathers>(
     alloc: Global,
     shelf: &mut S,
     grid: &Grid,
@@ -114,4 +118,25 @@ pub fn gather_bidders<S: Shelf, B: Gathers>(
         gathered.take(grid, points)?;
     }
     Ok(gathered)
+}
+
+/// The words of the servers, of which a bundle may have any number of bidders; and what takes the points of the bidders
+/// of a list, whose envelopes are read after the words.
+pub fn gather_with_words<S: Shelf, B: Gathers>(
+    alloc: Global,
+    shelf: &mut S,
+    grid: &Grid,
+    sources: &Servers,
+    entries: &[ListEntry],
+) -> Result<(Trio<ServerWords>, B), Stop>
+    ensures enough { IfOk result (λ read. HaveEnough (counts_of grid.now) read.0) }
+    ensures reads { ReadsFor (λ read sealed. (sealed.0 ≡ read.0)
+        × HasGathered B.has_taken grid.now entries.now read.1 sealed.1) (S.seen shelf.old) (S.seen shelf.new)
+        (sealed_errand grid.now sources.now entries.now) result }
+{
+    let words = read_words(alloc, shelf, &auction_wants(None, grid), sources, None)?;
+    let (words, gathered) = beside(words, gather_bidders::<S, B>(alloc, shelf, grid, entries))?;
+    let AllWords { servers, bidders } = words;
+    drop(bidders);
+    Ok((servers, gathered))
 }

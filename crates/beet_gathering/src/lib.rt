@@ -1,4 +1,4 @@
-//! The bidders of a list: their envelopes are read, one bidder after another.
+//! The bidders of a list: their envelopes are read, one bidder after another, behind the words of the servers.
 #![tactic(auto)]
 
 mod files;
@@ -6,5 +6,5 @@ mod gathering;
 mod list;
 
 pub use files::ListFiles;
-pub use gathering::{Gathers, gather_bidders};
+pub use gathering::{Gathers, gather_with_words};
 pub use list::read_listed;

@@ -7,7 +7,8 @@ use Rattle.beet_sale_file.specs.declared.rows.SaleBid.{SaleBid}
 use Rattle.beet_sale_map.specs.MappedSales.{SalesMapped}
 use Rattle.beet_sale_map.specs.Worlds.{Mapped}
 use Rattle.beet_sale_map.proofs.Pairing.{first-there, second-there}
-use Rattle.beet_highbid.specs.SalePairs.{AreOneSalePair, AreTwoSales, CanSell}
+use Rattle.beet_sale_map.specs.Bids.{AreTwoSales}
+use Rattle.beet_highbid.specs.SalePairs.{AreOneSalePair, CanSell}
 use Rattle.beet_highbid.specs.SaleViews.{sale_bytes}
 use Rattle.beet_highbid.proofs.SeenBids.{views-same}
 

@@ -3,8 +3,8 @@ use Rattle.std.proofs.Common.{◌≡◌, ◌+◌, ◌-◌, List, Some, slice_get
 use Rattle.std.proofs.lemmas.Bool.{cases_eq}
 use Rattle.beet_field.specs.declared.point.Point.{Point}
 use Rattle.beet_sale_file.specs.declared.rows.SaleBid.{SaleBid}
-use Rattle.beet_sale_map.specs.Bids.{SameOwn}
-use Rattle.beet_highbid.specs.SalePairs.{AreTwoSales, DifferInTheWinningBid}
+use Rattle.beet_sale_map.specs.Bids.{AreTwoSales, SameOwn}
+use Rattle.beet_highbid.specs.SalePairs.{DifferInTheWinningBid}
 
 module _ (s : Point) (first second : List SaleBid) (differ : DifferInTheWinningBid s first second) where
   own-same : SameOwn s first second

@@ -5,16 +5,10 @@ use Rattle.beet_gates.specs.declared.Gates.{Gates}
 use Rattle.beet_words.specs.Bundles.{AreWords, Words}
 use Rattle.beet_sale_file.specs.declared.rows.SaleBid.{SaleBid}
 use Rattle.beet_sale_plan.specs.Outcome.{IsSale}
-use Rattle.beet_sale_map.specs.Bids.{Agree, AreSaleBids, HaveOneShape, bids_of}
+use Rattle.beet_sale_map.specs.Bids.{AreSaleBids, HaveOneShape, bids_of}
 use Rattle.beet_sale_map.specs.Enough.{AreEnough}
 use Rattle.beet_sale_map.specs.Worlds.{IsOnlyFirst, IsOnlySecond, Mapped}
 use Rattle.beet_highbid.specs.SaleViews.{sale_transcript, view_of_sale}
-
--- two lists of bids within their limits that agree for server s
-pub record AreTwoSales (s : Point) (first second : List SaleBid) : Type 0 where
-  pub first_bids : AreSaleBids first
-  pub second_bids : AreSaleBids second
-  pub agree : Agree s first second
 
 -- two lists of bids within their limits in which one bidder wins at one price, and no bid but the winner's is another,
 -- which server s does not know

@@ -6,7 +6,8 @@ ghost use Rattle.beet_words.specs.Bundles.{Words};
 ghost use Rattle.std.specs.Prelude.{List};
 ghost use Rattle.beet_sale_file.specs.declared.rows.SaleBid.{SaleBid};
 ghost use Rattle.beet_sale_map.specs.Worlds.{Mapped};
-ghost use Rattle.beet_highbid.specs.SalePairs.{AreOneSalePair, AreTwoSales, CanSell, DifferInTheWinningBid};
+ghost use Rattle.beet_sale_map.specs.Bids.{AreTwoSales};
+ghost use Rattle.beet_highbid.specs.SalePairs.{AreOneSalePair, CanSell, DifferInTheWinningBid};
 
 /// For two sales that agree for a server, which is to say that they have as many bidders with the same marks, the same
 /// bids of the server's own, and the same winner and price, all words with which the first can be run go with exactly

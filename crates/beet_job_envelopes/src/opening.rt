@@ -9,9 +9,8 @@ use beet_bids::Grid;
 use beet_book::{Servers, Totals};
 use beet_errand::{Reply, Stop};
 use beet_farmer::ListEntry;
-use beet_gathering::{ListFiles, gather_bidders, read_listed};
+use beet_gathering::{ListFiles, gather_with_words, read_listed};
 use beet_link::Gate;
-use beet_load::{AllWords, auction_wants, read_words};
 use beet_run::outcome_reply;
 use beet_store::Shelf;
 use std::alloc::Global;
@@ -33,17 +32,7 @@ fn open_entries<S: Shelf, R: Threads + Wait + Clock + Sync, G: Gate>(
     ensures reads { Reads (λ reply. reply) (S.seen shelf.old) (S.seen shelf.new)
         (entries_job grid.now sources.now entries.now) result }
 {
-    let words = read_words(alloc, shelf, &auction_wants(None, grid), sources, None)?;
-    let totals = match gather_bidders::<S, Totals>(alloc, shelf, grid, entries) {
-        Ok(totals) => totals,
-        Err(stop) => {
-            // One call lets them go: else the proof of this way out goes through each of their parts.
-            drop(words);
-            return Err(stop);
-        }
-    };
-    let AllWords { servers, bidders } = words;
-    drop(bidders);
+    let (servers, totals) = gather_with_words::<S, Totals>(alloc, shelf, grid, sources, entries)?;
     let (finish, rounds) = run_auction(rt, alloc, grid, totals.inputs(), servers, gate)?;
     Ok(outcome_reply(alloc, grid, finish, rounds)?)
 }

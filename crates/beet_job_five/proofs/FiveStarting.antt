@@ -6,7 +6,7 @@ use Rattle.beet_run.specs.Outcomes.{outcome_answer}
 use Rattle.beet_five_load.specs.FiveLoading.{FiveRead, FiveWithInputs, IsFiveKeptOf}
 use Rattle.beet_five_run.specs.FiveRuns.{CanStart, EndsBook}
 use Rattle.beet_five_run.proofs.BookStarts.{can-begin}
-use Rattle.beet_job_five.specs.Five.{cleared_by_five}
+use Rattle.beet_five_run.specs.FiveOutcomes.{cleared_by_five}
 
 -- five servers can begin it
 pub can-start : (kept : FiveWithInputs) (read : FiveRead) → IsFiveKeptOf kept read →

@@ -13,7 +13,7 @@ use Rattle.beet_five_map.specs.FiveWorlds.{Agree, AreOnePair}
 use Rattle.beet_five_view.proofs.SameViews.{joint-same}
 use Rattle.beet_five_load.specs.FiveLoading.{FiveRead}
 use Rattle.beet_job_five_worlds.specs.Answering.{ShowsTheSameForTwo, agreed_answer}
-use Rattle.beet_job_worlds.specs.Differences.{refused_text}
+use Rattle.beet_book_differences.specs.Differences.{refused_text}
 use Rattle.beet_job_five_worlds.specs.Ending.{AnswersForTwo, difference_for_two}
 
 module _ (a b : ℕ) (out : List ℕ) (first : FiveRead) (second : Book) where

@@ -11,9 +11,9 @@ use Rattle.beet_differences.specs.Comparing.{TellsApart}
 use Rattle.beet_differences.proofs.Comparing.{apart-memory, apart-told}
 use Rattle.beet_five_map.specs.FiveDisagreement.{Refuses}
 use Rattle.beet_five_map.specs.FiveWorlds.{Agree, watching}
-use Rattle.beet_job_worlds.specs.Differences.{difference_for, refused_text}
-use Rattle.beet_job_worlds.specs.Ending.{TellsRefusal}
-use Rattle.beet_job_worlds.proofs.DifferenceFacts.{none-told, outcomes-told, own-told, shape-told}
+use Rattle.beet_book_differences.specs.Differences.{difference_for, refused_text}
+use Rattle.beet_book_differences.specs.Refusals.{TellsRefusal}
+use Rattle.beet_book_differences.proofs.DifferenceFacts.{none-told, outcomes-told, own-told, shape-told}
 use Rattle.beet_job_five_worlds.specs.Ending.{difference_for_two}
 
 -- a mark that is known names a server that passes the test

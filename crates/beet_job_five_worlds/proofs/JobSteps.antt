@@ -9,7 +9,7 @@ use Rattle.beet_errand.specs.declared.answer.Stop.{Stop}
 use Rattle.beet_two_books.specs.declared.agreeing.MapFault.{MapFault}
 use Rattle.beet_differences.proofs.Comparing.{compared-does, unread-does}
 use Rattle.beet_five_load.specs.FiveLoading.{FiveRead}
-use Rattle.beet_job_worlds.specs.Differences.{refused_text}
+use Rattle.beet_book_differences.specs.Differences.{refused_text}
 use Rattle.beet_job_five_worlds.specs.Reading.{BothOfFive, both_errand, both_of, second_book}
 use Rattle.beet_job_five_worlds.specs.Answering.{ShowsTheSameForTwo}
 use Rattle.beet_job_five_worlds.specs.Ending.{AnswersForTwo, difference_for_two, five_worlds_task}

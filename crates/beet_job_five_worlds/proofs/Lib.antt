@@ -1,5 +1,5 @@
 mod SeenCores
 mod FewMapped
-mod DifferenceForTwo
+pub mod DifferenceForTwo
 mod BookAnswers
 mod JobSteps

@@ -9,7 +9,7 @@ use Rattle.beet_five_load.specs.FiveLoading.{FiveRead}
 use Rattle.beet_five_map.specs.FiveWorlds.{Agree, AreOnePair}
 use Rattle.beet_five_view.specs.JointBooks.{joint_transcript, joint_view_of}
 use Rattle.beet_five_view.specs.WordsFiles.{words_bytes}
-use Rattle.beet_job_five.specs.Five.{cleared_by_five}
+use Rattle.beet_five_run.specs.FiveOutcomes.{cleared_by_five}
 
 -- the answer of the job `five` for the first book, which tells besides that the transcripts are equal, and puts what
 -- the two servers have seen in either world, and the words of the second

@@ -10,7 +10,7 @@ use Rattle.beet_errand.specs.declared.answer.Stop.{Stop}
 use Rattle.beet_differences.specs.Comparing.{AnswersBoth, compared}
 use Rattle.beet_five_map.specs.FiveWorlds.{watching}
 use Rattle.beet_five_load.specs.FiveLoading.{FiveRead}
-use Rattle.beet_job_worlds.specs.Differences.{difference_for, refused_text}
+use Rattle.beet_book_differences.specs.Differences.{difference_for, refused_text}
 use Rattle.beet_job_five_worlds.specs.Reading.{BothOfFive, both_errand, second_book}
 use Rattle.beet_job_five_worlds.specs.Answering.{ShowsTheSameForTwo}
 

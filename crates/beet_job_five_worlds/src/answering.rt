@@ -9,13 +9,13 @@ ghost use Rattle.beet_job_five_worlds.specs.Ending.{AnswersForTwo};
 
 use crate::seeing::see_book;
 use beet_bids::Book;
+use beet_book_differences::refuse_books;
 use beet_coalition_map::Watchers;
 use beet_errand::{Reply, Stop};
 use beet_five_dealing::FiveWords;
 use beet_five_load::FiveWhole;
 use beet_five_map::five_map;
 use beet_five_view::write_five_words;
-use beet_job_worlds::refuse_books;
 use beet_run::outcome_reply;
 use std::alloc::Global;
 

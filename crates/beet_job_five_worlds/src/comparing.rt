@@ -5,9 +5,9 @@ ghost use Rattle.beet_job_five_worlds.specs.Ending.{five_worlds_task};
 
 use crate::answering::answer_both;
 use crate::reading::load_both;
+use beet_book_differences::WorldsFiles;
 use beet_coalition_map::Watchers;
 use beet_errand::{Reply, Stop};
-use beet_job_worlds::WorldsFiles;
 use beet_store::Shelf;
 use std::alloc::Global;
 

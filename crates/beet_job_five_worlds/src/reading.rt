@@ -6,10 +6,10 @@ ghost use Rattle.beet_five_load.specs.FiveWholes.{read_of};
 ghost use Rattle.beet_job_five_worlds.specs.Reading.{both_errand, both_of};
 
 use beet_bids::Book;
+use beet_book_differences::WorldsFiles;
 use beet_errand::Stop;
 use beet_five_load::{FiveWhole, load_five_whole};
 use beet_forms::beside;
-use beet_job_worlds::WorldsFiles;
 use beet_load::{AuctionFiles, load_curves};
 use beet_store::Shelf;
 use std::alloc::Global;

@@ -10,8 +10,7 @@ use Rattle.beet_load.specs.Servers.{ServerWords}
 use Rattle.beet_plan.specs.Auction.{Auction, auction_batch}
 use Rattle.beet_run.specs.Runs.{Starts}
 use Rattle.beet_server.specs.Cores.{AreFresh, Core}
-use Rattle.beet_job_replay.specs.Begun.{BeginsLot, HasBegun, HaveBegun}
-use Rattle.beet_job_replay.specs.declared.beginning.Begun.{Begun}
+use Rattle.beet_job_replay.specs.Begun.{HasBegun, HaveBegun}
 
 -- the servers of a lot begin with what is kept of it
 pub has-begun : (kept : AuctionWithInputs) (loaded : AuctionWithBidders) (cores : Trio (Core Auction)) → IsKeptOf kept loaded →
@@ -24,7 +23,7 @@ has-begun kept loaded cores k s = record {
 }
 
 -- one lot more has begun
-have-more : (grids : List Grid) (all : List (Trio (Core Auction))) (lots : List AuctionWithBidders) (grid : Grid)
+pub have-more : (grids : List Grid) (all : List (Trio (Core Auction))) (lots : List AuctionWithBidders) (grid : Grid)
     (cores : Trio (Core Auction)) (loaded : AuctionWithBidders) → HaveBegun grids all lots → HasBegun grid cores loaded →
     HaveBegun (grids ++ grid ∷ []) (all ++ cores ∷ []) (lots ++ loaded ∷ [])
 have-more [] [] [] grid cores loaded h one = (one, tt)
@@ -33,17 +32,6 @@ have-more [] (c ∷ all) lots grid cores loaded h one = absurd h
 have-more (g ∷ grids) [] lots grid cores loaded h one = absurd h
 have-more (g ∷ grids) (c ∷ all) [] grid cores loaded h one = absurd h
 have-more (g ∷ grids) (c ∷ all) (l ∷ lots) grid cores loaded h one = (h.0, have-more grids all lots grid cores loaded h.1 one)
-
--- the lots that have begun, by what the program keeps of them
-abbrev pub HaveBegunIn : Begun → List AuctionWithBidders → Type 0
-HaveBegunIn begun lots = HaveBegun begun.grids.items begun.cores.items lots
-
-pub begun-more : (before after : Begun) (lots : List AuctionWithBidders) (loaded : AuctionWithBidders) → HaveBegunIn before lots →
-    BeginsLot before after loaded → HaveBegunIn after (lots ++ loaded ∷ [])
-begun-more before after lots loaded h more =
-    subst (λ (grids : List Grid). HaveBegun grids after.cores.items (lots ++ loaded ∷ [])) (sym more.grids)
-    (subst (λ (all : List (Trio (Core Auction))). HaveBegun (before.grids.items ++ more.grid ∷ []) all (lots ++ loaded ∷ [])) (sym more.all)
-    (have-more before.grids.items before.cores.items lots more.grid more.cores loaded h more.begun))
 
 -- there are as many grids, and as many times three servers
 pub begun-many : (grids : List Grid) (all : List (Trio (Core Auction))) (lots : List AuctionWithBidders) → HaveBegun grids all lots →

@@ -76,10 +76,10 @@ module _ (rows : List LotRow) (begun_lots : Begun) (lots : List AuctionWithBidde
       let plays = plays-lots deliveries begun_lots.cores.items old now begins p in
       let answers = lot_answers deliveries 0 lots in
       let t = tells answers (answers-many deliveries 0 lots ∙ a.count)
-      (all-told deliveries 0 begun_lots.grids.items begun_lots.cores.items lots now a.each plays worlds-many) in
+      (all-told deliveries 0 begun_lots.grids.items begun_lots.cores.items lots now a.all plays worlds-many) in
       let many : undelivered ≡ undelivered_in deliveries 0 lots =
       count ∙ sum-map (undelivered_of auction_batch inputs_of most_rounds) now
-      ∙ all-undelivered deliveries 0 begun_lots.grids.items begun_lots.cores.items lots now a.each plays worlds-many in
+      ∙ all-undelivered deliveries 0 begun_lots.grids.items begun_lots.cores.items lots now a.all plays worlds-many in
       is ∙ ap (λ b. text_answer (if b then MasksSpent else Done) (told.text.items ++ undelivered_line undelivered)) t.spent
       ∙ ap (λ text. text_answer (lots_status answers) (text ++ undelivered_line undelivered)) t.text
       ∙ ap (λ n. text_answer (lots_status answers) (lots_text rows answers ++ undelivered_line n)) many

@@ -1,5 +1,5 @@
 -- The lots of a session whose servers have begun.
-use Rattle.std.specs.Prelude.{◌≡◌, ℕ, List, [], ◌∷◌, ◌++◌, length}
+use Rattle.std.specs.Prelude.{ℕ, List, [], ◌∷◌}
 use Rattle.beet_field.specs.declared.trio.Trio.{Trio}
 use Rattle.beet_bids.specs.Grids.{Grid}
 use Rattle.beet_load.specs.Loading.{AuctionWithBidders, IsKeptOf}
@@ -7,6 +7,7 @@ use Rattle.beet_plan.specs.Auction.{Auction}
 use Rattle.beet_run.specs.Runs.{Starts}
 use Rattle.beet_server.specs.Cores.{Core}
 use Rattle.beet_lot_files.specs.declared.session_file.LotRow.{LotRow}
+use Rattle.beet_lot_load.specs.Taking.{HasTaken}
 use Rattle.beet_job_replay.specs.declared.beginning.Begun.{Begun}
 
 -- three servers begin the auction of a lot that is read, over this grid: with its words, and with points of lines with
@@ -22,15 +23,10 @@ HaveBegun [] [] [] = Unit {0}
 HaveBegun (grid ∷ grids) (cores ∷ all) (loaded ∷ lots) = HasBegun grid cores loaded × HaveBegun grids all lots
 HaveBegun _ _ _ = ⊥
 
--- one lot more has begun
-pub record BeginsLot (before after : Begun) (loaded : AuctionWithBidders) : Type 0 where
-  pub grid : Grid
-  pub cores : Trio (Core Auction)
-  pub grids : after.grids.items ≡ before.grids.items ++ grid ∷ []
-  pub all : after.cores.items ≡ before.cores.items ++ cores ∷ []
-  pub begun : HasBegun grid cores loaded
+-- the lots have begun, by what the program keeps of them
+abbrev pub HaveBegunIn : Begun → List AuctionWithBidders → Type 0
+HaveBegunIn begun lots = HaveBegun begun.grids.items begun.cores.items lots
 
 -- the lots of these rows have begun, as they are read
-pub record AreBegun (rows : List LotRow) (begun : Begun) (lots : List AuctionWithBidders) : Type 0 where
-  pub count : length lots ≡ length rows
-  pub each : HaveBegun begun.grids.items begun.cores.items lots
+abbrev pub AreBegun : List LotRow → Begun → List AuctionWithBidders → Type 0
+AreBegun rows begun lots = HasTaken (λ rows lots begun. HaveBegunIn begun lots) rows begun lots

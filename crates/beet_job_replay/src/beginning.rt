@@ -1,22 +1,16 @@
-//! The lots of a session are read, and their servers begin.
+//! The lots of a session, whose servers begin as soon as each is read.
 
-ghost use Rattle.std.specs.Prelude.{◌≡◌, ◌≤◌, ◌++◌, ◌∷◌, [], OnOk, length};
-ghost use Rattle.beet_errand.specs.Fetches.{ReadsFor};
-ghost use Rattle.beet_lot_load.specs.Lots.{lot_errand, lots_errand};
-ghost use Rattle.beet_lots.specs.declared.lots.TheConstants.{MOST_LOTS};
-ghost use Rattle.beet_job_replay.specs.Begun.{AreBegun, BeginsLot};
+ghost use Rattle.std.specs.Prelude.{◌≡◌, ◌++◌, ◌∷◌, [], OnOk};
 
 use beet_bids::Grid;
-use beet_book::Servers;
 use beet_errand::Stop;
 use beet_field::Trio;
 use beet_load::Loaded;
 use beet_lot_files::LotRow;
-use beet_lot_load::load_lot;
+use beet_lot_load::TakesLots;
 use beet_run::start_servers;
 use beet_search::AuctionScript;
 use beet_server::ServerCore;
-use beet_store::Shelf;
 use std::alloc::{AllocError, Global};
 
 /// The lots that have begun: the grid of each, and its three servers.
@@ -38,46 +32,25 @@ impl Begun {
     }
 }
 
-/// Reads a lot, and starts its servers.
-fn begin_lot<S: Shelf>(
-    alloc: Global,
-    shelf: &mut S,
-    sources: &Servers,
-    lot: u32,
-    row: &LotRow,
-    begun: &mut Begun,
-) -> Result<(), Stop>
-    ensures { ReadsFor (λ done loaded. BeginsLot begun.old begun.new loaded) (S.seen shelf.old)
-        (S.seen shelf.new) (lot_errand sources.now lot row.now) result }
-{
-    let loaded = load_lot(alloc, shelf, sources, lot, row)?;
-    let Loaded {
-        grid,
-        servers,
-        inputs,
-    } = loaded;
-    let cores = start_servers(alloc, &grid, inputs, servers)?;
-    let pushed = begun.push(grid, cores);
-    Ok(pushed?)
-}
+impl TakesLots for Begun {
+    ghost use Rattle.beet_job_replay.specs.Begun.{HaveBegunIn};
 
-/// Reads the lots in order, and starts the servers of each as soon as it is read.
-pub(crate) fn begin_lots<S: Shelf>(
-    alloc: Global,
-    shelf: &mut S,
-    sources: &Servers,
-    rows: &[LotRow],
-) -> Result<Begun, Stop>
-    requires { length rows.now ≤ MOST_LOTS }
-    ensures { ReadsFor (AreBegun rows.now) (S.seen shelf.old) (S.seen shelf.new)
-        (lots_errand sources.now rows.now) result }
-{
-    let mut begun = Begun {
-        grids: Vec::new(alloc),
-        cores: Vec::new(alloc),
-    };
-    for (i, row) in rows.iter().enumerate() {
-        begin_lot(alloc, shelf, sources, i as u32, row, &mut begun)?;
+    ghost has_taken = { λ rows lots begun. HaveBegunIn begun lots };
+
+    fn begin(alloc: Global) -> Begun {
+        Begun {
+            grids: Vec::new(alloc),
+            cores: Vec::new(alloc),
+        }
     }
-    Ok(begun)
+
+    fn take(&mut self, alloc: Global, _row: &LotRow, loaded: Loaded) -> Result<(), Stop> {
+        let Loaded {
+            grid,
+            servers,
+            inputs,
+        } = loaded;
+        let cores = start_servers(alloc, &grid, inputs, servers)?;
+        Ok(self.push(grid, cores)?)
+    }
 }

@@ -7,12 +7,12 @@ ghost use Rattle.beet_lot_files.specs.LotSchedules.{lot_schedule_of};
 ghost use Rattle.beet_world.specs.declared.schedule.TheConstants.{SCHEDULE_LIMIT};
 ghost use Rattle.beet_job_replay.specs.Replay.{replay_job};
 
-use crate::beginning::begin_lots;
+use crate::beginning::Begun;
 use crate::playing::play;
 use beet_errand::{Reply, Stop, fetch_file, judge};
 use beet_forms::beside;
 use beet_lot_files::read_lot_schedule;
-use beet_lot_load::{SessionFiles, load_session};
+use beet_lot_load::{SessionFiles, load_session, take_lots};
 use beet_lots::LotDelivery;
 use beet_store::Shelf;
 use beet_world::SCHEDULE_LIMIT;
@@ -52,7 +52,7 @@ pub fn replay<S: Shelf>(
 {
     let (lots, sources) = load_session(alloc, shelf, files)?;
     let rows = lots.rows();
-    let begun = begin_lots(alloc, shelf, &sources, rows);
+    let begun = take_lots::<S, Begun>(alloc, shelf, &sources, rows);
     drop(sources);
     let begun = begun?;
     let deliveries = read_deliveries(alloc, shelf, rows.len() as u32, schedule);

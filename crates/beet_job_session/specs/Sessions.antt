@@ -9,7 +9,12 @@ use Rattle.beet_lot_files.specs.SessionFiles.{session_of}
 use Rattle.beet_lot_files.specs.declared.session_file.LotRow.{LotRow}
 use Rattle.beet_lot_files.specs.declared.session_file.TheConstants.{SESSION_LIMIT}
 use Rattle.beet_lot_load.specs.Lots.{lots_errand}
-use Rattle.beet_lot_load.specs.Telling.{lots_status, lots_text}
+use Rattle.beet_lot_load.specs.Telling.{TellsLots, lots_status, lots_text}
+use Rattle.beet_lot_load.specs.declared.telling.LotsTold.{LotsTold}
+
+-- the lots that are read are told, each by its auction alone
+abbrev pub TellsCleared : List LotRow → LotsTold → List AuctionWithBidders → Type 0
+TellsCleared rows told lots = TellsLots rows (map cleared lots) told
 
 -- the answer for the lots of these rows that are read: of each what is told of its auction alone
 abbrev pub session_answer : List LotRow → List AuctionWithBidders → Answer

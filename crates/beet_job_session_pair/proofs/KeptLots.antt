@@ -4,7 +4,6 @@ use Rattle.std.proofs.Common.{subst, ◌∙◌, arith}
 use Rattle.std.proofs.lemmas.List.{map-append}
 use Rattle.std.proofs.lemmas.List.Sums.{sum_by_push}
 use Rattle.beet_words.specs.Bundles.{Words}
-use Rattle.beet_words.specs.Words.{accepted}
 use Rattle.beet_bids.specs.Books.{Book}
 use Rattle.beet_book.proofs.FarmerLists.{book-whole, farmers-words}
 use Rattle.beet_auction.specs.Endings.{book_finish, book_rounds}

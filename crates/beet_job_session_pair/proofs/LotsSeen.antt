@@ -15,10 +15,10 @@ use Rattle.beet_lot_load.specs.Telling.{TellsLots}
 use Rattle.beet_lot_load.proofs.LotsTelling.{tells-more}
 use Rattle.beet_lot_map.specs.LotMaps.{session_transcripts}
 use Rattle.beet_lot_view.specs.SessionViews.{lot_part, lots_start, view_magic, words_magic}
+use Rattle.beet_job_worlds.specs.declared.seeing.SeenWorlds.{SeenWorlds}
 use Rattle.beet_job_session_pair.specs.Kept.{loaded_each}
 use Rattle.beet_job_session_pair.specs.Seeing.{AddsLot, AreSeen, SeesLot}
 use Rattle.beet_job_session_pair.specs.Starting.{CanStartEach}
-use Rattle.beet_job_session_pair.specs.declared.answering.SeenLot.{SeenLot}
 use Rattle.beet_job_session_pair.specs.declared.answering.SeenSessions.{SeenSessions}
 use Rattle.beet_job_session_pair.proofs.KeptLots.{loaded-at, loaded-many}
 
@@ -78,7 +78,7 @@ transcript-at s (b ∷ books) (w ∷ words) (suc k) book held d h lt e f =
 module _ (s : Point) (rows : List LotRow) (books : List Book) (words mapped : List Words) (starts : CanStartEach books words)
     (many : length books ≡ length rows) (as-many : length mapped ≡ length books) where
   -- one lot more is seen
-  pub seen-more : (n : ℕ) (row : LotRow) (book : Book) (held other : Words) (lot : SeenLot) (before after : SeenSessions) →
+  pub seen-more : (n : ℕ) (row : LotRow) (book : Book) (held other : Words) (lot : SeenWorlds) (before after : SeenSessions) →
       n < length rows → row ≡ get_or rows n row → book ≡ get_or books n book → held ≡ get_or words n held →
       other ≡ get_or mapped n other → SeenBefore s rows books words mapped n before → SeesLot s book held other lot →
       AddsLot row lot before after → SeenBefore s rows books words mapped (n + 1) after

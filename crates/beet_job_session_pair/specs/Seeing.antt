@@ -10,20 +10,20 @@ use Rattle.beet_lot_files.specs.declared.session_file.LotRow.{LotRow}
 use Rattle.beet_lot_load.specs.Telling.{TellsLot, TellsLots}
 use Rattle.beet_lot_map.specs.LotMaps.{session_transcripts}
 use Rattle.beet_lot_view.specs.SessionViews.{lot_part, session_view_bytes, session_words_bytes}
+use Rattle.beet_job_worlds.specs.declared.seeing.SeenWorlds.{SeenWorlds}
 use Rattle.beet_job_session_pair.specs.Kept.{loaded_each}
-use Rattle.beet_job_session_pair.specs.declared.answering.SeenLot.{SeenLot}
 use Rattle.beet_job_session_pair.specs.declared.answering.SeenSessions.{SeenSessions}
 
 -- a lot is seen in both sessions: the server sees the same, the bundle is that of the mapped words, and it is told how
 -- the first auction ends
-pub record SeesLot (s : Point) (first : Book) (words mapped : Words) (seen : SeenLot) : Type 0 where
+pub record SeesLot (s : Point) (first : Book) (words mapped : Words) (seen : SeenWorlds) : Type 0 where
   pub first_seen : seen.first.items ≡ transcript_with first words s
   pub second_seen : seen.second.items ≡ transcript_with first words s
   pub bundle : seen.words.items ≡ bundle_bytes mapped
   pub reply : seen.reply ≡ cleared (loaded_with first words)
 
 -- one lot more is put and told
-pub record AddsLot (row : LotRow) (lot : SeenLot) (before after : SeenSessions) : Type 0 where
+pub record AddsLot (row : LotRow) (lot : SeenWorlds) (before after : SeenSessions) : Type 0 where
   pub first : after.first ≡ before.first ++ lot_part lot.first.items
   pub second : after.second ≡ before.second ++ lot_part lot.second.items
   pub words : after.words ≡ before.words ++ lot_part lot.words.items

@@ -4,14 +4,13 @@ ghost use Rattle.std.specs.Prelude.{◌≡◌, ◌≤◌, [], false, if◌then�
 ghost use Rattle.beet_errand.specs.Errands.{text_answer};
 ghost use Rattle.beet_errand.specs.Worlds.{files_of_worlds, telling_equal};
 ghost use Rattle.beet_errand.specs.declared.answer.Status.TheVariants.{Done, MasksSpent};
-ghost use Rattle.beet_load.specs.Wholes.{CanStart};
 ghost use Rattle.beet_lots.specs.declared.lots.TheConstants.{MOST_LOTS};
-ghost use Rattle.beet_lot_map.specs.LotMaps.{LotMapped, SessionMapped};
+ghost use Rattle.beet_lot_map.specs.LotMaps.{SessionMapped};
 ghost use Rattle.beet_lot_view.specs.SessionViews.{lots_start, view_magic, words_magic};
 ghost use Rattle.beet_job_session_pair.specs.Answering.{ShowsTheSame};
 ghost use Rattle.beet_job_session_pair.specs.Ending.{AnswersSessions};
 ghost use Rattle.beet_job_session_pair.specs.Kept.{both_of};
-ghost use Rattle.beet_job_session_pair.specs.Seeing.{AddsLot, AreSeen, SeesLot};
+ghost use Rattle.beet_job_session_pair.specs.Seeing.{AddsLot, AreSeen};
 ghost use Rattle.beet_job_session_pair.specs.Starting.{CanStartEach};
 
 use crate::refusing::refusal;
@@ -19,59 +18,15 @@ use crate::sessions::{BothSessions, WholeLots};
 use beet_bids::Book;
 use beet_errand::{Reply, Stop};
 use beet_field::Point;
+use beet_job_worlds::{BookWithWords, SeenWorlds, see_worlds};
 use beet_lot_files::LotRow;
 use beet_lot_load::LotsTold;
 use beet_lot_map::session_map;
 use beet_lot_view::LotsFile;
-use beet_run::outcome_reply;
-use beet_transcripts::{SeenRun, see_whole};
-use beet_words::{Words, write_bundle};
+use beet_words::Words;
 use std::alloc::{AllocError, Global};
 use std::marker::Sync;
 use std::thread::Threads;
-
-/// A lot in both sessions: how it ended, what the server has seen in each, and the bundle of the words of the second.
-#[derive(Drop)]
-pub struct SeenLot {
-    pub reply: Reply,
-    pub first: Vec<u8>,
-    pub second: Vec<u8>,
-    pub words: Vec<u8>,
-}
-
-/// Runs the auction of a lot with both books.
-fn see_lot<R: Threads + Sync>(
-    rt: &R,
-    alloc: Global,
-    me: Point,
-    first: &Book,
-    words: &Words,
-    second: &Book,
-    mapped: &Words,
-) -> Result<SeenLot, Stop>
-    requires runs { CanStart first.now words.now }
-    requires mapped { LotMapped me first.now words.now second.now mapped.now }
-    ensures memory { IfErr result (λ stop. stop ≡ Stop.OutOfMemory) }
-    ensures seen { IfOk result (SeesLot me first.now words.now mapped.now) }
-{
-    // The limits of the grid keep the lists of words short enough for a bundle.
-    let _within_limits = second.grid().prices();
-    let first_run = see_whole(rt, alloc, me, first, words)?;
-    let second_run = see_whole(rt, alloc, me, second, mapped)?;
-    let bundle = write_bundle(alloc, mapped)?;
-    let SeenRun {
-        finish,
-        rounds,
-        transcript,
-    } = first_run;
-    let reply = outcome_reply(alloc, first.grid(), finish, rounds)?;
-    Ok(SeenLot {
-        reply,
-        first: transcript,
-        second: second_run.transcript,
-        words: bundle,
-    })
-}
 
 /// What is put and told of two sessions, as far as their lots are seen: the files of what the server has seen in each,
 /// and that of the words of the second.
@@ -100,7 +55,7 @@ impl SeenSessions {
     }
 
     /// One lot more, of this row.
-    fn add(&mut self, alloc: Global, row: &LotRow, lot: &SeenLot) -> Result<(), AllocError>
+    fn add(&mut self, alloc: Global, row: &LotRow, lot: &SeenWorlds) -> Result<(), AllocError>
         ensures { OnOk result (AddsLot row.now lot.now self.old self.new) }
     {
         self.first.push(lot.first.as_slice())?;
@@ -151,7 +106,15 @@ fn see_lots<R: Threads + Sync>(
     let words = lots.words.as_slice();
     let mut seen = SeenSessions::new(alloc, rows.len() as u64)?;
     for (i, row) in rows.iter().enumerate() {
-        let lot = see_lot(rt, alloc, me, &books[i], &words[i], &seconds[i], &mapped[i])?;
+        let first = BookWithWords {
+            book: &books[i],
+            words: &words[i],
+        };
+        let second = BookWithWords {
+            book: &seconds[i],
+            words: &mapped[i],
+        };
+        let lot = see_worlds(rt, alloc, me, &first, &second)?;
         let added = seen.add(alloc, row, &lot);
         drop(lot);
         added?;

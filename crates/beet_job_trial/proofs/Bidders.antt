@@ -2,7 +2,6 @@
 use Rattle.std.proofs.Common.{◌≡◌, ◌≤◌, ◌<◌, ◌-◌, ℕ, zero, suc, ◌+◌, ◌*◌, [], ◌∷◌, ◌++◌, length, Result, Ok, Err, arith}
 use Rattle.std.proofs.Common.{refl, ap, sym, ◌∙◌, length-append, append-nil, append_assoc, subst, List, None}
 use Rattle.std.specs.Prelude.{IfOk, IsErrAnd}
-use Rattle.std.specs.Result.{result_and}
 use Rattle.std.proofs.lemmas.Result.{err_from_is_err_and}
 use Rattle.std.proofs.lemmas.List.{map-append}
 use Rattle.std.proofs.lemmas.List.FromFn.{length-map-range_with_len, map-range_with_len_more}
@@ -16,19 +15,20 @@ use Rattle.beet_book.specs.Dealing.{dealt_points, quantities}
 use Rattle.beet_book.specs.Totals.{Totals, AddsQuantities, AddsValues, added, none_of, plain_sums, summed_quantities}
 use Rattle.beet_book.proofs.Merged.{points-joined, quantities-joined}
 use Rattle.beet_book.proofs.Summed.{shares-none, summed-more}
-use Rattle.beet_errand.specs.Errands.{Errand}
-use Rattle.beet_errand.specs.Fetches.{Tests}
+use Rattle.beet_store.specs.Files.{Seen}
+use Rattle.beet_errand.specs.Errands.{Answer, Errand, gives, ◌>>◌}
+use Rattle.beet_errand.specs.Fetches.{Reads, Tests}
 use Rattle.beet_errand.specs.declared.answer.Stop.{Stop}
 use Rattle.beet_errand.specs.declared.answer.Stop.TheVariants.{OutOfMemory}
-use Rattle.beet_errand.proofs.Frame.{both, first_fails}
+use Rattle.beet_errand.proofs.Frame.{both, first_fails, given, passed, tested}
 use Rattle.beet_load.specs.Counts.{words_wanted}
 use Rattle.beet_load.specs.Collecting.{curves_of}
 use Rattle.beet_load.specs.Farmers.{enough_words}
-use Rattle.beet_job_trial.specs.Adding.{AddsFarmers, AddsPart, CarrySums, enough_of_each}
-use Rattle.beet_job_trial.specs.Rules.{trial_farmer, trial_part}
+use Rattle.beet_job_trial.specs.Adding.{AddsFarmers, AddsPart, CarrySums, DealsPart, enough_of_each, enough_of_part}
+use Rattle.beet_job_trial.specs.Rules.{trial_farmer, trial_farmers, trial_part}
 
 -- totals of no bidder
-pub carry-none : (grid : Grid) (totals : Totals) → totals ≡ none_of grid.prices → CarrySums grid [] totals
+carry-none : (grid : Grid) (totals : Totals) → totals ≡ none_of grid.prices → CarrySums grid [] totals
 carry-none grid totals e = rw e (record { prices = refl; points = sym (no-points grid.prices); shares = shares-none grid.prices })
 
 -- one bidder more
@@ -129,25 +129,6 @@ tests-first grid from few rest i count stop e f t =
     same-test (enough-parts grid from few rest i count e f)
     (first_fails {second = enough_of_each grid (i + 1) (trial_part grid i rest)} stop t)
 
--- both parts are tested
-pub tests-both : (grid : Grid) (from few rest i count : ℕ) (first second : Result (Unit {0}) Stop) → from + few ≡ i → few + rest ≡ count →
-    Tests (enough_of_each grid (from + 1) (trial_part grid from few)) first →
-    Tests (enough_of_each grid (i + 1) (trial_part grid i rest)) second →
-    Tests (enough_of_each grid (from + 1) (trial_part grid from count)) (result_and first second)
-tests-both grid from few rest i count (Ok done) second e f t u = tests-second grid from few rest i count second e f t u
-tests-both grid from few rest i count (Err stop) second e f t u = tests-first grid from few rest i count stop e f t
-
--- what the first gives where both are done, and what the second gives
-pub first-done : (P : Type 0) (first second : Result (Unit {0}) Stop) → IfOk first (λ done. P) → IfOk (result_and first second) (λ done. P)
-first-done P (Ok done) (Ok also) p = p
-first-done P (Ok done) (Err stop) p = tt
-first-done P (Err stop) second p = tt
-
-pub second-done : (P : Type 0) (first second : Result (Unit {0}) Stop) → IfOk second (λ done. P) →
-    IfOk (result_and first second) (λ done. P)
-second-done P (Ok done) second p = p
-second-done P (Err stop) second p = tt
-
 -- no bidder is tested, and none is added
 pub tests-none : (grid : Grid) (from : ℕ) → Tests (enough_of_each grid (from + 1) (trial_part grid from 0)) (Ok tt)
 tests-none grid from = record { passes = λ next. refl; cause = λ count. refl }
@@ -189,23 +170,43 @@ carry-both grid few rest one other after a b sums adds =
           (summed_quantities grid.prices (curves_of rest)) a.shares b.shares);
     }
 
--- the second part is added to totals of its own, and these to those of the first
-pub adds-merged : (grid : Grid) (from few rest i count : ℕ) (before middle none other after : Totals) → from + few ≡ i →
-    few + rest ≡ count →
-    none ≡ none_of grid.prices → AddsFarmers grid (trial_part grid from few) before middle →
-    AddsFarmers grid (trial_part grid i rest) none other →
-    after ≡ record middle { points = added middle.points other.points } → AddsValues middle.points other.points after.points →
-    AddsFarmers grid (trial_part grid from count) before after
-adds-merged grid from few rest i count before middle none other after e f is_none a b sums adds = record {
-  prices = ap (λ t. t.prices) sums ∙ a.prices;
-  carry = λ farmers c.
-      let front = trial_part grid from few in
-      let back = trial_part grid i rest in
-      let parts = ap (λ fs. farmers ++ fs) (two-parts grid from few rest i count e f) in
-      let both = carry-both grid (farmers ++ front) back middle other after (a.carry farmers c)
-      (b.carry [] (carry-none grid none is_none)) sums adds in
-      subst (λ (fs : List BidderWithWords). CarrySums grid fs after) (append_assoc farmers front back ∙ sym parts) both;
-}
+-- what is added to totals of no bidder
+pub deals-added : (grid : Grid) (from count : ℕ) (none after : Totals) → none ≡ none_of grid.prices →
+    AddsPart grid from count none after (Ok tt) → DealsPart grid from count (Ok after)
+deals-added grid from count none after e part = (part.tests, part.adds.carry [] (carry-none grid none e))
+
+-- two parts are dealt, each into totals of its own, which are added up
+pub deals-joined : (grid : Grid) (from few rest : ℕ) (one other after : Totals) → DealsPart grid from few (Ok one) →
+    DealsPart grid (from + few) rest (Ok other) → after ≡ record one { points = added one.points other.points } →
+    AddsValues one.points other.points after.points → DealsPart grid from (few + rest) (Ok after)
+deals-joined grid from few rest one other after a b sums adds = (
+  tests-second grid from few rest (from + few) (few + rest) (Ok tt) refl refl a.0 b.0,
+  subst (λ (fs : List BidderWithWords). CarrySums grid fs after) (sym (part-joined grid from few rest))
+      (carry-both grid (trial_part grid from few) (trial_part grid (from + few) rest) one other after a.1 b.1 sums adds),
+)
+
+-- a part that stops
+pub part-stops : (grid : Grid) (from count : ℕ) (result : Result Totals Stop) {stop : Stop} →
+    IsErrAnd result (λ e. e ≡ stop) → Tests (enough_of_part grid from count) (Err stop) → DealsPart grid from count result
+part-stops grid from count result e t = let p = err_from_is_err_and result e in rw (p.1, p.2) t
+
+-- what holds where it does not
+pub part-carries : (grid : Grid) (from count : ℕ) (result : Result Totals Stop) → DealsPart grid from count result →
+    IfOk result (CarrySums grid (trial_part grid from count))
+part-carries grid from count (Ok totals) d = d.1
+part-carries grid from count (Err stop) d = tt
+
+-- what holds anyway
+pub holds-anyway : {T : Type 0} (P : Type 0) (result : Result T Stop) → P → IfOk result (λ value. P)
+holds-anyway P (Ok value) p = p
+holds-anyway P (Err stop) p = tt
+
+-- all bidders are dealt after a test
+pub deals-read : (grid : Grid) (bidders : ℕ) {seen : Seen} {test : Errand → Errand} {answer : Answer} {result : Result Totals Stop} →
+    Tests test (Ok tt) → DealsPart grid 0 bidders result →
+    Reads (λ (totals : Totals). answer) seen seen (test >> (enough_of_each grid 1 (trial_farmers grid bidders) >> gives answer)) result
+deals-read grid bidders {result = Ok totals} t d = passed t (passed d.0 (given refl))
+deals-read grid bidders {result = Err stop} t d = passed t (tested d)
 
 -- a step that stops, and what the exit of a `?` returns
 pub stops : {grid : Grid} {from count : ℕ} {before after : Totals} {stop : Stop} {result : Result (Unit {0}) Stop} →

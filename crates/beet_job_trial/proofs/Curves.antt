@@ -6,10 +6,11 @@ use Rattle.std.specs.List.{range_with_len}
 use Rattle.std.proofs.Math.Nat.{mul-le-mul_left}
 use Rattle.std.proofs.lemmas.Nat.{mul-le}
 use Rattle.std.proofs.lemmas.List.FromFn.{get_or-map-range_with_len, length-map-range_with_len, map-range_with_len_more}
-use Rattle.beet_bids.specs.Curves.{IsCurve, IsOfGrid}
+use Rattle.beet_bids.specs.Curves.{Curve, IsCurve, IsOfGrid}
 use Rattle.beet_bids.specs.declared.curve.TheConstants.{LARGEST_QUANTITY}
 use Rattle.beet_bids.specs.Grids.{Grid}
-use Rattle.beet_job_trial.specs.Rules.{weight, buying, selling, bought, sold, trial_curve}
+use Rattle.beet_job_trial.specs.declared.rules.TheConstants.{PERIOD}
+use Rattle.beet_job_trial.specs.Rules.{weight, buying, selling, bought, sold, trial_curve, trial_curves}
 use Rattle.beet_bids.specs.declared.grid.TheConstants.{MOST_PRICES}
 
 small : (weight count prices : ℕ) → weight ≤ 7 → count ≤ prices → prices ≤ MOST_PRICES → weight * count ≤ 7 * MOST_PRICES
@@ -99,3 +100,29 @@ bought-more quantities prices weight place e =
 pub sold-more : (quantities : List ℕ) (weight place : ℕ) → quantities ≡ map (λ k. weight * k) (range_with_len 0 place) →
     quantities ++ (weight * place) ∷ [] ≡ map (λ k. weight * k) (range_with_len 0 (place + 1))
 sold-more quantities weight place e = rw (e, map-range_with_len_more (λ k. weight * k) 0 place place (omega arith)) refl
+
+-- the curves come again
+again : (grid : Grid) (i : ℕ) → trial_curve grid (i % PERIOD) ≡ trial_curve grid i
+again grid i =
+    let weights : i % PERIOD % 7 ≡ i % 7 = omega arith in
+    let sides : i % PERIOD % 2 ≡ i % 2 = omega arith in
+    rw (weights, sides) refl
+
+pub length-curves : (grid : Grid) → length (trial_curves grid) ≡ PERIOD
+unfolding trial_curves
+length-curves grid = length-map-range_with_len (trial_curve grid) 0 PERIOD
+
+pub curve-at : (grid : Grid) (curves : List Curve) (i : ℕ) (d : Curve) → curves ≡ trial_curves grid →
+    get_or curves (i % PERIOD) d ≡ trial_curve grid i
+unfolding trial_curves
+curve-at grid curves i d e =
+    let lt : i % PERIOD < PERIOD = omega arith in
+    rw e (get_or-map-range_with_len (trial_curve grid) 0 PERIOD (i % PERIOD) (i % PERIOD) d lt (omega arith)) ∙ again grid i
+
+pub curves-all : (grid : Grid) → map (trial_curve grid) (range_with_len 0 PERIOD) ≡ trial_curves grid
+unfolding trial_curves
+curves-all grid = refl
+
+pub curves-more : (grid : Grid) (curves : List Curve) (i : ℕ) → curves ≡ map (trial_curve grid) (range_with_len 0 i) →
+    curves ++ trial_curve grid i ∷ [] ≡ map (trial_curve grid) (range_with_len 0 (i + 1))
+curves-more grid curves i e = rw (e, map-range_with_len_more (trial_curve grid) 0 i i (omega arith)) refl

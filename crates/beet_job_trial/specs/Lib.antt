@@ -1,4 +1,5 @@
 pub mod Sizes
 pub mod Rules
 pub mod Adding
+pub mod Splits
 pub mod Trial

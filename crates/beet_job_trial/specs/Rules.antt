@@ -13,7 +13,7 @@ use Rattle.beet_book.specs.Farmers.{BidderWithWords, book_with}
 use Rattle.beet_plan.specs.Kept.{words_kept}
 use Rattle.beet_load.specs.Wanted.{wanted_of}
 use Rattle.beet_load.specs.Servers.{ServerWords, seeded}
-use Rattle.beet_job_trial.specs.declared.rules.TheConstants.{BASE, TICK, FIRST_SEED}
+use Rattle.beet_job_trial.specs.declared.rules.TheConstants.{BASE, TICK, FIRST_SEED, PERIOD}
 
 -- the grid with so many prices; the price and the volume are opened
 abbrev pub trial_grid : ℕ → Grid
@@ -58,6 +58,10 @@ sold prices weight = map (λ k. weight * k) (range_with_len 0 prices)
 -- the curve of bidder i
 abbrev pub trial_curve : Grid → ℕ → Curve
 trial_curve grid i = record { buy = bought grid.prices (buying i); sell = sold grid.prices (selling i) }
+
+-- those of the first bidders, up to where they come again
+unfoldable pub trial_curves : Grid → List Curve
+trial_curves grid = map (trial_curve grid) (range_with_len 0 PERIOD)
 
 -- bidder i: known to no server, with the words of its seed
 abbrev pub trial_farmer : Grid → ℕ → BidderWithWords

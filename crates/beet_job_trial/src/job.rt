@@ -11,7 +11,7 @@ ghost use Rattle.beet_job_trial.specs.Sizes.{AreSizes};
 ghost use Rattle.beet_job_trial.specs.Trial.{sized_answer, sizes_text, trial_answer, trial_job, trial_over};
 ghost use Rattle.beet_words.specs.declared.bundle.TheConstants.{MOST_BIDDERS};
 
-use crate::adding::add_bidders;
+use crate::adding::deal_bidders;
 use crate::rules::{grid_of, servers_of};
 use beet_auction_run::run_auction;
 use beet_bids::Grid;
@@ -72,9 +72,7 @@ fn totals_of<R: Threads + Sync>(
     ensures carry { IfOk result (λ totals. CarrySums grid.now (trial_farmers grid.now bidders) totals) }
 {
     check_three(alloc, &auction_wants(None, grid), servers)?;
-    let mut totals = Totals::new(alloc, grid)?;
-    add_bidders(rt, alloc, grid, bidders, &mut totals)?;
-    Ok(totals)
+    deal_bidders(rt, alloc, grid, bidders)
 }
 
 /// Makes a book of so many bidders over so many prices by rule, deals it bidder by bidder, and clears it among three

@@ -1,13 +1,14 @@
 //! The book of a trial, by rule.
 
-ghost use Rattle.std.specs.Prelude.{◌≡◌, ◌≤◌, IfOk, None};
+ghost use Rattle.std.specs.Prelude.{◌≡◌, ◌≤◌, IfOk, None, length};
 ghost use Rattle.beet_field.specs.Point.{number_of};
 ghost use Rattle.beet_words.specs.Seeds.{seed_words as words_of_seed};
 ghost use Rattle.beet_plan.specs.Kept.{words_kept as kept_of};
 ghost use Rattle.beet_load.specs.Wanted.{wanted_of};
 ghost use Rattle.beet_load.specs.Servers.{seeded};
 ghost use Rattle.beet_job_trial.specs.Rules.{bidder_seed, bought, buying, selling, server_seed, sold, trial_curve};
-ghost use Rattle.beet_job_trial.specs.Rules.{trial_grid, trial_servers, weight};
+ghost use Rattle.beet_job_trial.specs.Rules.{trial_curves, trial_grid, trial_servers, weight};
+ghost use Rattle.beet_bids.specs.Grids.{Grid as Lattice};
 ghost use Rattle.beet_bids.specs.declared.grid.TheConstants.{MOST_PRICES};
 
 use beet_bids::{Curve, Grid};
@@ -26,6 +27,9 @@ pub const TICK: u64 = 10;
 
 /// The number that the seed of the first bidder ends with.
 pub const FIRST_SEED: u64 = 256;
+
+/// After how many bidders the curves come again: as many as weights, for buyers and for sellers.
+const PERIOD: u32 = 14;
 
 /// The grid with so many prices.
 pub(crate) fn grid_of(prices: u32) -> Grid
@@ -107,7 +111,7 @@ fn sold(alloc: Global, prices: u32, weight: u64) -> Result<Vec<u64>, AllocError>
 }
 
 /// The curve of bidder `i`.
-pub(crate) fn curve_of(alloc: Global, grid: &Grid, i: u32) -> Result<Curve, AllocError>
+fn curve_of(alloc: Global, grid: &Grid, i: u32) -> Result<Curve, AllocError>
     ensures { IfOk result (λ curve. curve ≡ trial_curve grid.now i) }
 {
     let prices = grid.prices();
@@ -118,4 +122,23 @@ pub(crate) fn curve_of(alloc: Global, grid: &Grid, i: u32) -> Result<Curve, Allo
         Some(curve) => Ok(curve),
         None => unreachable!(),
     }
+}
+
+/// The curves of the first bidders, up to where they come again.
+pub(crate) fn curves_of(alloc: Global, grid: &Grid) -> Result<Vec<Curve>, AllocError>
+    ensures { IfOk result (λ curves. curves.items ≡ trial_curves grid.now) }
+{
+    let mut curves = Vec::with_capacity(alloc, PERIOD as usize)?;
+    for i in 0..PERIOD {
+        curves.push(curve_of(alloc, grid, i)?)?;
+    }
+    Ok(curves)
+}
+
+/// The curve of bidder `i` among them.
+pub(crate) fn curve_at(curves: &[Curve], i: u32) -> &Curve
+    requires { length curves.now ≡ PERIOD }
+    ensures { (grid : Lattice) → curves.now ≡ trial_curves grid → result.now ≡ trial_curve grid i }
+{
+    &curves[(i % PERIOD) as usize]
 }

@@ -11,9 +11,9 @@ use beet_bids::Grid;
 use beet_book::Servers;
 use beet_errand::{Reply, Stop};
 use beet_farmer::ListEntry;
-use beet_gathering::{ListFiles, gather_bidders, read_listed};
+use beet_gathering::{ListFiles, gather_with_words, read_listed};
 use beet_link::Gate;
-use beet_load::{AllWords, auction_wants, check_product, read_words};
+use beet_load::check_product;
 use beet_store::Shelf;
 use beet_transcripts::reply_of_run;
 use std::alloc::Global;
@@ -44,17 +44,9 @@ fn witness_entries<S: Shelf, R: Threads + Wait + Clock + Sync, G: Gate>(
         (kept_job setting.now.out.now setting.now.grid.now setting.now.sources.now entries.now) result }
 {
     let Setting { grid, sources, out } = *setting;
-    let words = read_words(alloc, shelf, &auction_wants(None, grid), sources, None)?;
-    let kept = match gather_bidders::<S, KeptBidders>(alloc, shelf, grid, entries) {
-        Ok(kept) => kept,
-        Err(stop) => {
-            // One call lets them go: else the proof of this way out goes through each of their parts.
-            drop(words);
-            return Err(stop);
-        }
-    };
-    let AllWords { servers, bidders } = words;
-    drop(bidders);
+    let (servers, kept) = gather_with_words::<S, KeptBidders>(
+        alloc, shelf, grid, sources, entries,
+    )?;
     let KeptBidders { totals, seen } = kept;
     let cores = run_servers(rt, alloc, grid, totals.inputs(), servers, gate)?;
     Ok(reply_of_run(rt, alloc, grid, seen, cores, out)?)

@@ -4,8 +4,6 @@ use Rattle.std.proofs.lemmas.Result.{IfOk-weaker}
 use Rattle.beet_field.specs.declared.point.Point.{Point}
 use Rattle.beet_words.specs.Bundles.{Words, bundle_bytes}
 use Rattle.beet_bids.specs.Books.{Book}
-use Rattle.beet_bids.specs.Grids.{Grid}
-use Rattle.beet_plan.specs.declared.Finish.{Finish}
 use Rattle.beet_auction.specs.Endings.{book_finish, book_rounds}
 use Rattle.beet_run.specs.Outcomes.{outcome_answer}
 use Rattle.beet_errand.specs.Worlds.{files_of_worlds, telling_equal}
@@ -21,10 +19,11 @@ use Rattle.beet_auction_map.specs.MappedWords.{IsOnlyFirst, IsOnlySecond, Mapped
 use Rattle.beet_two_books.specs.declared.agreeing.MapFault.{MapFault}
 use Rattle.beet_two_books.specs.declared.agreeing.MapFault.TheVariants.{ShapeDiffers, OwnBidsDiffer, OutcomesDiffer}
 use Rattle.beet_two_books.specs.declared.agreeing.MapFault.TheVariants.{OutOfMemory as MemoryOut}
-use Rattle.beet_job_worlds.specs.Differences.{difference_between, refused_text}
+use Rattle.beet_book_differences.specs.Differences.{difference_between, refused_text}
 use Rattle.beet_job_worlds.specs.Answering.{ShowsTheSame, agreed_answer}
 use Rattle.beet_view.specs.BookViews.{transcript_for}
-use Rattle.beet_job_worlds.specs.Ending.{AnswersBooks, TellsRefusal}
+use Rattle.beet_job_worlds.specs.Ending.{AnswersBooks}
+use Rattle.beet_book_differences.specs.Refusals.{TellsRefusal}
 use Rattle.beet_job_worlds.proofs.DifferenceFacts.{the-difference}
 use Rattle.beet_run.proofs.StatusFacts.{status-done}
 
@@ -56,15 +55,12 @@ module _ (s : Point) (out : List ℕ) (first : Book) (words : Words) (second : B
   answered-done (Err stop) h = tt
 
 -- the reply for books that agree
-pub replies-agreed : (out : List ℕ) (first : Book) (words mapped : Words) (seen one two bytes : List ℕ) (finish : Finish) (rounds : ℕ)
-    (grid : Grid) (told reply : Answer) →
-    grid ≡ first.grid → finish ≡ book_finish first words.masks → rounds ≡ book_rounds first words.masks →
+pub replies-agreed : (out : List ℕ) (first : Book) (words mapped : Words) (seen one two bytes : List ℕ) (told reply : Answer) →
+    told ≡ outcome_answer first.grid (book_finish first words.masks) (book_rounds first words.masks) →
     one ≡ seen → two ≡ seen → bytes ≡ bundle_bytes mapped →
-    told ≡ outcome_answer grid finish rounds →
     reply ≡ telling_equal told (files_of_worlds out one two bytes) →
     reply ≡ agreed_answer out first words seen mapped
-replies-agreed out first words mapped seen one two bytes finish rounds grid told reply g f r a b w t is =
-    rw (is, t, g, f, r, a, b, w) refl
+replies-agreed out first words mapped seen one two bytes told reply t a b w is = rw (is, t, a, b, w) refl
 
 -- the line of a refusal tells the books apart
 pub refused-answers : (s : Point) (first second : Book) (fault : MapFault) → RefusesMap s first second fault → (stop : Stop) →

@@ -12,7 +12,7 @@ use Rattle.beet_differences.proofs.Comparing.{compared-does, unread-does}
 use Rattle.beet_load.specs.WholeViews.{loaded_of}
 use Rattle.beet_load.specs.declared.whole.Whole.{Whole}
 use Rattle.beet_book.proofs.FarmerLists.{farmers-words, book-whole}
-use Rattle.beet_job_worlds.specs.Differences.{refused_text}
+use Rattle.beet_book_differences.specs.Differences.{refused_text}
 use Rattle.beet_job_worlds.specs.Reading.{Both, both_errand, first_book, second_book, words_read}
 use Rattle.beet_job_worlds.specs.Ending.{AnswersBooks, ShowsBoth, difference_read, worlds_task}
 use Rattle.beet_job_worlds.proofs.BookAnswers.{answered-done}

@@ -1,19 +1,15 @@
 -- How the job `worlds` ends.
-use Rattle.std.specs.Prelude.{◌≡◌, ℕ, List, Option, Result}
+use Rattle.std.specs.Prelude.{ℕ, List, Option, Result}
 use Rattle.beet_field.specs.declared.point.Point.{Point}
 use Rattle.beet_words.specs.Bundles.{Words}
 use Rattle.beet_bids.specs.Books.{Book}
 use Rattle.beet_two_books.specs.declared.agreeing.MapFault.{MapFault}
-use Rattle.beet_two_books.specs.declared.agreeing.MapFault.TheVariants.{OutOfMemory as MemoryOut}
 use Rattle.beet_errand.specs.Errands.{Answer, Errand, Step}
-use Rattle.beet_errand.specs.Fetches.{Refuses}
 use Rattle.beet_errand.specs.Tasks.{Shows, ShowsRead, Task, ToShow}
 use Rattle.beet_errand.specs.declared.answer.OwnRefusal.TheVariants.{OfWorlds}
-use Rattle.beet_errand.specs.declared.answer.Refusal.TheVariants.{Own}
 use Rattle.beet_errand.specs.declared.answer.Stop.{Stop}
-use Rattle.beet_errand.specs.declared.answer.Stop.TheVariants.{OutOfMemory}
 use Rattle.beet_differences.specs.Comparing.{AnswersBoth, compared, unless_apart}
-use Rattle.beet_job_worlds.specs.Differences.{difference_between, refused_text}
+use Rattle.beet_book_differences.specs.Differences.{difference_between, refused_text}
 use Rattle.beet_job_worlds.specs.Reading.{Both, both_errand, first_book, second_book, words_read}
 use Rattle.beet_job_worlds.specs.Answering.{ShowsTheSame}
 
@@ -42,16 +38,6 @@ ShowsWorlds auction servers book1 book2 s out = ShowsRead (both_errand auction s
 abbrev pub worlds_task : List ℕ → List ℕ → List ℕ → List ℕ → Point → List ℕ → Task
 worlds_task auction servers book1 book2 s out =
     ToShow OfWorlds (compared_errand auction servers book1 book2 s) (ShowsWorlds auction servers book1 book2 s out)
-
--- books are refused by this line for the fault; want of memory has none
-abbrev pub IsLineOf : MapFault → List ℕ → Type 0
-IsLineOf MemoryOut text = ⊥
-IsLineOf fault text = text ≡ refused_text fault
-
--- two books are refused by the line of the fault, unless memory ran out
-abbrev pub TellsRefusal : MapFault → Stop → Type 0
-TellsRefusal MemoryOut stop = stop ≡ OutOfMemory
-TellsRefusal fault stop = Refuses (Own OfWorlds) (refused_text fault) stop
 
 -- the answer for two books that look the same; or their refusal
 abbrev pub AnswersBooks : Point → List ℕ → Book → Words → Book → Result Answer Stop → Type 0

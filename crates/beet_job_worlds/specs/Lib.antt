@@ -1,4 +1,3 @@
-pub mod Differences
 pub mod Reading
 pub mod Answering
 pub mod Ending

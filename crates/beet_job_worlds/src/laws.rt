@@ -6,7 +6,7 @@ ghost use Rattle.beet_bids.specs.Books.{Book};
 ghost use Rattle.beet_two_books.specs.Agreement.{Agree};
 ghost use Rattle.beet_auction_map.specs.Disagreement.{Refuses};
 ghost use Rattle.beet_two_books.specs.declared.agreeing.MapFault.{MapFault};
-ghost use Rattle.beet_job_worlds.specs.Differences.{difference_between};
+ghost use Rattle.beet_book_differences.specs.Differences.{difference_between};
 
 /// There is no difference to tell between books that agree for a server. Of others the one that is told is the first
 /// thing that tells them apart.

@@ -3,9 +3,9 @@
 
 mod answering;
 mod laws;
-mod refusing;
+mod seeing;
 mod two_worlds;
 
 pub use laws::differences_are_told;
-pub use refusing::refuse_books;
-pub use two_worlds::{WorldsFiles, worlds};
+pub use seeing::{BookWithWords, SeenWorlds, see_worlds};
+pub use two_worlds::worlds;

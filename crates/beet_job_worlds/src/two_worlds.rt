@@ -4,6 +4,7 @@ ghost use Rattle.beet_errand.specs.Tasks.{DoesTask};
 ghost use Rattle.beet_job_worlds.specs.Ending.{worlds_task};
 
 use crate::answering::answer_both;
+use beet_book_differences::WorldsFiles;
 use beet_errand::{Reply, Stop};
 use beet_field::Point;
 use beet_forms::beside;
@@ -12,16 +13,6 @@ use beet_store::Shelf;
 use std::alloc::Global;
 use std::marker::Sync;
 use std::thread::Threads;
-
-/// The names of the files of the job, and the name with which those that it puts begin.
-#[derive(Clone, Copy)]
-pub struct WorldsFiles<'a> {
-    pub auction: &'a str,
-    pub servers: &'a str,
-    pub first: &'a str,
-    pub second: &'a str,
-    pub out: &'a str,
-}
 
 /// Runs the auction of the first book with the words that are read, and that of the second with words with which it
 /// looks the same to the server. It answers the transcripts of the server, which are equal, and the words of the second

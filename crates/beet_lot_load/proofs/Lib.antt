@@ -1,2 +1,3 @@
 pub mod EachRow
+mod LotsTaken
 pub mod LotsTelling

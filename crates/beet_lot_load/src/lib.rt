@@ -2,7 +2,9 @@
 #![tactic(auto)]
 
 mod reading;
+mod taking;
 mod telling;
 
-pub use reading::{SessionFiles, load_lot, load_session, read_lots};
+pub use reading::{SessionFiles, load_session, read_lots};
+pub use taking::{TakesLots, take_lots};
 pub use telling::LotsTold;

@@ -58,7 +58,7 @@ pub fn load_session<S: Shelf>(
 
 /// Reads the auction and the book of a lot, counted from 0, and then the words of its servers, from the streams of the
 /// lot, and its bidders, whose points are added up.
-pub fn load_lot<S: Shelf>(
+pub(crate) fn load_lot<S: Shelf>(
     alloc: Global,
     shelf: &mut S,
     sources: &Servers,

@@ -173,33 +173,6 @@ fn rounds_in_both(first: &ClearRun, second: &ClearRun) -> Result<u32, GateFault>
     }
 }
 
-/// The rounds of the script's runs in two worlds that open the same numbers, or the first that differs.
-fn rounds_opening_the_same<S: Script<3>>(
-    alloc: Global,
-    script: &S,
-    first: &Secrets,
-    second: &Secrets,
-) -> Result<u32, GateFault>
-    requires first { HasSecrets (S.inputs_of script.now) (S.masks_of script.now) first.now }
-    requires second { HasSecrets (S.inputs_of script.now) (S.masks_of script.now) second.now }
-    ensures same { IfOk result (λ _. SameOpened (S.batch_of script.now) (S.rounds_of script.now)
-        first.now second.now) }
-    ensures rounds { IfOk result (λ rounds. rounds ≡ rounds_run (S.batch_of script.now)
-        (S.rounds_of script.now) (values_of first.now.inputs) first.now.masks) }
-    ensures first_elements { OnOk result
-        ((k : ℕ) → IsElement (slice_index (values_of first.now.inputs) k)) }
-    ensures second_elements { OnOk result
-        ((k : ℕ) → IsElement (slice_index (values_of second.now.inputs) k)) }
-    ensures refused { (me : Point) → SameShares me first.now second.now →
-        SameMasks (S.masks_of script.now) me first.now second.now →
-        IfErr result (Refuses (S.batch_of script.now) (S.rounds_of script.now)
-        (S.masks_of script.now) me first.now second.now) }
-{
-    let here = run_on_values(alloc, script, first)?;
-    let there = run_on_values(alloc, script, second)?;
-    rounds_in_both(&here, &there)
-}
-
 /// The rounds of the script's runs in two worlds that look alike to the server, or the first refusal.
 pub(crate) fn rounds_alike<S: Script<3>>(
     alloc: Global,
@@ -229,5 +202,7 @@ pub(crate) fn rounds_alike<S: Script<3>>(
     if let Some(place) = first_other_mask(me, first, second, script.masks()) {
         return Err(GateFault::OwnMaskDiffers(place));
     }
-    rounds_opening_the_same(alloc, script, first, second)
+    let here = run_on_values(alloc, script, first)?;
+    let there = run_on_values(alloc, script, second)?;
+    rounds_in_both(&here, &there)
 }

@@ -3,7 +3,7 @@ use Rattle.std.specs.Prelude.{ℕ, List, [], ◌∷◌, Option, None, option_map
 use Rattle.beet_field.specs.Point.{server_of}
 use Rattle.beet_field.specs.declared.point.Point.{Point}
 use Rattle.beet_command.specs.Words.{are_names, is_word}
-use Rattle.beet_pair_words.specs.declared.PairFiles.{PairFiles}
+use Rattle.beet_pair_words.specs.declared.pair.PairFiles.{PairFiles}
 
 -- what a program makes of a command `pair` with five words, of which the fourth is a server's number
 abbrev pub pair_of : {A : Type 0} → (List ℕ → List ℕ → List ℕ → Point → List ℕ → A) →

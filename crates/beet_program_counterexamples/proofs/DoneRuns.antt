@@ -44,22 +44,34 @@ use Rattle.beet_job_worlds.specs.Answering.{ShowsTheSame, agreed_answer}
 use Rattle.beet_job_worlds.specs.Reading.{Both, both_errand, first_book, second_book, words_read}
 use Rattle.beet_job_worlds.proofs.SecondWords.{can-run, same-transcripts}
 use Rattle.beet_command.specs.Words.{are_names}
-use Rattle.beet_app.specs.Jobs.{Answering, Auditing, Comparing, Job, job_of, seal_of}
+use Rattle.beet_masking.specs.Masks.{mask_among}
+use Rattle.beet_weights.specs.Quadratics.{of_five}
+use Rattle.beet_coalition.specs.Lists.{at_server}
+use Rattle.beet_five_load.specs.FiveLoading.{FiveRead}
+use Rattle.beet_five_map.specs.FiveWorlds.{AreTwoBooks as AreTwoBooksForTwo}
+use Rattle.beet_five_map.proofs.Joined.{second-pair as second-of-pair}
+use Rattle.beet_five_view.proofs.SameViews.{joint-same}
+use Rattle.beet_job_five_worlds.specs.Answering.{ShowsTheSameForTwo, agreed_answer as agreed_for_two}
+use Rattle.beet_job_five_worlds.specs.Reading.{BothOfFive, both_errand as both_of_five, second_book as second_of_five}
+use Rattle.beet_app.specs.Jobs.{Answering, Auditing, Comparing, ComparingForTwo, Job, job_of, seal_of, two_of_five}
+use Rattle.beet_app.proofs.TwoServers.{are-two}
 use Rattle.beet_app_laws.specs.Calls.{Call, IsOf, RunsJob}
 use Rattle.beet_app_laws.proofs.Led.{from-told, past, past-both}
-use Rattle.beet_app_laws.proofs.Telling.{one-value, told-both, told-views}
+use Rattle.beet_app_laws.proofs.Telling.{one-value, told-both, told-both-of-five, told-views}
 use Rattle.beet_program_laws.specs.Accepted.{witness_words}
+use Rattle.beet_program_laws.specs.Commands.{five_worlds_words}
+use Rattle.beet_program_laws.proofs.FiveWorlds.{is-both as both-of-five-right}
 use Rattle.beet_program_laws.proofs.Jobs.{runs-in}
 use Rattle.beet_program_laws.proofs.Read.{can-run-cut}
 use Rattle.beet_program_laws.proofs.Worlds.{is-both}
 use Rattle.beet_completeness_laws.specs.Complete.{CanAudit, CanClear, CanCompare, CanOpen, CanRehearse, CanRunFive}
-use Rattle.beet_completeness_laws.specs.Complete.{CanRunTrial, CanSeal, CanTally, CanWitness}
+use Rattle.beet_completeness_laws.specs.Complete.{CanCompareForTwo, CanRunTrial, CanSeal, CanTally, CanWitness}
 use Rattle.beet_completeness_laws.proofs.Jobs.{clear-done, five-done, open-done, record-done, rehearse-done, seal-done}
 use Rattle.beet_completeness_laws.proofs.Jobs.{tally-done, trial-done, watch-done, witness-done}
-use Rattle.beet_completeness_laws.proofs.Leading.{IsDoneOver, book-done}
+use Rattle.beet_completeness_laws.proofs.Leading.{IsDoneOver, book-done, search-done}
 use Rattle.beet_program_counterexamples.specs.HasRun.{HasRun}
 use Rattle.beet_program_counterexamples.proofs.Deciding.{passes-to}
-use Rattle.beet_program_counterexamples.proofs.Loading.{both-decides, read-decides}
+use Rattle.beet_program_counterexamples.proofs.Loading.{both-decides, both-of-five-decides, read-decides}
 use Rattle.beet_program_counterexamples.proofs.RunsOver.{desk_of, given-all, led-over, run-over, shelf_of}
 
 no-rise : Rose 0 0 → ⊥
@@ -286,6 +298,50 @@ module _ (files : List File) where
       worlds-at auction servers list1 list2 server out can
       (past (are_names (auction ∷ servers ∷ list1 ∷ list2 ∷ out ∷ [])) (option_map job_at (server_of server)) not
       ∙ ap (option_map job_at) can.server_is)
+
+  -- two worlds of five servers
+  worlds-of-five-at : (auction servers list1 list2 one other out : List ℕ)
+      (can : CanCompareForTwo files auction servers list1 list2 one other) →
+      job_of (five_worlds_words auction servers list1 list2 one other out)
+      ≡ Some (ComparingForTwo auction servers list1 list2 can.two out) →
+      HasRun files (five_worlds_words auction servers list1 list2 one other out)
+  worlds-of-five-at auction servers list1 list2 one other out can named =
+      let command = five_worlds_words auction servers list1 list2 one other out in
+      let step = both_of_five auction servers list1 list2 in
+      let both : BothOfFive = can.both in
+      let first : FiveRead = both.first in
+      let second : Book = second_of_five both in
+      let a : ℕ = can.two.0 in
+      let b : ℕ = can.two.1 in
+      let are = are-two one other can.two can.two_are in
+      let h = both-of-five-right files auction servers list1 list2 both can.both_read in
+      let books : AreTwoBooksForTwo a b first.book second =
+      record { first_book = h.first.0; second_book = h.second; agree = can.agree } in
+      let (mapped, pair) = second-of-pair a b are.some are.less are.few first.book second books first.words h.first.1 in
+      let answer : Answer = agreed_for_two a b out first second mapped in
+      let shown : ShowsTheSameForTwo a b out first second answer = record {
+        agree = can.agree;
+        second_words = mapped;
+        pair = pair;
+        views = joint-same a b are.some are.less are.few first.book second first.words mapped books pair;
+        is = refl;
+      } in
+      let (now, same, read) = passes-to files step both (both-of-five-decides files auction servers list1 list2) can.both_read
+      (λ other r. one-value files step other both r can.both_read told-both-of-five) (shelf_of files []) refl in
+      has-run files command (ComparingForTwo auction servers list1 list2 can.two out) (call_with files command now answer)
+      named (read-is files command now answer step both read)
+      (inl (answer, record { value = both; read = read; shown = shown }, answer-runs files command now answer))
+      (sym (ap code_of (search-done first.book (mask_among (of_five (at_server first.words.masks))) can.masks)))
+
+  pub five_worlds : (auction servers list1 list2 one other out : List ℕ) →
+      job_of (five_worlds_words auction servers list1 list2 one other out) ≢ None →
+      CanCompareForTwo files auction servers list1 list2 one other →
+      HasRun files (five_worlds_words auction servers list1 list2 one other out)
+  five_worlds auction servers list1 list2 one other out not can =
+      let job_for : ℕ × ℕ → Job = λ two. ComparingForTwo auction servers list1 list2 two out in
+      worlds-of-five-at auction servers list1 list2 one other out can
+      (past (are_names (auction ∷ servers ∷ list1 ∷ list2 ∷ out ∷ [])) (option_map job_for (two_of_five one other)) not
+      ∙ ap (option_map job_for) can.two_are)
 
   -- ---- an audit
 

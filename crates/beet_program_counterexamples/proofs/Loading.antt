@@ -1,5 +1,5 @@
 -- Over files, what two worlds and an audit read goes on with a value, or ends.
-use Rattle.std.proofs.Common.{◌+◌, ◌*◌, ◌++◌, ℕ, List, [], ◌∷◌, Option, Some, None, length, nat_lt}
+use Rattle.std.proofs.Common.{◌+◌, ◌*◌, ◌++◌, ℕ, true, List, [], ◌∷◌, Option, Some, None, length, nat_lt}
 use Rattle.std.specs.Prelude.{codes, take}
 use Rattle.beet_field.specs.declared.trio.Trio.{Trio}
 use Rattle.beet_store.specs.Files.{File}
@@ -44,6 +44,14 @@ use Rattle.beet_load.specs.WordTexts.{server_short_text, too_few_text}
 use Rattle.beet_load.specs.declared.wanted.Wanted.{Wanted}
 use Rattle.beet_job_audit.specs.Reading.{read_errand}
 use Rattle.beet_job_worlds.specs.Reading.{both_errand}
+use Rattle.beet_gates.specs.declared.Gates.{Gates}
+use Rattle.beet_gates.specs.declared.Gates.TheVariants.{Chain, Tree}
+use Rattle.beet_five_load.specs.FiveLoading.{five_limited_errand, five_limited_rest, five_rest_errand, read_with}
+use Rattle.beet_five_load.specs.FiveServerFiles.{five_seeds_of}
+use Rattle.beet_five_load.specs.FiveServers.{lists_of, servers_errand as five_servers_errand}
+use Rattle.beet_five_load.specs.FiveSettings.{FiveSetting, five_setting_errand, tree_gates, with_chains}
+use Rattle.beet_five_load.specs.FiveWants.{wanted_of_five}
+use Rattle.beet_job_five_worlds.specs.Reading.{both_errand as both_of_five}
 use Rattle.beet_program_counterexamples.proofs.Deciding.{Decides, gives-decides, reads-decides, test-decides, then-decides}
 
 module _ (files : List File) where
@@ -180,6 +188,57 @@ module _ (files : List File) where
       then-decides files (limited_errand auction servers first) _ (limited-decides auction servers first) (λ one.
       then-decides files (curves_errand 0 second one.grid) _ (curves-decides second one.grid) (λ bidders.
       gives-decides files (record { first = one; second = bidders })))
+
+  chains-decides : {A : Type 0} (auction : List ℕ) (gates : Gates) (step : Step A) → Decides files step →
+      Decides files (with_chains auction gates >> step)
+  chains-decides auction Chain step d = d
+  chains-decides auction Tree step d =
+      test-decides files true BadFile (fault_line_of auction tree_gates.place tree_gates.reason) step d
+
+  seeds-decide : (wanted : Wanted) (read : List ServerWords) (seeds : List (List ℕ)) →
+      Decides files (five_servers_errand wanted read seeds)
+  seeds-decide wanted read [] = gives-decides files read
+  seeds-decide wanted read (seed ∷ seeds) =
+      then-decides files (server_errand wanted (length read + 1) (ServerSeed seed)) _
+      (server-decides wanted (length read + 1) (ServerSeed seed))
+      (λ words. seeds-decide wanted (read ++ words ∷ []) seeds)
+
+  setting-decides : (auction servers book : List ℕ) → Decides files (five_setting_errand auction servers book)
+  unfolding five_setting_errand
+  setting-decides auction servers book =
+      then-decides files (reads auction AUCTION_LIMIT auction_of) _
+      (reads-decides files auction AUCTION_LIMIT auction_of) (λ grid.
+      chains-decides auction grid.gates _ (
+      then-decides files (reads servers SERVERS_LIMIT five_seeds_of) _
+      (reads-decides files servers SERVERS_LIMIT five_seeds_of) (λ seeds.
+      then-decides files (reads book BOOK_LIMIT book_of) _ (reads-decides files book BOOK_LIMIT book_of) (λ entries.
+      gives-decides files (record { grid = grid; seeds = seeds; entries = entries })))))
+
+  rest-decides : (setting : FiveSetting) → Decides files (five_rest_errand setting)
+  unfolding five_rest_errand
+  rest-decides setting =
+      let grid : Grid = setting.grid in
+      then-decides files (five_servers_errand (wanted_of_five grid) [] setting.seeds) _
+      (seeds-decide (wanted_of_five grid) [] setting.seeds) (λ servers.
+      then-decides files (farmers_errand (wanted_of_five grid) grid None [] setting.entries) _
+      (farmers-decides (wanted_of_five grid) grid None [] setting.entries) (λ farmers.
+      gives-decides files (read_with grid (lists_of servers) farmers)))
+
+  five-limited-decides : (auction servers book : List ℕ) → Decides files (five_limited_errand auction servers book)
+  unfolding five_limited_errand
+  five-limited-decides auction servers book =
+      then-decides files (five_setting_errand auction servers book) (five_limited_rest book)
+      (setting-decides auction servers book)
+      (λ setting. product-decides book setting.grid (length setting.entries) (five_rest_errand setting) (rest-decides setting))
+
+  -- two books among five servers
+  pub both-of-five-decides : (auction servers first second : List ℕ) →
+      Decides files (both_of_five auction servers first second)
+  unfolding both_of_five
+  both-of-five-decides auction servers first second =
+      then-decides files (five_limited_errand auction servers first) _ (five-limited-decides auction servers first)
+      (λ one. then-decides files (curves_errand 0 second one.book.grid) _ (curves-decides second one.book.grid)
+      (λ bidders. gives-decides files (record { first = one; second = bidders })))
 
   -- an auction and three transcripts
   pub read-decides : (auction one two three : List ℕ) → Decides files (read_errand auction one two three)

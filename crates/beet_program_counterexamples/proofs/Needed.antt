@@ -16,10 +16,11 @@ use Rattle.beet_errand.specs.declared.answer.Refusal.TheVariants.{Usage, ReadFau
 use Rattle.beet_errand.specs.declared.answer.Status.TheVariants.{Refused}
 use Rattle.beet_errand.proofs.Steps.{went_none}
 use Rattle.beet_job_tally.specs.Tally.{tally_errand, tally_job}
+use Rattle.beet_job_five_worlds.specs.Ending.{compared_errand as compared_for_two}
 use Rattle.beet_job_worlds.specs.Ending.{compared_errand}
 use Rattle.beet_job_audit.specs.Reading.{read_errand}
 use Rattle.beet_command.specs.Words.{are_names}
-use Rattle.beet_app.specs.Jobs.{Answering, Auditing, Comparing, Job, job_of}
+use Rattle.beet_app.specs.Jobs.{Answering, Auditing, Comparing, ComparingForTwo, Job, job_of}
 use Rattle.beet_app_laws.specs.Calls.{RunsJob, RunsJobOf}
 use Rattle.beet_app_laws.specs.Dues.{EndsAsDue, IsDue}
 use Rattle.beet_program_counterexamples.specs.Needed.{longer_call, short_call, tally_words, untold_call}
@@ -85,6 +86,8 @@ short-job told desk None = short told desk (refuses Usage usage_text)
 short-job told desk (Some (Answering errand)) = short told desk errand
 short-job told desk (Some (Comparing auction servers first second s out)) =
     inr (λ next. short told desk (compared_errand auction servers first second s next))
+short-job told desk (Some (ComparingForTwo auction servers first second two out)) =
+    inr (λ next. short told desk (compared_for_two auction servers first second two.0 two.1 next))
 short-job told desk (Some (Auditing auction one two three)) =
     inr (λ next. short told desk (read_errand auction one two three next))
 

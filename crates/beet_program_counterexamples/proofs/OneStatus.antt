@@ -1,9 +1,8 @@
 -- A record tells the exit status.
-use Rattle.std.proofs.Common.{◌≡◌, inl, inr, ℕ, List, [], ◌∷◌, Option, Some, None, refl, sym, ap, subst, ◌∙◌, arith}
+use Rattle.std.proofs.Common.{◌≡◌, ◌⊎◌, inl, inr, ℕ, List, [], ◌∷◌, Option, Some, None, refl, sym, ap, subst, ◌∙◌, arith}
 use Rattle.std.proofs.Common.{length}
 use Rattle.std.specs.Prelude.{MatchOption}
 use Rattle.std.proofs.lemmas.List.{append_cancel_left}
-use Rattle.beet_field.specs.declared.point.Point.{Point}
 use Rattle.beet_store.specs.Files.{Fetch}
 use Rattle.beet_errand.specs.Errands.{Answer, Errand, Ends, Step, Wants, after_answer, answers, refuses, text_answer}
 use Rattle.beet_errand.specs.Fetches.{Leads}
@@ -16,17 +15,23 @@ use Rattle.beet_audit.specs.declared.fault.AuditFault.{AuditFault}
 use Rattle.beet_job_audit.specs.Ending.{TellsFinding, audit_answer}
 use Rattle.beet_job_audit.specs.Reading.{read_errand}
 use Rattle.beet_job_audit.specs.declared.reading.ReadViews.{ReadViews}
-use Rattle.beet_job_worlds.specs.Answering.{ShowsTheSame}
-use Rattle.beet_job_worlds.specs.Differences.{difference_between}
-use Rattle.beet_job_worlds.specs.Ending.{compared_errand, unless_differing}
-use Rattle.beet_job_worlds.specs.Reading.{Both, both_errand, first_book, second_book, words_read}
+use Rattle.beet_differences.specs.Comparing.{compared}
+use Rattle.beet_two_books.specs.declared.agreeing.MapFault.{MapFault}
+use Rattle.beet_errand.specs.declared.answer.Status.{Status}
+use Rattle.beet_book_differences.specs.Differences.{refused_text}
+use Rattle.beet_job_worlds.specs.Ending.{ShowsBoth, difference_read, unless_differing}
+use Rattle.beet_job_worlds.specs.Reading.{both_errand, first_book, second_book}
+use Rattle.beet_job_five_worlds.specs.Answering.{ShowsTheSameForTwo}
+use Rattle.beet_job_five_worlds.specs.Reading.{both_errand as both_of_five, second_book as second_of_five}
+use Rattle.beet_job_five_worlds.proofs.DifferenceForTwo.{no-difference as none-for-two}
 use Rattle.beet_job_worlds.proofs.DifferenceFacts.{no-difference}
-use Rattle.beet_app.specs.Jobs.{Job, Answering, Comparing, Auditing}
+use Rattle.beet_app.specs.Jobs.{Job, Answering, Comparing, ComparingForTwo, Auditing}
 use Rattle.beet_app_laws.specs.Calls.{Call}
-use Rattle.beet_app_laws.specs.Dues.{status_of_first}
-use Rattle.beet_app_laws.specs.Recorded.{LeadsJob, LeadsToShow, RecordsJob}
+use Rattle.beet_app_laws.specs.Dues.{status_of_first, status_of_first_of_five}
+use Rattle.beet_app_laws.specs.Recorded.{LeadsJob, LeadsToShow, LeadsToStop, RecordsJob}
 use Rattle.beet_app_laws.proofs.Led.{passed}
-use Rattle.beet_app_laws.proofs.Telling.{AreAlike, IsTold, told-both, told-views}
+use Rattle.beet_app_laws.proofs.Telling.{AreAlike, IsTold, told-both, told-both-of-five, told-views}
+use Rattle.beet_program_laws.proofs.FiveWorlds.{difference_read as difference_of_five}
 
 -- the same fetches lead an errand to one rest
 one-rest : (fetches : List Fetch) (errand one other : Errand) → Leads fetches errand one → Leads fetches errand other →
@@ -89,43 +94,47 @@ one-finding read one other t u =
     ap (λ (a : Answer). a.status) t.is ∙ audit-status read t.found u.found t.one_run u.one_run
     ∙ sym (ap (λ (a : Answer). a.status) u.is)
 
-module _ (auction servers first second : List ℕ) (s : Point) (out : List ℕ) (fetches : List Fetch) where
-  abbrev Shown : Answer → Type 0
-  Shown answer = LeadsToShow (both_errand auction servers first second)
-      (λ both answer. ShowsTheSame s out (first_book both) (words_read both) (second_book both) answer) fetches answer
+-- two worlds that are compared, of which an answer shows that there is no difference between them, and how one ends
+module _ {A : Type 0} (step : Step A) (difference : A → Option MapFault) (shows : A → Answer → Type 0) (end : A → Status)
+    (told : IsTold A) (none : (both : A) (answer : Answer) → shows both answer → difference both ≡ None)
+    (ends : (both : A) (answer : Answer) → shows both answer → answer.status ≡ end both) (fetches : List Fetch) where
+  abbrev both_compared : Step A
+  both_compared = compared refused_text difference step
 
-  -- books that look the same go on together
-  compared : (answer : Answer) (shown : Shown answer) → (next : Both → Errand) →
-      Leads fetches (compared_errand auction servers first second s next) (next shown.value)
-  compared answer shown next =
-      let both = shown.value in
-      passed (difference_between s (first_book both) (second_book both)) (next both)
-      (Leads fetches (compared_errand auction servers first second s next))
-      (no-difference s (first_book both) (second_book both) shown.shown.agree)
-      (shown.leads (λ both. unless_differing (difference_between s (first_book both) (second_book both)) (next both)))
+  -- worlds that look the same go on together
+  go-on : (answer : Answer) (shown : LeadsToShow step shows fetches answer) → To both_compared fetches shown.value
+  go-on answer shown next =
+      passed (difference shown.value) (next shown.value) (Leads fetches (both_compared next))
+      (none shown.value answer shown.shown)
+      (shown.leads (λ both. unless_differing (difference both) (next both)))
 
-  status-shown : (answer : Answer) (shown : Shown answer) → answer.status ≡ status_of_first shown.value
-  status-shown answer shown = ap (λ (a : Answer). a.status) shown.shown.is
+  one-comparison : (one other : Answer) →
+      LeadsToShow step shows fetches one ⊎ LeadsToStop both_compared fetches one →
+      LeadsToShow step shows fetches other ⊎ LeadsToStop both_compared fetches other → one.status ≡ other.status
+  one-comparison one other (inl l) (inl m) =
+      ends l.value one l.shown
+      ∙ ap end (one-value step fetches told l.value m.value l.leads m.leads)
+      ∙ sym (ends m.value other m.shown)
+  one-comparison one other (inl l) (inr m) = absurd (never-both both_compared fetches l.value other (go-on one l) m)
+  one-comparison one other (inr l) (inl m) = absurd (never-both both_compared fetches m.value one (go-on other m) l)
+  one-comparison one other (inr l) (inr m) =
+      let next : A → Errand = λ both. answers Done [] in one-answer fetches (both_compared next) one other (l next) (m next)
 
 module _ (fetches : List Fetch) where
   of-job : (job : Option Job) (one other : Answer) → LeadsJob job fetches one → LeadsJob job fetches other →
       one.status ≡ other.status
   of-job None one other l m = one-answer fetches (refuses Usage usage_text) one other l m
   of-job (Some (Answering errand)) one other l m = one-answer fetches errand one other l m
-  of-job (Some (Comparing auction servers first second s out)) one other (inl l) (inl m) =
-      status-shown auction servers first second s out fetches one l
-      ∙ ap status_of_first
-      (one-value (both_errand auction servers first second) fetches told-both l.value m.value l.leads m.leads)
-      ∙ sym (status-shown auction servers first second s out fetches other m)
-  of-job (Some (Comparing auction servers first second s out)) one other (inl l) (inr m) =
-      absurd (never-both (compared_errand auction servers first second s) fetches l.value other
-      (compared auction servers first second s out fetches one l) m)
-  of-job (Some (Comparing auction servers first second s out)) one other (inr l) (inl m) =
-      absurd (never-both (compared_errand auction servers first second s) fetches m.value one
-      (compared auction servers first second s out fetches other m) l)
-  of-job (Some (Comparing auction servers first second s out)) one other (inr l) (inr m) =
-      let next : Both → Errand = λ both. answers Done [] in
-      one-answer fetches (compared_errand auction servers first second s next) one other (l next) (m next)
+  of-job (Some (Comparing auction servers first second s out)) one other l m =
+      one-comparison (both_errand auction servers first second) (difference_read s) (ShowsBoth s out) status_of_first
+      told-both (λ both answer shown. no-difference s (first_book both) (second_book both) shown.agree)
+      (λ both answer shown. ap (λ (a : Answer). a.status) shown.is) fetches one other l m
+  of-job (Some (ComparingForTwo auction servers first second two out)) one other l m =
+      one-comparison (both_of_five auction servers first second) (difference_of_five two)
+      (λ both answer. ShowsTheSameForTwo two.0 two.1 out both.first (second_of_five both) answer) status_of_first_of_five
+      told-both-of-five
+      (λ both answer shown. none-for-two two.0 two.1 both.first.book (second_of_five both) shown.agree)
+      (λ both answer shown. ap (λ (a : Answer). a.status) shown.is) fetches one other l m
   of-job (Some (Auditing auction t1 t2 t3)) one other (inl l) (inl m) =
       one-finding m.value one other
       (subst (λ v. TellsFinding v one)

@@ -8,8 +8,10 @@ ghost use Rattle.beet_load.specs.Wholes.{limited_errand};
 ghost use Rattle.beet_app.specs.Jobs.{job_of};
 ghost use Rattle.beet_program_laws.specs.Accepted.{audit_words, witness_words};
 ghost use Rattle.beet_program_laws.specs.Again.{record_words};
+ghost use Rattle.beet_program_laws.specs.Commands.{five_worlds_words};
 ghost use Rattle.beet_completeness_laws.specs.Complete.{CanAudit, CanClear, CanCompare, CanOpen, CanRehearse};
-ghost use Rattle.beet_completeness_laws.specs.Complete.{CanRunFive, CanRunTrial, CanSeal, CanTally, CanWitness};
+ghost use Rattle.beet_completeness_laws.specs.Complete.{CanCompareForTwo, CanRunFive, CanRunTrial, CanSeal, CanTally};
+ghost use Rattle.beet_completeness_laws.specs.Complete.{CanWitness};
 ghost use Rattle.beet_program_counterexamples.specs.HasRun.{HasRun};
 
 /// The laws of completeness and of commands are not empty: what is right for a command has a run that ends with status
@@ -51,6 +53,10 @@ pub fn what_is_right_has_a_run()
         job_of (codes "worlds" ∷ auction ∷ servers ∷ book1 ∷ book2 ∷ server ∷ out ∷ []) ≢ None →
         CanCompare files auction servers book1 book2 server →
         HasRun files (codes "worlds" ∷ auction ∷ servers ∷ book1 ∷ book2 ∷ server ∷ out ∷ []) }
+    ensures five_worlds { (files : List File) (auction servers book1 book2 one other out : List ℕ) →
+        job_of (five_worlds_words auction servers book1 book2 one other out) ≢ None →
+        CanCompareForTwo files auction servers book1 book2 one other →
+        HasRun files (five_worlds_words auction servers book1 book2 one other out) }
     ensures audit { (files : List File) (auction one two three : List ℕ) →
         job_of (audit_words auction one two three) ≢ None →
         CanAudit files auction one two three → HasRun files (audit_words auction one two three) }

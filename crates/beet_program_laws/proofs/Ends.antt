@@ -1,5 +1,5 @@
 -- How a run over told files ends with status 0 or 6: with the answer of its job, which went out whole.
-use Rattle.std.proofs.Common.{◌≡◌, ◌≢◌, ◌⊎◌, inl, inr, ℕ, List, [], Bool, true, false, Option, None, Ok, Err}
+use Rattle.std.proofs.Common.{◌≡◌, ◌≢◌, ◌<◌, ◌⊎◌, inl, inr, ℕ, List, [], Bool, true, false, Option, None, Ok, Err}
 use Rattle.std.proofs.Common.{if◌then◌else◌, refl, sym, ap, subst, ◌∙◌, arith}
 use Rattle.beet_store.specs.Files.{File}
 use Rattle.beet_store.specs.Desks.{Done}
@@ -109,12 +109,12 @@ module _ (files : List File) (call : Call) (from : IsOf files call) (spent : cal
   whole-by errand (Wants name limit next) went runs = absurd (spent runs.code)
 
   -- an errand that is run to no failure has ended with its answer over the files
-  pub run-whole : (errand : Errand) → Runs errand call.shelf call.shelf_now call.desk call.desk_now call.status →
+  run-whole : (errand : Errand) → Runs errand call.shelf call.shelf_now call.desk call.desk_now call.status →
       EndsWhole files errand call
   run-whole errand r = whole-by errand r.rest r.went r.ends
 
   -- words that name no job end with the status of the usage line, which is 2
-  pub no-task : {A : Type 0} → call.status ≢ 2 →
+  no-task : {A : Type 0} → call.status ≢ 2 →
       Runs (refuses Usage usage_text) call.shelf call.shelf_now call.desk call.desk_now call.status → A
   no-task named r =
       let e = run-whole (refuses Usage usage_text) r in
@@ -185,6 +185,24 @@ answer-whole answer call spent failed r =
     at-rest answer call spent failed
     (subst (λ (e : Errand). EndsBy e call.desk call.desk_now call.status)
     (sym (at_end call.shelf_now call.shelf_now answer r.rest r.went)) r.ends)
+
+-- a run with the status of a refusal of worlds, which is that of no failure and of no usage line
+module _ (files : List File) (call : Call) (from : IsOf files call) (seven : call.status ≡ 7) where
+  below : (status : ℕ) → status < 7 → call.status ≢ status
+  below status few e = omega (arith, few, seven, e)
+
+  pub refused-answer : (answer : Answer) →
+      Runs (Ends answer) call.shelf_now call.shelf_now call.desk call.desk_now call.status → WentWhole answer call
+  refused-answer answer r = answer-whole answer call (below 1 (omega arith)) (below 4 (omega arith)) r
+
+  pub refused-whole : (errand : Errand) → Runs errand call.shelf call.shelf_now call.desk call.desk_now call.status →
+      EndsWhole files errand call
+  refused-whole errand r =
+      run-whole files call from (below 1 (omega arith)) (below 3 (omega arith)) (below 4 (omega arith)) errand r
+
+  pub no-usage : {A : Type 0} → Runs (refuses Usage usage_text) call.shelf call.shelf_now call.desk call.desk_now call.status → A
+  no-usage r =
+      no-task files call from (below 1 (omega arith)) (below 3 (omega arith)) (below 4 (omega arith)) (below 2 (omega arith)) r
 
 answer-ends : (answer : Answer) (call : Call) → IsDoneCode call.status →
     Runs (Ends answer) call.shelf_now call.shelf_now call.desk call.desk_now call.status → WentOut answer call

@@ -1,9 +1,10 @@
--- What `five` has read and said.
+-- What is read of an auction among five servers, and what `five` has said of it.
 use Rattle.std.proofs.Common.{◌≡◌, ◌≤◌, ◌+◌, ◌*◌, ◌∙◌, ℕ, List, [], ◌∷◌, ◌++◌, length, slice_get, suc, Ok, Err, Option, Some, None}
-use Rattle.std.proofs.Common.{Bool, true, false, if◌then◌else◌, refl, sym, ap, arith, length-append}
+use Rattle.std.proofs.Common.{Bool, true, false, if◌then◌else◌, nat_lt, refl, sym, ap, arith, length-append}
 use Rattle.std.specs.Prelude.{All, codes}
 use Rattle.std.proofs.lemmas.List.Elements.{All-append, All-cons, All-map, All-nil}
 use Rattle.beet_store.specs.Files.{File}
+use Rattle.beet_forms.specs.FaultLines.{fault_line_of}
 use Rattle.beet_forms.specs.Faults.{Fault, Reading, at_row}
 use Rattle.beet_forms.specs.Rows.{begins_with, rows_of}
 use Rattle.beet_forms.specs.declared.faults.TheConstants.{BAD_HEADER}
@@ -19,7 +20,7 @@ use Rattle.beet_bids.proofs.GridFacts.{few_comparisons}
 use Rattle.beet_book.specs.BookFiles.{book_of}
 use Rattle.beet_book.specs.NamedRows.{reading_at}
 use Rattle.beet_book.specs.Farmers.{BidderWithWords}
-use Rattle.beet_book.specs.declared.book_file.TheConstants.{BOOK_LIMIT}
+use Rattle.beet_book.specs.declared.book_file.TheConstants.{BOOK_LIMIT, MOST_PRODUCT}
 use Rattle.beet_book.specs.declared.server_file.TheConstants.{SERVERS_LIMIT}
 use Rattle.beet_book.specs.declared.sources.ServerSource.TheVariants.{Seed}
 use Rattle.beet_coalition.specs.Lists.{at_server}
@@ -35,8 +36,10 @@ use Rattle.beet_errand.specs.Statuses.{IsDoneCode}
 use Rattle.beet_errand.specs.declared.answer.Refusal.TheVariants.{BadFile}
 use Rattle.beet_errand.proofs.Statuses.{not_done}
 use Rattle.beet_load.specs.Farmers.{farmers_errand}
+use Rattle.beet_load.specs.Limits.{over_product}
 use Rattle.beet_load.specs.Servers.{ServerWords, server_errand}
-use Rattle.beet_five_load.specs.FiveLoading.{FiveRead, five_loaded_errand, five_rest_errand, read_with}
+use Rattle.beet_five_load.specs.FiveLoading.{FiveRead, five_limited_errand, five_limited_rest, five_loaded_errand}
+use Rattle.beet_five_load.specs.FiveLoading.{five_rest_errand, read_with}
 use Rattle.beet_five_load.specs.FiveServerFiles.{all_seeds, before_seeds, first_seed_at, five_seeds_of, seed_at, seeds_before}
 use Rattle.beet_five_load.specs.FiveServerFiles.{seeds_in}
 use Rattle.beet_five_load.specs.FiveServers.{CanServe, lists_of, servers_errand}
@@ -44,7 +47,8 @@ use Rattle.beet_five_load.specs.FiveSettings.{FiveSetting, five_setting_errand, 
 use Rattle.beet_five_load.specs.FiveWants.{counts_of_five, wanted_of_five}
 use Rattle.beet_five_load.proofs.Running.{can-run, makes-book}
 use Rattle.beet_five_load.proofs.Serving.{serves}
-use Rattle.beet_job_five.specs.Five.{cleared_by_five, five_errand}
+use Rattle.beet_five_run.specs.FiveOutcomes.{cleared_by_five}
+use Rattle.beet_job_five.specs.Five.{five_errand}
 use Rattle.beet_command.specs.Words.{are_names}
 use Rattle.beet_app.specs.Jobs.{Answering}
 use Rattle.beet_app_laws.specs.Calls.{Call, IsOf, RunsJobOf}
@@ -54,7 +58,7 @@ use Rattle.beet_program_laws.proofs.Ends.{found, named, tells-of-five}
 use Rattle.beet_program_laws.proofs.Files.{book-few}
 use Rattle.beet_program_laws.proofs.Grids.{grid-is}
 use Rattle.beet_program_laws.proofs.Read.{CanServe as Serves, IsReadFor, farmers-yield, one-more, server-yield}
-use Rattle.beet_program_laws.proofs.Steps.{Yields, gives-yield, reads-yield, then-yields, weaker-yield}
+use Rattle.beet_program_laws.proofs.Steps.{Yields, gives-yield, passes-yield, reads-yield, then-yields, weaker-yield}
 
 -- ---- the seeds of five servers
 
@@ -97,20 +101,21 @@ seeds-are bytes seeds e =
 
 -- ---- what is read
 
--- an auction among five servers that can be run
+-- an auction among five servers that can be run, with chains of gates
 abbrev pub IsRight : FiveRead → Type 0
-IsRight read = IsBook read.book × CanRun read.book read.words
+IsRight read = IsBook read.book × CanRun read.book read.words × (read.book.grid.gates ≡ Chain)
 
 -- a setting whose auction can be read
 record IsSetting (setting : FiveSetting) : Type 0 where
   limits : IsGrid setting.grid
+  chains : setting.grid.gates ≡ Chain
   seeds : length setting.seeds ≡ 5
   entries : length setting.entries ≤ MOST_BIDDERS
 
 module _ (files : List File) where
-  chains-yield : {A : Type 0} (auction : List ℕ) (gates : Gates) (step : Step A) (P : A → Type 0) → Yields files step P →
-      Yields {A = A} files (λ next. with_chains auction gates (step next)) P
-  chains-yield auction Chain step P y next done = y next done
+  chains-yield : {A : Type 0} (auction : List ℕ) (gates : Gates) (step : Step A) (P : A → Type 0) →
+      ((gates ≡ Chain) → Yields files step P) → Yields {A = A} files (λ next. with_chains auction gates (step next)) P
+  chains-yield auction Chain step P y next done = y refl next done
   chains-yield auction Tree step P y next done = absurd (not_done BadFile done)
 
   setting-yield : (auction servers book : List ℕ) → Yields files (five_setting_errand auction servers book) IsSetting
@@ -118,15 +123,15 @@ module _ (files : List File) where
   setting-yield auction servers book =
       then-yields files (reads auction AUCTION_LIMIT auction_of) _ IsGrid IsSetting
       (reads-yield files auction AUCTION_LIMIT auction_of IsGrid grid-is) (λ grid limits.
-      chains-yield {A = FiveSetting} auction grid.gates _ IsSetting (
+      chains-yield {A = FiveSetting} auction grid.gates _ IsSetting (λ chains.
       then-yields files (reads servers SERVERS_LIMIT five_seeds_of) _ (λ seeds. length seeds ≡ 5) IsSetting
       (reads-yield files servers SERVERS_LIMIT five_seeds_of (λ seeds. length seeds ≡ 5) seeds-are) (λ seeds five.
       then-yields files (reads book BOOK_LIMIT book_of) _ (λ entries. length entries ≤ MOST_BIDDERS) IsSetting
       (reads-yield files book BOOK_LIMIT book_of (λ entries. length entries ≤ MOST_BIDDERS) book-few) (λ entries few.
       gives-yield files IsSetting (record { grid = grid; seeds = seeds; entries = entries })
-      (record { limits = limits; seeds = five; entries = few })))))
+      (record { limits = limits; chains = chains; seeds = five; entries = few })))))
 
-  module _ (grid : Grid) (limits : IsGrid grid) where
+  module _ (grid : Grid) (limits : IsGrid grid) (chains : grid.gates ≡ Chain) where
     -- the words that are read of a server are fewer than 2^32
     serving : (words : ServerWords) → Serves (counts_of_five grid) words → CanServe (counts_of_five grid) words
     serving words h =
@@ -172,6 +177,7 @@ module _ (files : List File) where
       makes-book (counts_of_five grid) grid farmers (λ k d lt. (are k d lt).is) few,
       can-run grid (lists_of servers) farmers (serves grid servers five each) (λ k d lt. (are k d lt).is)
           (All-map (All IsWord) (λ (f : BidderWithWords). f.words) farmers (λ k d lt. (are k d lt).words)),
+      chains,
     )
 
   rest-yield : (setting : FiveSetting) → IsSetting setting → Yields files (five_rest_errand setting) IsRight
@@ -184,12 +190,12 @@ module _ (files : List File) where
       let Bidders : List BidderWithWords → Type 0 =
       λ farmers. All (IsReadFor counts grid) farmers × (length farmers ≡ 0 + length setting.entries) in
       then-yields files (servers_errand (wanted_of_five grid) [] setting.seeds) _ Many IsRight
-      (servers-yield grid is.limits [] (All-nil (CanServe counts)) setting.seeds) (λ servers s.
+      (servers-yield grid is.limits is.chains [] (All-nil (CanServe counts)) setting.seeds) (λ servers s.
       then-yields files (farmers_errand (wanted_of_five grid) grid None [] setting.entries) _ Bidders IsRight
       (farmers-yield files (wanted_of_five grid) grid None tt [] (All-nil (IsReadFor counts grid)) setting.entries)
       (λ farmers f.
       gives-yield files IsRight (read_with grid (lists_of servers) farmers)
-      (right grid is.limits servers farmers (omega (arith, s.1, is.seeds)) s.0 (omega (arith, f.1, is.entries)) f.0)))
+      (right grid is.limits is.chains servers farmers (omega (arith, s.1, is.seeds)) s.0 (omega (arith, f.1, is.entries)) f.0)))
 
   pub five-yield : (auction servers book : List ℕ) → Yields files (five_loaded_errand auction servers book) IsRight
   unfolding five_loaded_errand
@@ -197,10 +203,20 @@ module _ (files : List File) where
       then-yields files (five_setting_errand auction servers book) five_rest_errand IsSetting IsRight
       (setting-yield auction servers book) (λ setting is. rest-yield setting is)
 
+  -- the limit on its book is tested first
+  pub five-limited-yield : (auction servers book : List ℕ) → Yields files (five_limited_errand auction servers book) IsRight
+  unfolding five_limited_errand
+  five-limited-yield auction servers book =
+      then-yields files (five_setting_errand auction servers book) (five_limited_rest book) IsSetting IsRight
+      (setting-yield auction servers book) (λ setting is.
+      passes-yield {A = FiveRead} files (nat_lt MOST_PRODUCT (0 + length setting.entries * setting.grid.prices)) BadFile
+      (fault_line_of book over_product.place over_product.reason) (five_rest_errand setting) IsRight
+      (λ within. rest-yield setting is))
+
 -- ---- what was said
 
 -- the servers of such an auction open its outcome
-five-open : (read : FiveRead) → IsRight read → FiveServersOpen read.book read.words
+pub five-open : (read : FiveRead) → IsRight read → FiveServersOpen read.book read.words
 five-open read h =
     let masks = at_server read.words.masks in
     record {

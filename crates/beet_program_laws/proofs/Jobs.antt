@@ -21,6 +21,7 @@ use Rattle.beet_bids.specs.declared.book.Bidder.{Bidder}
 use Rattle.beet_book.specs.Farmers.{BidderWithWords, book_with}
 use Rattle.beet_book.specs.ServerFiles.{servers_of}
 use Rattle.beet_book.specs.declared.server_file.TheConstants.{SERVERS_LIMIT}
+use Rattle.beet_book.specs.declared.sources.Servers.{Servers}
 use Rattle.beet_farmer.specs.Lists.{list_of}
 use Rattle.beet_farmer.specs.declared.list_file.ListEntry.{ListEntry}
 use Rattle.beet_farmer.specs.declared.list_file.TheConstants.{LIST_LIMIT}
@@ -40,7 +41,7 @@ use Rattle.beet_world.specs.declared.schedule.TheConstants.{SCHEDULE_LIMIT}
 use Rattle.beet_auction_map.specs.ViewsWith.{transcript_with}
 use Rattle.beet_headline.specs.Statements.{AllHaveEnded, standing}
 use Rattle.beet_headline.proofs.Standings.{all-ended, ends}
-use Rattle.beet_errand.specs.Errands.{Answer, Step, ◌>>=◌, file_for, gives, reads}
+use Rattle.beet_errand.specs.Errands.{Answer, Ends, Step, ◌>>=◌, file_for, gives, reads}
 use Rattle.beet_errand.specs.Statuses.{IsDoneCode, code_of}
 use Rattle.beet_load.specs.Counts.{counts_of}
 use Rattle.beet_load.specs.Wanted.{wanted_of}
@@ -48,7 +49,6 @@ use Rattle.beet_load.specs.Loading.{AuctionWithBidders, loaded_errand}
 use Rattle.beet_load.specs.Servers.{ServerWords, all_words_errand, coefficients_of, masks_of}
 use Rattle.beet_load.specs.Wholes.{CanDeal, all_words, limited_errand}
 use Rattle.beet_run.specs.Outcomes.{cleared, outcome_answer}
-use Rattle.beet_job_clear.specs.Clear.{clear_errand}
 use Rattle.beet_job_rehearse.specs.Rehearse.{rehearse_errand, rehearse_job, rehearsed}
 use Rattle.beet_job_rehearse.specs.Standings.{rehearsal_of, standing_of}
 use Rattle.beet_job_rehearse.specs.declared.standing.Standing.TheVariants.{Waiting, Ended}
@@ -64,12 +64,12 @@ use Rattle.beet_command.specs.Words.{are_names}
 use Rattle.beet_app.specs.Jobs.{Answering}
 use Rattle.beet_errand.specs.Overs.{ReadsTo}
 use Rattle.beet_app_laws.proofs.Telling.{one-value, told-each, told-list, told-trio}
-use Rattle.beet_app_laws.specs.Calls.{Call, IsOf, Puts, RunsJobOf}
-use Rattle.beet_app_laws.specs.Readings.{OpenRead}
-use Rattle.beet_program_laws.specs.Commands.{Clears, OpensEnvelopes, RecordsRun, ShowsStandings, TellsOfEnvelopes}
+use Rattle.beet_app_laws.specs.Calls.{Call, IsOf, Puts, RunsJob, RunsJobOf}
+use Rattle.beet_app_laws.specs.Readings.{OpenRead, Read}
+use Rattle.beet_program_laws.specs.Commands.{Clears, OpensBook, OpensEnvelopes, RecordsRun, ShowsStandings, TellsOfEnvelopes}
 use Rattle.beet_load.specs.WholeViews.{loaded_with}
 use Rattle.beet_program_laws.specs.Outcomes.{IsShown, ServersOpen, TellsTheEnd, transcript_files}
-use Rattle.beet_program_laws.proofs.Ends.{WentOut, found, named, servers-open, tells}
+use Rattle.beet_program_laws.proofs.Ends.{Found, WentOut, found, named, servers-open, tells}
 use Rattle.beet_program_laws.proofs.Envelopes.{AreHeld, bidders-yield}
 use Rattle.beet_program_laws.proofs.Grids.{grid-is}
 use Rattle.beet_program_laws.proofs.Read.{AreServed, CanServeAll, IsLoaded, IsRead, all-words-yield, back, can-run}
@@ -95,6 +95,18 @@ module _ (loaded : AuctionWithBidders) (h : IsLoaded loaded) where
       servers-open book_in words_in (is-book loaded.grid loaded.servers loaded.farmers h.few h.farmers h.servers)
       (can-run loaded.grid loaded.servers loaded.farmers h.few h.farmers h.servers)
 
+  -- a step reads it, and what is cleared of it tells what its servers open
+  abbrev pub opens-book : (files : List File) (step : Step AuctionWithBidders) → ReadsTo files step loaded → (status : ℕ) →
+      status ≡ code_of (cleared loaded).status → OpensBook files step status
+  opens-book files step reads status code = record {
+    book = book_in;
+    words = words_in;
+    read = read-back files step reads;
+    run = runs-in;
+    text = (cleared loaded).text;
+    tells = tells book_in words_in status code;
+  }
+
   -- its transcripts are those of the words that are kept
   same-transcript : (s : Point) → transcript_of_book loaded.grid loaded.farmers (masks_of loaded.servers)
       (coefficients_of loaded.servers) s ≡ transcript_with book_in words_in s
@@ -117,34 +129,31 @@ module _ (files : List File) (call : Call) (from : IsOf files call) (w : IsDoneC
       ReadsTo files (loaded_errand auction servers list) loaded →
       WentOut (cleared loaded) call → Clears files auction servers list call
   cleared-by auction servers list loaded h read out = record {
-    book = book_in loaded h;
-    words = words_in loaded h;
-    read = read-back loaded h files (loaded_errand auction servers list) read;
-    run = runs-in loaded h;
-    text = (cleared loaded).text;
-    tells = tells (book_in loaded h) (words_in loaded h) call.status out.code;
+    opens = opens-book loaded h files (loaded_errand auction servers list) read call.status out.code;
     said = out.calls;
   }
+
+  -- a command with three files whose job answers of the auction and the bidders that are read
+  pub loads : (answer : AuctionWithBidders → Answer) (auction servers list : List ℕ) →
+      RunsJob (if are_names (auction ∷ servers ∷ list ∷ [])
+      then Some (Answering (loaded_errand auction servers list (λ loaded. Ends (answer loaded)))) else None) call →
+      Found files call from w (loaded_errand auction servers list) answer IsLoaded
+  loads answer auction servers list ran =
+      let errand = loaded_errand auction servers list (λ loaded. Ends (answer loaded)) in
+      found files call from w (loaded_errand auction servers list) answer IsLoaded (loaded-yield files auction servers list)
+      (named files call from w (are_names (auction ∷ servers ∷ list ∷ [])) (Some (Answering errand)) ran)
 
   pub clears : (auction servers list : List ℕ) → RunsJobOf (codes "clear" ∷ auction ∷ servers ∷ list ∷ []) call →
       Clears files auction servers list call
   clears auction servers list ran =
-      let r = named files call from w (are_names (auction ∷ servers ∷ list ∷ []))
-      (Some (Answering (clear_errand auction servers list))) ran in
-      let f = found files call from w (loaded_errand auction servers list) cleared IsLoaded
-      (loaded-yield files auction servers list) r in
+      let f = loads cleared auction servers list ran in
       cleared-by auction servers list f.value f.holds f.read f.out
 
   recorded-by : (auction servers list out : List ℕ) (loaded : AuctionWithBidders) (h : IsLoaded loaded) →
       ReadsTo files (limited_errand auction servers list) loaded →
       WentOut (recorded_answer out loaded) call → RecordsRun files auction servers list out call
   recorded-by auction servers list out loaded h read went = record {
-    book = book_in loaded h;
-    words = words_in loaded h;
-    read = read-back loaded h files (limited_errand auction servers list) read;
-    run = runs-in loaded h;
-    text = (recorded_answer out loaded).text;
-    tells = tells (book_in loaded h) (words_in loaded h) call.status went.code;
+    opens = opens-book loaded h files (limited_errand auction servers list) read call.status went.code;
     gives = subst (λ (l : List File). Puts call l (recorded_answer out loaded).text)
         (same-files loaded h out) went.calls;
   }
@@ -214,6 +223,32 @@ module _ (book : Book) (words : Words) (run : ServersOpen book words) (es : List
       AllHaveEnded book words es
   none-left none = all-ended book words run.is_book run.can_run es (sym left ∙ none)
 
+-- an auction, the words of its servers and the points in the envelopes of a list, each as it is read
+abbrev pub sealed_read : {files : List File} {auction servers list : List ℕ}
+    (grid : Read files (reads auction AUCTION_LIMIT auction_of)) (sources : Read files (reads servers SERVERS_LIMIT servers_of))
+    (entries : Read files (reads list LIST_LIMIT list_of)) →
+    Read files (all_words_errand (wanted_of None grid.value) None sources.value) →
+    Read files (bidders_errand grid.value [] entries.value) → OpenRead files auction servers list
+sealed_read grid sources entries words bidders =
+    record { grid = grid; sources = sources; entries = entries; words = words; bidders = bidders }
+
+-- where a job is done that reads the words and then the points, these have P, whatever is answered of them
+pub sealed-yield : (files : List File) (grid : Grid) (sources : Servers) (entries : List ListEntry)
+    (answer : Trio ServerWords → List (Trio (List ℕ)) → Answer) (P : Answer → Type 0) →
+    ((words : Read files (all_words_errand (wanted_of None grid) None sources)) (bidders : Read files (bidders_errand grid [] entries)) →
+    CanServeAll (counts_of grid) words.value.servers → AreHeld grid (0 + length entries) bidders.value →
+    P (answer words.value.servers bidders.value)) →
+    Yields files (all_words_errand (wanted_of None grid) None sources >>= λ words. bidders_errand grid [] entries >>= λ bidders.
+    gives (answer words.servers bidders)) P
+sealed-yield files grid sources entries answer P each =
+    then-told files (all_words_errand (wanted_of None grid) None sources)
+    (λ words. bidders_errand grid [] entries >>= λ bidders. gives (answer words.servers bidders)) (AreServed (counts_of grid)) P
+    (all-words-yield files (wanted_of None grid) None sources) (λ words r served.
+    then-told files (bidders_errand grid [] entries) (λ bidders. gives (answer words.servers bidders))
+    (AreHeld grid (0 + length entries)) P (bidders-yield grid files entries) (λ bidders q held.
+    gives-yield files P (answer words.servers bidders)
+    (each (record { value = words; is = r }) (record { value = bidders; is = q }) served.0 held)))
+
 module _ (files : List File) where
   -- what the files of a rehearsal are read as, and what it answers
   record IsRehearsed (auction servers list name : List ℕ) (answer : Answer) : Type 0 where
@@ -261,30 +296,19 @@ module _ (files : List File) where
   unfolding open_job entries_job
   open-yield auction servers list =
       then-told files (reads auction AUCTION_LIMIT auction_of) _ IsGrid (IsOpened auction servers list)
-      (reads-yield files auction AUCTION_LIMIT auction_of IsGrid grid-is) (λ grid r1 h1.
+      (reads-yield files auction AUCTION_LIMIT auction_of IsGrid grid-is) (λ grid r1 is_grid.
       then-told files (reads servers SERVERS_LIMIT servers_of) _ (λ sources. Unit {0}) (IsOpened auction servers list)
-      (any-yield files servers SERVERS_LIMIT servers_of) (λ sources r2 h2.
+      (any-yield files servers SERVERS_LIMIT servers_of) (λ sources r2 any.
       then-told files (reads list LIST_LIMIT list_of) _ (λ entries. Unit {0}) (IsOpened auction servers list)
-      (any-yield files list LIST_LIMIT list_of) (λ entries r3 h3.
-      then-told files (all_words_errand (wanted_of None grid) None sources)
-      (λ words. bidders_errand grid [] entries >>= λ bidders. gives (opened_answer grid words.servers bidders))
-      (AreServed (counts_of grid)) (IsOpened auction servers list)
-      (all-words-yield files (wanted_of None grid) None sources) (λ words r4 h4.
-      then-told files (bidders_errand grid [] entries) (λ bidders. gives (opened_answer grid words.servers bidders))
-      (AreHeld grid (0 + length entries)) (IsOpened auction servers list) (bidders-yield grid files entries)
-      (λ bidders r5 h5.
-      gives-yield files (IsOpened auction servers list) (opened_answer grid words.servers bidders) (record {
-        read = record {
-          grid = record { value = grid; is = r1 };
-          sources = record { value = sources; is = r2 };
-          entries = record { value = entries; is = r3 };
-          words = record { value = words; is = r4 };
-          bidders = record { value = bidders; is = r5 };
-        };
-        limits = h1;
-        can_serve = h4.0;
+      (any-yield files list LIST_LIMIT list_of) (λ entries r3 any.
+      sealed-yield files grid sources entries (opened_answer grid) (IsOpened auction servers list) (λ words bidders can held.
+      record {
+        read = sealed_read (record { value = grid; is = r1 }) (record { value = sources; is = r2 })
+            (record { value = entries; is = r3 }) words bidders;
+        limits = is_grid;
+        can_serve = can;
         is = refl;
-      }))))))
+      }))))
 
 -- farmers of a book with words to deal are as bidders that are read with their words
 farmers-read : (grid : Grid) (farmers : List BidderWithWords) → IsBook (book_with grid farmers) →

@@ -10,7 +10,9 @@ pub mod Fives
 pub mod Tallies
 pub mod Seals
 pub mod Trials
+pub mod Compared
 pub mod Worlds
+pub mod FiveWorlds
 pub mod SecondBook
 pub mod SecondWorlds
 pub mod Audits

@@ -42,7 +42,7 @@ use Rattle.beet_book.specs.declared.sources.Servers.{Servers}
 use Rattle.beet_book.specs.declared.sources.Servers.TheVariants.{Three, Bundle}
 use Rattle.beet_trades.specs.Enough.{HasAccepted}
 use Rattle.beet_headline.specs.Statements.{CanRun}
-use Rattle.beet_errand.specs.Errands.{Step, gives, reads}
+use Rattle.beet_errand.specs.Errands.{Step, ◌>>=◌, gives, reads}
 use Rattle.beet_errand.specs.declared.answer.Refusal.TheVariants.{BadFile, TooFewWords}
 use Rattle.beet_load.specs.Counts.{Counts, coefficients_wanted, counts_of, words_wanted}
 use Rattle.beet_load.specs.Wanted.{wanted_of}
@@ -63,7 +63,7 @@ use Rattle.beet_app_laws.specs.Held.{IsHeld}
 use Rattle.beet_load.specs.WholeViews.{loaded_with}
 use Rattle.beet_program_laws.proofs.Files.{AreFew, bid-is, book-few, bundle-are, seed-are, tape-are}
 use Rattle.beet_program_laws.proofs.Held.{held-yield}
-use Rattle.beet_program_laws.proofs.Steps.{Yields, any-yield, gives-yield, passes-yield, reads-yield, then-yields}
+use Rattle.beet_program_laws.proofs.Steps.{Yields, any-yield, gives-yield, passes-yield, reads-yield, then-both, then-yields}
 use Rattle.beet_program_laws.proofs.Steps.{weaker-yield}
 
 -- a bidder that is read with its words, of which so many are wanted
@@ -453,6 +453,15 @@ module _ (files : List File) where
       (λ bidders h.
       record { few = omega (arith, few, h.1); curves = λ k d lt. (h.0 k d lt).0; of_grid = λ k d lt. (h.0 k d lt).1 })
       (bids-yield grid [] (All-nil (IsBidder grid)) entries)))
+
+  -- a step, and then the bidders of a second book over the grid of its value
+  pub second-yield : {A C : Type 0} (step : Step A) (grid_of : A → Grid) (book : List ℕ) (both : A → List Bidder → C)
+      (P : A → Type 0) (R : C → Type 0) → Yields files step P →
+      ((a : A) (bidders : List Bidder) → P a → IsBook (record { grid = grid_of a; bidders = bidders }) → R (both a bidders)) →
+      Yields files (step >>= λ a. curves_errand 0 book (grid_of a) >>= λ bidders. gives (both a bidders)) R
+  second-yield step grid_of book both P R y w =
+      then-both files step (λ a. curves_errand 0 book (grid_of a)) both P
+      (λ a bidders. IsBook (record { grid = grid_of a; bidders = bidders })) R y (λ a. curves-yield book (grid_of a)) w
 
 -- ---- the book and the words
 

@@ -36,6 +36,20 @@ pub then-yields : {A B : Type 0} (files : List File) (step : Step A) (rest : A �
     ((a : A) → P a → Yields files (rest a) Q) → Yields files (step >>= rest) Q
 then-yields files step rest P Q y z = then-told files step rest P Q y (λ a r h. z a h)
 
+-- what is known of the first of two values, and of the second
+pub record AreBoth {A B : Type 0} (P : A → Type 0) (Q : B → Type 0) (one : A) (other : B) : Type 0 where
+  pub first : P one
+  pub second : Q other
+
+-- a step, and then the one that its value leads to: of what is made of both values R holds
+pub then-both : {A B C : Type 0} (files : List File) (step : Step A) (rest : A → Step B) (both : A → B → C)
+    (P : A → Type 0) (Q : A → B → Type 0) (R : C → Type 0) → Yields files step P → ((a : A) → Yields files (rest a) (Q a)) →
+    ((a : A) (b : B) → P a → Q a b → R (both a b)) → Yields files (step >>= λ a. rest a >>= λ b. gives (both a b)) R
+then-both files step rest both P Q R y z w =
+    then-yields files step (λ a. rest a >>= λ b. gives (both a b)) P R y (λ a p.
+    then-yields files (rest a) (λ b. gives (both a b)) (Q a) R (z a) (λ b q.
+    gives-yield files R (both a b) (w a b p q)))
+
 -- a step that yields what has P yields what has Q
 pub weaker-yield : {A : Type 0} (files : List File) (step : Step A) (P Q : A → Type 0) → ((a : A) → P a → Q a) →
     Yields files step P → Yields files step Q

@@ -1,5 +1,5 @@
 -- What `watch` has read and said.
-use Rattle.std.proofs.Common.{◌≡◌, ◌++◌, ℕ, List, [], ◌∷◌, Some, ap, length, subst, sym, ◌∙◌}
+use Rattle.std.proofs.Common.{◌≡◌, ◌++◌, ℕ, List, [], ◌∷◌, ap, length, subst, sym, ◌∙◌}
 use Rattle.std.specs.Prelude.{codes}
 use Rattle.beet_field.specs.declared.point.Point.TheVariants.{One, Two, Three}
 use Rattle.beet_store.specs.Files.{File}
@@ -25,15 +25,13 @@ use Rattle.beet_errand.specs.Overs.{ReadsTo}
 use Rattle.beet_errand.specs.Statuses.{IsDoneCode}
 use Rattle.beet_load.specs.Loading.{AuctionWithBidders, loaded_errand}
 use Rattle.beet_run.specs.Outcomes.{cleared}
-use Rattle.beet_job_watch.specs.Watch.{book_count, book_opened, count_text, watch_errand, watched}
-use Rattle.beet_command.specs.Words.{are_names}
-use Rattle.beet_app.specs.Jobs.{Answering}
+use Rattle.beet_job_watch.specs.Watch.{book_count, book_opened, count_text, watched}
 use Rattle.beet_app_laws.specs.Calls.{Call, IsOf, RunsJobOf, Says}
 use Rattle.beet_program_laws.specs.Commands.{Watches}
 use Rattle.beet_program_laws.specs.Outcomes.{ServersOpen}
-use Rattle.beet_program_laws.proofs.Ends.{WentOut, found, named, tells}
-use Rattle.beet_program_laws.proofs.Jobs.{book_in, read-back, runs-in, words_in}
-use Rattle.beet_program_laws.proofs.Read.{IsLoaded, loaded-yield}
+use Rattle.beet_program_laws.proofs.Ends.{WentOut}
+use Rattle.beet_program_laws.proofs.Jobs.{book_in, loads, opens-book, runs-in, words_in}
+use Rattle.beet_program_laws.proofs.Read.{IsLoaded}
 
 -- the run of a book opens as many numbers as its script does on the book's sums
 opened : (book : Book) (words : Words) → ServersOpen book words →
@@ -65,12 +63,7 @@ module _ (files : List File) (call : Call) (from : IsOf files call) (w : IsDoneC
       ReadsTo files (loaded_errand auction servers list) loaded →
       WentOut (watched loaded) call → Watches files auction servers list call
   watched-by auction servers list loaded h read out = record {
-    book = book_in loaded h;
-    words = words_in loaded h;
-    read = read-back loaded h files (loaded_errand auction servers list) read;
-    run = runs-in loaded h;
-    text = (cleared loaded).text;
-    tells = tells (book_in loaded h) (words_in loaded h) call.status out.code;
+    opens = opens-book loaded h files (loaded_errand auction servers list) read call.status out.code;
     said =
         subst (λ (count : NoteCount). Says call
         ((cleared loaded).text ++ count_text One count ++ count_text Two count ++ count_text Three count))
@@ -80,8 +73,5 @@ module _ (files : List File) (call : Call) (from : IsOf files call) (w : IsDoneC
   pub watches : (auction servers list : List ℕ) → RunsJobOf (codes "watch" ∷ auction ∷ servers ∷ list ∷ []) call →
       Watches files auction servers list call
   watches auction servers list ran =
-      let r = named files call from w (are_names (auction ∷ servers ∷ list ∷ []))
-      (Some (Answering (watch_errand auction servers list))) ran in
-      let f = found files call from w (loaded_errand auction servers list) watched IsLoaded
-      (loaded-yield files auction servers list) r in
+      let f = loads files call from w watched auction servers list ran in
       watched-by auction servers list f.value f.holds f.read f.out

@@ -18,15 +18,13 @@ use Rattle.beet_book.specs.declared.book_file.TheConstants.{MOST_PRODUCT}
 use Rattle.beet_book.specs.declared.server_file.TheConstants.{SERVERS_LIMIT}
 use Rattle.beet_farmer.specs.Lists.{list_of}
 use Rattle.beet_farmer.specs.declared.list_file.TheConstants.{LIST_LIMIT}
-use Rattle.beet_errand.specs.Errands.{Answer, ◌>>=◌, gives, reads}
+use Rattle.beet_errand.specs.Errands.{Answer, reads}
 use Rattle.beet_errand.specs.Statuses.{IsDoneCode}
 use Rattle.beet_errand.specs.declared.answer.Refusal.TheVariants.{BadFile}
 use Rattle.beet_load.specs.Limits.{over_product}
-use Rattle.beet_load.specs.Servers.{ServerWords, all_words_errand}
+use Rattle.beet_load.specs.Servers.{ServerWords}
 use Rattle.beet_load.specs.Counts.{counts_of}
-use Rattle.beet_load.specs.Wanted.{wanted_of}
 use Rattle.beet_transcripts.specs.RunsOn.{view_of_points}
-use Rattle.beet_gathering.specs.Gather.{bidders_errand}
 use Rattle.beet_job_witness.specs.Witness.{kept_job, list_job, witness_errand, witness_job, witnessed_answer}
 use Rattle.beet_witness_laws.specs.SealedCurves.{AreInEnvelopes, CanBeWitnessed}
 use Rattle.beet_witness_laws.proofs.SealedViews.{view-sealed}
@@ -38,13 +36,12 @@ use Rattle.beet_app_laws.specs.Readings.{OpenRead}
 use Rattle.beet_program_laws.specs.Accepted.{witness_words}
 use Rattle.beet_program_laws.specs.Commands.{WitnessesEnvelopes}
 use Rattle.beet_program_laws.proofs.Ends.{Found, WentOut, found, named}
-use Rattle.beet_program_laws.proofs.Envelopes.{AreHeld, bidders-yield}
 use Rattle.beet_program_laws.proofs.Files.{list-few}
 use Rattle.beet_program_laws.proofs.Grids.{grid-is}
 use Rattle.beet_program_laws.proofs.Held.{held-yield}
-use Rattle.beet_program_laws.proofs.Jobs.{points-sealed, tells-of}
-use Rattle.beet_program_laws.proofs.Read.{AreServed, CanServeAll, all-words-yield, within-limit}
-use Rattle.beet_program_laws.proofs.Steps.{Yields, any-yield, gives-yield, passes-yield, reads-yield, then-told}
+use Rattle.beet_program_laws.proofs.Jobs.{points-sealed, sealed-yield, sealed_read, tells-of}
+use Rattle.beet_program_laws.proofs.Read.{CanServeAll, within-limit}
+use Rattle.beet_program_laws.proofs.Steps.{Yields, any-yield, passes-yield, reads-yield, then-told}
 
 -- bidders whose points are in envelopes, and words that are enough and no more than are kept
 within-limits : (grid : Grid) (bidders : List (Trio (List ℕ))) (words : Trio ServerWords) → IsGrid grid →
@@ -92,28 +89,16 @@ module _ (files : List File) where
       (reads-yield files list LIST_LIMIT list_of (λ entries. length entries ≤ MOST_BIDDERS) list-few) (λ entries r3 h3.
       passes-yield {A = Answer} files (nat_lt MOST_PRODUCT (0 + length entries * grid.prices)) BadFile
       (fault_line_of list over_product.place over_product.reason) _ (IsWitnessed auction servers list out) (λ within.
-      then-told files (all_words_errand (wanted_of None grid) None sources)
-      (λ words. bidders_errand grid [] entries
-      >>= λ bidders. gives (witnessed_answer out grid words.servers bidders))
-      (AreServed (counts_of grid)) (IsWitnessed auction servers list out)
-      (all-words-yield files (wanted_of None grid) None sources) (λ words r4 h4.
-      then-told files (bidders_errand grid [] entries)
-      (λ bidders. gives (witnessed_answer out grid words.servers bidders)) (AreHeld grid (0 + length entries))
-      (IsWitnessed auction servers list out) (bidders-yield grid files entries) (λ bidders r5 h5.
-      gives-yield files (IsWitnessed auction servers list out) (witnessed_answer out grid words.servers bidders) (record {
-        read = record {
-          grid = record { value = grid; is = r1 };
-          sources = record { value = sources; is = r2 };
-          entries = record { value = entries; is = r3 };
-          words = record { value = words; is = r4 };
-          bidders = record { value = bidders; is = r5 };
-        };
+      sealed-yield files grid sources entries (witnessed_answer out grid) (IsWitnessed auction servers list out) (λ words bidders can held.
+      record {
+        read = sealed_read (record { value = grid; is = r1 }) (record { value = sources; is = r2 })
+            (record { value = entries; is = r3 }) words bidders;
         grid_held = h1;
-        can_serve = h4.0;
-        limits = within-limits grid bidders words.servers (grid-is h1.bytes grid h1.is)
-            (omega (arith, h3, h5.1)) (within-limit (length bidders) (length entries) grid.prices h5.1 within) h5.0 h4.0;
+        can_serve = can;
+        limits = within-limits grid bidders.value words.value.servers (grid-is h1.bytes grid h1.is) (omega (arith, h3, held.1))
+            (within-limit (length bidders.value) (length entries) grid.prices held.1 within) held.0 can;
         is = refl;
-      })))))))
+      })))))
 
 module _ (files : List File) (call : Call) (from : IsOf files call) (w : IsDoneCode call.status) where
   witnessed-by : (auction servers list put : List ℕ) (answer : Answer) →

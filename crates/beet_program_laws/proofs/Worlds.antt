@@ -1,5 +1,5 @@
 -- What the job `worlds` has read, put and said.
-use Rattle.std.proofs.Common.{◌≡◌, inl, ℕ, List, [], ◌∷◌, ◌++◌, Option, Some, None, refl, sym, ap, subst, ◌∙◌}
+use Rattle.std.proofs.Common.{◌≡◌, ℕ, List, [], ◌∷◌, ◌++◌, Option, Some, None, refl, sym, ap, subst, ◌∙◌}
 use Rattle.std.specs.Prelude.{codes, option_map}
 use Rattle.beet_field.specs.Point.{server_of}
 use Rattle.beet_field.specs.declared.point.Point.{Point}
@@ -9,78 +9,60 @@ use Rattle.beet_bids.specs.Books.{IsBook}
 use Rattle.beet_auction.specs.Endings.{book_finish, book_rounds}
 use Rattle.beet_view.specs.BookViews.{transcript_for}
 use Rattle.beet_auction_map.specs.ViewsWith.{transcript_with}
-use Rattle.beet_two_books.specs.declared.agreeing.MapFault.{MapFault}
 use Rattle.beet_headline.specs.Statements.{AreOnePair, AreTwoBooks}
 use Rattle.beet_headline.proofs.Pairing.{mapped-pair}
-use Rattle.beet_errand.specs.Errands.{Answer, Errand, answers, refuses}
+use Rattle.beet_errand.specs.Errands.{Answer, refuses}
 use Rattle.beet_errand.specs.Fetches.{IsDone, IsRead}
 use Rattle.beet_errand.specs.Statuses.{IsDoneCode, code_of}
 use Rattle.beet_errand.specs.declared.answer.OwnRefusal.TheVariants.{OfWorlds}
 use Rattle.beet_errand.specs.declared.answer.Refusal.TheVariants.{Own}
-use Rattle.beet_errand.specs.declared.answer.Status.TheVariants.{Done}
-use Rattle.beet_errand.proofs.Statuses.{not_done}
 use Rattle.beet_load.specs.Loading.{AuctionWithBidders}
-use Rattle.beet_load.specs.Wholes.{curves_errand, limited_errand}
+use Rattle.beet_load.specs.Wholes.{limited_errand}
 use Rattle.beet_run.specs.OutcomeTexts.{outcome_text}
 use Rattle.beet_job_worlds.specs.Answering.{ShowsTheSame, worlds_text}
-use Rattle.beet_job_worlds.specs.Differences.{difference_between}
-use Rattle.beet_job_worlds.specs.Ending.{ShowsWorlds, compared_errand, unless_differing}
+use Rattle.beet_book_differences.specs.Differences.{refused_text}
+use Rattle.beet_job_worlds.specs.Ending.{ShowsWorlds, compared_errand, difference_read}
 use Rattle.beet_job_worlds.specs.Reading.{Both, both_errand, first_book, second_book, words_read}
 use Rattle.beet_job_worlds.proofs.SecondWords.{words-uncut}
 use Rattle.beet_command.specs.Words.{are_names}
 use Rattle.beet_app.specs.Jobs.{Comparing}
 use Rattle.beet_errand.specs.Overs.{ReadsTo, answer_over}
 use Rattle.beet_app_laws.proofs.Led.{read-to}
-use Rattle.beet_app_laws.proofs.Telling.{one-value, told-both}
+use Rattle.beet_app_laws.proofs.Telling.{told-both}
 use Rattle.beet_app_laws.specs.Calls.{Call, IsOf, Puts, RunsJob, RunsJobOf}
 use Rattle.beet_program_laws.specs.Commands.{PutsBothWorlds}
+use Rattle.beet_program_laws.proofs.Compared.{is-right, undone as never-done}
 use Rattle.beet_program_laws.proofs.Ends.{WentOut, named, no-job, shown-ends, tells}
 use Rattle.beet_program_laws.proofs.Jobs.{runs-in}
-use Rattle.beet_program_laws.proofs.Read.{IsLoaded, back, can-run-cut, curves-yield, limited-yield}
-use Rattle.beet_program_laws.proofs.Steps.{Yields, gives-yield, then-yields}
+use Rattle.beet_program_laws.proofs.Read.{IsLoaded, back, can-run-cut, limited-yield, second-yield}
+use Rattle.beet_program_laws.proofs.Steps.{AreBoth, Yields}
 
 -- ---- both books
 
-pub record IsBoth (both : Both) : Type 0 where
-  pub first : IsLoaded both.first
-  pub second : IsBook (second_book both)
+abbrev pub IsBoth : Both → Type 0
+IsBoth both = AreBoth IsLoaded IsBook both.first (second_book both)
 
 both-yield : (files : List File) (auction servers list1 list2 : List ℕ) →
     Yields files (both_errand auction servers list1 list2) IsBoth
 unfolding both_errand
 both-yield files auction servers list1 list2 =
-    then-yields files (limited_errand auction servers list1) _ IsLoaded IsBoth
-    (limited-yield files auction servers list1) (λ first h.
-    then-yields files (curves_errand 0 list2 first.grid) _
-    (λ bidders. IsBook (record { grid = first.grid; bidders = bidders })) IsBoth
-    (curves-yield files list2 first.grid) (λ second k.
-    gives-yield files IsBoth (record { first = first; second = second }) (record { first = h; second = k })))
+    second-yield files (limited_errand auction servers list1) (λ first. first.grid) list2
+    (λ first second. record { first = first; second = second }) IsLoaded IsBoth (limited-yield files auction servers list1)
+    (λ first second h k. record { first = h; second = k })
 
 -- what was read of both books is right
 pub is-both : (files : List File) (auction servers list1 list2 : List ℕ) (both : Both) →
     ReadsTo files (both_errand auction servers list1 list2) both → IsBoth both
-is-both files auction servers list1 list2 both r =
-    let step = both_errand auction servers list1 list2 in
-    let next : Both → Errand = λ v. answers Done [] in
-    let (other, q, h) = both-yield files auction servers list1 list2 next
-    (subst (λ (x : Answer). IsDone x.status) (sym (r next)) (inl refl)) in
-    subst IsBoth (one-value files step other both q r told-both) h
-
-refused : (files : List File) (difference : Option MapFault) →
-    IsDone (answer_over files (unless_differing difference (refuses (Own OfWorlds) []))).status → ⊥
-refused files None done = not_done (Own OfWorlds) done
-refused files (Some difference) done = not_done (Own OfWorlds) done
+is-both files auction servers list1 list2 =
+    is-right (both_errand auction servers list1 list2) files IsBoth (both-yield files auction servers list1 list2) told-both
 
 -- an errand that goes on from both books to a refusal is not done
 pub undone : (files : List File) (auction servers list1 list2 : List ℕ) (s : Point) →
     IsDone
     (answer_over files (compared_errand auction servers list1 list2 s (λ both. refuses (Own OfWorlds) []))).status → ⊥
-undone files auction servers list1 list2 s done =
-    let next : Both → Errand =
-    λ both. unless_differing (difference_between s (first_book both) (second_book both)) (refuses (Own OfWorlds) []) in
-    let (both, reads, h) = both-yield files auction servers list1 list2 next done in
-    refused files (difference_between s (first_book both) (second_book both))
-    (subst (λ (a : Answer). IsDone a.status) (reads next) done)
+undone files auction servers list1 list2 s =
+    never-done refused_text (difference_read s) (both_errand auction servers list1 list2) files IsBoth
+    (both-yield files auction servers list1 list2)
 
 module _ (files : List File) (call : Call) (from : IsOf files call) (w : IsDoneCode call.status)
     (auction servers list1 list2 : List ℕ) (s : Point) (out : List ℕ) where

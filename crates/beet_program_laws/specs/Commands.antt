@@ -1,6 +1,6 @@
 -- What each command has read, put and said where its run ends with status 0 or 6, over a shelf whose answers are of
 -- these files.
-use Rattle.std.specs.Prelude.{◌≡◌, ◌≤◌, ◌++◌, ℕ, List, All, length, map, codes, decimal, Some}
+use Rattle.std.specs.Prelude.{◌≡◌, ◌≤◌, ◌++◌, ℕ, List, [], ◌∷◌, All, length, map, codes, decimal, Some}
 use Rattle.std.specs.Prelude.{Ok}
 use Rattle.beet_field.specs.Trio.{member, of_each, trio_of}
 use Rattle.beet_field.specs.declared.point.Point.{Point}
@@ -28,12 +28,12 @@ use Rattle.beet_world.specs.declared.schedule.Delivery.{Delivery}
 use Rattle.beet_world.specs.declared.schedule.TheConstants.{SCHEDULE_LIMIT}
 use Rattle.beet_auction_map.specs.ViewsWith.{transcript_with}
 use Rattle.beet_headline.specs.Statements.{AllHaveEnded, AreOnePair, AreTwoBooks, standing}
-use Rattle.beet_errand.specs.Errands.{reads}
+use Rattle.beet_errand.specs.Errands.{Step, reads}
 use Rattle.beet_errand.specs.Statuses.{code_of}
 use Rattle.beet_errand.specs.Texts.{line_of}
 use Rattle.beet_errand.specs.Worlds.{equal_text, files_of_worlds}
 use Rattle.beet_load.specs.Counts.{counts_of, words_wanted}
-use Rattle.beet_load.specs.Loading.{loaded_errand}
+use Rattle.beet_load.specs.Loading.{AuctionWithBidders, loaded_errand}
 use Rattle.beet_load.specs.Servers.{coefficients_of, masks_of}
 use Rattle.beet_load.specs.Wholes.{CanDeal, all_words, limited_errand}
 use Rattle.beet_run.specs.OutcomeTexts.{outcome_text}
@@ -60,6 +60,15 @@ use Rattle.beet_load.specs.WholeViews.{loaded_with}
 use Rattle.beet_app_laws.specs.Calls.{Call, Puts, Says}
 use Rattle.beet_app_laws.specs.Readings.{OpenRead, SealRead, TallyRead}
 use Rattle.beet_five_load.specs.FiveLoading.{FiveRead, five_loaded_errand}
+use Rattle.beet_five_dealing.specs.FiveWords.{FiveWords}
+use Rattle.beet_five_map.specs.FiveWorlds.{Agree as AgreeForTwo, AreTwoBooks as AreTwoBooksForTwo}
+use Rattle.beet_five_view.specs.JointBooks.{joint_transcript}
+use Rattle.beet_five_view.specs.WordsFiles.{words_bytes}
+use Rattle.beet_headline.specs.FiveStatements.{LookTheSame}
+use Rattle.beet_two_books.specs.declared.agreeing.MapFault.{MapFault}
+use Rattle.beet_book_differences.specs.Differences.{refused_text}
+use Rattle.beet_job_five_worlds.specs.Ending.{difference_for_two}
+use Rattle.beet_job_five_worlds.specs.Reading.{BothOfFive, both_errand as both_of_five, second_book as second_of_five}
 use Rattle.beet_program_laws.specs.Outcomes.{FiveServersOpen, IsShown, ServersOpen, TellsOfFive, TellsTheEnd}
 use Rattle.beet_program_laws.specs.Outcomes.{three_files, transcript_files}
 
@@ -76,14 +85,19 @@ pub record Tallies (files : List File) (auction book_file : List ℕ) (call : Ca
       Says call (line_of (codes "supply " ++ decimal (supply_at bidders 0))
       ++ line_of (codes "demand " ++ decimal (demand_at bidders 0)))
 
--- `clear`: the files read as a book with words; what its servers open was said, and nothing else
-pub record Clears (files : List File) (auction servers book_file : List ℕ) (call : Call) : Type 0 where
+-- a step reads a book with words over the files, and the status and a text tell what its servers open
+pub record OpensBook (files : List File) (step : Step AuctionWithBidders) (status : ℕ) : Type 0 where
   pub book : Book
   pub words : Words
-  pub read : ReadsTo files (loaded_errand auction servers book_file) (loaded_with book words)
+  pub read : ReadsTo files step (loaded_with book words)
   pub run : ServersOpen book words
   pub text : List ℕ
-  pub tells : TellsTheEnd book words call.status text
+  pub tells : TellsTheEnd book words status text
+
+-- `clear`: the files read as a book with words; what its servers open was said, and nothing else
+pub record Clears (files : List File) (auction servers book_file : List ℕ) (call : Call) : Type 0 where
+  pub opens : OpensBook files (loaded_errand auction servers book_file) call.status
+  pub open opens use *
   pub said : Says call text
 
 -- `five`: the files read as a book with words of five servers; what these open was said, and nothing else
@@ -98,24 +112,16 @@ pub record ClearsAmongFive (files : List File) (auction servers book_file : List
 -- `watch`: what `clear` says was said, and then of each server how many notes the desk counted and how many numbers
 -- they name: the rounds of the run of this book among three servers, and the numbers that it opens
 pub record Watches (files : List File) (auction servers book_file : List ℕ) (call : Call) : Type 0 where
-  pub book : Book
-  pub words : Words
-  pub read : ReadsTo files (loaded_errand auction servers book_file) (loaded_with book words)
-  pub run : ServersOpen book words
-  pub text : List ℕ
-  pub tells : TellsTheEnd book words call.status text
+  pub opens : OpensBook files (loaded_errand auction servers book_file) call.status
+  pub open opens use *
   pub said :
       let count = count_in (setup_for book words) (rounds_for book words) in
       Says call (text ++ count_text One count ++ count_text Two count ++ count_text Three count)
 
 -- `record`: what `clear` says was said, and before the text the transcripts of the run were put
 pub record RecordsRun (files : List File) (auction servers book_file out : List ℕ) (call : Call) : Type 0 where
-  pub book : Book
-  pub words : Words
-  pub read : ReadsTo files (limited_errand auction servers book_file) (loaded_with book words)
-  pub run : ServersOpen book words
-  pub text : List ℕ
-  pub tells : TellsTheEnd book words call.status text
+  pub opens : OpensBook files (limited_errand auction servers book_file) call.status
+  pub open opens use *
   pub gives : Puts call (transcript_files out book words) text
 
 -- `rehearse`: the files read as a book with words, and a schedule; it was said how each server stands after the
@@ -233,6 +239,38 @@ pub record PutsBothWorlds (files : List File) (auction servers book1 book2 : Lis
       (files_of_worlds out (transcript_with first words s) (transcript_with second second_words s)
       (bundle_bytes second_words))
       (text ++ equal_text)
+
+-- the words of a comparison of two books for two servers of five
+abbrev pub five_worlds_words : List ℕ → List ℕ → List ℕ → List ℕ → List ℕ → List ℕ → List ℕ → List (List ℕ)
+five_worlds_words auction servers book1 book2 one other out =
+    codes "five_worlds" ∷ auction ∷ servers ∷ book1 ∷ book2 ∷ one ∷ other ∷ out ∷ []
+
+-- `five_worlds`: the files read as two books that agree for servers a and b together, and words of five servers for the
+-- first; there are words for the second that go with these and with no others. What the two see together of both runs
+-- was put, which is the same, byte for byte, and these words; and how the first run ends was said
+pub record PutsBothWorldsForTwo (files : List File) (auction servers book1 book2 : List ℕ) (a b : ℕ) (out : List ℕ)
+    (call : Call) :
+    Type 0 where
+  pub both : BothOfFive
+  pub read : ReadsTo files (both_of_five auction servers book1 book2) both
+  pub two : AreTwoBooksForTwo a b both.first.book (second_of_five both)
+  pub run : FiveServersOpen both.first.book both.first.words
+  pub second_words : FiveWords
+  pub look : LookTheSame a b both.first.book both.first.words (second_of_five both) second_words
+  pub text : List ℕ
+  pub tells : TellsOfFive both.first.book both.first.words call.status text
+  pub gives : Puts call
+      (files_of_worlds out (joint_transcript a b both.first.book both.first.words)
+      (joint_transcript a b (second_of_five both) second_words) (words_bytes second_words))
+      (text ++ equal_text)
+
+-- `five_worlds` at status 7, of two books that are read: they do not agree for servers a and b together. The line tells
+-- the first thing by which these can tell them apart, and nothing was put
+pub record RefusesBooksForTwo (a b : ℕ) (both : BothOfFive) (call : Call) : Type 0 where
+  pub fault : MapFault
+  pub first : difference_for_two a b both.first.book (second_of_five both) ≡ Some fault
+  pub apart : AgreeForTwo a b both.first.book (second_of_five both) → ⊥
+  pub said : Says call (refused_text fault)
 
 -- `audit`: the files read as a grid and three views of one run, which is that of a book with words: the book that the
 -- points recombine to, and the words of the tapes, with words of the bidders that begin the same run; how its auction

@@ -10,13 +10,16 @@ ghost use Rattle.std.specs.Prelude.{◌≡◌, ℕ, List, [], ◌∷◌, codes, 
 ghost use Rattle.beet_field.specs.Point.{server_of};
 ghost use Rattle.beet_field.specs.declared.point.Point.{Point};
 ghost use Rattle.beet_store.specs.Files.{File};
-ghost use Rattle.beet_app_laws.specs.Calls.{Call, IsDoneCall};
+ghost use Rattle.beet_errand.specs.Overs.{ReadsTo};
+ghost use Rattle.beet_job_five_worlds.specs.Reading.{BothOfFive, both_errand};
+ghost use Rattle.beet_app.specs.Jobs.{two_of_five};
+ghost use Rattle.beet_app_laws.specs.Calls.{Call, IsDoneCall, IsOf, RunsJobOf};
 ghost use Rattle.beet_program_laws.specs.Again.{IsPutAgain, record_words};
 ghost use Rattle.beet_program_laws.specs.Accepted.{IsAccepted, IsAuditedByPoints, audit_words, witness_words};
 ghost use Rattle.beet_program_laws.specs.Commands.{AuditsOneRun, Clears, ClearsAmongFive, OpensEnvelopes};
-ghost use Rattle.beet_program_laws.specs.Commands.{PutsBothWorlds, RecordsRun, RunsTrial, Seals, ShowsStandings};
-ghost use Rattle.beet_program_laws.specs.Commands.{Tallies, Watches};
-ghost use Rattle.beet_program_laws.specs.Commands.{WitnessesEnvelopes};
+ghost use Rattle.beet_program_laws.specs.Commands.{PutsBothWorlds, PutsBothWorldsForTwo, RecordsRun};
+ghost use Rattle.beet_program_laws.specs.Commands.{RefusesBooksForTwo, RunsTrial, Seals, ShowsStandings};
+ghost use Rattle.beet_program_laws.specs.Commands.{Tallies, Watches, WitnessesEnvelopes, five_worlds_words};
 
 /// `tally AUCTION BOOK` says the sums of what the bidders of the book sell and buy.
 pub fn what_tally_says_are_the_sums_of_the_bids()
@@ -97,6 +100,26 @@ pub fn what_worlds_puts_looks_the_same()
         IsDoneCall files (codes "worlds" ∷ auction ∷ servers ∷ book1 ∷ book2 ∷ server ∷ out ∷ []) call →
         (s : Point) × (server_of server ≡ Some s)
         × PutsBothWorlds files auction servers book1 book2 s out call }
+{}
+
+/// `five_worlds AUCTION SERVERS BOOK1 BOOK2 A B OUT` puts what servers `A` and `B` of five see together of both books,
+/// which is the same, byte for byte, and the only words of the second that go with those of the first. `A` and `B` are
+/// digits from 1 to 5, the first below the second.
+pub fn what_five_worlds_puts_looks_the_same_to_two()
+    ensures { (files : List File) (auction servers book1 book2 one other out : List ℕ) (call : Call) →
+        IsDoneCall files (five_worlds_words auction servers book1 book2 one other out) call →
+        (two : ℕ × ℕ) × (two_of_five one other ≡ Some two)
+        × PutsBothWorldsForTwo files auction servers book1 book2 two.0 two.1 out call }
+{}
+
+/// If it ends with status 7 over files that read as two books, these do not agree for the two servers, and the line
+/// tells the first thing by which these can tell them apart together.
+pub fn what_five_worlds_refuses_does_not_agree()
+    ensures { (files : List File) (auction servers book1 book2 one other out : List ℕ) (both : BothOfFive)
+        (call : Call) → IsOf files call →
+        RunsJobOf (five_worlds_words auction servers book1 book2 one other out) call →
+        ReadsTo files (both_errand auction servers book1 book2) both → call.status ≡ 7 →
+        (two : ℕ × ℕ) × (two_of_five one other ≡ Some two) × RefusesBooksForTwo two.0 two.1 both call }
 {}
 
 /// `audit AUCTION T1 T2 T3` finds three transcripts of one run, and says how it ended.

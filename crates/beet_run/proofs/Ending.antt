@@ -18,7 +18,7 @@ use Rattle.beet_server.specs.Fits.{Fits}
 use Rattle.beet_sharing.specs.Runs.{Setup, coming, opened_by, rounds_among, shared_at, with_batch_lets}
 use Rattle.beet_server.specs.Lockstep.{HaveEnded}
 use Rattle.beet_load.specs.Servers.{ServerWords}
-use Rattle.beet_run.specs.Runs.{EndsAuction, HasEndedRun, Starts, setup_with}
+use Rattle.beet_run.specs.Runs.{EndsAuction, HasEndedRun, HaveRunToEnd, Starts, setup_with}
 use Rattle.beet_sharing.proofs.Walk.{length-opened_by}
 use Rattle.beet_auction.specs.Setups.{inputs_of}
 
@@ -61,6 +61,10 @@ module _ (grid : Grid) (inputs : Trio (List ℕ)) (words : Trio ServerWords) (co
     (ended : Trio (Core Auction)) (h : HaveEnded auction_batch inputs_of most_rounds cores ended) where
   abbrev run : Setup
   run = setup_with grid inputs words
+
+  -- they have run to the end
+  pub have-run : HaveRunToEnd grid inputs words ended
+  have-run = record { start = cores; starts = s; ended = h }
 
   -- the first server has ended
   pub has-ended-run : HasEndedRun ended.one

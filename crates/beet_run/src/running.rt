@@ -1,4 +1,4 @@
-//! Three servers begin a script, and run it to its end on one thread; those of an auction.
+//! Three servers begin a script; those of an auction, and how they end it.
 
 ghost use Rattle.std.specs.Prelude.{◌≡◌, ◌*◌, ℕ, IfErr, IfOk, All, List, Some, length};
 ghost use Rattle.beet_field.specs.Trio.{member};
@@ -9,7 +9,7 @@ ghost use Rattle.beet_plan.specs.Auction.{auction_plan};
 ghost use Rattle.beet_server.specs.Cores.{IsFresh, fresh};
 ghost use Rattle.beet_load.specs.Counts.{counts_of};
 ghost use Rattle.beet_load.specs.Servers.{HaveEnough, ServerWords as Lists};
-ghost use Rattle.beet_run.specs.Runs.{CanStart, EndsAuction, HasEndedRun, HaveRunScript, HaveRunToEnd, StartScript};
+ghost use Rattle.beet_run.specs.Runs.{CanStart, EndsAuction, HasEndedRun, HaveRunToEnd, StartScript};
 ghost use Rattle.beet_run.specs.Runs.{Starts};
 
 use beet_bids::Grid;
@@ -21,7 +21,6 @@ use beet_plan::Finish;
 use beet_search::AuctionScript;
 use beet_server::{ServerCore, StartFault};
 use beet_words::FeList;
-use beet_world::lockstep;
 use std::alloc::Global;
 
 /// A server that begins a script with these points and words.
@@ -70,23 +69,6 @@ pub fn start_script<S: Script<3>>(
     Ok(cores)
 }
 
-/// Starts the three servers of a script with these points of the inputs and these words, and runs them to the end on
-/// the caller's thread, round by round. Want of memory is the only error, and comes before the first round.
-pub fn run_script<S: Script<3>>(
-    alloc: Global,
-    script: S,
-    inputs: Trio<FeList>,
-    words: Trio<ServerWords>,
-) -> Result<Trio<ServerCore<S>>, Stop>
-    requires { (i : Point) → CanStart S.inputs_of S.secrets_of S.masks_of script (member inputs i)
-        (member words i) }
-    ensures memory { IfErr result (λ stop. stop ≡ Stop.OutOfMemory) }
-    ensures ended { IfOk result (HaveRunScript S.batch_of S.inputs_of S.rounds_of script inputs words) }
-{
-    let cores = start_script(alloc, script, inputs, words)?;
-    Ok(lockstep(cores))
-}
-
 /// The three servers of an auction over the grid, at its start, with these points of the inputs (supply at each price,
 /// and then demand) and these words. Want of memory is the only error.
 pub fn start_servers(
@@ -115,22 +97,6 @@ pub fn finish_at(core: &ServerCore<AuctionScript>) -> Finish
     }
 }
 
-/// Starts the three servers of an auction with these points of the inputs and these words, and runs them to the end on
-/// the caller's thread, round by round. Want of memory is the only error, and comes before the first round.
-pub fn run_on_one_thread(
-    alloc: Global,
-    grid: &Grid,
-    inputs: Trio<FeList>,
-    words: Trio<ServerWords>,
-) -> Result<Trio<ServerCore<AuctionScript>>, Stop>
-    requires enough { HaveEnough (counts_of grid.now) words }
-    requires inputs { (i : Point) → length (member inputs i) ≡ 2 * grid.now.prices }
-    ensures memory { IfErr result (λ stop. stop ≡ Stop.OutOfMemory) }
-    ensures ended { IfOk result (HaveRunToEnd grid.now inputs words) }
-{
-    run_script(alloc, AuctionScript::over(grid), inputs, words)
-}
-
 /// How the auction that three servers have run to its end has ended, and after how many rounds. The servers are let go.
 pub fn end_of(ended: Trio<ServerCore<AuctionScript>>) -> (Finish, u32)
     requires { HasEndedRun ended.one }
@@ -141,21 +107,4 @@ pub fn end_of(ended: Trio<ServerCore<AuctionScript>>) -> (Finish, u32)
     // One call lets them go: else the proof of this way out goes through each of their parts.
     drop(ended);
     run
-}
-
-/// Runs the auction that three servers begin with these points and words to its end on the caller's thread, round by
-/// round: how it ends, and after how many rounds. Want of memory is the only error, and comes before the first round.
-pub fn end_on_one_thread(
-    alloc: Global,
-    grid: &Grid,
-    inputs: Trio<FeList>,
-    words: Trio<ServerWords>,
-) -> Result<(Finish, u32), Stop>
-    requires enough { HaveEnough (counts_of grid.now) words }
-    requires inputs { (i : Point) → length (member inputs i) ≡ 2 * grid.now.prices }
-    ensures memory { IfErr result (λ stop. stop ≡ Stop.OutOfMemory) }
-    ensures ends { IfOk result (λ run. EndsAuction grid.now inputs words run.0 run.1) }
-{
-    let ended = run_on_one_thread(alloc, grid, inputs, words)?;
-    Ok(end_of(ended))
 }

@@ -1,10 +1,8 @@
--- The job of a command whose words are read.
+-- The errand of a command whose words are read.
+use Rattle.beet_errand.specs.Errands.{Errand}
 use Rattle.beet_job_sale.specs.Sales.{sale_errand}
-use Rattle.beet_sale_app.specs.Jobs.{Job, Answering, Comparing}
-use Rattle.beet_sale_app.specs.declared.commands.Command.{Command}
-use Rattle.beet_sale_app.specs.declared.commands.Command.TheVariants.{Sale, Pair}
+use Rattle.beet_sale_app.specs.declared.commands.SaleCommand.{SaleCommand}
 
--- the job of a command with these words
-abbrev pub job_for : Command → Job
-job_for (Sale files) = Answering (sale_errand files.sale.now files.servers.now)
-job_for (Pair files s) = Comparing files.first.now files.second.now files.servers.now s files.out.now
+-- the errand of a command with these words
+abbrev pub errand_for : SaleCommand → Errand
+errand_for command = sale_errand command.files.sale.now command.files.servers.now

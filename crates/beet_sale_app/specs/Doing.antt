@@ -1,11 +1,9 @@
 -- The task of each job.
-use Rattle.std.specs.Prelude.{Option, Some, None}
-use Rattle.beet_errand.specs.Tasks.{Task, NoTask, ToAnswer}
+use Rattle.std.specs.Prelude.{Option}
+use Rattle.beet_errand.specs.Tasks.{Task}
 use Rattle.beet_job_sale_pair.specs.Ending.{pair_task}
-use Rattle.beet_sale_app.specs.Jobs.{Job, Answering, Comparing}
+use Rattle.beet_pair_words.specs.Jobs.{Job, task_of as task_by}
 
 -- the task of the job that words name
 abbrev pub task_of : Option Job → Task
-task_of None = NoTask
-task_of (Some (Answering errand)) = ToAnswer errand
-task_of (Some (Comparing first second servers s out)) = pair_task first second servers s out
+task_of job = task_by pair_task job

@@ -1,55 +1,32 @@
 //! Reading the words of a command.
 
-ghost use Rattle.std.specs.Prelude.{◌≡◌, map, option_map, string_bytes};
-ghost use Rattle.beet_sale_app.specs.Commands.{job_for};
-ghost use Rattle.beet_sale_app.specs.Jobs.{job_of, job_of_five, job_of_two};
+ghost use Rattle.std.specs.Prelude.{◌≡◌, option_map};
+ghost use Rattle.beet_command.specs.Lines.{words_read};
+ghost use Rattle.beet_sale_app.specs.Commands.{errand_for};
+ghost use Rattle.beet_sale_app.specs.Jobs.{errand_in};
 
-use beet_command::{Line, is_file, read_line};
-use beet_field::Point;
+use beet_command::{Line, is_file};
 use beet_job_sale::SaleFiles;
-use beet_pair_words::{PairFiles, read_pair};
+use beet_pair_words::OwnCommand;
 
-/// A command with its words. Those that stand for files are names.
+/// The command `sale`, which is the only one besides `pair`, with its words. Those that stand for files are names.
 #[derive(Clone, Copy)]
-pub(crate) enum Command<'a> {
-    Sale(SaleFiles<'a>),
-    Pair(PairFiles<'a>, Point),
+pub(crate) struct SaleCommand<'a> {
+    pub(crate) files: SaleFiles<'a>,
 }
 
-/// The command of a name with two words.
-fn with_two<'a>(name: &str, sale: &'a str, servers: &'a str) -> Option<Command<'a>>
-    ensures { option_map job_for result ≡ job_of_two name.now sale.now servers.now }
-{
-    if name == "sale" && is_file(sale) && is_file(servers) {
-        Some(Command::Sale(SaleFiles { sale, servers }))
-    } else {
-        None
-    }
-}
+impl<'a> OwnCommand<'a> for SaleCommand<'a> {
+    ghost errand_in = { errand_in };
 
-/// The command of a name with five words, of which the fourth is a server's number.
-fn with_five<'a>(
-    name: &str,
-    first: &'a str,
-    second: &'a str,
-    servers: &'a str,
-    server: &str,
-    out: &'a str,
-) -> Option<Command<'a>>
-    ensures { option_map job_for result
-        ≡ job_of_five name.now first.now second.now servers.now server.now out.now }
-{
-    let (files, server) = read_pair(name, first, second, servers, server, out)?;
-    Some(Command::Pair(files, server))
-}
+    ghost errand_of = { errand_for };
 
-/// The command that the words name, if they name one.
-pub(crate) fn read_command(words: &[String]) -> Option<Command<'_>>
-    ensures { option_map job_for result ≡ job_of (map string_bytes words.now) }
-{
-    match read_line(words) {
-        Line::Two(name, a, b) => with_two(name, a, b),
-        Line::Five(name, a, b, c, d, e) => with_five(name, a, b, c, d, e),
-        _ => None,
+    fn read(line: Line<'a>) -> Option<SaleCommand<'a>> {
+        match line {
+            Line::Two(name, sale, servers) if name == "sale" && is_file(sale) && is_file(servers) =>
+                Some(SaleCommand {
+                    files: SaleFiles { sale, servers },
+                }),
+            _ => None,
+        }
     }
 }

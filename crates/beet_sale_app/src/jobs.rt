@@ -2,23 +2,30 @@
 
 ghost use Rattle.std.specs.Prelude.{Some, map, string_bytes};
 ghost use Rattle.beet_errand.specs.Tasks.{DoesNamed, DoesTask};
-ghost use Rattle.beet_sale_app.specs.Commands.{job_for};
+ghost use Rattle.beet_pair_words.specs.Commands.{job_for};
+ghost use Rattle.beet_sale_app.specs.Commands.{errand_for};
 ghost use Rattle.beet_sale_app.specs.Doing.{task_of};
 ghost use Rattle.beet_sale_app.specs.Jobs.{job_of};
 
-use crate::commands::{Command, read_command};
+use crate::commands::SaleCommand;
 use beet_errand::{Reply, Stop};
 use beet_job_sale::sale;
 use beet_job_sale_pair::pair;
+use beet_pair_words::{Command, read_command};
 use beet_store::Shelf;
 use std::alloc::Global;
 
 /// Does the job of a command.
-fn do_job<S: Shelf>(alloc: Global, shelf: &mut S, command: Command<'_>) -> Result<Reply, Stop>
-    ensures { DoesTask (task_of (Some (job_for command.entry))) (S.seen shelf.old) (S.seen shelf.new) result }
+fn do_job<S: Shelf>(
+    alloc: Global,
+    shelf: &mut S,
+    command: Command<'_, SaleCommand<'_>>,
+) -> Result<Reply, Stop>
+    ensures { DoesTask (task_of (Some (job_for errand_for command.entry))) (S.seen shelf.old) (S.seen shelf.new)
+        result }
 {
     match command {
-        Command::Sale(files) => sale(alloc, shelf, &files),
+        Command::Own(own) => sale(alloc, shelf, &own.files),
         Command::Pair(files, server) => pair(alloc, shelf, &files, server),
     }
 }

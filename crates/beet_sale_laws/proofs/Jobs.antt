@@ -1,8 +1,5 @@
 -- What is right for a job leads it to its end, job by job.
 use Rattle.std.proofs.Common.{◌≡◌, ◌⊎◌, inl, inr, ◌∷◌, ℕ, Bool, List, [], Option, Some, if◌then◌else◌, ap, sym, subst, ◌∙◌}
-use Rattle.std.specs.Prelude.{option_map}
-use Rattle.beet_field.specs.Point.{server_of}
-use Rattle.beet_field.specs.declared.point.Point.{Point}
 use Rattle.beet_store.specs.Files.{File}
 use Rattle.beet_sale_map.specs.Bids.{bids_of}
 use Rattle.beet_sale_map.specs.declared.agreeing.SaleFault.{SaleFault}
@@ -12,7 +9,6 @@ use Rattle.beet_errand.specs.Errands.{Answer, Ends, Errand, answers}
 use Rattle.beet_errand.specs.Fetches.{IsDone}
 use Rattle.beet_errand.specs.Overs.{ReadsTo, answer_over}
 use Rattle.beet_errand.specs.Statuses.{IsDoneCode, code_of}
-use Rattle.beet_errand.specs.Tasks.{RunsTask}
 use Rattle.beet_errand.specs.declared.answer.OwnRefusal.TheVariants.{OfWorlds}
 use Rattle.beet_errand.specs.declared.answer.Status.{Status}
 use Rattle.beet_errand.specs.declared.answer.Status.TheVariants.{Done}
@@ -25,14 +21,14 @@ use Rattle.beet_job_sale.proofs.SaleEnds.{status-done}
 use Rattle.beet_job_sale_pair.specs.Ending.{ShowsPair, compared_errand, difference_read, unless_differing}
 use Rattle.beet_job_sale_pair.specs.Reading.{Both, both_errand}
 use Rattle.beet_job_sale_pair.proofs.DifferenceFacts.{no-difference}
-use Rattle.beet_sale_app.specs.Doing.{task_of}
-use Rattle.beet_sale_app.specs.Jobs.{Answering, Comparing, Job}
+use Rattle.beet_pair_words.specs.Jobs.{Comparing}
+use Rattle.beet_pair_words.proofs.Naming.{errand-named, pair-named}
 use Rattle.beet_app_laws.specs.Calls.{Call}
 use Rattle.beet_app_laws.specs.Dues.{EndsAsDue}
 use Rattle.beet_app_laws.proofs.Led.{read-to, run-led, shows-led}
 use Rattle.beet_completeness_laws.specs.WithoutFault.{IsDoneOrShort}
-use Rattle.beet_completeness_laws.proofs.Leading.{passes, undisturbed, undisturbed-by}
-use Rattle.beet_sale_laws.specs.Commands.{PutsBothSales, SaysTheSale, bids_in, pair_words, sale_words, second_bids}
+use Rattle.beet_completeness_laws.proofs.Leading.{undisturbed, undisturbed-by}
+use Rattle.beet_sale_laws.specs.Commands.{PutsBothSales, RunsJob, SaysTheSale, bids_in, pair_words, sale_words, second_bids}
 use Rattle.beet_sale_laws.specs.Complete.{CanPair, CanHoldSale, IsWholeOrShort, MasksSufficeIn, RunsSaleWithoutFault}
 use Rattle.beet_sale_laws.proofs.Saying.{puts-both, says}
 
@@ -55,11 +51,9 @@ module _ (files : List File) (call : Call) where
     sale-due : EndsAsDue (status_of (finish_read read)) call.status
     sale-due =
         let errand = sale_errand name servers in
-        let job = Some (Answering errand) in
-        let named = passes (are_names (name ∷ servers ∷ [])) job w.job w.named in
         run-led files call.shelf call.shelf_now w.from errand call.desk call.desk_now call.status (status_of (finish_read read))
         (ap (λ (a : Answer). a.status) (sym (reads (λ read. Ends (sold read)))))
-        (subst (λ (j : Option Job). RunsTask (task_of j) call.shelf call.shelf_now call.desk call.desk_now call.status) named w.runs)
+        (errand-named (λ job. RunsJob job call) (are_names (name ∷ servers ∷ [])) errand w.job w.named w.runs)
 
     ends-whole : (call.status ≡ code_of (status_of (finish_read read))) ⊎ (call.status ≡ 1) →
         IsWholeOrShort (SaysTheSale files name servers call) call
@@ -88,14 +82,8 @@ module _ (files : List File) (call : Call) where
     abbrev due : Status
     due = status_of (finish_read first)
 
-    abbrev job_at : Point → Job
-    job_at s = Comparing sale1 sale2 servers s out
-
-    runs : RunsTask (task_of (Some (job_at can.s))) call.shelf call.shelf_now call.desk call.desk_now call.status
-    runs =
-        let named = passes (are_names (sale1 ∷ sale2 ∷ servers ∷ out ∷ [])) (option_map job_at (server_of server)) w.job w.named
-        ∙ ap (option_map job_at) can.server_is in
-        subst (λ (j : Option Job). RunsTask (task_of j) call.shelf call.shelf_now call.desk call.desk_now call.status) named w.runs
+    runs : RunsJob (Some (Comparing sale1 sale2 servers can.s out)) call
+    runs = pair-named Comparing (λ job. RunsJob job call) sale1 sale2 servers server out can.s w.job can.server_is w.named w.runs
 
     -- what goes on from both sales to the end of the first
     abbrev ended : Both → Errand

@@ -1,5 +1,5 @@
 -- What the files of sales are read as: bids within their limits, and words with which their sale can be run.
-use Rattle.std.proofs.Common.{◌≡◌, ◌+◌, inl, ℕ, List, [], ◌∷◌, ◌++◌, length, nat_lt, drop, slice_get, Bool, true, false, true≢false}
+use Rattle.std.proofs.Common.{◌≡◌, ◌+◌, ℕ, List, [], ◌∷◌, ◌++◌, length, nat_lt, drop, slice_get, Bool, true, false, true≢false}
 use Rattle.std.proofs.Common.{Option, Some, None, Ok, Err, if◌then◌else◌, refl, sym, subst, arith, length-append}
 use Rattle.std.specs.Prelude.{All, codes, option_and_then}
 use Rattle.std.proofs.lemmas.Bool.{ltb-false}
@@ -30,10 +30,8 @@ use Rattle.beet_sale_file.proofs.SaleBids.{bids-within}
 use Rattle.beet_sale_map.specs.Bids.{AreSaleBids}
 use Rattle.beet_highbid.specs.SalePairs.{CanSell}
 use Rattle.beet_highbid.proofs.SaleRows.{are-sale-bids}
-use Rattle.beet_errand.specs.Errands.{Answer, Errand, answers, gives, reads}
-use Rattle.beet_errand.specs.Fetches.{IsDone}
+use Rattle.beet_errand.specs.Errands.{gives, reads}
 use Rattle.beet_errand.specs.Overs.{ReadsTo}
-use Rattle.beet_errand.specs.declared.answer.Status.TheVariants.{Done}
 use Rattle.beet_load.specs.declared.wanted.Wanted.{Wanted}
 use Rattle.beet_load.specs.Farmers.{bidder_errand, list_at}
 use Rattle.beet_load.specs.Servers.{ServerWords, all_words_errand}
@@ -43,11 +41,12 @@ use Rattle.beet_sale_load.specs.SaleWants.{wanted_of}
 use Rattle.beet_sale_load.proofs.Starting.{can-start}
 use Rattle.beet_job_sale_pair.specs.Reading.{Both, both_errand, same_gates, second_errand, with_gates}
 use Rattle.beet_job_sale_pair.specs.declared.reading.TheConstants.{OTHER_GATES}
-use Rattle.beet_app_laws.proofs.Telling.{AreAlike, IsTold, part, same-told, told-each, told-gates, told-list, told-number, told-option}
+use Rattle.beet_app_laws.proofs.Telling.{AreAlike, IsTold, part, told-each, told-gates, told-list, told-number, told-option}
 use Rattle.beet_app_laws.proofs.Telling.{told-server, told-trio}
+use Rattle.beet_program_laws.proofs.Compared.{alike-right}
 use Rattle.beet_program_laws.proofs.Files.{named-rows-few}
 use Rattle.beet_program_laws.proofs.Read.{AreLists, AreServed, CanServeAll, IsDealt, all-words-yield, bidder-yield, list-has, one-more}
-use Rattle.beet_program_laws.proofs.Steps.{Yields, any-yield, gives-yield, reads-yield, then-yields, weaker-yield}
+use Rattle.beet_program_laws.proofs.Steps.{Yields, any-yield, gives-yield, reads-yield, then-both, then-yields, weaker-yield}
 use Rattle.beet_sale_laws.specs.Commands.{bids_in, second_bids}
 
 -- ---- a file
@@ -249,18 +248,14 @@ module _ (files : List File) where
   pub both-yield : (sale1 sale2 servers : List ℕ) → Yields files (both_errand sale1 sale2 servers) IsBoth
   unfolding both_errand
   both-yield sale1 sale2 servers =
-      then-yields files (sale_errand sale1 servers) _ IsHeldSale IsBoth (sale-yield sale1 servers) (λ first held.
-      then-yields files (second_errand sale2 first.sale.gates) (λ second. gives (record { first = first; second = second }))
-      (IsSecond first.sale.gates) IsBoth
-      (reads-yield files sale2 SALE_LIMIT (λ bytes. with_gates first.sale.gates (sale_of bytes)) (IsSecond first.sale.gates)
-      (λ bytes second e. second-is first.sale.gates bytes (sale_of bytes) second refl e)) (λ second is.
-      gives-yield files IsBoth (record { first = first; second = second })
-      (record { one = held; other = are-sale-bids second is.0; same = is.1 })))
+      then-both files (sale_errand sale1 servers) (λ first. second_errand sale2 first.sale.gates)
+      (λ first second. record { first = first; second = second }) IsHeldSale (λ first. IsSecond first.sale.gates) IsBoth
+      (sale-yield sale1 servers) (λ first.
+      reads-yield files sale2 SALE_LIMIT (λ bytes. with_gates first.sale.gates (sale_of bytes)) (IsSecond first.sale.gates)
+      (λ bytes second e. second-is first.sale.gates bytes (sale_of bytes) second refl e))
+      (λ first second held is. record { one = held; other = are-sale-bids second is.0; same = is.1 })
 
   -- what is read of two sales is right
   pub is-both : (sale1 sale2 servers : List ℕ) (both : Both) → ReadsTo files (both_errand sale1 sale2 servers) both → IsBoth both
-  is-both sale1 sale2 servers both r =
-      let step = both_errand sale1 sale2 servers in
-      let next : Both → Errand = λ v. answers Done [] in
-      let (other, q, h) = both-yield sale1 sale2 servers next (subst (λ (x : Answer). IsDone x.status) (sym (r next)) (inl refl)) in
-      both-alike other both (same-told files step other both q r) h
+  is-both sale1 sale2 servers =
+      alike-right (both_errand sale1 sale2 servers) files IsBoth (both-yield sale1 sale2 servers) both-alike

@@ -1,6 +1,6 @@
 -- What each command of the program of sales has read, put and said where its run ends with status 0 or 6, over a shelf
 -- whose answers are of these files; and why `pair` refuses two sales.
-use Rattle.std.specs.Prelude.{◌≡◌, ◌∷◌, ◌++◌, ℕ, Bool, List, [], Some, codes, true, false}
+use Rattle.std.specs.Prelude.{◌≡◌, ◌∷◌, ◌++◌, ℕ, Bool, List, [], Option, Some, codes, true, false}
 use Rattle.beet_field.specs.declared.point.Point.{Point}
 use Rattle.beet_store.specs.Files.{File}
 use Rattle.beet_words.specs.Bundles.{Words, bundle_bytes}
@@ -13,11 +13,9 @@ use Rattle.beet_sale_plan.specs.Sale.{Sale}
 use Rattle.beet_sale_plan.specs.declared.SaleEnd.TheVariants.{Sold, MasksSpent}
 use Rattle.beet_sale_file.specs.Sales.{bids_of}
 use Rattle.beet_sale_file.specs.declared.rows.SaleBid.{SaleBid}
-use Rattle.beet_sale_map.specs.Bids.{Agree, AreSaleBids, bids_of as numbers_of}
+use Rattle.beet_sale_map.specs.Bids.{Agree, AreSaleBids, AreTwoSales, bids_of as numbers_of}
 use Rattle.beet_sale_map.specs.declared.agreeing.SaleFault.{SaleFault}
-use Rattle.beet_highbid.specs.SalePairs.{AreOneSalePair, AreTwoSales, CanSell}
-use Rattle.beet_errand.specs.Statuses.{IsDoneCode}
-use Rattle.beet_errand.specs.Tasks.{RunsTask}
+use Rattle.beet_highbid.specs.SalePairs.{AreOneSalePair, CanSell}
 use Rattle.beet_errand.specs.Worlds.{equal_text, files_of_worlds}
 use Rattle.beet_sale_load.specs.SaleLoading.{SaleRead, sale_errand}
 use Rattle.beet_sale_run.specs.SaleRuns.{rounds_read}
@@ -26,10 +24,12 @@ use Rattle.beet_job_sale.specs.SaleTexts.{sale_text}
 use Rattle.beet_job_sale_pair.specs.Answering.{transcript_of}
 use Rattle.beet_job_sale_pair.specs.Differences.{difference_between, refused_text}
 use Rattle.beet_job_sale_pair.specs.Reading.{Both, both_errand}
+use Rattle.beet_pair_words.specs.Jobs.{Job}
 use Rattle.beet_sale_app.specs.Doing.{task_of}
 use Rattle.beet_sale_app.specs.Jobs.{job_of}
-use Rattle.beet_app_laws.specs.Calls.{Call, IsOf, Puts, Says}
+use Rattle.beet_app_laws.specs.Calls.{Call, Puts, Says}
 use Rattle.beet_app_laws.specs.Readings.{Read}
+use Rattle.beet_app_laws.specs.Tables.{IsDoneTable, RunsJobBy, RunsTable}
 
 -- the words of each command
 abbrev pub sale_words : List ℕ → List ℕ → List (List ℕ)
@@ -38,15 +38,17 @@ sale_words sale servers = codes "sale" ∷ sale ∷ servers ∷ []
 abbrev pub pair_words : List ℕ → List ℕ → List ℕ → List ℕ → List ℕ → List (List ℕ)
 pair_words sale1 sale2 servers server out = codes "pair" ∷ sale1 ∷ sale2 ∷ servers ∷ server ∷ out ∷ []
 
--- the call ran these words of the program of sales over these files
-pub record RunsSale (files : List File) (words : List (List ℕ)) (call : Call) : Type 0 where
-  pub from : IsOf files call
-  pub runs : RunsTask (task_of (job_of words)) call.shelf call.shelf_now call.desk call.desk_now call.status
+-- the call ran this job of the program of sales
+abbrev pub RunsJob : Option Job → Call → Type 0
+RunsJob = RunsJobBy task_of
+
+-- the call ran these words over these files
+abbrev pub RunsSale : List File → List (List ℕ) → Call → Type 0
+RunsSale = RunsTable job_of task_of
 
 -- and ended with status 0 or 6
-pub record IsDoneSale (files : List File) (words : List (List ℕ)) (call : Call) : Type 0 where
-  pub ran : RunsSale files words call
-  pub code : IsDoneCode call.status
+abbrev pub IsDoneSale : List File → List (List ℕ) → Call → Type 0
+IsDoneSale = IsDoneTable job_of task_of
 
 -- the bids of a sale that is read
 abbrev pub bids_in : SaleRead → List SaleBid

@@ -20,19 +20,21 @@ module _ (me : Point) (gates : Gates) (first second : List SaleBid) (words : Wor
     (here : List Line) (is_here : here ≡ lines_of first words.bidders) (there : List Line)
     (is_there : there ≡ lines_of second bidders) where
   are_words : AreWords words
-  are_words = record { masks = masks_below; coefficients = below; bidders = h.below }
+  are_words = record { masks = masks_below; coefficients = below; bidders = h.bidders_mapped.below }
 
   pub can-map : CanMap (sale_batch script) (most_rounds script) (bidders_of script) (most_masks script) (most_coefficients script) me losses
       (world_with here words.masks) there words.coefficients
   can-map =
+      let s = h.sales in
+      let l = h.bidders_mapped in
       let sale = sale_over gates first in
       let asked : CanMap (sale_batch sale) (most_rounds sale) (bidders_of sale) (most_masks sale) (most_coefficients sale) me
       (losses_between first second) (world_with (lines_of first words.bidders) words.masks) (lines_of second bidders) words.coefficients =
       record {
-        secrets = secrets-here me gates first second words bidders h.first_bids h.second_bids h.agree are_words h.enough h.count h.mapped;
-        long = lines-there me gates first second words bidders h.first_bids h.second_bids h.agree are_words h.enough h.count h.mapped;
-        drawn = numbers-here me gates first second words bidders h.first_bids h.second_bids h.agree are_words h.enough h.count h.mapped;
-        same = look-same me gates first second words bidders h.first_bids h.second_bids h.agree are_words h.enough h.count h.mapped;
+        secrets = secrets-here me gates first second words bidders s.first_bids s.second_bids s.agree are_words h.enough l.count l.mapped;
+        long = lines-there me gates first second words bidders s.first_bids s.second_bids s.agree are_words h.enough l.count l.mapped;
+        drawn = numbers-here me gates first second words bidders s.first_bids s.second_bids s.agree are_words h.enough l.count l.mapped;
+        same = look-same me gates first second words bidders s.first_bids s.second_bids s.agree are_words h.enough l.count l.mapped;
       } in
       rw (is_script, is_here, is_losses, is_there) asked
 
@@ -41,8 +43,10 @@ module _ (me : Point) (gates : Gates) (first second : List SaleBid) (words : Wor
       numbers →
       SalesMapped me gates first words second (record { masks = masks; coefficients = numbers; bidders = bidders })
   mapped masks numbers given =
+      let s = h.sales in
+      let l = h.bidders_mapped in
       let m : ServersMapped (sale_batch (sale_over gates first)) (most_rounds (sale_over gates first)) me
       (losses_between first second) (world_with (lines_of first words.bidders) words.masks) (lines_of second bidders) words.coefficients
       masks numbers = rw (is_script, is_here, is_losses, is_there) at given in
-      sales-mapped me gates first second words bidders h.first_bids h.second_bids h.agree are_words h.enough h.count h.mapped
-      masks numbers m.turned m.together (record { masks = m.masks_below; coefficients = m.below; bidders = h.below' })
+      sales-mapped me gates first second words bidders s.first_bids s.second_bids s.agree are_words h.enough l.count
+      l.mapped masks numbers m.turned m.together (record { masks = m.masks_below; coefficients = m.below; bidders = l.below' })

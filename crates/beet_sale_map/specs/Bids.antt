@@ -43,3 +43,9 @@ pub record Agree (s : Point) (first second : List SaleBid) : Type 0 where
   pub shape : HaveOneShape first second
   pub own : SameOwn s first second
   pub results : SellAlike first second
+
+-- two lists of bids within their limits that agree for server s
+pub record AreTwoSales (s : Point) (first second : List SaleBid) : Type 0 where
+  pub first_bids : AreSaleBids first
+  pub second_bids : AreSaleBids second
+  pub agree : Agree s first second

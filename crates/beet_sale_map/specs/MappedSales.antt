@@ -1,17 +1,17 @@
 -- All that is said of the words of the second of two sales.
-use Rattle.std.specs.Prelude.{◌≡◌, ℕ, List, length, All}
+use Rattle.std.specs.Prelude.{◌≡◌, ℕ, List, map}
 use Rattle.beet_field.specs.Trio.{member}
 use Rattle.beet_field.specs.declared.point.Point.{Point}
 use Rattle.beet_gates.specs.declared.Gates.{Gates}
 use Rattle.beet_words.specs.Bundles.{Words}
-use Rattle.beet_words.specs.Words.{IsWord}
 use Rattle.beet_sharing.specs.Runs.{HasRounds}
 use Rattle.beet_sharing.specs.Seen.{SeenRun, run_seen}
 use Rattle.beet_mapped.specs.Trades.{Trade, rounds_in, setup_in}
+use Rattle.beet_trades.specs.ListsMapped.{ListsMapped}
 use Rattle.beet_sale_file.specs.declared.rows.SaleBid.{SaleBid}
-use Rattle.beet_sale_map.specs.Bids.{Agree, AreSaleBids}
+use Rattle.beet_sale_map.specs.Bids.{AreTwoSales}
 use Rattle.beet_sale_map.specs.Enough.{AreEnough, cut_words}
-use Rattle.beet_sale_map.specs.Worlds.{BiddersMapped, IsOnlyFirst, IsOnlySecond, Mapped, trade_of}
+use Rattle.beet_sale_map.specs.Worlds.{IsOnlyFirst, IsOnlySecond, Mapped, party_of, trade_of}
 
 -- the run of a sale with these words has its rounds: its end comes after them, and not before
 abbrev pub Ends : Gates → List SaleBid → Words → Type 0
@@ -30,14 +30,9 @@ run_seen_of gates bids words s = run_seen_in (trade_of gates bids) (cut_words bi
 pub record HasBidders (s : Point) (first : List SaleBid) (words : Words) (second : List SaleBid)
     (bidders : List (List ℕ))
     : Type 0 where
-  pub first_bids : AreSaleBids first
-  pub second_bids : AreSaleBids second
+  pub sales : AreTwoSales s first second
   pub enough : AreEnough first words
-  pub agree : Agree s first second
-  pub count : length bidders ≡ length words.bidders
-  pub mapped : BiddersMapped s first words.bidders second bidders
-  pub below : All (λ list. All IsWord list) words.bidders
-  pub below' : All (λ list. All IsWord list) bidders
+  pub bidders_mapped : ListsMapped s (map party_of first) (map party_of second) words.bidders bidders
 
 -- words of two sales: mapped in the one way there is, enough for the second, and server s sees the same of both runs
 pub record SalesMapped (s : Point) (gates : Gates) (first : List SaleBid) (words : Words) (second : List SaleBid)

@@ -6,7 +6,7 @@ use Rattle.beet_gates.specs.declared.Gates.{Gates}
 use Rattle.beet_words.specs.Bundles.{Words}
 use Rattle.beet_shamir.specs.Line.{point_of}
 use Rattle.beet_words.specs.Words.{accepted}
-use Rattle.beet_mapped.specs.Dealers.{Party, Dealer, DealersMapped, dealers_of}
+use Rattle.beet_mapped.specs.Dealers.{Party, Dealer, dealers_of}
 use Rattle.beet_mapped.specs.Trades.{IsOnly, Trade, TradesMapped}
 use Rattle.beet_sale_plan.specs.Sale.{sale_batch, most_rounds}
 use Rattle.beet_sale_file.specs.declared.rows.SaleBid.{SaleBid}
@@ -26,11 +26,6 @@ slope_in dealer = slice_index (accepted dealer.words) 0
 
 abbrev pub point_in : Dealer → Point → ℕ
 point_in dealer i = point_of (bid_in dealer) (slope_in dealer) i
-
--- the words of bidders and those of others, mapped for server s
-abbrev pub BiddersMapped : Point → List SaleBid → List (List ℕ) → List SaleBid → List (List ℕ) → Type 0
-BiddersMapped s bids words others words' =
-    DealersMapped s (dealers_of (map party_of bids) words) (dealers_of (map party_of others) words')
 
 -- the point of each bid at a server: the inputs
 abbrev pub points_of : List Dealer → Point → List ℕ

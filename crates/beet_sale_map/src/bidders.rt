@@ -1,12 +1,13 @@
 //! Bidders' words of the second sale, and the lines of a sale's inputs.
 
-ghost use Rattle.std.specs.Prelude.{◌≡◌, ◌≤◌, length, IfOk, OnOk, All};
+ghost use Rattle.std.specs.Prelude.{◌≡◌, ◌≤◌, length, map, IfOk, OnOk, All};
 ghost use Rattle.beet_words.specs.Words.{IsWord, accepted};
 ghost use Rattle.beet_sale_plan.specs.Outcome.{IsBid};
 ghost use Rattle.beet_mapped.specs.Dealers.{DealerMapped};
+ghost use Rattle.beet_trades.specs.ListsMapped.{ListsMapped};
 ghost use Rattle.beet_sale_map.specs.Bids.{HaveOneShape};
 ghost use Rattle.beet_sale_map.specs.InputLines.{line_of, lines_of};
-ghost use Rattle.beet_sale_map.specs.Worlds.{BiddersMapped, party_of};
+ghost use Rattle.beet_sale_map.specs.Worlds.{party_of};
 
 use crate::bids::row_at;
 use beet_field::{Fe, Point};
@@ -61,10 +62,8 @@ pub fn map_bidders(
     requires shape { HaveOneShape first.now second.now }
     requires count { length words.now ≡ length first.now }
     requires enough { All (λ list. 1 ≤ length (accepted list)) words.now }
-    ensures count { IfOk result (λ mapped. length mapped.items ≡ length words.now) }
-    ensures mapped { IfOk result (λ mapped. BiddersMapped me first.now words.now second.now mapped.items) }
-    ensures below { OnOk result (All (λ list. All IsWord list) words.now) }
-    ensures words { IfOk result (λ mapped. All (λ list. All IsWord list) mapped.items) }
+    ensures { IfOk result (λ mapped. ListsMapped me (map party_of first.now) (map party_of second.now)
+        words.now mapped.items) }
 {
     let mut mapped = Vec::with_capacity(alloc, words.len())?;
     for i in 0..words.len() {

@@ -1,7 +1,7 @@
 //! The words of the second sale.
 
 ghost use Rattle.std.specs.Prelude.{IfErr, IfOk};
-ghost use Rattle.beet_sale_map.specs.Bids.{Agree, AreSaleBids};
+ghost use Rattle.beet_sale_map.specs.Bids.{Agree, AreSaleBids, AreTwoSales};
 ghost use Rattle.beet_sale_map.specs.Disagreement.{RefusesMap};
 ghost use Rattle.beet_sale_map.specs.Enough.{AreEnough};
 ghost use Rattle.beet_sale_map.specs.MappedSales.{HasBidders, SalesMapped};
@@ -51,10 +51,8 @@ fn map_words(
     second: &[SaleBid],
     words: &Words,
 ) -> Result<Words, AllocError>
-    requires first { AreSaleBids first.now }
-    requires second { AreSaleBids second.now }
+    requires sales { AreTwoSales me first.now second.now }
     requires enough { AreEnough first.now words.now }
-    requires agree { Agree me first.now second.now }
     ensures { IfOk result (SalesMapped me gates first.now words.now second.now) }
 {
     let bidders = map_bidders(alloc, me, first, second, words.bidders.as_slice())?;

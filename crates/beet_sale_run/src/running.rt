@@ -16,7 +16,7 @@ ghost use Rattle.beet_sale_run.specs.SaleRuns.{HaveHeld, finish_read, rounds_rea
 use beet_errand::Stop;
 use beet_field::{Point, Trio};
 use beet_load::{ServerWords, cut_three};
-use beet_run::run_script;
+use beet_run::start_script;
 use beet_sale_file::Sale;
 use beet_sale_load::{SaleWithWords, sale_counts};
 use beet_sale_map::input_lines;
@@ -24,6 +24,7 @@ use beet_sale_script::{SaleEnd, SaleScript};
 use beet_server::ServerCore;
 use beet_shamir::Line;
 use beet_words::FeList;
+use beet_world::lockstep;
 use std::alloc::{AllocError, Global};
 
 /// The points of lines at a server.
@@ -81,7 +82,8 @@ pub fn hold_sale(alloc: Global, whole: &SaleWithWords) -> Result<Trio<ServerCore
     let script = script_of(&whole.sale);
     let points = deal_bids(alloc, whole)?;
     let tapes = all_tapes(alloc, whole)?;
-    run_script(alloc, script, points, tapes)
+    let cores = start_script(alloc, script, points, tapes)?;
+    Ok(lockstep(cores))
 }
 
 /// How the sale that three servers have held has ended, and after how many rounds.

@@ -3,8 +3,4 @@
 #![tactic(auto)]
 
 #[cfg(test)]
-mod drawn;
-#[cfg(test)]
-mod known;
-#[cfg(test)]
-mod runs;
+mod tests;

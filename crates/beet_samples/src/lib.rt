@@ -1,4 +1,4 @@
-//! Small scripts for the tests of what runs scripts, and three servers of one of them.
+//! Small scripts for the tests of what runs scripts, three servers of one of them, and files of an auction.
 #![tactic(auto)]
 
 ghost use Rattle.std.specs.Prelude.{◌≡◌, ◌<◌, ◌^◌, IfErr, IfOk, length};
@@ -9,11 +9,14 @@ ghost use Rattle.beet_server.specs.declared.server.StartFault.TheVariants.{OutOf
 ghost use Rattle.beet_samples.specs.Samples.{batch_of, inputs_of, needs};
 ghost use Rattle.beet_samples.specs.declared.Sample.TheVariants.{Inputs};
 
+mod files;
+
 use arrayvec::ArrayVec;
 use beet_field::{Fe, MOST_NUMBERS, Point, Trio};
 use beet_gates::{Act, Batch, Script};
 use beet_server::{ServerCore, StartFault};
 use beet_words::{FeList, Tape, WordList};
+pub use files::{AUCTION_FILES, FIVE_SEEDS};
 use std::alloc::{AllocError, Global};
 
 /// A script of one or two rounds.

@@ -1,12 +1,11 @@
--- The job of a command whose words are read.
+-- The errand of a command whose words are read.
+use Rattle.beet_errand.specs.Errands.{Errand}
 use Rattle.beet_job_session.specs.Sessions.{session_errand}
 use Rattle.beet_job_replay.specs.Replay.{replay_errand}
-use Rattle.beet_session_app.specs.Jobs.{Job, Answering, Comparing}
-use Rattle.beet_session_app.specs.declared.commands.Command.{Command}
-use Rattle.beet_session_app.specs.declared.commands.Command.TheVariants.{Session, Replay, Pair}
+use Rattle.beet_session_app.specs.declared.commands.LotsCommand.{LotsCommand}
+use Rattle.beet_session_app.specs.declared.commands.LotsCommand.TheVariants.{Session, Replay}
 
--- the job of a command with these words
-abbrev pub job_for : Command → Job
-job_for (Session files) = Answering (session_errand files.session.now files.servers.now)
-job_for (Replay files schedule) = Answering (replay_errand files.session.now files.servers.now schedule.now)
-job_for (Pair files s) = Comparing files.first.now files.second.now files.servers.now s files.out.now
+-- the errand of a command with these words
+abbrev pub errand_for : LotsCommand → Errand
+errand_for (Session files) = session_errand files.session.now files.servers.now
+errand_for (Replay files schedule) = replay_errand files.session.now files.servers.now schedule.now

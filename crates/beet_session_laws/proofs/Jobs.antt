@@ -1,10 +1,8 @@
 -- What is right for a job leads it to its end, job by job.
 use Rattle.std.proofs.Common.{◌≡◌, ◌∷◌, ◌∙◌, ◌||◌, ◌+◌, inl, inr, ℕ, Bool, false, List, [], All, length, map, Option}
-use Rattle.std.proofs.Common.{Some, None, if◌then◌else◌, ap, append-nil, refl, subst, sym}
+use Rattle.std.proofs.Common.{Some, None, if◌then◌else◌, ap, refl, subst, sym}
 use Rattle.std.specs.Prelude.{codes, option_map}
 use Rattle.std.proofs.lemmas.List.Elements.{All-head, All-tail}
-use Rattle.beet_field.specs.Point.{server_of}
-use Rattle.beet_field.specs.declared.point.Point.{Point}
 use Rattle.beet_store.specs.Files.{File}
 use Rattle.beet_book.specs.Farmers.{book_with}
 use Rattle.beet_book.specs.declared.server_file.TheConstants.{SERVERS_LIMIT}
@@ -15,9 +13,9 @@ use Rattle.beet_lots.specs.LotEvents.{of_lot}
 use Rattle.beet_lots.specs.LotWorlds.{lot_triples}
 use Rattle.beet_lots.specs.declared.lots.LotDelivery.{LotDelivery}
 use Rattle.beet_command.specs.Words.{are_names}
-use Rattle.beet_errand.specs.Errands.{Answer, Ends, Errand, Step, answers, reads}
+use Rattle.beet_errand.specs.Errands.{Answer, Errand, Step, answers, reads}
 use Rattle.beet_errand.specs.Overs.{ReadsTo}
-use Rattle.beet_errand.specs.Tasks.{RunsTask}
+use Rattle.beet_errand.specs.declared.answer.OwnRefusal.TheVariants.{OfWorlds}
 use Rattle.beet_errand.specs.declared.answer.Status.TheVariants.{Done, MasksSpent}
 use Rattle.beet_load.specs.Loading.{AuctionWithBidders}
 use Rattle.beet_load.specs.Servers.{masks_of}
@@ -30,18 +28,20 @@ use Rattle.beet_lot_load.specs.Lots.{lots_errand}
 use Rattle.beet_lot_load.specs.Telling.{any_spent, is_spent}
 use Rattle.beet_job_session.specs.Sessions.{session_errand}
 use Rattle.beet_job_replay.specs.Replay.{lot_answers, replay_errand}
-use Rattle.beet_job_session_pair.specs.Ending.{TellsOf}
+use Rattle.beet_job_session_pair.specs.Ending.{ShowsSessions, TellsOf}
 use Rattle.beet_job_session_pair.specs.Reading.{Both, both_errand, first_books}
-use Rattle.beet_session_app.specs.Doing.{task_of}
-use Rattle.beet_session_app.specs.Jobs.{Answering, Comparing, Job, job_of}
+use Rattle.beet_pair_words.specs.Jobs.{Answering, Comparing, Job}
+use Rattle.beet_pair_words.proofs.Naming.{errand-named, pair-named}
+use Rattle.beet_session_app.specs.Jobs.{job_of}
 use Rattle.beet_app_laws.specs.Calls.{Call, IsOf}
 use Rattle.beet_app_laws.specs.Dues.{EndsAsDue}
-use Rattle.beet_app_laws.proofs.Led.{read-to, run-led}
+use Rattle.beet_app_laws.proofs.Led.{read-to, run-led, shows-led}
 use Rattle.beet_app_laws.proofs.Telling.{one-value}
 use Rattle.beet_completeness_laws.specs.WithoutFault.{IsDoneOrShort}
 use Rattle.beet_completeness_laws.proofs.Jobs.{rehearsal-done}
-use Rattle.beet_completeness_laws.proofs.Leading.{IsDoneOver, book-done, passes, then-done, undisturbed}
+use Rattle.beet_completeness_laws.proofs.Leading.{IsDoneOver, book-done, then-done, undisturbed}
 use Rattle.beet_session_laws.specs.Complete.{CanPair, CanReplay, CanRunSession, MasksSufficeIn, RunsSessionWithoutFault}
+use Rattle.beet_session_laws.specs.Lots.{RunsJob}
 use Rattle.beet_session_laws.specs.Pairs.{SessionsAgree}
 use Rattle.beet_session_laws.proofs.PairReading.{told-both}
 use Rattle.beet_session_laws.proofs.Pairing.{sessions-apart}
@@ -87,13 +87,12 @@ module _ (files : List File) where
 
   -- the words name a job that is done over the files
   ends-done : (words : List (List ℕ)) (call : Call) (b : Bool) (errand : Errand) → RunsSessionWithoutFault files words call →
-      job_of words ≡ (if b then Some (Answering errand) else None) → IsDoneOver files errand → IsDoneOrShort call
+      job_of words ≡ option_map Answering (if b then Some errand else None) → IsDoneOver files errand → IsDoneOrShort call
   ends-done words call b errand w row done =
-      let job = Some (Answering errand) in
-      let named = row ∙ passes b job w.job (sym row ∙ w.named) in
       undisturbed files words call w
       (run-led files call.shelf call.shelf_now w.from errand call.desk call.desk_now call.status Done done
-      (subst (λ (j : Option Job). RunsTask (task_of j) call.shelf call.shelf_now call.desk call.desk_now call.status) named w.runs))
+      (errand-named (λ job. RunsJob job call) b errand w.job (sym row ∙ w.named)
+      (subst (λ (job : Option Job). RunsJob job call) row w.runs)))
 
   pub session : (call : Call) (name servers : List ℕ) →
       RunsSessionWithoutFault files (codes "session" ∷ name ∷ servers ∷ []) call →
@@ -131,26 +130,17 @@ module _ (files : List File) where
         absurd (sessions-apart can.s (first_books both) both.seconds t.fault text t.apart t.line
         (subst (λ (b : Both). SessionsAgree can.s (first_books b) b.seconds) is can.agree))
 
-    abbrev job_at : Point → Job
-    job_at s = Comparing session1 session2 servers s out
-
-    due-by : IsOf files call → RunsTask (task_of (Some (job_at can.s))) call.shelf call.shelf_now call.desk call.desk_now
-        call.status → EndsAsDue Done call.status
-    due-by from (inl (answer, shows, r)) =
-        run-led files call.shelf_now call.shelf_now
-        (record { fetches = []; recorded = sym (append-nil call.shelf_now.fetches); answered = tt }) (Ends answer) call.desk
-        call.desk_now call.status Done
-        (told-done shows.value (read-to files call.shelf call.shelf_now from step shows.value shows.read) answer shows.shown) r
-    due-by from (inr f) =
+    due-by : IsOf files call → RunsJob (Some (Comparing session1 session2 servers can.s out)) call → EndsAsDue Done call.status
+    due-by from r =
         let next : Both → Errand = λ both. answers Done [] in
-        run-led files call.shelf call.shelf_now from (step next) call.desk call.desk_now call.status Done
-        (sym (ap (λ (a : Answer). a.status) (can.both.is next))) (f next)
+        shows-led files call from Done OfWorlds step (ShowsSessions session1 session2 servers can.s out) next
+        (sym (ap (λ (a : Answer). a.status) (can.both.is next)))
+        (λ answer shows. told-done shows.value (read-to files call.shelf call.shelf_now from step shows.value shows.read) answer
+        shows.shown) r
 
     pub paired : RunsSessionWithoutFault files (codes "pair" ∷ session1 ∷ session2 ∷ servers ∷ server ∷ out ∷ []) call →
         IsDoneOrShort call
     paired w =
-        let named = passes (are_names (session1 ∷ session2 ∷ servers ∷ out ∷ [])) (option_map job_at (server_of server)) w.job w.named
-        ∙ ap (option_map job_at) can.server_is in
         undisturbed files (codes "pair" ∷ session1 ∷ session2 ∷ servers ∷ server ∷ out ∷ []) call w
         (due-by w.from
-        (subst (λ (j : Option Job). RunsTask (task_of j) call.shelf call.shelf_now call.desk call.desk_now call.status) named w.runs))
+        (pair-named Comparing (λ job. RunsJob job call) session1 session2 servers server out can.s w.job can.server_is w.named w.runs))

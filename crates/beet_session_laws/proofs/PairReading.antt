@@ -1,5 +1,5 @@
 -- What the files of two sessions are read as: lots with words, and books of accepted bids.
-use Rattle.std.proofs.Common.{◌≡◌, ◌≤◌, ◌+◌, ◌*◌, inl, ℕ, Bool, false, List, [], length, map, nat_lt, Some, if◌then◌else◌, refl}
+use Rattle.std.proofs.Common.{◌≡◌, ◌≤◌, ◌+◌, ◌*◌, ℕ, Bool, false, List, [], length, map, nat_lt, Some, if◌then◌else◌}
 use Rattle.std.proofs.Common.{sym, ap, subst, ◌∙◌, arith}
 use Rattle.std.specs.Prelude.{All}
 use Rattle.std.proofs.lemmas.Bool.{ltb-false}
@@ -18,11 +18,10 @@ use Rattle.beet_book.specs.declared.book_file.TheConstants.{BOOK_LIMIT, MOST_PRO
 use Rattle.beet_book.specs.declared.server_file.TheConstants.{SERVERS_LIMIT}
 use Rattle.beet_book.specs.declared.entries.Entry.{Entry}
 use Rattle.beet_book.specs.declared.sources.Servers.{Servers}
-use Rattle.beet_errand.specs.Errands.{Answer, Errand, answers, bad_file, gives, reads}
+use Rattle.beet_errand.specs.Errands.{Answer, Errand, bad_file, gives, reads}
 use Rattle.beet_errand.specs.Fetches.{IsDone}
 use Rattle.beet_errand.specs.Overs.{ReadsTo, answer_over}
 use Rattle.beet_errand.specs.declared.answer.Refusal.TheVariants.{BadFile}
-use Rattle.beet_errand.specs.declared.answer.Status.TheVariants.{Done}
 use Rattle.beet_load.specs.Limits.{over_product}
 use Rattle.beet_load.specs.Loading.{AuctionWithBidders, rest_errand}
 use Rattle.beet_load.specs.Servers.{ServerWords}
@@ -37,7 +36,8 @@ use Rattle.beet_lot_load.specs.Lots.{each_row}
 use Rattle.beet_job_worlds.specs.Reading.{Both as Books}
 use Rattle.beet_job_session_pair.specs.Reading.{Both, LimitedLot, alone_errand, books_errand, both_errand, limited_lot, next_alone}
 use Rattle.beet_job_session_pair.specs.Reading.{next_limited, taken_by, taken_by_books}
-use Rattle.beet_app_laws.proofs.Telling.{IsTold, one-value, told-both as told-books, told-each, told-list}
+use Rattle.beet_app_laws.proofs.Telling.{IsTold, told-both as told-books, told-each, told-list}
+use Rattle.beet_program_laws.proofs.Compared.{is-right}
 use Rattle.beet_program_laws.proofs.Files.{book-few}
 use Rattle.beet_program_laws.proofs.Read.{IsLoaded, curves-yield, rest-yield}
 use Rattle.beet_program_laws.proofs.Steps.{Yields, any-yield, gives-yield, passes-yield, reads-yield, then-told, then-yields}
@@ -181,9 +181,5 @@ told-both a b h =
 -- what was read of both sessions is right
 pub is-both : (files : List File) (session1 session2 servers : List ℕ) (both : Both) →
     ReadsTo files (both_errand session1 session2 servers) both → IsBoth both
-is-both files session1 session2 servers both r =
-    let step = both_errand session1 session2 servers in
-    let next : Both → Errand = λ v. answers Done [] in
-    let (other, q, h) = both-yield files session1 session2 servers next
-    (subst (λ (x : Answer). IsDone x.status) (sym (r next)) (inl refl)) in
-    subst IsBoth (one-value files step other both q r told-both) h
+is-both files session1 session2 servers =
+    is-right (both_errand session1 session2 servers) files IsBoth (both-yield files session1 session2 servers) told-both

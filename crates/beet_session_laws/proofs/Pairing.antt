@@ -1,7 +1,7 @@
 -- What the command `pair` has read, put and said, or why it has refused two sessions.
 use Rattle.std.proofs.Common.{◌≡◌, ◌+◌, inl, inr, ℕ, suc, Bool, true, false, List, [], ◌∷◌, ◌++◌, length, map, Option, Some, None}
 use Rattle.std.proofs.Common.{if◌then◌else◌, refl, sym, ap, subst, ◌∙◌, arith}
-use Rattle.std.specs.Prelude.{All, codes, option_map}
+use Rattle.std.specs.Prelude.{All, codes}
 use Rattle.std.proofs.lemmas.List.{length-map}
 use Rattle.std.proofs.lemmas.List.Elements.{All-head, All-tail}
 use Rattle.std.proofs.lemmas.Option.{slice_get_within}
@@ -27,38 +27,33 @@ use Rattle.beet_lot_map.specs.declared.mapping.SessionFault.TheVariants.{OwnBids
 use Rattle.beet_lot_map.specs.declared.mapping.SessionFault.TheVariants.{OutcomesDiffer as OutcomesOf}
 use Rattle.beet_lot_map.specs.declared.mapping.SessionFault.TheVariants.{OutOfMemory as NoMemory}
 use Rattle.beet_lot_view.specs.SessionViews.{session_view_bytes, session_words_bytes}
-use Rattle.beet_command.specs.Words.{are_names}
 use Rattle.beet_errand.specs.Errands.{Answer, Errand, answers, refuses, text_answer}
 use Rattle.beet_errand.specs.Fetches.{IsDone}
 use Rattle.beet_errand.specs.Overs.{ReadsTo, answer_over}
 use Rattle.beet_errand.specs.Statuses.{IsDoneCode, code_of}
-use Rattle.beet_errand.specs.Tasks.{RunsTask}
-use Rattle.beet_errand.specs.Texts.{usage_text}
 use Rattle.beet_errand.specs.Worlds.{equal_text, files_of_worlds}
 use Rattle.beet_errand.specs.declared.answer.OwnRefusal.TheVariants.{OfWorlds}
-use Rattle.beet_errand.specs.declared.answer.Refusal.TheVariants.{Own, Usage}
-use Rattle.beet_errand.specs.declared.answer.Status.{Status}
+use Rattle.beet_errand.specs.declared.answer.Refusal.TheVariants.{Own}
 use Rattle.beet_errand.specs.declared.answer.Status.TheVariants.{Done, MasksSpent, Refused}
 use Rattle.beet_errand.proofs.Statuses.{not_done}
 use Rattle.beet_load.specs.Loading.{AuctionWithBidders}
 use Rattle.beet_run.specs.Outcomes.{cleared}
 use Rattle.beet_lot_load.specs.Telling.{any_spent, lots_status, lots_text}
 use Rattle.beet_job_worlds.proofs.DifferenceFacts.{no-difference, the-difference}
-use Rattle.beet_job_worlds.specs.Differences.{difference_between}
+use Rattle.beet_book_differences.specs.Differences.{difference_between}
 use Rattle.beet_job_session_pair.specs.Answering.{ShowsTheSame}
 use Rattle.beet_job_session_pair.specs.Ending.{ShowsSessions, TellsApart, TellsOf}
 use Rattle.beet_job_session_pair.specs.Reading.{Both, book_of_lot, both_errand, first_books, words_of_lot}
 use Rattle.beet_job_session_pair.specs.Refusals.{IsLineOf, refused_text}
-use Rattle.beet_session_app.specs.Doing.{task_of}
-use Rattle.beet_session_app.specs.Jobs.{Comparing, Job}
+use Rattle.beet_pair_words.specs.Jobs.{Comparing}
+use Rattle.beet_pair_words.proofs.Naming.{pair-at-server}
 use Rattle.beet_app_laws.specs.Calls.{Call, IsOf, Puts}
-use Rattle.beet_app_laws.specs.Dues.{EndsAsDue}
-use Rattle.beet_app_laws.proofs.Led.{read-to, run-led}
+use Rattle.beet_app_laws.proofs.Led.{read-to}
 use Rattle.beet_app_laws.proofs.Telling.{one-value}
-use Rattle.beet_program_laws.proofs.Ends.{WentOut, WentWhole, answer-whole, no-job, shown-ends}
+use Rattle.beet_program_laws.proofs.Ends.{WentOut, WentWhole, no-job, no-usage, refused-answer, refused-whole, shown-ends}
 use Rattle.beet_program_laws.proofs.Jobs.{book_in, runs-in, words_in}
 use Rattle.beet_program_laws.proofs.Read.{IsLoaded, back}
-use Rattle.beet_session_laws.specs.Lots.{IsDoneSession, RunsSession, end_of_lot, loaded_lot}
+use Rattle.beet_session_laws.specs.Lots.{IsDoneSession, RunsJob, RunsSession, end_of_lot, loaded_lot}
 use Rattle.beet_session_laws.specs.Pairs.{LotPair, PutsBothSessions, RefusesBothSessions, SessionsAgree, first_lot, first_seen}
 use Rattle.beet_session_laws.specs.Pairs.{second_seen}
 use Rattle.beet_session_laws.proofs.PairReading.{IsBoth, both-yield, is-both, told-both}
@@ -194,13 +189,6 @@ told-not-seven : (spent : Bool) → code_of (if spent then MasksSpent else Done)
 told-not-seven true e = (let six_is : 6 ≡ 7 = e in omega (arith, six_is))
 told-not-seven false e = (let zero_is : 0 ≡ 7 = e in omega (arith, zero_is))
 
--- nor has a run to which its files lead another one
-due-not-seven : (due : Status) (status : ℕ) → EndsAsDue due status → (code_of due ≡ 7 → ⊥) → status ≡ 7 → ⊥
-due-not-seven due status (inl is) not e = not (sym is ∙ e)
-due-not-seven due status (inr (inl is)) not e = omega (arith, is, e)
-due-not-seven due status (inr (inr (inl is))) not e = omega (arith, is, e)
-due-not-seven due status (inr (inr (inr is))) not e = omega (arith, is, e)
-
 -- ---- the job
 
 module _ (files : List File) (call : Call) (from : IsOf files call) (session1 session2 servers : List ℕ) (s : Point) (out : List ℕ) where
@@ -256,8 +244,8 @@ module _ (files : List File) (call : Call) (from : IsOf files call) (session1 se
   by-telling both read answer (inr (text, t, is)) put =
       absurd (not_done (Own OfWorlds) (subst (λ (a : Answer). IsDone a.status) is put.done))
 
-  pub puts-both : IsDoneCode call.status → RunsTask (task_of (Some (Comparing session1 session2 servers s out))) call.shelf
-      call.shelf_now call.desk call.desk_now call.status → PutsBothSessions files session1 session2 servers s out call
+  pub puts-both : IsDoneCode call.status → RunsJob (Some (Comparing session1 session2 servers s out)) call →
+      PutsBothSessions files session1 session2 servers s out call
   puts-both code r =
       shown-ends files call from code {C = PutsBothSessions files session1 session2 servers s out call} OfWorlds
       (both_errand session1 session2 servers) (ShowsSessions session1 session2 servers s out) undone
@@ -275,19 +263,17 @@ module _ (files : List File) (call : Call) (from : IsOf files call) (session1 se
   by-refusal both answer (inr (text, t, is)) seven put = refuses-so both answer text t is put
 
   pub refuses-both : (both : Both) → ReadsTo files (both_errand session1 session2 servers) both → call.status ≡ 7 →
-      RunsTask (task_of (Some (Comparing session1 session2 servers s out))) call.shelf call.shelf_now call.desk call.desk_now
-      call.status → RefusesBothSessions s both call
+      RunsJob (Some (Comparing session1 session2 servers s out)) call → RefusesBothSessions s both call
   refuses-both both read e (inl (answer, shows, r)) =
       let step = both_errand session1 session2 servers in
-      let put : WentWhole answer call = answer-whole answer call (λ f. omega (arith, e, f)) (λ f. omega (arith, e, f)) r in
+      let put : WentWhole answer call = refused-answer files call from e answer r in
       let again = read-to files call.shelf call.shelf_now from step shows.value shows.read in
       let is = one-value files step shows.value both again read told-both in
       by-refusal both answer (subst (λ (b : Both). TellsOf s out b answer) is shows.shown) (sym put.code ∙ e) put
   refuses-both both read e (inr f) =
       let next : Both → Errand = λ both. answers Done [] in
-      let due = run-led files call.shelf call.shelf_now from (both_errand session1 session2 servers next) call.desk call.desk_now
-      call.status Done (sym (ap (λ (a : Answer). a.status) (read next))) (f next) in
-      absurd (due-not-seven Done call.status due (told-not-seven false) e)
+      let whole = refused-whole files call from e (both_errand session1 session2 servers next) (f next) in
+      absurd (told-not-seven false (ap (λ (a : Answer). code_of a.status) (sym (read next) ∙ whole.is) ∙ sym whole.out.code ∙ e))
 
 -- ---- the words
 
@@ -295,40 +281,18 @@ module _ (files : List File) (call : Call) (session1 session2 servers server out
   abbrev pair_words : List (List ℕ)
   pair_words = codes "pair" ∷ session1 ∷ session2 ∷ servers ∷ server ∷ out ∷ []
 
-  abbrev job_at : Point → Job
-  job_at s = Comparing session1 session2 servers s out
-
-  abbrev RunsIt : Option Job → Type 0
-  RunsIt job = RunsTask (task_of job) call.shelf call.shelf_now call.desk call.desk_now call.status
-
-  -- the run of the job at the server that the words name, where the run is none of the usage line
-  at-server : (RunsIt None → ⊥) → (at : Option Point) → server_of server ≡ at → RunsIt (option_map job_at at) →
-      (s : Point) × (server_of server ≡ Some s) × RunsIt (Some (job_at s))
-  at-server usage None e r = absurd (usage r)
-  at-server usage (Some s) e r = (s, e, r)
-
-  by-words : (RunsIt None → ⊥) → (b : Bool) → RunsIt (if b then option_map job_at (server_of server) else None) →
-      (s : Point) × (server_of server ≡ Some s) × RunsIt (Some (job_at s))
-  by-words usage true r = at-server usage (server_of server) refl r
-  by-words usage false r = absurd (usage r)
-
-  abbrev names : Bool
-  names = are_names (session1 ∷ session2 ∷ servers ∷ out ∷ [])
-
   pub puts-sessions : IsDoneSession files pair_words call →
       (s : Point) × (server_of server ≡ Some s) × PutsBothSessions files session1 session2 servers s out call
   puts-sessions done =
       let from = done.ran.from in
-      let (s, e, r) = by-words (λ r. no-job files call from done.code r) names done.ran.runs in
+      let (s, e, r) = pair-at-server Comparing (λ job. RunsJob job call) session1 session2 servers server out
+      (λ r. no-job files call from done.code r) done.ran.runs in
       (s, e, puts-both files call from session1 session2 servers s out done.code r)
 
   pub refuses-sessions : (both : Both) → RunsSession files pair_words call →
       ReadsTo files (both_errand session1 session2 servers) both → call.status ≡ 7 →
       (s : Point) × (server_of server ≡ Some s) × RefusesBothSessions s both call
   refuses-sessions both ran read e =
-      let from = ran.from in
-      let usage : RunsIt None → ⊥ = λ r.
-      due-not-seven (Refused Usage) call.status (run-led files call.shelf call.shelf_now from (refuses Usage usage_text) call.desk
-      call.desk_now call.status (Refused Usage) refl r) (λ two. let two_is : 2 ≡ 7 = two in omega (arith, two_is)) e in
-      let (s, is, r) = by-words usage names ran.runs in
-      (s, is, refuses-both files call from session1 session2 servers s out both read e r)
+      let (s, is, r) = pair-at-server Comparing (λ job. RunsJob job call) session1 session2 servers server out
+      (λ r. no-usage files call ran.from e r) ran.runs in
+      (s, is, refuses-both files call ran.from session1 session2 servers s out both read e r)

@@ -1,6 +1,6 @@
 -- What each command of the program of sessions has read and said.
 use Rattle.std.proofs.Common.{◌≡◌, ◌+◌, ℕ, List, [], ◌∷◌, ◌++◌, length, map, sum, Some, refl, sym, ap, ◌∙◌, arith, subst}
-use Rattle.std.specs.Prelude.{All, codes}
+use Rattle.std.specs.Prelude.{All, codes, option_map}
 use Rattle.std.proofs.lemmas.List.Sums.{sum-map}
 use Rattle.beet_store.specs.Files.{File}
 use Rattle.beet_book.specs.declared.server_file.TheConstants.{SERVERS_LIMIT}
@@ -26,8 +26,8 @@ use Rattle.beet_job_rehearse.specs.StandingTexts.{undelivered_line}
 use Rattle.beet_job_rehearse.specs.declared.standing.Rehearsal.{Rehearsal}
 use Rattle.beet_job_session.specs.Sessions.{session_answer, session_errand, session_job}
 use Rattle.beet_job_replay.specs.Replay.{replay_errand, replay_job, replayed, undelivered_in}
+use Rattle.beet_pair_words.specs.Jobs.{Answering}
 use Rattle.beet_session_app.specs.Doing.{task_of}
-use Rattle.beet_session_app.specs.Jobs.{Answering}
 use Rattle.beet_app_laws.specs.Calls.{Call, Says}
 use Rattle.beet_program_laws.proofs.Ends.{WentOut, found, named-in}
 use Rattle.beet_program_laws.proofs.Read.{IsLoaded}
@@ -103,8 +103,8 @@ module _ (files : List File) (session servers : List ℕ) where
   pub runs : (call : Call) → IsDoneSession files (codes "session" ∷ session ∷ servers ∷ []) call →
       RunsLots files session servers call
   runs call done =
-      let r = named-in files call done.ran.from done.code task_of refl (are_names (session ∷ servers ∷ []))
-      (Some (Answering (session_errand session servers))) done.ran.runs in
+      let r = named-in files call done.ran.from done.code (λ e. task_of (option_map Answering e)) refl
+      (are_names (session ∷ servers ∷ [])) (Some (session_errand session servers)) done.ran.runs in
       let f = found files call done.ran.from done.code (session_job session servers) (λ answer. answer) IsRun run-yield r in
       run-by call f.value f.holds f.out
 
@@ -157,8 +157,8 @@ module _ (files : List File) (session servers : List ℕ) where
     pub replays : (call : Call) → IsDoneSession files (codes "replay" ∷ session ∷ servers ∷ schedule ∷ []) call →
         ShowsLots files session servers schedule call
     replays call done =
-        let r = named-in files call done.ran.from done.code task_of refl (are_names (session ∷ servers ∷ schedule ∷ []))
-        (Some (Answering (replay_errand session servers schedule))) done.ran.runs in
+        let r = named-in files call done.ran.from done.code (λ e. task_of (option_map Answering e)) refl
+        (are_names (session ∷ servers ∷ schedule ∷ [])) (Some (replay_errand session servers schedule)) done.ran.runs in
         let f = found files call done.ran.from done.code (replay_job session servers schedule) (λ answer. answer) IsReplayed
         replay-yield r in
         replay-by call f.value f.holds f.out

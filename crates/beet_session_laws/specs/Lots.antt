@@ -1,6 +1,7 @@
 -- What each command of the program of sessions has read and said where its run ends with status 0 or 6, over a shelf
 -- whose answers are of these files.
-use Rattle.std.specs.Prelude.{◌≡◌, ◌++◌, ◌+◌, ℕ, List, [], ◌∷◌, if◌then◌else◌, length, map, slice_get, sum, Some}
+use Rattle.std.specs.Prelude.{◌≡◌, ◌++◌, ◌+◌, ℕ, List, [], ◌∷◌, if◌then◌else◌, length, map, slice_get, sum}
+use Rattle.std.specs.Prelude.{Option, Some}
 use Rattle.beet_field.specs.Trio.{member}
 use Rattle.beet_field.specs.declared.point.Point.{Point}
 use Rattle.beet_store.specs.Files.{File}
@@ -24,8 +25,7 @@ use Rattle.beet_lot_files.specs.SessionFiles.{session_of}
 use Rattle.beet_lot_files.specs.declared.session_file.TheConstants.{SESSION_LIMIT}
 use Rattle.beet_errand.specs.Errands.{Answer, reads}
 use Rattle.beet_errand.specs.Overs.{ReadsTo}
-use Rattle.beet_errand.specs.Statuses.{IsDoneCode, code_of}
-use Rattle.beet_errand.specs.Tasks.{RunsTask}
+use Rattle.beet_errand.specs.Statuses.{code_of}
 use Rattle.beet_load.specs.Loading.{AuctionWithBidders}
 use Rattle.beet_load.specs.WholeViews.{loaded_with}
 use Rattle.beet_run.specs.Outcomes.{outcome_answer}
@@ -34,21 +34,25 @@ use Rattle.beet_lot_load.specs.Telling.{lots_status, lots_text}
 use Rattle.beet_job_rehearse.specs.Rehearse.{servers_answer}
 use Rattle.beet_job_rehearse.specs.StandingTexts.{undelivered_line}
 use Rattle.beet_job_rehearse.specs.declared.standing.Rehearsal.{Rehearsal}
+use Rattle.beet_pair_words.specs.Jobs.{Job}
 use Rattle.beet_session_app.specs.Doing.{task_of}
 use Rattle.beet_session_app.specs.Jobs.{job_of}
-use Rattle.beet_app_laws.specs.Calls.{Call, IsOf, Says}
+use Rattle.beet_app_laws.specs.Calls.{Call, Says}
 use Rattle.beet_app_laws.specs.Readings.{Read}
+use Rattle.beet_app_laws.specs.Tables.{IsDoneTable, RunsJobBy, RunsTable}
 use Rattle.beet_program_laws.specs.Outcomes.{IsShown, ServersOpen}
 
--- the call ran these words of the program of sessions over these files
-pub record RunsSession (files : List File) (words : List (List ℕ)) (call : Call) : Type 0 where
-  pub from : IsOf files call
-  pub runs : RunsTask (task_of (job_of words)) call.shelf call.shelf_now call.desk call.desk_now call.status
+-- the call ran this job of the program of sessions
+abbrev pub RunsJob : Option Job → Call → Type 0
+RunsJob = RunsJobBy task_of
+
+-- the call ran these words over these files
+abbrev pub RunsSession : List File → List (List ℕ) → Call → Type 0
+RunsSession = RunsTable job_of task_of
 
 -- and ended with status 0 or 6
-pub record IsDoneSession (files : List File) (words : List (List ℕ)) (call : Call) : Type 0 where
-  pub ran : RunsSession files words call
-  pub code : IsDoneCode call.status
+abbrev pub IsDoneSession : List File → List (List ℕ) → Call → Type 0
+IsDoneSession = IsDoneTable job_of task_of
 
 -- a lot: a book, and words with which its auction can be run, so that its servers open the outcome of the book, or the
 -- masks are spent

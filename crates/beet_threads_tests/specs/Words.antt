@@ -1,8 +1,6 @@
--- The words of the servers of a test, and the batches of another.
-use Rattle.std.specs.Prelude.{ℕ, List, [], ◌∷◌, None, ◌==◌, if◌then◌else◌}
+-- The words of the servers of a test.
+use Rattle.std.specs.Prelude.{ℕ, List, None}
 use Rattle.beet_field.specs.declared.trio.Trio.{Trio}
-use Rattle.beet_gates.specs.Batches.{end_batch, reveal_batch}
-use Rattle.beet_gates.specs.declared.Batch.{Batch}
 use Rattle.beet_bids.specs.Grids.{Grid}
 use Rattle.beet_load.specs.Wanted.{wanted_of}
 use Rattle.beet_load.specs.Servers.{ServerWords, seeded}
@@ -14,7 +12,3 @@ words_from grid seeds = record {
   two = seeded (wanted_of None grid) seeds.two;
   three = seeded (wanted_of None grid) seeds.three;
 }
-
--- one input is opened
-abbrev pub shown_batch : ℕ → Batch
-shown_batch done = if done == 0 then reveal_batch [] (0 ∷ []) else end_batch

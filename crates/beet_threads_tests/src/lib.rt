@@ -3,12 +3,4 @@
 #![tactic(auto)]
 
 #[cfg(test)]
-mod auction;
-#[cfg(test)]
-mod ends;
-#[cfg(test)]
-mod links;
-#[cfg(test)]
-mod meeting;
-#[cfg(test)]
-mod watched;
+mod tests;

@@ -4,3 +4,4 @@ pub mod ReadRuns
 pub mod DealersThere
 pub mod AllWords
 pub mod MappedSoFar
+mod OnlyMemory

@@ -7,7 +7,8 @@ use Rattle.std.proofs.lemmas.List.Elements.{All-more, All-nil, All-push}
 use Rattle.std.proofs.lemmas.Option.{slice_get_read}
 use Rattle.beet_field.specs.declared.point.Point.{Point}
 use Rattle.beet_words.specs.Words.{IsWord}
-use Rattle.beet_mapped.specs.Dealers.{Party, DealerMapped, DealersMapped, dealers_of}
+use Rattle.beet_mapped.specs.Dealers.{Party, DealerMapped}
+use Rattle.beet_trades.specs.ListsMapped.{ListsMapped}
 use Rattle.beet_mapped.proofs.EachMapped.{EachMapped, dealer, each-mapped-more, parties-mapped}
 
 -- so many of the lists are mapped: all of them and of what they are mapped to are words
@@ -38,11 +39,11 @@ module _ (s : Point) (parties others : List Party) (words : List (List ℕ)) whe
         (slice_get_read words (length words) i list refl lt is) m;
   }
 
-  pub all-mapped : (mapped : List (List ℕ)) (i : ℕ) → MappedSoFar s parties others words mapped i → length mapped ≡ length words →
-      length words ≡ length parties → length others ≡ length parties →
-      DealersMapped s (dealers_of parties words) (dealers_of others mapped)
-  all-mapped mapped i so all long long' = parties-mapped s parties others words mapped long long' all so.each
-
-  pub all-below : (mapped : List (List ℕ)) (i : ℕ) → MappedSoFar s parties others words mapped i → length words ≤ i →
-      All (λ list. All IsWord list) words
-  all-below mapped i so past = subst (All (λ list. All IsWord list)) (take_all i words past) so.below
+  pub lists-mapped : (mapped : List (List ℕ)) (i : ℕ) → MappedSoFar s parties others words mapped i → length mapped ≡ length words →
+      length words ≡ length parties → length others ≡ length parties → ListsMapped s parties others words mapped
+  lists-mapped mapped i so all long long' = record {
+    count = all;
+    mapped = parties-mapped s parties others words mapped long long' all so.each;
+    below = subst (All (λ list. All IsWord list)) (take_all i words (omega (arith, so.count, all))) so.below;
+    below' = so.are_words;
+  }

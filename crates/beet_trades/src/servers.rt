@@ -1,10 +1,7 @@
 //! The words of the servers in the second world.
 
-ghost use Rattle.std.specs.Prelude.{◌≡◌, Err, IfOk, MatchResult, Ok};
-ghost use Rattle.beet_gates.specs.Scripts.{HasWords};
-ghost use Rattle.beet_sharing.specs.Runs.{numbers_of};
-ghost use Rattle.beet_map.specs.Refused.{HasSecrets, LookSame};
-ghost use Rattle.beet_map_laws.specs.Pairs.{GoTogether};
+ghost use Rattle.std.specs.Prelude.{◌≡◌, Err, IfErr, IfOk, MatchResult, Ok};
+ghost use Rattle.beet_map.specs.declared.refusals.GateFault.TheVariants.{OutOfMemory};
 ghost use Rattle.beet_trades.specs.Servers.{AreBelow, CanMap, ServersMapped, world_with};
 
 use beet_field::{Fe, Point, Trio};
@@ -32,29 +29,17 @@ fn copy_of(alloc: Global, words: &Trio<WordList>) -> Result<Trio<WordList>, Allo
     Trio::try_of(|at| words.get(at).copy(alloc))
 }
 
-/// The coefficient words of the second world, where server `me` cannot tell the worlds by its inputs, its mask words
-/// and what is opened.
-fn map_coefficients<S: Script<3>>(
-    alloc: Global,
-    me: Point,
-    script: &S,
-    here: &Secrets,
-    there: &Secrets,
-    words: &Trio<WordList>,
+/// What is mapped between worlds that the server cannot tell: want of memory is the only fault.
+fn unless_out_of_memory(
+    mapped: Result<Trio<WordList>, GateFault>,
 ) -> Result<Trio<WordList>, AllocError>
-    requires here { HasSecrets (S.inputs_of script.now) (S.masks_of script.now) here.now }
-    requires there { HasSecrets (S.inputs_of script.now) (S.masks_of script.now) there.now }
-    requires numbers { HasWords (S.secrets_of script.now) (numbers_of words.now) }
-    requires same { LookSame (S.batch_of script.now) (S.rounds_of script.now) (S.masks_of script.now) me here.now
-        there.now }
-    ensures together { IfOk result (GoTogether (S.batch_of script.now) (S.rounds_of script.now) me here.now there.now
-        words.now) }
-    ensures below { IfOk result AreBelow }
+    requires { IfErr mapped (λ fault. fault ≡ OutOfMemory) }
+    ensures { IfOk result (λ words. (mapped ≡ Ok words) × AreBelow words) }
 {
-    match gate_map(alloc, me, script, here, there, words) {
-        Ok(mapped) => {
-            look_at(&mapped);
-            Ok(mapped)
+    match mapped {
+        Ok(words) => {
+            look_at(&words);
+            Ok(words)
         }
         Err(GateFault::OutOfMemory) => Err(AllocError),
         Err(_) => unreachable!(),
@@ -87,7 +72,7 @@ fn map_from<S: Script<3>>(
     let (inputs, masks) = beside(lines, map_masks(alloc, me, losses, &here.masks))?;
     look_at(&masks);
     let there = Secrets { inputs, masks };
-    let coefficients = map_coefficients(alloc, me, script, here, &there, words);
+    let coefficients = unless_out_of_memory(gate_map(alloc, me, script, here, &there, words));
     beside(into_masks(there), coefficients)
 }
 

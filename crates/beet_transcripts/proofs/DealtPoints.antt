@@ -1,10 +1,13 @@
 -- What the bidders of a book deal, one after another.
-use Rattle.std.proofs.Common.{◌≡◌, ◌≤◌, ◌<◌, ℕ, suc, zero, ◌+◌, ◌*◌, List, [], ◌∷◌, ◌++◌, map, length, take, slice_get}
+use Rattle.std.proofs.Common.{◌≡◌, ◌≤◌, ◌<◌, ℕ, suc, zero, ◌+◌, ◌-◌, ◌*◌, List, [], ◌∷◌, ◌++◌, map, length, take, slice_get}
 use Rattle.std.proofs.Common.{Option, Some, Result, Ok, Err, IfOk, false, true, arith, refl, sym, ap, ◌∙◌, subst}
 use Rattle.std.proofs.Common.{get_or, All, length-append}
 use Rattle.std.specs.declared.alloc.AllocError.{AllocError}
 use Rattle.std.proofs.lemmas.List.{map-append, take_all}
-use Rattle.std.proofs.lemmas.List.Elements.{All-get_or}
+use Rattle.std.specs.List.{slice_range}
+use Rattle.std.proofs.Math.ListN.{drop}
+use Rattle.std.proofs.lemmas.List.Elements.{All-drop, All-get_or, All-take}
+use Rattle.beet_parts.proofs.Ranges.{range-all, range-joined, range-length}
 use Rattle.std.proofs.lemmas.Grind.{same_number_lists}
 use Rattle.beet_field.specs.Trio.{member}
 use Rattle.beet_field.specs.declared.point.Point.{Point}
@@ -29,7 +32,7 @@ use Rattle.beet_load.specs.Counts.{counts_of}
 use Rattle.beet_load.specs.Wholes.{CanDeal}
 use Rattle.beet_view.specs.BookViews.{seen_at, seen_with}
 use Rattle.beet_view.specs.declared.view.Seen.{Seen}
-use Rattle.beet_transcripts.specs.DealtBooks.{HasDealt, shows}
+use Rattle.beet_transcripts.specs.DealtBooks.{CanDealAll, CanDealPart, HasDealt, part_of, shows}
 use Rattle.beet_transcripts.specs.declared.dealing.DealtPart.{DealtPart}
 
 -- a tape of words that are all kept has them left
@@ -175,6 +178,40 @@ farmers-joined [] rest (w ∷ ws) back e = absurd cc
 farmers-joined (b ∷ bs) rest [] back e = absurd cc
 farmers-joined (b ∷ bs) rest (w ∷ ws) back e =
     ap (λ (fs : List BidderWithWords). record { bidder = b; words = w } ∷ fs) (farmers-joined bs rest ws back (omega arith))
+
+module _ (bidders : List Bidder) (words : List (List ℕ)) where
+  -- what can be dealt of all can be dealt of a part
+  pub part-can : (grid : Grid) (from count : ℕ) → CanDealPart grid bidders words from count →
+      CanDealAll grid (slice_range bidders from (from + count)) (slice_range words from (from + count))
+  part-can grid from count can =
+      let Of = λ (bidder : Bidder). IsOfGrid grid bidder.curve in
+      let Enough = λ (list : List ℕ). CanDeal (counts_of grid) list in
+      record {
+        paired = range-length words from count (omega (arith, can.within, can.all.paired))
+            ∙ sym (range-length bidders from count can.within);
+        of_grid = All-take Of (from + count - from) (drop from bidders) (All-drop Of from bidders can.all.of_grid);
+        enough = All-take Enough (from + count - from) (drop from words) (All-drop Enough from words can.all.enough);
+      }
+
+  -- two parts, one after another
+  pub part-joined : (from count more : ℕ) → from + count ≤ length bidders → length words ≡ length bidders →
+      part_of bidders words from (count + more) ≡ part_of bidders words from count ++ part_of bidders words (from + count) more
+  part-joined from count more within paired =
+      rw (range-joined bidders from count more, range-joined words from count more)
+      (farmers-joined (slice_range bidders from (from + count)) (slice_range bidders (from + count) (from + count + more))
+      (slice_range words from (from + count)) (slice_range words (from + count) (from + count + more))
+      (range-length words from count (omega (arith, within, paired)) ∙ sym (range-length bidders from count within)))
+
+  -- all as one part
+  pub part-whole : (grid : Grid) (whom : Option Point) (totals : Totals) (seen : Trio (List Seen)) →
+      length words ≡ length bidders → HasDealt grid whom (part_of bidders words 0 (length words)) totals seen →
+      HasDealt grid whom (farmers_of bidders words) totals seen
+  part-whole grid whom totals seen paired h =
+      subst (λ (l : List (List ℕ)). HasDealt grid whom (farmers_of bidders l) totals seen) (range-all words)
+      (subst (λ (l : List Bidder). HasDealt grid whom (farmers_of l (slice_range words 0 (0 + length words))) totals seen)
+      (range-all bidders)
+      (subst (λ (n : ℕ). HasDealt grid whom (farmers_of (slice_range bidders 0 (0 + n))
+      (slice_range words 0 (0 + length words))) totals seen) paired h))
 
 -- two parts over one grid have the same prices
 pub same-prices : (grid : Grid) (whom : Option Point) (few rest : List BidderWithWords) (first second : Result DealtPart AllocError) →

@@ -1,5 +1,7 @@
 -- What the bidders of a book deal: the summed points, and the bidders as each server sees them.
-use Rattle.std.specs.Prelude.{◌≡◌, List, [], map, Option, Some, None, ℕ, length, All, Bool, false, true}
+use Rattle.std.proofs.Common.{arith}
+use Rattle.std.specs.List.{slice_range}
+use Rattle.std.specs.Prelude.{◌≡◌, ◌≤◌, ◌+◌, List, [], map, Option, Some, None, ℕ, length, All, Bool, false, true}
 use Rattle.beet_field.specs.Trio.{member}
 use Rattle.beet_field.specs.declared.point.Point.{Point}
 use Rattle.beet_field.specs.declared.trio.Trio.{Trio}
@@ -7,7 +9,7 @@ use Rattle.beet_bids.specs.Curves.{IsOfGrid}
 use Rattle.beet_bids.specs.Grids.{Grid}
 use Rattle.beet_bids.specs.declared.book.Bidder.{Bidder}
 use Rattle.beet_book.specs.Totals.{Totals}
-use Rattle.beet_book.specs.Farmers.{BidderWithWords, summed_points}
+use Rattle.beet_book.specs.Farmers.{BidderWithWords, farmers_of, summed_points}
 use Rattle.beet_delivery.specs.Events.{same}
 use Rattle.beet_load.specs.Counts.{counts_of}
 use Rattle.beet_load.specs.Wholes.{CanDeal}
@@ -19,6 +21,25 @@ pub record CanDealAll (grid : Grid) (bidders : List Bidder) (words : List (List 
   pub paired : length words ≡ length bidders
   pub of_grid : All (λ bidder. IsOfGrid grid bidder.curve) bidders
   pub enough : All (CanDeal (counts_of grid)) words
+
+-- so many of these bidders from one on
+pub record CanDealPart (grid : Grid) (bidders : List Bidder) (words : List (List ℕ)) (from count : ℕ) : Type 0 where
+  pub within : from + count ≤ length bidders
+  pub all : CanDealAll grid bidders words
+
+-- what can be dealt, can be dealt in two parts
+pub deal-splits : (grid : Grid) (bidders : List Bidder) (words : List (List ℕ)) (from few rest : ℕ) →
+    CanDealPart grid bidders words from (few + rest) →
+    CanDealPart grid bidders words from few × CanDealPart grid bidders words (from + few) rest
+deal-splits grid bidders words from few rest can = (
+  record { within = omega (arith, can.within); all = can.all },
+  record { within = omega (arith, can.within); all = can.all },
+)
+
+-- so many bidders from one on, with their words
+abbrev pub part_of : List Bidder → List (List ℕ) → ℕ → ℕ → List BidderWithWords
+part_of bidders words from count =
+    farmers_of (slice_range bidders from (from + count)) (slice_range words from (from + count))
 
 -- whether bidders are kept for a server: for one that is named, or for each
 abbrev pub shows : Option Point → Point → Bool

@@ -3,27 +3,27 @@
 ghost use Rattle.std.specs.Prelude.{◌≡◌, ◌≤◌, ◌++◌, ◌∷◌, [], IfOk, OnOk, All, List, None, Option, length, map, false};
 ghost use Rattle.std.specs.Prelude.{true};
 ghost use Rattle.beet_field.specs.Trio.{member};
-ghost use Rattle.std.specs.Thread.{IsSync};
 ghost use Rattle.beet_bids.specs.Curves.{IsOfGrid};
 ghost use Rattle.beet_bids.specs.Grids.{Grid as Lattice};
 ghost use Rattle.beet_book.specs.Farmers.{BidderWithWords, book_inputs, farmers_of};
 ghost use Rattle.beet_load.specs.Counts.{counts_of};
 ghost use Rattle.beet_load.specs.Wholes.{CanDeal};
 ghost use Rattle.beet_view.specs.BookViews.{seen_at, own_at, seen_with};
-ghost use Rattle.beet_transcripts.specs.DealtBooks.{CanDealAll, HasDealt, shows};
+ghost use Rattle.beet_transcripts.specs.DealtBooks.{CanDealAll, CanDealPart, HasDealt, part_of, shows};
 ghost use Rattle.beet_transcripts.specs.RunsOn.{seen_sealed};
 
 use beet_bids::{Bidder, Book, Curve, Grid};
-use beet_book::{FEWEST_FOR_TWO, Totals, deal_bidder, workers};
+use beet_book::{Totals, deal_bidder};
 use beet_field::{Point, Trio};
 use beet_forms::beside;
 use beet_load::front;
+use beet_parts::{Parts, in_parts};
 use beet_plan::words_kept;
 use beet_view::Seen;
 use beet_words::{FeList, WordList};
 use std::alloc::{AllocError, Global};
 use std::marker::{Model, Sync};
-use std::thread::{Threads, join};
+use std::thread::Threads;
 
 /// The bidders, in their order, as each server sees them.
 #[derive(Drop)]
@@ -306,64 +306,65 @@ fn deal_in_order(
     Ok(DealtPart { totals, seen })
 }
 
-/// Deals the quantities of the bidders by so many threads, or one after another where they are few.
-#[cycle(halves)]
-fn deal_by<R: Threads + Sync>(
-    rt: &R,
-    alloc: Global,
-    grid: &Grid,
+/// The bidders of a book with their words, and the server for which they are kept, if one is named.
+#[derive(Drop)]
+struct Bidding<'a> {
+    grid: &'a Grid,
     whom: Option<Point>,
-    threads: usize,
-    bidders: &[Bidder],
-    words: &[WordList],
-) -> Result<DealtPart, AllocError>
-    requires { CanDealAll grid.now bidders.now words.now }
-    ensures { IfOk result (λ part. HasDealt grid.now whom (farmers_of bidders.now words.now) part.totals part.seen) }
-{
-    if threads < 2 || bidders.len() < FEWEST_FOR_TWO as usize {
-        return deal_in_order(alloc, grid, whom, bidders, words);
-    }
-    let middle = bidders.len() / 2;
-    let bidders = bidders.split_at(middle);
-    let words = words.split_at(middle);
-    deal_both(rt, alloc, grid, whom, threads, bidders, words)
+    bidders: &'a [Bidder],
+    words: &'a [WordList],
 }
 
-/// Deals the quantities of two parts at the same time, each by half of the threads, and puts the parts together.
-#[cycle(halves)]
-fn deal_both<R: Threads + Sync>(
+impl Parts<(), Result<DealtPart, AllocError>> for Bidding<'_> {
+    ghost use Rattle.std.specs.Prelude.{IfOk};
+    ghost use Rattle.beet_transcripts.specs.DealtBooks.{CanDealPart, HasDealt, deal-splits, part_of};
+
+    ghost can = { λ s from count own. CanDealPart s.grid.now s.bidders.now s.words.now from count };
+
+    ghost does = { λ s from count old new result. IfOk result (λ part.
+        HasDealt s.grid.now s.whom (part_of s.bidders.now s.words.now from count) part.totals part.seen) };
+
+    ghost splits = { λ s from few rest front back least.
+        deal-splits s.grid.now s.bidders.now s.words.now from few rest };
+
+    fn in_order(
+        &self,
+        alloc: Global,
+        from: usize,
+        count: usize,
+        _own: &mut [()],
+    ) -> Result<DealtPart, AllocError> {
+        let end = from + count;
+        deal_in_order(
+            alloc,
+            self.grid,
+            self.whom,
+            &self.bidders[from..end],
+            &self.words[from..end],
+        )
+    }
+
+    fn join(
+        &self,
+        few: Result<DealtPart, AllocError>,
+        rest: Result<DealtPart, AllocError>,
+    ) -> Result<DealtPart, AllocError> {
+        join_parts(few, rest)
+    }
+}
+
+/// Deals the quantities of so many bidders by a thread for each processor.
+fn deal_in_parts<R: Threads + Sync>(
     rt: &R,
     alloc: Global,
-    grid: &Grid,
-    whom: Option<Point>,
-    threads: usize,
-    bidders: (&[Bidder], &[Bidder]),
-    words: (&[WordList], &[WordList]),
+    bidding: &Bidding<'_>,
+    count: usize,
 ) -> Result<DealtPart, AllocError>
-    requires threads { 2 ≤ threads }
-    requires front { CanDealAll grid.now bidders.0.now words.0.now }
-    requires back { CanDealAll grid.now bidders.1.now words.1.now }
-    ensures { IfOk result (λ part. HasDealt grid.now whom
-        (farmers_of (bidders.entry.0.now ++ bidders.entry.1.now) (words.entry.0.now ++ words.entry.1.now))
-        part.totals part.seen) }
+    requires can { CanDealPart bidding.now.grid.now bidding.now.bidders.now bidding.now.words.now 0 count }
+    ensures { IfOk result (λ part. HasDealt bidding.now.grid.now bidding.now.whom
+        (part_of bidding.now.bidders.now bidding.now.words.now 0 count) part.totals part.seen) }
 {
-    let half = threads.div_ceil(2);
-    let (few, rest) = bidders;
-    let (front, back) = words;
-    let (first, second) = join(
-        rt,
-        || -> Result<DealtPart, AllocError>
-            requires { IsSync R.row × CanDealAll grid.now few.now front.now }
-            ensures { IfOk result (λ part.
-                HasDealt grid.entry.now whom (farmers_of few.entry.now front.entry.now) part.totals part.seen) }
-        { deal_by(rt, alloc, grid, whom, half, few, front) },
-        || -> Result<DealtPart, AllocError>
-            requires { IsSync R.row × CanDealAll grid.now rest.now back.now }
-            ensures { IfOk result (λ part.
-                HasDealt grid.entry.now whom (farmers_of rest.entry.now back.entry.now) part.totals part.seen) }
-        { deal_by(rt, alloc, grid, whom, half, rest, back) },
-    );
-    join_parts(first, second)
+    in_parts(rt, alloc, bidding, count, &mut [])
 }
 
 /// What the bidders of a book deal: the inputs of the servers, and the bidders as the servers see them for which they
@@ -391,8 +392,13 @@ pub(crate) fn deal_book<R: Threads + Sync>(
         ≡ map (seen_at book.now.grid s) (farmers_of book.now.bidders words.now)) }
     ensures not_seen { IfOk result (λ dealt. (s : Point) → shows whom s ≡ false → member dealt.seen s ≡ []) }
 {
-    let threads = workers(rt);
-    let dealt = deal_by(rt, alloc, book.grid(), whom, threads, book.bidders(), words)?;
+    let bidding = Bidding {
+        grid: book.grid(),
+        whom,
+        bidders: book.bidders(),
+        words,
+    };
+    let dealt = deal_in_parts(rt, alloc, &bidding, words.len())?;
     Ok(DealtBook {
         inputs: dealt.totals.inputs(),
         seen: dealt.seen,

@@ -6,3 +6,4 @@ pub mod Paths
 pub mod Marks
 pub mod BidderFacts
 pub mod Known
+pub mod Refused

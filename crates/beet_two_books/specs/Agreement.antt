@@ -3,7 +3,10 @@ use Rattle.std.specs.Prelude.{◌≡◌, List, map, Bool, true, false, Option, S
 use Rattle.beet_field.specs.declared.point.Point.{Point}
 use Rattle.beet_map.specs.Agreement.{SameKnown as SameTold}
 use Rattle.beet_bids.specs.Books.{Book}
+use Rattle.beet_bids.specs.Curves.{IsOfGrid}
+use Rattle.beet_bids.specs.Grids.{Grid}
 use Rattle.beet_bids.specs.Outcomes.{outcome_of}
+use Rattle.beet_bids.specs.declared.book.Bidder.{Bidder}
 
 -- the marks of the bidders, one for each: the server that knows its curve, if there is one
 abbrev pub marks_of : Book → List (Option Point)
@@ -36,3 +39,9 @@ pub record AgreeFor (knows : Point → Bool) (first second : Book) : Type 0 wher
   pub marks : marks_of second ≡ marks_of first
   pub own : AllSame knows first second
   pub outcomes : outcome_of second ≡ outcome_of first
+
+-- the bidders at one place of two books over a grid: they have the same mark, and their curves are over the grid
+pub record AreOnePlace (grid : Grid) (one other : Bidder) : Type 0 where
+  pub mark : other.known ≡ one.known
+  pub of_grid : IsOfGrid grid one.curve
+  pub of_grid' : IsOfGrid grid other.curve

@@ -23,13 +23,24 @@ pub record DiffersFor (knows : Point → Bool) (bidders others : List Bidder) (n
   pub is_known : knows server ≡ true
   pub here : KnownDiffersAt server bidders others n
 
--- what the refusal of two books over one grid says of them: bidders are counted from 1
-abbrev pub RefusesFor : (Point → Bool) → Book → Book → MapFault → Type 0
-RefusesFor knows first second (ShapeDiffers bidder) =
+-- what the refusal of two books over one grid says of them, from what it means that own bidders have the same curves,
+-- and that one at a place has another: bidders are counted from 1
+abbrev pub RefusesWhere : Type 0 → (ℕ → Type 0) → Book → Book → MapFault → Type 0
+RefusesWhere same_own own_differs first second (ShapeDiffers bidder) =
     (n : ℕ) × (bidder ≡ n + 1) × DifferFirst (marks_of first) (marks_of second) n
-RefusesFor knows first second (OwnBidsDiffer bidder) =
-    (marks_of second ≡ marks_of first) × ((n : ℕ) × (bidder ≡ n + 1) × DiffersFor knows first.bidders second.bidders n)
-RefusesFor knows first second (OutcomesDiffer one other) =
-    (marks_of second ≡ marks_of first) × AllSame knows first second
+RefusesWhere same_own own_differs first second (OwnBidsDiffer bidder) =
+    (marks_of second ≡ marks_of first) × ((n : ℕ) × (bidder ≡ n + 1) × own_differs n)
+RefusesWhere same_own own_differs first second (OutcomesDiffer one other) =
+    (marks_of second ≡ marks_of first) × same_own
     × ((one ≡ outcome_of first) × (other ≡ outcome_of second) × (other ≢ one))
-RefusesFor knows first second OutOfMemory = ⊥
+RefusesWhere same_own own_differs first second OutOfMemory = ⊥
+
+-- where own bidders are those known to a server that passes a test
+abbrev pub RefusesFor : (Point → Bool) → Book → Book → MapFault → Type 0
+RefusesFor knows first second fault =
+    RefusesWhere (AllSame knows first second) (DiffersFor knows first.bidders second.bidders) first second fault
+
+-- why words are not mapped from one book to another: memory runs out only where the books agree
+abbrev pub RefusesUnlessAgreed : Type 0 → (MapFault → Type 0) → MapFault → Type 0
+RefusesUnlessAgreed agree refuses OutOfMemory = agree
+RefusesUnlessAgreed agree refuses fault = refuses fault

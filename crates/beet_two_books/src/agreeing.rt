@@ -6,10 +6,10 @@ ghost use Rattle.beet_field.specs.Trio.{member};
 ghost use Rattle.beet_words.specs.declared.bundle.TheConstants.{MOST_BIDDERS};
 ghost use Rattle.beet_bids.specs.Curves.{IsOfGrid};
 ghost use Rattle.beet_map.specs.Refused.{DifferFirst};
-ghost use Rattle.beet_two_books.specs.Agreement.{AgreeFor, AllSame, is_known, marks_of};
+ghost use Rattle.beet_two_books.specs.Agreement.{AgreeFor, AllSame, AreOnePlace, is_known, marks_of};
 ghost use Rattle.beet_two_books.specs.Disagreement.{DiffersFor, RefusesFor};
 
-use crate::bidders::pair_at;
+use crate::bidders::{BidderPair, pair_at};
 use beet_bids::{Bidder, Book, Curve, Grid, Outcome, outcome};
 use beet_field::{Point, Trio};
 use std::alloc::AllocError;
@@ -102,15 +102,14 @@ fn is_watched(watch: &Trio<bool>, bidder: &Bidder) -> bool
 }
 
 /// Whether a bidder is known to one of these servers and has another curve in the second book.
-fn is_changed(watch: &Trio<bool>, grid: &Grid, first: &Bidder, second: &Bidder) -> bool
-    requires first { IsOfGrid grid.now first.now.curve }
-    requires second { IsOfGrid grid.now second.now.curve }
-    ensures changed { IsTrue result → (is_known (member watch.now) first.now.known ≡ true)
-        × (second.now.curve ≢ first.now.curve) }
-    ensures kept { IsFalse result → is_known (member watch.now) first.now.known ≡ true →
-        second.now.curve ≡ first.now.curve }
+fn is_changed(watch: &Trio<bool>, pair: &BidderPair<'_>) -> bool
+    requires { AreOnePlace pair.now.grid.now pair.now.first.now pair.now.second.now }
+    ensures changed { IsTrue result → (is_known (member watch.now) pair.now.first.now.known ≡ true)
+        × (pair.now.second.now.curve ≢ pair.now.first.now.curve) }
+    ensures kept { IsFalse result → is_known (member watch.now) pair.now.first.now.known ≡ true →
+        pair.now.second.now.curve ≡ pair.now.first.now.curve }
 {
-    is_watched(watch, first) && !same_curve(grid, &first.curve, &second.curve)
+    is_watched(watch, pair.first) && !same_curve(pair.grid, &pair.first.curve, &pair.second.curve)
 }
 
 /// The first place at which a bidder is known to one of these servers and has another curve in the second book.
@@ -121,11 +120,9 @@ fn other_own_bid(watch: &Trio<bool>, first: &Book, second: &Book) -> Option<u32>
         (λ n. DiffersFor (member watch.now) first.now.bidders second.now.bidders n) }
     ensures below { IfSome result (λ n. n ≤ MOST_BIDDERS) }
 {
-    let bidders = first.bidders();
-    let grid = first.grid();
-    for i in 0..bidders.len() {
-        let (one, other) = pair_at(grid, first, second, i);
-        if is_changed(watch, grid, one, other) {
+    for i in 0..first.bidders().len() {
+        let pair = pair_at(first, second, i);
+        if is_changed(watch, &pair) {
             return Some(i as u32);
         }
     }

@@ -3,7 +3,7 @@
 ghost use Rattle.std.specs.Prelude.{◌≡◌, ◌<◌, ◌*◌, Some, length, slice_get, IfOk};
 ghost use Rattle.beet_bids.specs.Curves.{IsOfGrid, quantity};
 ghost use Rattle.beet_book.specs.Dealing.{quantities};
-ghost use Rattle.beet_two_books.specs.Agreement.{marks_of};
+ghost use Rattle.beet_two_books.specs.Agreement.{AreOnePlace, marks_of};
 
 use beet_bids::{Bidder, Book, Curve, Grid};
 use beet_field::Fe;
@@ -19,26 +19,32 @@ fn bidder_at(book: &Book, place: usize) -> &Bidder
     &bidders[place]
 }
 
-/// The bidders at a place of two books over one grid with the same marks. Both curves are over the grid.
-pub fn pair_at<'a>(
-    grid: &Grid,
-    first: &'a Book,
-    second: &'a Book,
-    place: usize,
-) -> (&'a Bidder, &'a Bidder)
-    requires grid { grid.now ≡ first.now.grid }
+/// The bidders at one place of two books over one grid.
+#[derive(Clone, Copy)]
+pub struct BidderPair<'a> {
+    pub grid: &'a Grid,
+    pub first: &'a Bidder,
+    pub second: &'a Bidder,
+}
+
+/// The bidders at a place of two books over one grid with the same marks.
+pub fn pair_at<'a>(first: &'a Book, second: &'a Book, place: usize) -> BidderPair<'a>
     requires grids { second.now.grid ≡ first.now.grid }
     requires marks { marks_of second.now ≡ marks_of first.now }
     requires place { place < length first.now.bidders }
-    ensures one { slice_get first.now.bidders place ≡ Some result.0.now }
-    ensures other { slice_get second.now.bidders place ≡ Some result.1.now }
-    ensures mark { result.1.now.known ≡ result.0.now.known }
-    ensures first { IsOfGrid grid.now result.0.now.curve }
-    ensures second { IsOfGrid grid.now result.1.now.curve }
+    ensures grid { result.grid.now ≡ first.now.grid }
+    ensures first { slice_get first.now.bidders place ≡ Some result.first.now }
+    ensures second { slice_get second.now.bidders place ≡ Some result.second.now }
+    ensures pair { AreOnePlace result.grid.now result.first.now result.second.now }
 {
+    let grid = first.grid();
     let one = bidder_at(first, place);
     let other = bidder_at(second, place);
-    (one, other)
+    BidderPair {
+        grid,
+        first: one,
+        second: other,
+    }
 }
 
 /// The n-th quantity of a curve: what is bought at each place, and then what is sold.
@@ -67,4 +73,18 @@ pub fn quantities_of(alloc: Global, grid: &Grid, curve: &Curve) -> Result<Vec<Fe
         numbers.push(quantity_of(grid, curve, n))?;
     }
     Ok(numbers)
+}
+
+/// The quantities of both bidders of a pair, as many of each.
+pub fn quantities_of_both(
+    alloc: Global,
+    pair: &BidderPair<'_>,
+) -> Result<(Vec<Fe>, Vec<Fe>), AllocError>
+    requires { AreOnePlace pair.now.grid.now pair.now.first.now pair.now.second.now }
+    ensures first { IfOk result (λ both. both.0.items ≡ quantities pair.now.first.now.curve) }
+    ensures second { IfOk result (λ both. both.1.items ≡ quantities pair.now.second.now.curve) }
+{
+    let first = quantities_of(alloc, pair.grid, &pair.first.curve)?;
+    let second = quantities_of(alloc, pair.grid, &pair.second.curve)?;
+    Ok((first, second))
 }

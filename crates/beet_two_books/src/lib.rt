@@ -9,7 +9,7 @@ mod laws;
 mod masks;
 
 pub use agreeing::{MapFault, agreement, only};
-pub use bidders::{pair_at, quantities_of};
+pub use bidders::{BidderPair, pair_at, quantities_of, quantities_of_both};
 pub use laws::{
     agreeing_books_open_alike, books_open_alike_among_five, mapped_masks_leave_the_rounds,
 };

@@ -11,6 +11,4 @@ mod writing;
 pub use reading::{MOST_ROUNDS, read_view};
 pub use running::{run_view, view_of};
 pub use view::{RunView, Seen, View};
-pub use writing::{
-    mark_of, number_of_gates, push_header, push_own, push_run, push_sealed, write_view,
-};
+pub use writing::{mark_of, number_of_gates, push_run, write_view};

@@ -10,8 +10,6 @@ use crate::quantities::{from_to, read_from_to};
 use arrayvec::ArrayVec;
 use beet_field::{Fe, MOST_NUMBERS, P};
 use beet_forms::ReadFault;
-use beet_words::FeList;
-use std::alloc::Global;
 
 /// A number of the field.
 fn read_point(bytes: &[u8], at: usize) -> Result<(Fe, usize), ReadFault>
@@ -20,20 +18,6 @@ fn read_point(bytes: &[u8], at: usize) -> Result<(Fe, usize), ReadFault>
     ensures within { IfOk result (λ read. read.1 ≤ length bytes.now) }
 {
     beet_words::read_point(bytes, from_to(0, P - 1), at)
-}
-
-/// So many numbers of the field.
-pub(crate) fn read_points(
-    alloc: Global,
-    bytes: &[u8],
-    count: u64,
-    at: usize,
-) -> Result<(FeList, usize), ReadFault>
-    requires { at ≤ length bytes.now }
-    ensures points { Answers (λ read. read) (times count (point_at bytes.now) at) result }
-    ensures within { IfOk result (λ read. read.1 ≤ length bytes.now) }
-{
-    beet_words::read_points(alloc, bytes, from_to(0, P - 1), count, at)
 }
 
 /// So many numbers of a message.

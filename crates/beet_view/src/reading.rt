@@ -9,18 +9,18 @@ ghost use Rattle.beet_view.specs.Transcripts.{magic, from_to as allowed_from_to,
 ghost use Rattle.beet_view.specs.Transcripts.{server_at, policy_at, grid_at, most_bidders, own_at, own_where_known};
 ghost use Rattle.beet_view.specs.Transcripts.{seen_at, round_at, view_in, view_bytes, FitsFile};
 
-use crate::parts::{read_message, read_points};
-use crate::quantities::{Course, read_from_to};
+use crate::parts::read_message;
+use crate::quantities::{Course, from_to, read_from_to};
 use crate::view::{Received, RunView, Seen, View};
 use beet_bids::{Curve, Grid, LARGEST_BASE, LARGEST_TICK, MOST_PRICES, Policy};
 use beet_book::MOST_PRODUCT;
-use beet_field::Point;
+use beet_field::{P, Point};
 use beet_forms::ReadFault;
 use beet_gates::Gates;
 use beet_plan::{coefficients_kept, masks_kept, words_kept};
 use beet_words::{
     BAD_MAGIC, BAD_NUMBER, MOST_BIDDERS, TRAILING, WordList, read_end, read_list, read_magic,
-    read_many,
+    read_many, read_points,
 };
 use std::alloc::Global;
 
@@ -176,32 +176,16 @@ fn read_seen(
     ensures within { IfOk result (λ read. read.1 ≤ length bytes.now) }
 {
     let (mark, at) = read_from_to(bytes, 0, 3, at)?;
-    let (points, at) = read_points(alloc, bytes, 2 * grid.prices() as u64, at)?;
+    let (points, at) = read_points(
+        alloc,
+        bytes,
+        from_to(0, P - 1),
+        2 * grid.prices() as u64,
+        at,
+    )?;
     let (own, at) = read_own_where_known(alloc, bytes, server, grid, mark, at)?;
     let known = known_of(mark);
     Ok((Seen { known, points, own }, at))
-}
-
-fn read_so_many_bidders(
-    alloc: Global,
-    bytes: &[u8],
-    server: Point,
-    grid: &Grid,
-    count: u64,
-    at: usize,
-) -> Result<(Vec<Seen>, usize), ReadFault>
-    requires { at ≤ length bytes.now }
-    ensures bidders { Answers (λ read. (read.0.items, read.1))
-        (times count (seen_at bytes.now server grid.now.prices) at) result }
-    ensures within { IfOk result (λ read. read.1 ≤ length bytes.now) }
-{
-    read_many(
-        alloc,
-        bytes,
-        count,
-        at,
-        |from| read_seen(alloc, bytes, server, grid, from),
-    )
 }
 
 /// The most bidders of a grid.
@@ -232,7 +216,13 @@ fn read_bidders(
     ensures within { IfOk result (λ read. read.1 ≤ length bytes.now) }
 {
     let (count, at) = read_from_to(bytes, 0, most_bidders(grid), at)?;
-    read_so_many_bidders(alloc, bytes, server, grid, count, at)
+    read_many(
+        alloc,
+        bytes,
+        count,
+        at,
+        |from| read_seen(alloc, bytes, server, grid, from),
+    )
 }
 
 /// What came in a round.
@@ -247,20 +237,6 @@ fn read_round(bytes: &[u8], at: usize) -> Result<(Received, usize), ReadFault>
     Ok((Received { lower, higher }, at))
 }
 
-/// What came in so many rounds.
-fn read_so_many_rounds(
-    alloc: Global,
-    bytes: &[u8],
-    count: u64,
-    at: usize,
-) -> Result<(Vec<Received>, usize), ReadFault>
-    requires { at ≤ length bytes.now }
-    ensures rounds { Answers (λ read. (read.0.items, read.1)) (times count (round_at bytes.now) at) result }
-    ensures within { IfOk result (λ read. read.1 ≤ length bytes.now) }
-{
-    read_many(alloc, bytes, count, at, |from| read_round(bytes, from))
-}
-
 /// What came in all rounds, after their count.
 #[tactic(auto, unfolding(beet_words::specs::Fields::counted_at))]
 fn read_rounds(alloc: Global, bytes: &[u8], at: usize) -> Result<(Vec<Received>, usize), ReadFault>
@@ -270,7 +246,7 @@ fn read_rounds(alloc: Global, bytes: &[u8], at: usize) -> Result<(Vec<Received>,
     ensures within { IfOk result (λ read. read.1 ≤ length bytes.now) }
 {
     let (count, at) = read_from_to(bytes, 0, MOST_ROUNDS, at)?;
-    read_so_many_rounds(alloc, bytes, count, at)
+    read_many(alloc, bytes, count, at, |from| read_round(bytes, from))
 }
 
 /// All parts of a transcript, up to its end.

@@ -1,6 +1,6 @@
 //! The writer of transcripts.
 
-ghost use Rattle.std.specs.Prelude.{◌≡◌, ◌≤◌, ◌++◌, [], Ok, Some, IfOk, OnOk, All, length};
+ghost use Rattle.std.specs.Prelude.{◌≡◌, ◌≤◌, ◌++◌, [], ℕ, List, Ok, Some, IfOk, OnOk, All, length};
 ghost use Rattle.std.specs.List.{flat_map};
 ghost use Rattle.beet_field.specs.Field.{IsElement};
 ghost use Rattle.beet_forms.specs.declared.faults.TheConstants.{LONGEST_FILE};
@@ -23,13 +23,48 @@ use beet_gates::Gates;
 use beet_words::{WordList, push_list, push_number, push_points};
 use std::alloc::{AllocError, Global};
 
+/// A part of a transcript, of which there may be many in a row.
+trait Item {
+    /// The bytes of an item.
+    ghost bytes_of: { Self → List ℕ };
+
+    /// What is known of the numbers of an item that was written.
+    ghost limits_of: { Self → Type 0 };
+
+    /// Appends the item.
+    fn push(&self, file: &mut Vec<u8>) -> Result<(), AllocError>
+        ensures bytes { OnOk result (file.new.items ≡ file.old.items ++ bytes_of self.now) }
+        ensures limits { OnOk result (limits_of self.now) };
+}
+
+/// Appends items one after another.
+fn push_each<T: Item>(file: &mut Vec<u8>, items: &[T]) -> Result<(), AllocError>
+    ensures bytes { OnOk result (file.new.items ≡ file.old.items ++ flat_map T.bytes_of items.now) }
+    ensures limits { OnOk result (All T.limits_of items.now) }
+{
+    for item in items {
+        item.push(file)?;
+    }
+    Ok(())
+}
+
+impl Item for u64 {
+    ghost use Rattle.std.specs.Prelude.{◌<◌, ◌^◌};
+    ghost use Rattle.beet_words.specs.Fields.{number_bytes};
+
+    ghost bytes_of = { number_bytes };
+
+    ghost limits_of = { λ number. number < 2 ^ 64 };
+
+    fn push(&self, file: &mut Vec<u8>) -> Result<(), AllocError> {
+        push_number(file, *self)
+    }
+}
+
 fn push_numbers(file: &mut Vec<u8>, numbers: &[u64]) -> Result<(), AllocError>
     ensures { OnOk result (file.new.items ≡ file.old.items ++ numbers_bytes numbers.now) }
 {
-    for number in numbers {
-        push_number(file, *number)?;
-    }
-    Ok(())
+    push_each(file, numbers)
 }
 
 /// The mark that names a server, or 0 for none.
@@ -88,7 +123,7 @@ fn push_magic(file: &mut Vec<u8>, grid: &Grid) -> Result<(), AllocError>
 }
 
 /// Appends what a transcript begins with: its text, the server, the grid, and the number of the bidders.
-pub fn push_header(
+fn push_header(
     file: &mut Vec<u8>,
     server: Point,
     grid: &Grid,
@@ -105,11 +140,7 @@ pub fn push_header(
 }
 
 /// Appends the mark of a bidder and its points.
-pub fn push_sealed(
-    file: &mut Vec<u8>,
-    known: Option<Point>,
-    points: &[Fe],
-) -> Result<(), AllocError>
+fn push_sealed(file: &mut Vec<u8>, known: Option<Point>, points: &[Fe]) -> Result<(), AllocError>
     ensures bytes { OnOk result (file.new.items ≡ file.old.items ++ sealed_bytes known points.now) }
     ensures points { OnOk result (All IsElement points.now) }
 {
@@ -118,7 +149,7 @@ pub fn push_sealed(
 }
 
 /// Appends the curve and the words of a bidder, which stand behind its points if the server knows it.
-pub fn push_own(file: &mut Vec<u8>, curve: &Curve, words: &WordList) -> Result<(), AllocError>
+fn push_own(file: &mut Vec<u8>, curve: &Curve, words: &WordList) -> Result<(), AllocError>
     ensures bytes { OnOk result (file.new.items ≡ file.old.items ++ own_bytes (Some (curve.now, words.now))) }
     ensures curve { IsCurve curve.now }
     ensures words { OnOk result (All IsWord words.now) }
@@ -128,26 +159,20 @@ pub fn push_own(file: &mut Vec<u8>, curve: &Curve, words: &WordList) -> Result<(
     push_list(file, words)
 }
 
-/// Appends a bidder.
-fn push_seen(file: &mut Vec<u8>, seen: &Seen) -> Result<(), AllocError>
-    ensures bytes { OnOk result (file.new.items ≡ file.old.items ++ seen_bytes seen.now) }
-    ensures numbers { OnOk result (HasNumbers seen.now) }
-{
-    push_sealed(file, seen.known, seen.points.as_slice())?;
-    if let Some((curve, words)) = &seen.own {
-        push_own(file, curve, words)?;
-    }
-    Ok(())
-}
+impl Item for Seen {
+    ghost use Rattle.beet_view.specs.Transcripts.{seen_bytes, HasNumbers};
 
-fn push_bidders(file: &mut Vec<u8>, bidders: &[Seen]) -> Result<(), AllocError>
-    ensures bytes { OnOk result (file.new.items ≡ file.old.items ++ flat_map seen_bytes bidders.now) }
-    ensures numbers { OnOk result (All HasNumbers bidders.now) }
-{
-    for seen in bidders {
-        push_seen(file, seen)?;
+    ghost bytes_of = { seen_bytes };
+
+    ghost limits_of = { HasNumbers };
+
+    fn push(&self, file: &mut Vec<u8>) -> Result<(), AllocError> {
+        push_sealed(file, self.known, self.points.as_slice())?;
+        if let Some((curve, words)) = &self.own {
+            push_own(file, curve, words)?;
+        }
+        Ok(())
     }
-    Ok(())
 }
 
 fn push_message(file: &mut Vec<u8>, numbers: &[Fe]) -> Result<(), AllocError>
@@ -158,24 +183,17 @@ fn push_message(file: &mut Vec<u8>, numbers: &[Fe]) -> Result<(), AllocError>
     push_points(file, numbers)
 }
 
-/// Appends what came in a round.
-fn push_round(file: &mut Vec<u8>, round: &Received) -> Result<(), AllocError>
-    ensures bytes { OnOk result (file.new.items ≡ file.old.items ++ round_bytes round.now) }
-    ensures numbers { OnOk result (HasElements round.now) }
-{
-    push_message(file, round.lower())?;
-    push_message(file, round.higher())
-}
+impl Item for Received {
+    ghost use Rattle.beet_view.specs.Transcripts.{round_bytes, HasElements};
 
-/// Appends what came in rounds.
-fn push_rounds(file: &mut Vec<u8>, rounds: &[Received]) -> Result<(), AllocError>
-    ensures bytes { OnOk result (file.new.items ≡ file.old.items ++ flat_map round_bytes rounds.now) }
-    ensures numbers { OnOk result (All HasElements rounds.now) }
-{
-    for round in rounds {
-        push_round(file, round)?;
+    ghost bytes_of = { round_bytes };
+
+    ghost limits_of = { HasElements };
+
+    fn push(&self, file: &mut Vec<u8>) -> Result<(), AllocError> {
+        push_message(file, self.lower())?;
+        push_message(file, self.higher())
     }
-    Ok(())
 }
 
 /// Appends what a server sees of a run.
@@ -189,7 +207,7 @@ pub fn push_run(file: &mut Vec<u8>, run: &RunView) -> Result<(), AllocError>
     push_list(file, &run.coefficients)?;
     let rounds = run.received();
     push_number(file, rounds.len() as u64)?;
-    push_rounds(file, rounds)?;
+    push_each(file, rounds)?;
     Ok(())
 }
 
@@ -243,7 +261,7 @@ fn push_view(file: &mut Vec<u8>, view: &View) -> Result<(), AllocError>
     ensures numbers { OnOk result (AreNumbers view.now) }
 {
     push_header(file, view.server(), view.grid(), view.bidders().len())?;
-    push_bidders(file, view.bidders())?;
+    push_each(file, view.bidders())?;
     push_run(file, &view.run)?;
     Ok(())
 }

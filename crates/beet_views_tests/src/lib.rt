@@ -3,10 +3,4 @@
 #![tactic(auto)]
 
 #[cfg(test)]
-mod sessions;
-#[cfg(test)]
-mod trial;
-#[cfg(test)]
-mod view;
-#[cfg(test)]
-mod worlds;
+mod tests;

@@ -1,4 +1,4 @@
-use Rattle.beet_completeness_laws.proofs.Jobs.{audit, clear, five, opened, recorded, rehearse, seal, tally, trial, watch}
+use Rattle.beet_completeness_laws.proofs.Jobs.{audit, clear, five, five_worlds, opened, recorded, rehearse, seal, tally, trial, watch}
 use Rattle.beet_completeness_laws.proofs.Jobs.{witness, worlds}
 use Rattle.beet_completeness_laws.proofs.Rehearsals.{said}
 use Rattle.beet_completeness_laws.proofs.what_is_right_is_done.Goals as goal
@@ -41,6 +41,10 @@ returns-clause-trial c = λ files first second call w can. trial files call firs
 pub returns-clause-worlds : goal.returns-clause-worlds
 returns-clause-worlds c = λ files auction servers list1 list2 server out call w can.
     worlds files call auction servers list1 list2 server out w can
+
+pub returns-clause-five_worlds : goal.returns-clause-five_worlds
+returns-clause-five_worlds c = λ files auction servers list1 list2 one other out call w can.
+    five_worlds files call auction servers list1 list2 one other out w can
 
 pub returns-clause-audit : goal.returns-clause-audit
 returns-clause-audit c = λ files auction one two three call w can. audit files call auction one two three w can

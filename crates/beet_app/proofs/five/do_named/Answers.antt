@@ -1,6 +1,5 @@
 use Rattle.std.proofs.Common.{map, refl, string_bytes, sym, ◌∙◌}
 use Rattle.beet_command.proofs.Named.{named_job, no_job}
-use Rattle.beet_errand.proofs.Tasks.{answers_task}
 use Rattle.beet_app.specs.Commands.{five_job_for}
 use Rattle.beet_app.specs.Doing.{task_of}
 use Rattle.beet_app.proofs.Tables.{among-five}
@@ -8,9 +7,8 @@ use Rattle.beet_app.proofs.five.do_named.Goals as goal
 
 pub returns-in-Some : goal.returns-in-Some
 returns-in-Some g c =
-    named_job task_of _ (five_job_for c.in-Some.files) _ _ _
-    (c.in-Some.ensures ∙ sym (among-five (map string_bytes c.args.words.now) c.requires))
-    (answers_task _ _ c.five.ensures.done c.five.ensures.reads)
+    named_job task_of _ (five_job_for c.in-Some.command) _ _ _
+    (c.in-Some.ensures ∙ sym (among-five (map string_bytes c.args.words.now) c.requires)) c.do_job.ensures
 
 pub returns-in-None : goal.returns-in-None
 returns-in-None g c =

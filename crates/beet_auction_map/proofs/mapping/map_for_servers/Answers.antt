@@ -13,7 +13,7 @@ use Rattle.beet_auction_map.proofs.mapping.map_for_servers.Goals as goal
 
 pub input_lines-requires-2 : goal.input_lines-requires-2
 input_lines-requires-2 c =
-    c.requires.count ∙ c.requires.enough.count
+    c.requires.bidders_mapped.count ∙ c.requires.enough.count
     ∙ sym (as-many (λ (b : Bidder). b.known) c.args.first.now.bidders c.args.second.now.bidders c.requires.agree.marks)
 
 -- what both worlds hold
@@ -22,7 +22,7 @@ module _ (c : After-as_slice-2) where
   below = record {
     masks = subst AreBelow (λ i. (c.words.view_is i).masks) c.look_at.ensures;
     coefficients = subst AreBelow (λ i. (c.words.view_is i).coefficients) c.look_at-2.ensures;
-    bidders = c.requires.below;
+    bidders = c.requires.bidders_mapped.below;
   }
 
   stands : Stands c.args.me c.args.first.now c.args.second.now c.args.words.now c.args.bidders.now c.in_ok-here.here.items
@@ -33,8 +33,8 @@ module _ (c : After-as_slice-2) where
     is_book = c.grid.ensures.limits;
     is_book' = c.grid-grid.ensures.limits;
     are_words = below;
-    lists = c.requires.count;
-    bidders_mapped = c.requires.mapped;
+    lists = c.requires.bidders_mapped.count;
+    bidders_mapped = c.requires.bidders_mapped.mapped;
     here = subst (λ l. AreInputLines c.args.first.now l c.in_ok-here.here.items)
         (c.as_slice.ensures.value ∙ (λ i. (c.words.view_is i).bidders)) c.in_ok-here.ensures;
     there = c.in_ok-there.ensures;
@@ -69,5 +69,5 @@ returns c =
     c.in_ok-there.there.items c.args.words.now.coefficients both.0 both.1) (is-losses at) given in
     worlds-mapped c.args.me c.args.first.now c.args.second.now c.args.words.now c.args.bidders.now c.in_ok-here.here.items
     c.in_ok-there.there.items (stands at) script (is-script at) both.0 both.1 m.turned m.together
-    (record { masks = m.masks_below; coefficients = m.below; bidders = c.requires.below' }))
+    (record { masks = m.masks_below; coefficients = m.below; bidders = c.requires.bidders_mapped.below' }))
     c.map_servers.ensures

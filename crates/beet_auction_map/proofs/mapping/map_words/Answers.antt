@@ -15,20 +15,12 @@ map_bidders-requires-clause-enough c =
     (all-drawn wanted c.args.words.now.bidders c.requires.enough.bidders)
 
 pub map_for_servers-servers-requires : goal.map_for_servers-servers-requires
-map_for_servers-servers-requires c =
-    let first = c.args.first.now in
-    let same : c.as_slice.result.now ≡ c.args.words.now.bidders = c.as_slice.ensures.value ∙ (λ i. (c.words.view_is i).bidders) in
-    let moved = c.as_slice-2.ensures.value in
-    record {
-      enough = c.requires.enough;
-      agree = c.requires.agree;
-      count = ap length moved ∙ c.in_ok-bidders.ensures.count ∙ ap length same;
-      mapped = subst (λ l. BiddersMapped c.args.me first.bidders c.args.words.now.bidders c.args.second.now.bidders l) (sym moved)
-          (subst (λ l. BiddersMapped c.args.me first.bidders l c.args.second.now.bidders c.in_ok-bidders.bidders.items) same
-          c.in_ok-bidders.ensures.mapped);
-      below = subst (All (λ list. All IsWord list)) same c.in_ok-bidders.ensures.below;
-      below' = subst (All (λ list. All IsWord list)) (sym moved) c.in_ok-bidders.ensures.words;
-    }
+map_for_servers-servers-requires c = record {
+  enough = c.requires.enough;
+  agree = c.requires.agree;
+  bidders_mapped = rw (c.as_slice-2.ensures.value, sym (c.as_slice.ensures.value ∙ (λ i. (c.words.view_is i).bidders)))
+      c.in_ok-bidders.ensures;
+}
 
 pub returns : goal.returns
 returns c =

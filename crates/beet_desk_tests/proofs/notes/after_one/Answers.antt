@@ -4,9 +4,11 @@ use Rattle.beet_field.specs.declared.point.Point.TheVariants.{One, Two, Three}
 use Rattle.beet_field.specs.declared.trio.Trio.{Trio}
 use Rattle.beet_server.proofs.Rounds.{by_point}
 use Rattle.beet_desk.specs.Ends.{AreOf, Sender}
-use Rattle.beet_desk.proofs.RunFacts.{in-ok, starts-told}
+use Rattle.beet_desk.proofs.RunFacts.{in-ok}
 use Rattle.beet_desk_tests.proofs.Taken.{taken-queue}
-use Rattle.beet_samples.specs.contracts.SampleScript3.TheImpl.{ghosts}
+use Rattle.beet_desk_tests.proofs.Beginning.{AwaitAll, await-all}
+use Rattle.beet_desk_tests.proofs.notes.after_one.Given.{Over}
+use Rattle.beet_desk_tests.proofs.notes.after_one.Goals.{After-stations}
 use Rattle.beet_desk_tests.proofs.notes.after_one.Goals as goal
 
 pub servings-servings-requires-clause-one : goal.servings-servings-requires-clause-one
@@ -18,29 +20,18 @@ servings-servings-requires-clause-two g c = rw c.runs-runs.ensures.two c.station
 pub servings-servings-requires-clause-three : goal.servings-servings-requires-clause-three
 servings-servings-requires-clause-three g c = rw c.runs-runs.ensures.three c.stations.ensures.tied.three
 
+await : (g : Over) (c : After-stations g) → AwaitAll c.expect-cores.result c.expect-senders.result.0
+await g c =
+    await-all c.expect-cores.ensures c.three_of_inputs.ensures.fresh c.expect-senders.ensures c.note_queue.ensures.senders
+
 pub servings-servings-requires-clause-one_told : goal.servings-servings-requires-clause-one_told
-servings-servings-requires-clause-one_told g c =
-    let made = in-ok _ c.expect-senders.result _ c.expect-senders.ensures c.note_queue.ensures.senders in
-    starts-told ghosts.batch_of ghosts.inputs_of ghosts.rounds_of c.expect-cores.result _ c.expect-senders.result.0.one One
-    c.runs-runs.result.one.value c.stations.result.one.core (made One) c.runs-runs.ensures.one
-    (ap (λ k. k.round) (c.stations.ensures.cores.0
-    ∙ (in-ok _ c.expect-cores.result _ c.expect-cores.ensures c.three_of_inputs.ensures.fresh).one.1))
+servings-servings-requires-clause-one_told g c = await g c One _ _ c.runs-runs.ensures.one c.stations.ensures.cores.0
 
 pub servings-servings-requires-clause-two_told : goal.servings-servings-requires-clause-two_told
-servings-servings-requires-clause-two_told g c =
-    let made = in-ok _ c.expect-senders.result _ c.expect-senders.ensures c.note_queue.ensures.senders in
-    starts-told ghosts.batch_of ghosts.inputs_of ghosts.rounds_of c.expect-cores.result _ c.expect-senders.result.0.two Two
-    c.runs-runs.result.two.value c.stations.result.two.core (made Two) c.runs-runs.ensures.two
-    (ap (λ k. k.round) (c.stations.ensures.cores.1
-    ∙ (in-ok _ c.expect-cores.result _ c.expect-cores.ensures c.three_of_inputs.ensures.fresh).two.1))
+servings-servings-requires-clause-two_told g c = await g c Two _ _ c.runs-runs.ensures.two c.stations.ensures.cores.1
 
 pub servings-servings-requires-clause-three_told : goal.servings-servings-requires-clause-three_told
-servings-servings-requires-clause-three_told g c =
-    let made = in-ok _ c.expect-senders.result _ c.expect-senders.ensures c.note_queue.ensures.senders in
-    starts-told ghosts.batch_of ghosts.inputs_of ghosts.rounds_of c.expect-cores.result _ c.expect-senders.result.0.three Three
-    c.runs-runs.result.three.value c.stations.result.three.core (made Three) c.runs-runs.ensures.three
-    (ap (λ k. k.round) (c.stations.ensures.cores.2
-    ∙ (in-ok _ c.expect-cores.result _ c.expect-cores.ensures c.three_of_inputs.ensures.fresh).three.1))
+servings-servings-requires-clause-three_told g c = await g c Three _ _ c.runs-runs.ensures.three c.stations.ensures.cores.2
 
 pub close-requires : goal.close-requires
 close-requires g c =

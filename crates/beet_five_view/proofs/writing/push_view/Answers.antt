@@ -41,8 +41,8 @@ returns-clause-bytes c =
     let masks : c.list_of.result.now ≡ at_server words.masks me = c.list_of.ensures ∙ (λ j. at_server (all_masks j) (mine j)) in
     let coefficients : c.list_of-2.result.now ≡ at_server words.coefficients me =
     c.list_of-2.ensures ∙ (λ j. at_server (all_coefficients j) (mine j)) in
-    let rounds : c.round.result ≡ length (rounds_received core) = c.round.ensures.value ∙ sym (length-each (round_received core) core.work.round)
-    in
+    let rounds : c.round.result ≡ length (rounds_received core) =
+    c.round.ensures.value ∙ sym (length-each (round_received core) core.work.round) in
     let t1 = front ++ number_bytes me in
     let s1 : c.push_number.new.file.items ≡ t1 = c.in_ok-push_number.ensures ∙ ap (λ n. front ++ number_bytes n) mine in
     let t2 = t1 ++ grid_bytes book.grid in

@@ -15,12 +15,13 @@ rest read = lots_errand read.1 read.0 >>= (λ lots. gives (session_answer read.0
 pub returns-in_err-lots-clause-reads : goal.returns-in_err-lots-clause-reads
 returns-in_err-lots-clause-reads g c = exits c.from_residual.ensures.1 (stopped {rest = rest} c.in_err-lots.ensures)
 
-pub returns-in_err-told-clause-reads : goal.returns-in_err-told-clause-reads
-returns-in_err-told-clause-reads g c =
-    exits c.from_residual-in_err-told.ensures.1
-    (bind {rest = rest} c.in_ok-lots.ensures (stopped (rw c.rows.ensures.lots at c.in_err-told.ensures)))
+pub returns-in_err-cleared-clause-reads : goal.returns-in_err-cleared-clause-reads
+returns-in_err-cleared-clause-reads g c =
+    exits c.from_residual-in_err-cleared.ensures.1
+    (bind {rest = rest} c.in_ok-lots.ensures (stopped (rw c.rows.ensures.lots at c.in_err-cleared.ensures)))
 
 pub returns-clause-reads : goal.returns-clause-reads
 returns-clause-reads g c =
     bind {rest = rest} c.in_ok-lots.ensures
-    (bound (rw c.rows.ensures.lots at c.in_ok-told.ensures) (λ lots told. given (told-reply _ _ _ _ told c.into_reply.ensures.reply)))
+    (bound (rw c.rows.ensures.lots at c.in_ok-cleared.ensures)
+    (λ lots taken. given (told-reply _ _ _ _ taken.all c.into_reply.ensures.reply)))

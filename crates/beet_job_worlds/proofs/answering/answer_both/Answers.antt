@@ -1,18 +1,11 @@
 use Rattle.beet_job_worlds.proofs.BookAnswers.{agreed-answers, refused-answers}
-use Rattle.beet_job_worlds.proofs.SecondWords.{bundle-fits, can-run, same-transcripts}
+use Rattle.beet_job_worlds.proofs.SecondWords.{can-run, same-transcripts}
 use Rattle.beet_job_worlds.proofs.answering.answer_both.Goals as goal
 
 pub agreed_reply-requires-clause-second_runs : goal.agreed_reply-requires-clause-second_runs
 agreed_reply-requires-clause-second_runs g c lives within =
     can-run c.args.me c.args.whole.now.book c.args.second.now c.args.whole.now.words c.in-Ok.mapped c.args.whole.now.runs c.requires
     c.in-Ok.ensures.mapped c.in-Ok.ensures.enough
-
-pub agreed_reply-requires-clause-fits : goal.agreed_reply-requires-clause-fits
-agreed_reply-requires-clause-fits g c lives within =
-    bundle-fits c.args.second.now c.in-Ok.mapped
-    (can-run c.args.me c.args.whole.now.book c.args.second.now c.args.whole.now.words c.in-Ok.mapped c.args.whole.now.runs c.requires
-    c.in-Ok.ensures.mapped c.in-Ok.ensures.enough)
-    (rw c.grid.ensures.value at c.prices-within_limits.ensures.limits) c.grid.ensures.limits.few
 
 pub agreed_reply-requires-clause-same : goal.agreed_reply-requires-clause-same
 agreed_reply-requires-clause-same g c lives within =

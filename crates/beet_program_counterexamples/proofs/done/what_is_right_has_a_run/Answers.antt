@@ -1,4 +1,4 @@
-use Rattle.beet_program_counterexamples.proofs.DoneRuns.{audit, clear, five, opened, recorded, rehearse, seal, tally, trial}
+use Rattle.beet_program_counterexamples.proofs.DoneRuns.{audit, clear, five, five_worlds, opened, recorded, rehearse, seal, tally, trial}
 use Rattle.beet_program_counterexamples.proofs.DoneRuns.{watch, witness, worlds}
 use Rattle.beet_program_counterexamples.proofs.done.what_is_right_has_a_run.Goals as goal
 
@@ -34,6 +34,9 @@ returns-clause-trial c = trial
 
 pub returns-clause-worlds : goal.returns-clause-worlds
 returns-clause-worlds c = worlds
+
+pub returns-clause-five_worlds : goal.returns-clause-five_worlds
+returns-clause-five_worlds c = five_worlds
 
 pub returns-clause-audit : goal.returns-clause-audit
 returns-clause-audit c = audit

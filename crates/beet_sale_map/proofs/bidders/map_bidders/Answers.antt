@@ -4,7 +4,7 @@ use Rattle.std.proofs.lemmas.List.Elements.{All-get_or}
 use Rattle.beet_words.specs.Words.{accepted}
 use Rattle.beet_turned.proofs.MasksBack.{all-at}
 use Rattle.beet_map.proofs.Disagreeing.{as-many, get-map, mark-at}
-use Rattle.beet_trades.proofs.MappedSoFar.{all-below, all-mapped, mapped-more, none-mapped}
+use Rattle.beet_trades.proofs.MappedSoFar.{lists-mapped, mapped-more, none-mapped}
 use Rattle.beet_sale_plan.specs.Outcome.{IsBid}
 use Rattle.beet_sale_file.specs.declared.rows.SaleBid.{SaleBid}
 use Rattle.beet_sale_map.specs.Worlds.{party_of}
@@ -52,22 +52,11 @@ loop-i-preserved c =
     (get-map party_of second c.loop-i.i c.row_at-other.result c.row_at-other.ensures)
     c.index-words-i.is mapped.ensures.mapped mapped.ensures.below mapped.ensures.words)
 
-pub returns-clause-count : goal.returns-clause-count
-returns-clause-count c = omega (arith, c.loop-i.invariant.count, c.loop-i-test.false)
-
-pub returns-clause-mapped : goal.returns-clause-mapped
-returns-clause-mapped c =
+pub returns : goal.returns
+returns c =
     let first = c.args.first.now in
     let second = c.args.second.now in
     let many = as-many (λ (b : SaleBid). b.known) first second c.requires.shape in
-    all-mapped c.args.me (map party_of first) (map party_of second) c.args.words.now c.loop-i.mapped.items c.loop-i.i
+    lists-mapped c.args.me (map party_of first) (map party_of second) c.args.words.now c.loop-i.mapped.items c.loop-i.i
     c.loop-i.invariant (omega (arith, c.loop-i.invariant.count, c.loop-i-test.false)) (c.requires.count ∙ sym (length-map first party_of))
     (length-map second party_of ∙ many ∙ sym (length-map first party_of))
-
-pub returns-clause-below : goal.returns-clause-below
-returns-clause-below c =
-    all-below c.args.me (map party_of c.args.first.now) (map party_of c.args.second.now) c.args.words.now c.loop-i.mapped.items
-    c.loop-i.i c.loop-i.invariant c.loop-i-test.false
-
-pub returns-clause-words : goal.returns-clause-words
-returns-clause-words c = c.loop-i.invariant.are_words

@@ -4,7 +4,6 @@ use Rattle.beet_words.specs.Words.{IsWord, accepted}
 use Rattle.beet_trades.proofs.AllWords.{words-hold}
 use Rattle.beet_trades.proofs.Drawn.{all-drawn}
 use Rattle.beet_sale_map.specs.MappedSales.{SalesMapped}
-use Rattle.beet_sale_map.specs.Worlds.{BiddersMapped}
 use Rattle.beet_sale_map.proofs.mapping.map_words.Goals as goal
 
 pub map_bidders-requires-clause-enough : goal.map_bidders-requires-clause-enough
@@ -13,22 +12,12 @@ map_bidders-requires-clause-enough c =
     subst (λ l. All (λ list. 1 ≤ length (accepted list)) l) (sym same) (all-drawn 1 c.args.words.now.bidders c.requires.enough.bidders)
 
 pub map_for_servers-servers-requires : goal.map_for_servers-servers-requires
-map_for_servers-servers-requires c =
-    let first = c.args.first.now in
-    let same : c.as_slice.result.now ≡ c.args.words.now.bidders = c.as_slice.ensures.value ∙ (λ i. (c.words.view_is i).bidders) in
-    let moved = c.as_slice-2.ensures.value in
-    record {
-      first_bids = c.requires.first;
-      second_bids = c.requires.second;
-      enough = c.requires.enough;
-      agree = c.requires.agree;
-      count = ap length moved ∙ c.in_ok-bidders.ensures.count ∙ ap length same;
-      mapped = subst (λ l. BiddersMapped c.args.me first c.args.words.now.bidders c.args.second.now l) (sym moved)
-          (subst (λ l. BiddersMapped c.args.me first l c.args.second.now c.in_ok-bidders.bidders.items) same
-          c.in_ok-bidders.ensures.mapped);
-      below = subst (All (λ list. All IsWord list)) same c.in_ok-bidders.ensures.below;
-      below' = subst (All (λ list. All IsWord list)) (sym moved) c.in_ok-bidders.ensures.words;
-    }
+map_for_servers-servers-requires c = record {
+  sales = c.requires.sales;
+  enough = c.requires.enough;
+  bidders_mapped = rw (c.as_slice-2.ensures.value, sym (c.as_slice.ensures.value ∙ (λ i. (c.words.view_is i).bidders)))
+      c.in_ok-bidders.ensures;
+}
 
 pub returns : goal.returns
 returns c =

@@ -6,29 +6,29 @@ use Rattle.beet_view.specs.Transcripts.{view_bytes}
 use Rattle.beet_transcripts.specs.Writing.{Writes}
 use Rattle.beet_transcripts.proofs.BookRuns.{can-show, ends-book, inputs-enough, tapes-enough, view-for}
 use Rattle.beet_transcripts.proofs.RunsOnFacts.{can-write, ends-so, transcript-on}
-use Rattle.beet_run.proofs.Ending.{has-ended-run}
+use Rattle.beet_run.proofs.Ending.{has-ended-run, have-run}
 use Rattle.beet_transcripts.proofs.running.see_whole.Goals as goal
 
-pub run_on_one_thread-requires-clause-enough : goal.run_on_one_thread-requires-clause-enough
-run_on_one_thread-requires-clause-enough g c =
+pub start_servers-requires-clause-enough : goal.start_servers-requires-clause-enough
+start_servers-requires-clause-enough g c =
     let h = c.in_ok-begun.ensures in
     tapes-enough c.args.book.now c.args.words.now h.book c.requires _ h.grid _ h.inputs _ h.tapes
 
-pub run_on_one_thread-requires-clause-inputs : goal.run_on_one_thread-requires-clause-inputs
-run_on_one_thread-requires-clause-inputs g c =
+pub start_servers-requires-clause-inputs : goal.start_servers-requires-clause-inputs
+start_servers-requires-clause-inputs g c =
     let h = c.in_ok-begun.ensures in
     inputs-enough c.args.book.now c.args.words.now h.book c.requires _ h.grid _ h.inputs _ h.tapes
 
 pub finish_at-finish-requires : goal.finish_at-finish-requires
 finish_at-finish-requires g c =
-    let ran = c.in_ok-cores.ensures.ended in
-    has-ended-run c.in_ok-begun.begun.grid _ _ _ ran.starts c.in_ok-cores.cores ran.ended
+    has-ended-run c.in_ok-begun.begun.grid _ _ _ c.in_ok-start_servers.ensures.starts _ c.lockstep-cores.ensures
 
 pub transcript_of-transcript-requires : goal.transcript_of-transcript-requires
 transcript_of-transcript-requires g c =
     let h = c.in_ok-begun.ensures in
     let shown = h.seen c.args.at (same_self c.args.at) in
-    can-write _ _ _ _ c.in_ok-cores.ensures.ended c.args.at _ _ _
+    let ran = have-run c.in_ok-begun.begun.grid _ _ _ c.in_ok-start_servers.ensures.starts _ c.lockstep-cores.ensures in
+    can-write _ _ _ _ ran c.args.at _ _ _
     (can-show c.args.book.now c.args.words.now h.book c.requires _ h.grid _ h.inputs _ h.tapes c.args.at _ shown)
     c.get.ensures c.into_one-seen.ensures
 
@@ -36,7 +36,8 @@ pub returns-clause-transcript : goal.returns-clause-transcript
 returns-clause-transcript g c =
     let h = c.in_ok-begun.ensures in
     let shown = h.seen c.args.at (same_self c.args.at) in
-    transcript-on _ _ _ _ c.in_ok-cores.ensures.ended c.args.at _ _ _ c.into_one-seen.ensures
+    let ran = have-run c.in_ok-begun.begun.grid _ _ _ c.in_ok-start_servers.ensures.starts _ c.lockstep-cores.ensures in
+    transcript-on _ _ _ _ ran c.args.at _ _ _ c.into_one-seen.ensures
     (subst (λ (core : Core Auction). Writes core c.in_ok-begun.begun.grid c.into_one-seen.result.items
     c.in_ok-transcript.field-0.items) c.get.ensures
     c.in_ok-transcript.ensures)
@@ -45,13 +46,13 @@ returns-clause-transcript g c =
 pub returns-clause-finish : goal.returns-clause-finish
 returns-clause-finish g c =
     let h = c.in_ok-begun.ensures in
-    let ran = c.in_ok-cores.ensures.ended in
+    let ran = have-run c.in_ok-begun.begun.grid _ _ _ c.in_ok-start_servers.ensures.starts _ c.lockstep-cores.ensures in
     (ends-so _ _ _ _ ran _ _ _ _ c.finish_at-finish.ensures c.round-rounds.ensures
     (ends-book c.args.book.now c.args.words.now h.book c.requires _ h.grid _ h.inputs _ h.tapes ran.starts.are_masks)).0
 
 pub returns-clause-rounds : goal.returns-clause-rounds
 returns-clause-rounds g c =
     let h = c.in_ok-begun.ensures in
-    let ran = c.in_ok-cores.ensures.ended in
+    let ran = have-run c.in_ok-begun.begun.grid _ _ _ c.in_ok-start_servers.ensures.starts _ c.lockstep-cores.ensures in
     (ends-so _ _ _ _ ran _ _ _ _ c.finish_at-finish.ensures c.round-rounds.ensures
     (ends-book c.args.book.now c.args.words.now h.book c.requires _ h.grid _ h.inputs _ h.tapes ran.starts.are_masks)).1

@@ -1,4 +1,4 @@
-use Rattle.std.proofs.Common.{◌≡◌, ℕ, List, [], All, ap, subst}
+use Rattle.std.proofs.Common.{List, [], All, ap, subst}
 use Rattle.beet_words.specs.Words.{IsWord}
 use Rattle.beet_bids.specs.Grids.{Grid, IsGrid}
 use Rattle.beet_view.specs.declared.view.Seen.{Seen}
@@ -12,7 +12,7 @@ returns-clause-bytes c =
     let run = ap (λ (view : Viewed). run_bytes (run_in view)) c.view.view_is in
     rw (
       c.in_ok-push_run.ensures.bytes,
-      c.in_ok-push_bidders.ensures.bytes,
+      c.in_ok-push_each.ensures.bytes,
       c.in_ok-push_header.ensures.bytes,
       c.requires,
       c.server.ensures.value,
@@ -26,7 +26,7 @@ returns-clause-bytes c =
 pub returns-clause-numbers : goal.returns-clause-numbers
 returns-clause-numbers c = record {
   grid = subst (λ (grid : Grid). IsGrid grid) c.grid.ensures.value c.in_ok-push_header.ensures.grid;
-  bidders = subst (λ (bidders : List Seen). All HasNumbers bidders) c.bidders-2.ensures.value c.in_ok-push_bidders.ensures.numbers;
+  bidders = subst (λ (bidders : List Seen). All HasNumbers bidders) c.bidders-2.ensures.value c.in_ok-push_each.ensures.limits;
   masks = subst (λ (view : Viewed). All IsWord view.masks) c.view.view_is c.in_ok-push_run.ensures.masks;
   coefficients = subst (λ (view : Viewed). All IsWord view.coefficients) c.view.view_is
       c.in_ok-push_run.ensures.coefficients;

@@ -1,0 +1,13 @@
+mod bids;
+mod book;
+mod farmer;
+mod field;
+mod forms;
+mod longest;
+mod notice;
+mod parts;
+mod printing;
+mod sale;
+mod samples;
+mod store;
+mod words;

@@ -1,0 +1,3 @@
+mod five;
+mod servers;
+mod worlds;

@@ -1,0 +1,12 @@
+mod auction;
+mod gates;
+mod lots;
+mod map;
+mod product;
+mod round;
+mod samples;
+mod schedule;
+mod search;
+mod server;
+mod view;
+mod world;

@@ -1,0 +1,4 @@
+mod auction;
+mod ends;
+mod links;
+mod meeting;

@@ -1,6 +1,0 @@
-use Rattle.std.proofs.Common.{rules}
-use Rattle.beet_view.specs.Transcripts.{round_at}
-use Rattle.beet_view.proofs.reading.read_so_many_rounds.Goals as goal
-
-pub returns-clause-rounds : goal.returns-clause-rounds
-returns-clause-rounds c = c.read_many.ensures.items (round_at c.args.bytes.now) (λ from read within given. search rules)

@@ -1,0 +1,4 @@
+mod sessions;
+mod trial;
+mod view;
+mod worlds;
