@@ -19,8 +19,8 @@ pub fn two_of_five_are_told_no_bid()
         × SeeAlone a b (book_selling 5) words (book_selling 7) words' }
 {}
 
-/// There are words for any book, and two different books that agree for any two servers; one with a bid of 4 has no
-/// price and does not agree.
+/// There are words for any book. Books with bids of 5 and of 7 agree for any two servers, those with bids of 5 and of 4
+/// for none.
 pub fn the_premises_of_five_are_met()
     ensures words { (book : Book) → (words : FiveWords) × CanRun book words }
     ensures agree { (a b : ℕ) → AreTwoBooks a b (book_selling 5) (book_selling 7) }

@@ -65,7 +65,12 @@ const FETCHED: [&str; 6] = ["g.auc", "v.srv", "b.book", "anna.bid", "bo.bid", "c
 const KNOWN: [&[(&str, &str)]; 3] = [&AUCTION_FILES, &[FIVE_SEEDS], &FILES];
 
 /// Appends these files.
-fn push_files(rt: &impl Abort, alloc: Global, held: &mut Vec<Held>, files: &[(&str, &str)]) {
+pub(crate) fn push_files(
+    rt: &impl Abort,
+    alloc: Global,
+    held: &mut Vec<Held>,
+    files: &[(&str, &str)],
+) {
     for (name, text) in files {
         let file = Held {
             name: String::from_str(alloc, name).expect(rt, "memory"),

@@ -1,5 +1,7 @@
-use super::five::{ended, files, long_book};
-use beet_bids::{Book, Grid};
+ghost use Rattle.std.specs.Prelude.{◌<◌};
+
+use super::five::{ended, files, long_book, push_files};
+use beet_bids::{Book, Grid, Outcome, outcome};
 use beet_book_differences::WorldsFiles;
 use beet_coalition_map::Watchers;
 use beet_errand::{NewFile, OwnRefusal, Refusal, Reply, Status, Stop};
@@ -10,7 +12,7 @@ use beet_five_view::write_five_words;
 use beet_gates::Gates;
 use beet_job_five_worlds::five_worlds;
 use beet_load::AuctionFiles;
-use beet_store::MemoryShelf;
+use beet_store::{Held, MemoryShelf};
 use beet_words::{Allowed, Word, WordList, read_number};
 use std::alloc::Global;
 use std::process::Abort;
@@ -52,8 +54,85 @@ const MORE: [(&str, &str); 9] = [
     ("more.bid", "beet-bid,1\n100,6,0\n115,0,0\n"),
 ];
 
+/// How many pairs of books are drawn.
+const DRAWN: usize = 4;
+
+/// The server that knows each bidder of a drawn book, or 0.
+const KNOWN_BY: [u32; 6] = [0, 1, 0, 2, 3, 0];
+
+/// The two books of a draw, and whose second part each bidder bids there: the unmarked bidders exchange theirs.
+const BOOKS: [(&str, [u64; 6]); 2] = [
+    ("first", [0, 1, 2, 3, 4, 5]),
+    ("second", [2, 1, 5, 3, 4, 0]),
+];
+
+/// By how much a part falls and rises at each price: heights that look like chance.
+fn heights(part: u64) -> (u64, u64)
+    ensures { (result.0 < 40) × (result.1 < 40) }
+{
+    let bits = part % 1_000 * 1_103_515_245 + 12_345;
+    (bits / 65_536 % 40, bits / 4_096 % 40)
+}
+
+/// The bid file of a bidder with two parts.
+fn bid(rt: &impl Abort, alloc: Global, one: u64, other: u64) -> String {
+    let (one, other) = (heights(one), heights(other));
+    let (down, up) = (one.0 + other.0, one.1 + other.1);
+    format!(in alloc;
+        "beet-bid,1\n100,{},0\n105,{},{}\n110,{},{}\n115,{},{}\n",
+        4 * down,
+        3 * down,
+        up,
+        2 * down,
+        2 * up,
+        down,
+        3 * up
+    )
+    .expect(rt, "memory")
+}
+
+/// Appends a drawn book of this name, which begins with another bidder in each draw, and its bids.
+fn push_book(
+    rt: &impl Abort,
+    alloc: Global,
+    held: &mut Vec<Held>,
+    name: &str,
+    draw: usize,
+    parts: &[u64; 6],
+) {
+    let mut book = String::from_str(alloc, "beet-book,1\n").expect(rt, "memory");
+    let first = draw as u64 % 8 * 12;
+    for place in 0..6 {
+        let bidder = (place + draw % 6) % 6;
+        let known = KNOWN_BY[bidder];
+        let (own, moved) = (first + bidder as u64, first + 6 + parts[bidder] % 6);
+        let text = bid(rt, alloc, own, moved);
+        let file = format!(in alloc; "{name}.{bidder}").expect(rt, "memory");
+        push_files(rt, alloc, held, &[(file.as_str(), text.as_str())]);
+        let row = format!(in alloc; "{bidder},{known},{file},seed,{bidder:064x}\n");
+        book.push_str(row.expect(rt, "memory").as_str())
+            .expect(rt, "memory");
+    }
+    push_files(rt, alloc, held, &[(name, book.as_str())]);
+}
+
+/// The name of a book of a drawn pair.
+fn name_of(rt: &impl Abort, alloc: Global, draw: usize, book: &str) -> String {
+    format!(in alloc; "{draw}.{book}").expect(rt, "memory")
+}
+
+/// Appends all drawn books.
+fn push_drawn(rt: &impl Abort, alloc: Global, held: &mut Vec<Held>) {
+    for draw in 0..DRAWN {
+        for (book, parts) in &BOOKS {
+            let name = name_of(rt, alloc, draw, book);
+            push_book(rt, alloc, held, name.as_str(), draw, parts);
+        }
+    }
+}
+
 /// The names of the files of a job with this second book.
-fn names(second: &'static str) -> WorldsFiles<'static> {
+fn names(second: &str) -> WorldsFiles<'_> {
     WorldsFiles {
         auction: "g.auc",
         servers: "v.srv",
@@ -68,6 +147,7 @@ fn shelf(rt: &impl Abort, alloc: Global, fetch: u64) -> MemoryShelf {
     let mut held = files(rt, alloc, &MORE);
     let long = long_book(rt, alloc, 123);
     held.push(long).expect(rt, "memory");
+    push_drawn(rt, alloc, &mut held);
     let refused = vec![in alloc; fetch].expect(rt, "memory");
     MemoryShelf::new(held, refused)
 }
@@ -181,11 +261,30 @@ fn a_book_of_two_worlds_has_its_limit(rt: HostRuntime) {
     expect_end(&rt, rt.alloc(), &files, (2, 5), 0, status, text);
 }
 
-/// The two transcripts and the words of two worlds of books that clear alike.
-fn put(rt: &impl Abort, alloc: Global, servers: (u32, u32)) -> (NewFile, NewFile, NewFile) {
-    let reply = done(rt, alloc, &names("c.book"), servers, 0).expect(rt, "an answer");
+/// What is said of two books that clear as this one.
+fn said(rt: &impl Abort, alloc: Global, book: &Book) -> String {
+    match outcome(book) {
+        Outcome::Price {
+            price,
+            volume: Some(volume),
+            ..
+        } => format!(in alloc; "price {price}\nvolume {volume}\nrounds 259\ntranscripts equal\n"),
+        _ => format!(in alloc; "no price\nrounds 258\ntranscripts equal\n"),
+    }
+    .expect(rt, "memory")
+}
+
+/// The two transcripts and the words of two worlds of books that clear alike, of which this is said.
+fn put(
+    rt: &impl Abort,
+    alloc: Global,
+    files: &WorldsFiles<'_>,
+    servers: (u32, u32),
+    text: &str,
+) -> (NewFile, NewFile, NewFile) {
+    let reply = done(rt, alloc, files, servers, 0).expect(rt, "an answer");
     assert!(rt; reply.status == Status::Done);
-    assert!(rt; reply.text.as_slice() == EQUAL.as_bytes());
+    assert!(rt; reply.text.as_slice() == text.as_bytes());
     assert!(rt; reply.files.len() == 3);
     let mut files = reply.files;
     let words = files.pop().expect(rt, "words");
@@ -276,39 +375,65 @@ fn back(
 fn expect_same(
     rt: &impl Abort,
     alloc: Global,
+    files: &WorldsFiles<'_>,
     servers: (u32, u32),
     here: &FiveWhole,
     there: &FiveWhole,
-    kept: &[u8],
 ) {
-    let (one, other, words) = put(rt, alloc, servers);
+    let text = said(rt, alloc, &here.book);
+    let (one, other, words) = put(rt, alloc, files, servers, text.as_str());
     assert!(rt; one.name.as_str() == "q.first" && other.name.as_str() == "q.second");
     assert!(rt; words.name.as_str() == "q.words");
     assert!(rt; one.bytes.as_slice() == other.bytes.as_slice());
     let two = Watchers::of(servers.0, servers.1).expect(rt, "two servers");
     let mapped = words_of(rt, alloc, words.bytes.as_slice());
     let again = back(rt, alloc, two, &here.book, &there.book, &mapped);
-    assert!(rt; again.as_slice() == kept);
-    assert!(rt; words.bytes.as_slice() != kept);
+    let kept = write_five_words(alloc, &here.words).expect(rt, "memory");
+    assert!(rt; again.as_slice() == kept.as_slice());
+    assert!(rt; words.bytes.as_slice() != kept.as_slice());
 }
 
-/// Compares what these pairs of servers see.
-fn expect_all_same(rt: &impl Abort, alloc: Global, pairs: &[(u32, u32)]) {
-    let here = whole(rt, alloc, "b.book");
-    let there = whole(rt, alloc, "c.book");
-    let kept = write_five_words(alloc, &here.words).expect(rt, "memory");
-    for servers in pairs {
-        expect_same(rt, alloc, *servers, &here, &there, kept.as_slice());
+/// Compares what each pair of servers sees of two books.
+fn expect_all_same(rt: &impl Abort, alloc: Global, files: &WorldsFiles<'_>) {
+    let here = whole(rt, alloc, files.first);
+    let there = whole(rt, alloc, files.second);
+    for a in 1..5 {
+        for b in a + 1..6 {
+            expect_same(rt, alloc, files, (a, b), &here, &there);
+        }
     }
 }
 
 #[test]
-fn the_first_server_sees_the_same_with_each_other(rt: HostRuntime) {
-    expect_all_same(&rt, rt.alloc(), &[(1, 2), (1, 3), (1, 4), (1, 5)]);
+fn all_pairs_see_the_same(rt: HostRuntime) {
+    expect_all_same(&rt, rt.alloc(), &names("c.book"));
+}
+
+/// Compares what each pair of servers sees of the two books of a draw.
+fn expect_drawn(rt: &impl Abort, alloc: Global, draw: usize) {
+    let first = name_of(rt, alloc, draw, "first");
+    let second = name_of(rt, alloc, draw, "second");
+    let mut files = names(second.as_str());
+    files.first = first.as_str();
+    expect_all_same(rt, alloc, &files);
 }
 
 #[test]
-fn all_other_pairs_see_the_same(rt: HostRuntime) {
-    let pairs = [(2, 3), (2, 4), (2, 5), (3, 4), (3, 5), (4, 5)];
-    expect_all_same(&rt, rt.alloc(), &pairs);
+fn all_pairs_see_the_same_of_the_first_draw(rt: HostRuntime) {
+    expect_drawn(&rt, rt.alloc(), 0);
+}
+
+#[test]
+fn all_pairs_see_the_same_of_the_second_draw(rt: HostRuntime) {
+    expect_drawn(&rt, rt.alloc(), 1);
+}
+
+#[test]
+fn all_pairs_see_the_same_of_the_third_draw(rt: HostRuntime) {
+    expect_drawn(&rt, rt.alloc(), 2);
+}
+
+#[test]
+fn all_pairs_see_the_same_of_the_fourth_draw(rt: HostRuntime) {
+    expect_drawn(&rt, rt.alloc(), 3);
 }
