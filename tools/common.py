@@ -15,6 +15,8 @@ BUILT = TOP / "build" / "beet"
 LONGEST_FIELD = 2**31 - 1
 # The longest that a run may take, in seconds.
 LIMIT = 60
+# What a file that can be run begins with: a program, or a script that names its interpreter.
+BEGINS = (b"\x7fELF", b"#!")
 # The farmers of the first example, each with the byte that its seed repeats.
 FARMERS = [("anna", "0a"), ("bo", "0b"), ("carl", "0c")]
 
@@ -71,6 +73,8 @@ def program_at(name):
     path = pathlib.Path(name).resolve()
     if not path.is_file() or not os.access(path, os.X_OK):
         sys.exit(f"the program {path} is not there or cannot be run; ./beet builds build/beet")
+    if not bytes_of(path).startswith(BEGINS):
+        sys.exit(f"the file {path} is no program")
     return path
 
 

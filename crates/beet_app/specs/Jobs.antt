@@ -87,7 +87,7 @@ five_job_of_three command auction servers book =
     then Some (Answering (five_errand auction servers book))
     else None
 
--- the server of five of a digit, or none where the text is no server's
+-- the server of five of a digit, or none if the text is no server's
 abbrev pub server_of_five : List ℕ → Option ℕ
 server_of_five text =
     if bytes_eq text (codes "1") then Some 1

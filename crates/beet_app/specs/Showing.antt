@@ -74,7 +74,7 @@ pub record HoldsRead {A : Type 0} (step : Step A) (holds : A → Given → Given
   pub read : IsRead old now step value
   pub held : holds value given given_now
 
--- a run has left that, where the desk tells what it was given
+-- a run has left that, if the desk tells what it was given
 abbrev pub LeavesRead : {A : Type 0} → Step A → (A → Given → Given → Type 0) → Told → Told →
     Option Given → Option Given → Type 0
 LeavesRead step holds old now None given_now = Unit {0}

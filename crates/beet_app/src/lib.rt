@@ -41,11 +41,11 @@ use std::time::Clock;
 /// - `trial BIDDERS PRICES` runs the auction of a book that is made by a rule, of 0 to 2,000 bidders and 1 to 4,096
 ///   prices.
 ///
-/// Answers the exit status: 0 where the job is done; 1 for want of memory, and then nothing is said; 2 where the words
-/// name no job; 3 where a file cannot be fetched; 4 where a file or the text is not taken; 5 for a file that is too
-/// long, breaks its format or breaks a limit of the job; 6 where a run, or in `rehearse` a server, has ended with the
-/// third rejected mask, which is said with the job's text; 7 where two books do not agree for a server, or for two of
-/// five; 8 where three transcripts are not those of one run; 9 for a bidder or a server whose tape holds too few words.
+/// Answers the exit status: 0 if the job is done; 1 for want of memory, and then nothing is said; 2 if the words
+/// name no job; 3 if a file cannot be fetched; 4 if a file or the text is not taken; 5 for a file that is too
+/// long, breaks its format or breaks a limit of the job; 6 if a run, or in `rehearse` a server, has ended with the
+/// third rejected mask, which is said with the job's text; 7 if two books do not agree for a server, or for two of
+/// five; 8 if three transcripts are not those of one run; 9 for a bidder or a server whose tape holds too few words.
 /// At 2, 3, 5, 7, 8 and 9 the line that tells the cause is said, and no file is put. The text is said after all files
 /// were put.
 ///

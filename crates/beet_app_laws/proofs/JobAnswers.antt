@@ -36,7 +36,7 @@ use Rattle.beet_world.specs.Schedules.{schedule_of}
 use Rattle.beet_world.specs.declared.schedule.TheConstants.{SCHEDULE_LIMIT}
 use Rattle.beet_two_books.specs.Agreement.{is_known}
 use Rattle.beet_two_books.specs.declared.agreeing.MapFault.{MapFault}
-use Rattle.beet_differences.specs.Comparing.{compared}
+use Rattle.beet_differences.specs.Comparing.{compared, unless_apart}
 use Rattle.beet_five_map.specs.FiveWorlds.{watching}
 use Rattle.beet_five_load.specs.FiveLoading.{FiveRead}
 use Rattle.beet_errand.specs.Errands.{Answer, Errand, Ends, Step, bad_file, reads}
@@ -66,7 +66,7 @@ use Rattle.beet_job_trial.specs.Sizes.{sizes_of}
 use Rattle.beet_job_trial.specs.Trial.{trial_errand}
 use Rattle.beet_job_worlds.specs.Answering.{ShowsTheSame}
 use Rattle.beet_book_differences.specs.Differences.{refused_text}
-use Rattle.beet_job_worlds.specs.Ending.{compared_errand, difference_read, unless_differing}
+use Rattle.beet_job_worlds.specs.Ending.{compared_errand, difference_read}
 use Rattle.beet_job_worlds.specs.Reading.{Both, both_errand, first_book, second_book, words_read}
 use Rattle.beet_audit.specs.Audits.{Finds, recombined_book}
 use Rattle.beet_audit.specs.declared.fault.AuditFault.{AuditFault}
@@ -205,7 +205,7 @@ module _ (out : List ℕ) where
       (inl (status-done (book_finish (trial_book grid bidders) (masks_of (trial_servers grid))), inl refl)))
 
   differing-well : (difference : Option MapFault) → IfSome difference HasLine → (next : Errand) → EndsWell out next →
-      EndsWell out (unless_differing difference next)
+      EndsWell out (unless_apart refused_text difference next)
   differing-well None t next h = h
   differing-well (Some difference) t next h = refused-well out (Own OfWorlds) _ (difference, t)
 

@@ -33,11 +33,11 @@ use Rattle.beet_job_audit.specs.declared.reading.ReadViews.{ReadViews}
 use Rattle.beet_two_books.specs.declared.agreeing.MapFault.{MapFault}
 use Rattle.beet_job_worlds.specs.Answering.{ShowsTheSame}
 use Rattle.beet_book_differences.specs.Differences.{refused_text}
-use Rattle.beet_job_worlds.specs.Ending.{ShowsWorlds, compared_errand, difference_read, unless_differing}
+use Rattle.beet_job_worlds.specs.Ending.{ShowsWorlds, compared_errand, difference_read}
 use Rattle.beet_job_worlds.specs.Reading.{Both, both_errand, first_book, second_book, words_read}
 use Rattle.beet_job_worlds.proofs.DifferenceFacts.{no-difference}
 use Rattle.beet_coalition.specs.Lists.{at_server}
-use Rattle.beet_differences.specs.Comparing.{compared}
+use Rattle.beet_differences.specs.Comparing.{compared, unless_apart}
 use Rattle.beet_five_auction.specs.FiveEndings.{book_finish as five_finish}
 use Rattle.beet_job_five_worlds.specs.Answering.{ShowsTheSameForTwo}
 use Rattle.beet_job_five_worlds.specs.Ending.{ShowsFiveWorlds, compared_errand as compared_for_two, difference_for_two}
@@ -212,7 +212,7 @@ past-both false c job not = absurd (not refl)
 
 -- books without a difference go on together
 pub passed : (difference : Option MapFault) (next : Errand) (P : Errand → Type 0) → difference ≡ None →
-    P (unless_differing difference next) → P next
+    P (unless_apart refused_text difference next) → P next
 passed None next P e h = h
 passed (Some fault) next P e h = absurd cc
 
@@ -232,7 +232,7 @@ module _ {A : Type 0} (step : Step A) (difference : A → Option MapFault) (end 
         went : Went told told_now (compared refused_text difference step after_both) (after_both both)
         went = passed (difference both) (after_both both)
             (Went told told_now (compared refused_text difference step after_both)) none
-            (read (λ both. unless_differing (difference both) (after_both both)))
+            (read (λ both. unless_apart refused_text (difference both) (after_both both)))
 
         go : (end both ≡ Refused ReadFault)
             ⊎ (answer_over files (compared refused_text difference step after_both) ≡ text_answer (end both) []) →

@@ -41,7 +41,7 @@ pub record IsDueOfAudit (files : List File) (auction one two three : List ℕ) (
   pub read : due ≡ (answer_over files (read_errand auction one two three (λ read. answers due []))).status
   pub views : (read : ReadViews) → ReadsTo files (read_errand auction one two three) read → IsDueOfViews read due
 
--- the files lead a job to this status: that of the answer of its errand. Where two books are read, it is that of the
+-- the files lead a job to this status: that of the answer of its errand. If two books are read, it is that of the
 -- first run if they agree for the server, or for the two of five, and that of their refusal if they do not
 abbrev pub IsDue : List File → Option Job → Status → Type 0
 IsDue files None due = due ≡ Refused Usage

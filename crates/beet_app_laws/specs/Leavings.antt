@@ -31,8 +31,8 @@ last_word [] = []
 last_word (word ∷ []) = word
 last_word (word ∷ other ∷ words) = last_word (other ∷ words)
 
--- the names of files that a command puts which ends with this word, if it puts any: one for each server, or those of
--- two worlds
+-- the names of the files that a command puts, if it puts any, by its last word: one for each server, or those of two
+-- worlds
 abbrev pub AreOutputs : List ℕ → List (List ℕ) → Type 0
 AreOutputs out names =
     (names ≡ [])

@@ -29,9 +29,9 @@ pub record LeadsToShow {A : Type 0} (step : Step A) (shows : A → Answer → Ty
 abbrev pub LeadsToStop : {A : Type 0} → Step A → List Fetch → Answer → Type 0
 LeadsToStop {A = A} step fetches answer = (next : A → Errand) → Leads fetches (step next) (Ends answer)
 
--- these fetches lead the job that words name to this answer; if they name none, it is the usage line. Of a job that
--- compares two worlds or audits transcripts they lead through all that it reads, and the answer shows what no errand
--- computes; or to a refusal on the way
+-- these fetches lead the job that words name to this answer, or to the usage line if they name none. A job that
+-- compares two worlds or audits transcripts is led through all that it reads, and its answer shows what no errand
+-- computes; or it is led to a refusal on the way
 abbrev pub LeadsJob : Option Job → List Fetch → Answer → Type 0
 LeadsJob None fetches answer = Leads fetches (refuses Usage usage_text) (Ends answer)
 LeadsJob (Some (Answering errand)) fetches answer = Leads fetches errand (Ends answer)

@@ -21,7 +21,11 @@ use Rattle.beet_mask.specs.Mask.{mask_wires_of}
 use Rattle.beet_sharing.specs.Runs.{Setup, Shared, act_among, batch_among, gained, hidden_at, number_drawn, product_at}
 use Rattle.beet_sharing.specs.Runs.{with_batch_lets}
 use Rattle.beet_field.specs.Trio.{trio_of}
-use Rattle.beet_sharing.specs.Steps.{gained_in}
+use Rattle.beet_sharing.specs.Steps.{gained_among}
+
+-- how many points of wires an act gives among three servers
+abbrev pub gained_in : Act → ℕ
+gained_in = gained_among 3
 
 -- the setup with these points of server 3
 abbrev pub with_third : List ℕ → Setup → Setup

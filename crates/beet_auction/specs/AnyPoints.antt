@@ -24,7 +24,7 @@ values_on n wires = each (opened_at wires) n
 abbrev pub points_place : Auction → Trio (List ℕ) → ℕ
 points_place a inputs = place_of_inputs a (values_on (2 * a.prices) inputs)
 
--- how a run on these points ends with these mask words: with what the search finds, or spent where the third rejected
+-- how a run on these points ends with these mask words: with what the search finds, or spent if the third rejected
 -- mask comes first
 abbrev pub points_finish : Auction → Trio (List ℕ) → Trio (List ℕ) → Finish
 points_finish a inputs masks =

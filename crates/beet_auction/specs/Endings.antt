@@ -13,7 +13,7 @@ use Rattle.beet_sharing.specs.Runs.{Setup, HasRounds, shared_at, rounds_among}
 use Rattle.beet_delivery.specs.Events.{Triple, after, passed}
 use Rattle.beet_server.specs.Endings.{Ends, Waits, ending_of}
 
--- how the auction of a book ends with these mask words: with the book's outcome, or spent where the third rejected mask
+-- how the auction of a book ends with these mask words: with the book's outcome, or spent if the third rejected mask
 -- comes first
 abbrev pub book_finish : Book → Trio (List ℕ) → Finish
 book_finish book masks = run_finish book.grid.prices (mask_at masks) (clearing_place book) (finish_of (outcome_of book))

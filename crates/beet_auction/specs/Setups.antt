@@ -25,7 +25,7 @@ auction_setup grid inputs masks coefficients = record {
 abbrev pub book_setup : Grid → List BidderWithWords → Trio (List ℕ) → Trio (List ℕ) → Setup
 book_setup grid farmers masks coefficients = auction_setup grid (book_inputs grid.prices farmers) masks coefficients
 
--- the same, where book and words stand apart: the setup of the auction of a book with these words of servers and
+-- the same, if book and words stand apart: the setup of the auction of a book with these words of servers and
 -- bidders
 abbrev pub setup_for : Book → Words → Setup
 setup_for book words = book_setup book.grid (farmers_of book.bidders words.bidders) words.masks words.coefficients

@@ -19,7 +19,7 @@ abbrev pub IsAuctionCore : World Auction → Point → Core Auction → Type 0
 IsAuctionCore w s c = IsCoreOf auction_batch inputs_of most_rounds w s c
 
 -- in a run of so many rounds that ends with this finish, the core of a server is at the rounds that its server has
--- passed; it waits there, or has ended, exactly where these are all rounds, and then the script names this finish after
+-- passed; it waits there, or has ended, exactly if these are all rounds, and then the script names this finish after
 -- the numbers that it has opened
 pub record StandsBy (rounds : ℕ) (finish : Finish) (w : World Auction) (s : Point) (c : Core Auction) : Type 0 where
   pub round : c.round ≡ passed rounds (delivered_in w) s

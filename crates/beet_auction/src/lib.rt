@@ -24,8 +24,8 @@ ghost use Rattle.beet_auction.specs.AnyPoints.{ArePoints, points_finish, points_
 ghost use Rattle.beet_auction.specs.Endings.{AuctionEnds, EndsAlways, book_finish, book_rounds};
 ghost use Rattle.beet_auction.specs.WorldEnds.{IsAuctionCore, StandsBy, auction_in};
 
-/// Where the inputs are points of lines with a book's sums, the run ends with the book's outcome, or spent exactly
-/// where the mask words say so, after the number of rounds that the book and the mask words tell.
+/// If the inputs are points of lines with a book's sums, the run ends with the book's outcome, or spent exactly
+/// if the mask words say so, after the number of rounds that the book and the mask words tell.
 pub fn runs_end_with_the_outcome()
     ensures { (book : Book) (o : Setup) (slopes : List ℕ) → IsBook book → AreMasks o.masks →
         o.next ≡ auction_batch (auction_over book.grid) → OnLines (sums_of book) slopes o.inputs →
@@ -47,7 +47,7 @@ pub fn an_opened_outcome_is_the_books()
 {}
 
 /// After every list of events the core of a server in a `World` of the auction waits, or has ended, and then the script
-/// names the book's outcome after the numbers that it has opened, or spent exactly where the third of the first masks
+/// names the book's outcome after the numbers that it has opened, or spent exactly if the third of the first masks
 /// that it may want is rejected. So it is on all points of lines with the book's sums, and on those that the bidders of
 /// a book deal.
 pub fn cores_open_the_books_outcome()
@@ -65,7 +65,7 @@ pub fn cores_open_the_books_outcome()
 {}
 
 /// The points of the inputs need lie on no line: on any points below p the run ends with what the search over them
-/// finds, or spent exactly where the mask words say so. So it is after every list of events.
+/// finds, or spent exactly if the mask words say so. So it is after every list of events.
 pub fn any_points_end_with_what_they_open()
     ensures ends { (a : Auction) (o : Setup) → ArePoints a o.inputs → AreMasks o.masks →
         o.next ≡ auction_batch a →
@@ -75,7 +75,7 @@ pub fn any_points_end_with_what_they_open()
         EndsAlways a o (points_rounds a o.inputs o.masks) (points_finish a o.inputs o.masks) }
 {}
 
-/// Where the points are those of lines with a book's sums, as those that its bidders deal are, this is the end of the
+/// If the points are those of lines with a book's sums, as those that its bidders deal are, this is the end of the
 /// auction of the book.
 pub fn points_of_a_book_end_with_its_outcome()
     ensures finish { (book : Book) (slopes : List ℕ) (inputs masks : Trio (List ℕ)) → IsBook book →

@@ -10,6 +10,6 @@ abbrev pub Refuses : Point → Book → Book → MapFault → Type 0
 Refuses s first second fault =
     RefusesWhere (SameKnown s first second) (KnownDiffersAt s first.bidders second.bidders) first second fault
 
--- why words are not mapped from one book to another: memory runs out only where the books agree
+-- why words are not mapped from one book to another: memory runs out only if the books agree
 abbrev pub RefusesMap : Point → Book → Book → MapFault → Type 0
 RefusesMap s first second fault = RefusesUnlessAgreed (Agree s first second) (Refuses s first second) fault

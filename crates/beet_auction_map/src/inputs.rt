@@ -75,7 +75,7 @@ fn lines_with(alloc: Global, book: &Book, slopes: &[Fe]) -> Result<Vec<Line>, Al
     Ok(lines)
 }
 
-/// The lines of the inputs of a book's auction, where the bidders deal by these words: supply at each place, and then
+/// The lines of the inputs of a book's auction, if the bidders deal by these words: supply at each place, and then
 /// demand.
 pub fn input_lines(alloc: Global, book: &Book, words: &[WordList]) -> Result<Vec<Line>, AllocError>
     requires { length words.now ≡ length book.now.bidders }

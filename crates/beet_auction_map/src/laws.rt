@@ -31,7 +31,7 @@ pub fn mapped_bidders_give_the_same_points()
         ≡ member (book_inputs second.grid.prices (farmers_of first.bidders words)) s }
 {}
 
-/// Mapped words are enough for the second book where the first are for the first book; of the coefficient words it
+/// Mapped words are enough for the second book if the first are for the first book; of the coefficient words it
 /// matters only which are all ones.
 pub fn mapped_words_are_enough()
     ensures { (s : Point) (first second : Book) (words words' : Words) → Agree s first second →
@@ -42,7 +42,7 @@ pub fn mapped_words_are_enough()
         AreEnough first words → AreEnough second words' }
 {}
 
-/// Books agree, masks are mapped and bidders' words are mapped from the second world to the first where they are so
+/// Books agree, masks are mapped and bidders' words are mapped from the second world to the first if they are so
 /// from the first to the second.
 pub fn mapped_worlds_map_back()
     ensures books { (s : Point) (first second : Book) → Agree s first second → Agree s second first }
@@ -76,7 +76,7 @@ pub fn farmers_are_bidders_and_words()
         All (λ farmer. All IsWord farmer.words) (farmers_of bidders words) }
 {}
 
-/// Where words are enough, each list has as many numbers to draw as are wanted of it.
+/// If words are enough, each list has as many numbers to draw as are wanted of it.
 pub fn enough_words_can_be_drawn()
     ensures coefficients { (book : Book) (words : Words) (j : Point) → AreEnough book words →
         most_coefficients (auction_over book.grid) ≤ length (accepted (member words.coefficients j)) }
@@ -84,7 +84,7 @@ pub fn enough_words_can_be_drawn()
         All (λ list. 2 * book.grid.prices ≤ length (accepted list)) words.bidders }
 {}
 
-/// Where words are enough, those that are not read change nothing: the run has the same rounds, points, opened numbers
+/// If words are enough, those that are not read change nothing: the run has the same rounds, points, opened numbers
 /// and messages.
 pub fn unread_words_change_nothing()
     ensures rounds { (book : Book) (words : Words) (rounds : ℕ) → AreEnough book words →

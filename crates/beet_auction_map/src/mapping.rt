@@ -64,9 +64,9 @@ fn map_words(
 /// words: it sees the same points, the same messages and the same opened numbers, at every moment.
 ///
 /// They are the only words that are mapped from these, and these are the only words from which they are mapped. The
-/// books must agree for the server: they are refused where a bidder stands in one of them alone or has another mark in
-/// the other, then where a bidder that the server knows has another curve, and then where the outcomes differ. Want of
-/// memory comes only where they agree.
+/// books must agree for the server: they are refused if a bidder stands in one of them alone or has another mark in
+/// the other, then if a bidder that the server knows has another curve, and then if the outcomes differ. Want of
+/// memory comes only if they agree.
 pub fn world_map(
     alloc: Global,
     me: Point,

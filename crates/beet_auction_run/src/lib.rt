@@ -28,7 +28,7 @@ use std::time::Clock;
 type Servers = Trio<ServerCore<AuctionScript>>;
 
 /// Starts the three servers of an auction with these points of the inputs and these words, and runs them to the end,
-/// each in a thread of its own. Each meets the gate once in each round, before it puts its messages. Where no thread
+/// each in a thread of its own. Each meets the gate once in each round, before it puts its messages. If no thread
 /// or no memory can be had for that, they run in lockstep on the caller's, without the gate. Want of memory is the
 /// only error, and comes before the first round.
 pub fn run_servers<R: Threads + Wait + Clock + Sync, G: Gate>(

@@ -18,7 +18,7 @@ pub record CanJudge (grid : Grid) (views : Trio Viewed) (from count : ℕ) : Typ
   pub fit : (s : Point) → HeaderFits grid views.one s (member views s)
   pub limits : (s : Point) → IsView (member views s)
 
--- what is found of them is the first thing that is wrong; where nothing is, their points are numbers of the field
+-- what is found of them is the first thing that is wrong; if nothing is, their points are numbers of the field
 pub record JudgesPart (grid : Grid) (views : Trio Viewed) (from count : ℕ)
     (result : Result (Unit {0}) AuditFault) : Type 0 where
   pub bidders : Judges (EachBelow count (λ k. OneBidder grid.prices views (from + k))) result

@@ -24,7 +24,7 @@ EachBelow n at (Some found) = (k : ℕ) × (k < n) × ((j : ℕ) → j < k → a
 abbrev pub EachServer : (Point → Option AuditFault → Type 0) → Option AuditFault → Type 0
 EachServer at = InTurn (at One) (InTurn (at Two) (at Three))
 
--- the answer is what is found: it is no error exactly where nothing is wrong, and the error is the first thing that is;
+-- the answer is what is found: it is no error exactly if nothing is wrong, and the error is the first thing that is;
 -- memory may run out at any time
 abbrev pub Judges : {T : Type 0} → (Option AuditFault → Type 0) → Result T AuditFault → Type 0
 Judges finds (Ok value) = finds None

@@ -16,7 +16,7 @@ ghost use Rattle.beet_audit.specs.Audits.{Finds, HaveElements, recombined_book};
 ghost use Rattle.beet_audit.specs.OneRuns.{OneRun};
 ghost use Rattle.beet_audit.specs.declared.fault.AuditFault.{AuditFault as Fault};
 
-/// Nothing is wrong with three views exactly where they are of one run; and the first thing that is wrong is one thing,
+/// Nothing is wrong with three views exactly if they are of one run; and the first thing that is wrong is one thing,
 /// which is found beside no other.
 pub fn nothing_is_wrong_with_one_run()
     ensures right { (grid : Grid) (views : Trio Viewed) → ((s : Point) → IsView (member views s)) →

@@ -122,7 +122,7 @@ fn numbers_sent(core: &ServerCore<AuctionScript>, round: u32, sender: Point) -> 
     }
 }
 
-/// Refuses the message of a sender to a server in a round, where it is not as the server's core received it.
+/// Refuses the message of a sender to a server in a round, if it is not as the server's core received it.
 fn check_sender(
     receiver: Point,
     sender: Point,

@@ -62,7 +62,7 @@ fn sum_points(alloc: Global, grid: &Grid, views: &Trio<View>) -> Result<Totals, 
     Ok(totals)
 }
 
-/// A tape of these words. It holds fewer than 2^32 words, as those of every run do: where there are more, there is no
+/// A tape of these words. It holds fewer than 2^32 words, as those of every run do: if there are more, there is no
 /// memory for it.
 fn copy_tape(alloc: Global, words: &[Word]) -> Result<Tape, AuditFault>
     ensures memory { IfErr result (λ fault. fault ≡ Memory) }

@@ -14,8 +14,8 @@ ghost use Rattle.beet_view.specs.Views.{Viewed};
 ghost use Rattle.beet_audit.specs.OneRuns.{OneRun};
 ghost use Rattle.beet_audit_laws.specs.InUse.{AreViews, SameAmong, SameButAt};
 
-/// Two views settle the third, in all that the run uses, and in nothing else. Where the view of one server is changed,
-/// the three are still of one run exactly where it tells the same bidders with their marks and points, the same rounds
+/// Two views settle the third, in all that the run uses, and in nothing else. If the view of one server is changed,
+/// the three are still of one run exactly if it tells the same bidders with their marks and points, the same rounds
 /// with both messages in each, the same words that the server deals in the run, and the same numbers that it draws; of
 /// a bidder that it knows the same curve, and words that deal the same points; and enough words. So it is of what the
 /// servers see of the auction of a book.

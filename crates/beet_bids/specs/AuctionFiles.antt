@@ -15,7 +15,7 @@ use Rattle.beet_bids.specs.declared.auction_file.TheConstants.{BAD_KEY, BAD_VALU
 use Rattle.beet_bids.specs.declared.grid.TheConstants.{LARGEST_BASE, LARGEST_TICK, MOST_PRICES}
 use Rattle.beet_bids.specs.Grids.{Grid}
 
--- the second of two fields, where the first is the key
+-- the second of two fields, if the first is the key
 abbrev pub value_in : List ℕ → Option (List ℕ × List ℕ) → Option (List ℕ)
 value_in key None = None
 value_in key (Some fields) = if bytes_eq fields.0 key then Some fields.1 else None
@@ -72,7 +72,7 @@ extra_reason (Some row) = Some BAD_KEY
 abbrev pub number_in : Option (List ℕ) → ℕ
 number_in value = decimal_value (unwrap_or value [])
 
--- what a row's value names; where the file is refused, anything
+-- what a row's value names; if the file is refused, anything
 abbrev pub named_in : {A : Type 0} → (List ℕ → Option A) → A → Option (List ℕ) → A
 named_in named other value = unwrap_or (option_and_then named value) other
 

@@ -58,7 +58,7 @@ line_reason grid None (Some line) =
 line_reason grid (Some before) (Some line) =
     if is_none (place_of grid line.price) then Some OFF_GRID else next_reason before line
 
--- the reasons of all rows after the header; where there is none, the second row is missed
+-- the reasons of all rows after the header; if there is none, the second row is missed
 abbrev pub line_reasons : Grid → List (Option Line) → List (Option ℕ)
 line_reasons grid [] = Some NO_BASE ∷ []
 line_reasons grid (line ∷ lines) =

@@ -31,7 +31,7 @@ places_of grid = range_with_len 0 grid.prices
 abbrev pub price_of : Grid → ℕ → ℕ
 price_of grid place = grid.base + place * grid.tick
 
--- the place of a price, where the grid has it
+-- the place of a price, if the grid has it
 abbrev pub place_of : Grid → ℕ → Option ℕ
 place_of grid price = find (λ place. price_of grid place == price) (places_of grid)
 

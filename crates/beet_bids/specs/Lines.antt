@@ -28,7 +28,7 @@ pub record AreLines (grid : Grid) (lines : List Line) : Type 0 where
   pub sell_limit : All (λ line. line.sell ≤ LARGEST_QUANTITY) lines
   pub in_order : AllPairs Precedes lines
 
--- the place where a line begins, or the number of places where there is no line
+-- the place where a line begins, or the number of places if there is no line
 abbrev pub begin_of : Grid → Option Line → ℕ
 begin_of grid None = grid.prices
 begin_of grid (Some line) = unwrap_or (place_of grid line.price) 0

@@ -23,7 +23,7 @@ is_reached book place = nat_le (demand_at book.bidders place) (supply_at book.bi
 abbrev pub reached_place : Book → Option ℕ
 reached_place book = find (is_reached book) (places_of book.grid)
 
--- the same place, or the number of places where there is none
+-- the same place, or the number of places if there is none
 abbrev pub clearing_place : Book → ℕ
 clearing_place book = unwrap_or (reached_place book) book.grid.prices
 

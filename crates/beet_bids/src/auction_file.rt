@@ -28,7 +28,7 @@ pub const BAD_VALUE: u32 = 3;
 /// The reason against another version.
 pub const WRONG_VERSION: u32 = 4;
 
-/// The reason against more prices than one, where one is wanted.
+/// The reason against more prices than one, if one is wanted.
 pub const NOT_ONE_PRICE: u32 = 5;
 
 /// The value of a row, if it has two fields and the key.
@@ -131,7 +131,7 @@ fn read_policy(rows: &mut RowReader, row: &mut Row) -> Result<Policy, ReadFault>
     }
 }
 
-/// Takes what comes behind the gates, to the end: row 6, where the version has one.
+/// Takes what comes behind the gates, to the end: row 6, if the version has one.
 fn read_rest(rows: &mut RowReader, row: &mut Row, tells: bool) -> Result<Policy, ReadFault>
     ensures { Answers (λ policy. policy)
         (reading_of (first_fault 6 (last_reasons tells rows.old)) (policy_in tells rows.old)) result }

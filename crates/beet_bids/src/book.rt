@@ -36,7 +36,7 @@ impl Book {
     ghost use Rattle.beet_bids.specs.Books.{IsBook};
     ghost use Rattle.beet_bids.specs.Curves.{IsOfGrid};
 
-    /// The book of these bidders, or none where they are too many or a curve is of another grid; the bidders are
+    /// The book of these bidders, or none if they are too many or a curve is of another grid; the bidders are
     /// dropped then.
     pub fn new(grid: Grid, bidders: Vec<Bidder>) -> Option<Book>
         ensures made { SomeIff result

@@ -51,7 +51,7 @@ fn never_falls(quantities: &[u64]) -> bool
 }
 
 impl Curve {
-    /// The curve of these quantities, or none where they are no curve of the grid; the lists are dropped then.
+    /// The curve of these quantities, or none if they are no curve of the grid; the lists are dropped then.
     pub fn of(grid: &Grid, buy: Vec<u64>, sell: Vec<u64>) -> Option<Curve>
         ensures { SomeIff result
             (IsOfGrid grid.now (record { buy = buy.items; sell = sell.items })

@@ -56,7 +56,7 @@ pub fn comparisons(prices: u32) -> u32
 }
 
 impl Grid {
-    /// The grid of an auction that opens the price and the volume, or none where a number is outside its limits.
+    /// The grid of an auction that opens the price and the volume, or none if a number is outside its limits.
     pub fn new(base: u64, tick: u64, prices: u32, gates: Gates) -> Option<Grid>
         ensures { SomeIff result
             (IsGrid (record { base = base; tick = tick; prices = prices; gates = gates; policy = Policy.Volume }))
@@ -130,7 +130,7 @@ impl Grid {
         self.base + place as u64 * self.tick
     }
 
-    /// The place of this price, or none where the grid has no such price.
+    /// The place of this price, or none if the grid has no such price.
     pub fn place(&self, price: u64) -> Option<u32>
         ensures place { result ≡ place_of self.now price }
         ensures exact { MatchOption result

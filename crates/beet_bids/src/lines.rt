@@ -29,7 +29,7 @@ pub const SELL_FALLS: u32 = 6;
 /// The reason against a quantity above the largest.
 pub const QUANTITY_TOO_LARGE: u32 = 7;
 
-/// The reason against row 2 where it is missing or not at the base.
+/// The reason against row 2 if it is missing or not at the base.
 pub const NO_BASE: u32 = 8;
 
 /// A line of a bid: from this price on, these quantities.
@@ -40,7 +40,7 @@ pub(crate) struct Line {
     sell: u64,
 }
 
-/// The number of a text, cut to one above the largest, or none where the text is no number.
+/// The number of a text, cut to one above the largest, or none if the text is no number.
 fn cut_number(digits: &[u8], largest: u64) -> Option<u64>
     requires { largest + 1 < 2 ^ 64 }
     ensures { result ≡ (if is_number digits.now

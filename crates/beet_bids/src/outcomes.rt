@@ -18,9 +18,9 @@ pub enum Outcome {
         /// The place of the price in the grid, counted from 0.
         place: u32,
         price: u64,
-        /// What all bidders together buy at the price, where it is opened.
+        /// What all bidders together buy at the price, if it is opened.
         volume: Option<u64>,
-        /// What all bidders together sell at the price, where it is opened.
+        /// What all bidders together sell at the price, if it is opened.
         supply: Option<u64>,
     },
     /// Supply stays below demand at every price.

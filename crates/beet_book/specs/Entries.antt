@@ -13,15 +13,15 @@ use Rattle.beet_book.specs.declared.entries.Entry.{Entry}
 use Rattle.beet_book.specs.declared.entries.BidderSource.{BidderSource}
 use Rattle.beet_book.specs.declared.entries.BidderSource.TheVariants.{Seed, Tape}
 
--- the name of these bytes, or none where they are no name
+-- the name of these bytes, or none if they are no name
 abbrev pub name_of : List ℕ → Option (List ℕ)
 name_of text = if is_name_of text then Some text else None
 
--- the server that knows the bidder, where 0 stands for none; or none where the text is neither
+-- the server that knows the bidder, if 0 stands for none; or none if the text is neither
 abbrev pub known_of : List ℕ → Option (Option Point)
 known_of text = if bytes_eq text (codes "0") then Some None else option_map Some (server_of text)
 
--- where a bidder's words come from, by the kind and the text; or none where the kind is unknown or the text is not of
+-- where a bidder's words come from, by the kind and the text; or none if the kind is unknown or the text is not of
 -- it
 abbrev pub source_of : List ℕ → List ℕ → Option BidderSource
 source_of kind text =

@@ -32,7 +32,7 @@ abbrev pub named_in : {A : Type 0} → (Row → Result A ℕ) → ℕ → Bool �
 named_in value_in one_too_many taken number row =
     if number == one_too_many then Err TOO_MANY else untaken taken (value_in row)
 
--- the reason against a row, where the name of an earlier row is taken; the rows are counted on from the first
+-- the reason against a row, if the name of an earlier row is taken; the rows are counted on from the first
 abbrev pub reason_against : {A : Type 0} → (Row → Result A ℕ) → ℕ → ℕ → List Row → ℕ → Row → Option ℕ
 reason_against value_in first one_too_many rows number row =
     result_err (named_in value_in one_too_many (has_name (first_field row) (take (number - first) rows)) number row)

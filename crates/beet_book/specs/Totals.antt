@@ -97,7 +97,7 @@ abbrev pub AddsQuantities : Curve → Trio (List ℕ) → Trio (List ℕ) → Ty
 AddsQuantities curve before after =
     (v : List ℕ) → AreShares v before → AreShares (plain_sums v (quantities curve)) after
 
--- where the totals are points of lines, each wire recombines to the value of its line, modulo p
+-- if the totals are points of lines, each wire recombines to the value of its line, modulo p
 abbrev pub CarriesValues : Totals → Trio (List ℕ) → Type 0
 CarriesValues totals wires =
     (v : List ℕ) → AreShares v totals.points → length v ≡ 2 * totals.prices → (wire : ℕ) → wire < 2 * totals.prices →

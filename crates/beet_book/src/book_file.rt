@@ -39,7 +39,7 @@ impl NamedRow for Entry {
 /// The bidders of a book file: the row `beet-book,1` and then at most 2,000 rows `NAME,KNOWN,BID,KIND,SOURCE`.
 ///
 /// The first row with a fault is named, as `read_named` does: a row as [`BAD_ROW`] that has not five fields, whose NAME
-/// or BID is no name, or whose KNOWN is not `0`, `1`, `2` or `3`; and as [`BAD_SOURCE`] where the source is neither
+/// or BID is no name, or whose KNOWN is not `0`, `1`, `2` or `3`; and as [`BAD_SOURCE`] if the source is neither
 /// `seed` with 64 hexadecimal digits nor `tape` with a name.
 pub fn read_book(alloc: Global, bytes: &[u8]) -> Result<Vec<Entry>, ReadFault>
     requires { length bytes.now ≤ LONGEST_FILE }

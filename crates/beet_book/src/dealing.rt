@@ -73,7 +73,7 @@ fn deal_next(columns: &mut Columns, value: u64, tape: &mut Tape)
 }
 
 /// Deals the quantities of a bidder to the three servers, by Shamir's lines (1979). The slopes are drawn from the tape,
-/// first for buy at each place of the grid and then for sell. Where memory runs out, the tape is as before.
+/// first for buy at each place of the grid and then for sell. If memory runs out, the tape is as before.
 pub fn deal_bidder(
     alloc: Global,
     grid: &Grid,
@@ -169,7 +169,7 @@ impl Parts<Tape, Result<Vec<Dealt>, AllocError>> for Curves<'_> {
     }
 }
 
-/// Deals each curve by its own tape, as `deal_bidder` does, by a thread for each processor. Where memory runs out,
+/// Deals each curve by its own tape, as `deal_bidder` does, by a thread for each processor. If memory runs out,
 /// nothing is known of how far the tapes are passed.
 pub fn deal_many<R: Threads + Sync>(
     rt: &R,

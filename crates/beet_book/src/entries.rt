@@ -34,7 +34,7 @@ pub struct Entry {
     pub source: BidderSource,
 }
 
-/// The server that knows the bidder, where `0` stands for none.
+/// The server that knows the bidder; `0` stands for none.
 pub fn read_known(text: &[u8]) -> Option<Option<Point>>
     ensures { result ≡ known_of text.now }
 {

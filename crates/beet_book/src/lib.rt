@@ -10,7 +10,6 @@ mod naming;
 mod server_file;
 mod sources;
 mod summing;
-mod threads;
 
 pub use book_file::{BOOK_LIMIT, MOST_PRODUCT, OVER_PRODUCT, read_book};
 pub use dealing::{Dealt, deal_bidder, deal_many};
@@ -19,4 +18,3 @@ pub use named_file::{NamedRow, ONE_TOO_MANY, SAME_NAME, TOO_MANY, read_named, re
 pub use server_file::{SERVERS_LIMIT, read_servers};
 pub use sources::{ServerSource, Servers};
 pub use summing::{MOST_IN_BLOCK, Totals};
-pub use threads::{FEWEST_FOR_TWO, workers};

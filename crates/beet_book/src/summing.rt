@@ -1,8 +1,10 @@
 //! The summed points of bidders.
 
-ghost use Rattle.std.specs.Prelude.{◌≡◌, ◌≤◌, ◌*◌, All, IfOk, length};
+ghost use Rattle.std.specs.Prelude.{◌≡◌, ◌≤◌, ◌<◌, ◌*◌, All, IfOk, length, min};
 ghost use Rattle.beet_field.specs.Field.{add_of, mul_of};
+ghost use Rattle.beet_words.specs.Seeds.{seed_words};
 ghost use Rattle.beet_words.specs.Tapes.{drawn_from, left_of};
+ghost use Rattle.beet_words.specs.Words.{accepted};
 ghost use Rattle.beet_bids.specs.declared.curve.TheConstants.{LARGEST_QUANTITY};
 ghost use Rattle.beet_book.specs.Dealing.{dealt_points, points_by, quantities, shares_of, HasLengths};
 ghost use Rattle.beet_book.specs.PointSums.{AddsBlock};
@@ -12,7 +14,7 @@ ghost use Rattle.beet_book.specs.Totals.{AddsQuantities, AddsValues, CarriesValu
 use crate::dealing::Dealt;
 use beet_bids::{Curve, Grid};
 use beet_field::{Fe, Point, Trio};
-use beet_words::{FeList, Tape};
+use beet_words::{FeList, Tape, draw_seed};
 use std::alloc::{AllocError, Global};
 use std::marker::Model;
 
@@ -179,6 +181,29 @@ impl Totals {
     {
         tape.draw_each(&mut self.slopes);
         add_curve_to_each(&mut self.points, curve, &self.slopes);
+    }
+
+    /// Deals the quantities of a bidder as `deal` does by a tape of the first `n` words of a seed and a stream, with no
+    /// list of the words between. Tells how many numbers it drew. If there were too few, the sums are as before.
+    pub fn deal_seed(&mut self, curve: &Curve, seed: &[u8; 32], stream: u64, n: u32) -> usize
+        requires buy { length curve.now.buy ≡ self.old.prices }
+        requires sell { length curve.now.sell ≡ self.old.prices }
+
+        ensures drawn { result
+            ≡ min (2 * self.old.prices) (length (accepted (seed_words seed.now stream n))) }
+        ensures sums { result ≡ 2 * self.old.prices → self.new ≡ record self.old {
+          points = added self.old.points (dealt_points curve.now (accepted (seed_words seed.now stream n)));
+        } }
+        ensures values { result ≡ 2 * self.old.prices
+            → AddsQuantities curve.now self.old.points self.new.points }
+        ensures too_few { result < 2 * self.old.prices → self.new ≡ self.old }
+    {
+        let drawn = draw_seed(seed, stream, n, &mut self.slopes);
+        if drawn < self.slopes.len() {
+            return drawn;
+        }
+        add_curve_to_each(&mut self.points, curve, &self.slopes);
+        drawn
     }
 
     /// The inputs of the servers: for each the summed supply points at each place, and then the summed demand points.

@@ -30,9 +30,9 @@ same_outcome (Price place price volume supply) (Price place' price' volume' supp
     (place == place') && (price == price') && option_eq nat_eq volume volume' && option_eq nat_eq supply supply'
 same_outcome _ _ = false
 
--- the first thing by which two books can be told apart by one who knows the bidders whose marks pass a test: the first
--- bidder that one book lacks, or that has another mark in the second book; the first that is known and has another
--- curve there; or the outcomes
+-- what tells two books apart first, for one who knows the bidders with marks of some kind: the first bidder that one
+-- book lacks, or that has another mark in the second book; the first that is known and has another curve there; or the
+-- outcomes
 abbrev pub difference_for : (Option Point → Bool) → Book → Book → Option MapFault
 difference_for knows first second =
     first_difference ShapeDiffers OwnBidsDiffer (marks_between (marks_of first) (marks_of second))
@@ -44,7 +44,7 @@ difference_for knows first second =
 abbrev pub difference_between : Point → Book → Book → Option MapFault
 difference_between s = difference_for (λ mark. names mark s)
 
--- the line of a refusal; where memory ran out nothing is said
+-- the line of a refusal; if memory ran out nothing is said
 abbrev pub refused_text : MapFault → List ℕ
 refused_text (ShapeDiffers bidder) = bidder_text (codes "worlds refused") (codes "shape") bidder
 refused_text (OwnBidsDiffer bidder) = bidder_text (codes "worlds refused") (codes "own bids") bidder

@@ -17,13 +17,18 @@ use Rattle.beet_linear_sharing.specs.Runs.{Setup, Shared, act_among, coming, dea
 use Rattle.beet_linear_sharing.specs.Runs.{product_at, secret_hidden, sent_for, shared_at, standing_at, with_batch_lets}
 use Rattle.beet_linear_sharing.specs.Polynomials.{AreShared, IsAtOne}
 use Rattle.beet_coalition.specs.Coalitions.{Coalition, GateMapped, moved_of, number_at, secret_at}
-use Rattle.beet_coalition.specs.Premise.{MayMap, Secrets, begin_in, clear_of, standing_of}
+use Rattle.beet_coalition.specs.Premise.{MayMap, Secrets, begin_in, clear_of}
 use Rattle.beet_linear_sharing.proofs.Laws.{SharingLaws}
 use Rattle.beet_coalition.proofs.Laws.{CoalitionLaws}
 use Rattle.beet_linear_sharing.proofs.AtOne.{at-one}
 use Rattle.beet_linear_sharing.proofs.Closure.{shared-lets}
 use Rattle.beet_gates.proofs.Acts.{secret_small}
 use Rattle.beet_gates.proofs.Lists.{over_wires}
+
+-- the values in the batch that comes, once its lets are there
+abbrev pub standing_of : Sharing → (ℕ → List ℕ → Batch) → Secrets → ℕ → Values
+standing_of q next w t =
+    let v = clear_of q next w t in record v { wires = with_lets v.wires (next t v.opened).lets.items }
 
 -- what the servers that watch see of two runs
 pub record Alike (q : Sharing) (c : Coalition) (r r' : Shared) : Type 0 where

@@ -7,10 +7,10 @@ use Rattle.beet_gates.specs.Draws.{draws_in}
 use Rattle.beet_linear_sharing.specs.Sharings.{Sharing}
 use Rattle.beet_linear_sharing.specs.Runs.{Setup, coming, deals_among, shared_at, standing_at}
 use Rattle.beet_coalition.specs.Coalitions.{Coalition, GateMapped, moved_of, number_at, secret_at}
-use Rattle.beet_coalition.specs.Premise.{MayMap, Secrets, begin_in, clear_of, standing_of}
+use Rattle.beet_coalition.specs.Premise.{MayMap, Secrets, begin_in, clear_of}
 use Rattle.beet_linear_sharing.proofs.Laws.{SharingLaws}
 use Rattle.beet_coalition.proofs.Laws.{CoalitionLaws, moved_back}
-use Rattle.beet_coalition.proofs.Alike.{alike_at, same_batch}
+use Rattle.beet_coalition.proofs.Alike.{alike_at, same_batch, standing_of}
 use Rattle.beet_coalition.specs.Pairs.{AreElements, SameNumbers}
 use Rattle.beet_coalition.proofs.Unique.{only_one}
 use Rattle.beet_gates.proofs.Acts.{level_act, secret_small}

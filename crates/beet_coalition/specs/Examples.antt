@@ -5,7 +5,7 @@ use Rattle.beet_linear_sharing.specs.Runs.{Setup, message, shared_at}
 use Rattle.beet_linear_sharing.specs.Schemes.{five_servers}
 use Rattle.beet_coalition.specs.Lists.{at_server}
 
--- the product of two inputs, on the points of 3 + 5i + i^2 and 4 + 2i + 3i^2, where the servers draw 1 and 2, 3 and 4,
+-- the product of two inputs, on the points of 3 + 5i + i^2 and 4 + 2i + 3i^2, if the servers draw 1 and 2, 3 and 4,
 -- 5 and 6, 7 and 8, 9 and 10
 abbrev pub product_setup : Setup
 product_setup = record {

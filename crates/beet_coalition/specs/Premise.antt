@@ -1,7 +1,7 @@
 -- Two worlds that servers cannot tell apart by their inputs, their words and what is opened, if they put together what
 -- they see.
 use Rattle.std.specs.Prelude.{◌≡◌, ◌<◌, ◌≤◌, ℕ, List, slice_index, true}
-use Rattle.beet_gates.specs.Clear.{Values, clear_at, with_lets}
+use Rattle.beet_gates.specs.Clear.{Values, clear_at}
 use Rattle.beet_gates.specs.Scripts.{deals_in}
 use Rattle.beet_gates.specs.declared.Batch.{Batch}
 use Rattle.beet_linear_sharing.specs.Sharings.{Sharing, IsAmong}
@@ -22,11 +22,6 @@ begin_in next w numbers = record { next = next; inputs = w.inputs; masks = w.mas
 -- the run on the values of a world
 abbrev pub clear_of : Sharing → (ℕ → List ℕ → Batch) → Secrets → ℕ → Values
 clear_of q next w t = clear_at next (deals_among q w.masks) w.values t
-
--- the values in the batch that comes, once its lets are there
-abbrev pub standing_of : Sharing → (ℕ → List ℕ → Batch) → Secrets → ℕ → Values
-standing_of q next w t =
-    let v = clear_of q next w t in record v { wires = with_lets v.wires (next t v.opened).lets.items }
 
 -- servers that watch cannot tell two worlds apart by these; it speaks of runs on plain values alone, so that it holds
 -- before any number is drawn

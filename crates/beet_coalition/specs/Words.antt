@@ -27,8 +27,8 @@ AreWords q words = (j n : ℕ) → IsAmong q.servers j → IsWord (slice_index (
 abbrev pub SameWords : Sharing → (ℕ → List ℕ) → (ℕ → List ℕ) → Type 0
 SameWords q e d = (j : ℕ) → IsAmong q.servers j → e j ≡ d j
 
--- the words of two worlds are mapped, so that the runs look alike to the servers that watch, whose words are the same;
--- each are the only ones that go with the others
+-- the words of two worlds are mapped, so that the runs look alike to the servers that watch. The words of these servers
+-- are the same, and the words of each world are the only ones that go with those of the other
 pub record WordsTogether (q : Sharing) (c : Coalition) (next : ℕ → List ℕ → Batch) (rounds : ℕ) (w w' : Secrets)
     (words words' : ℕ → List ℕ) : Type 0 where
   pub mapped : WordsMapped q c next rounds w w' words words'

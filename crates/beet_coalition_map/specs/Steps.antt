@@ -26,7 +26,6 @@ pub record Stage : Type 0 where
   pub hidden : ℕ
   pub dealt : ℕ
 
--- the run
 abbrev pub run_of : Stage → Shared
 run_of s = record { wires = at_server s.wires; opened = s.opened; hidden = s.hidden; dealt = s.dealt }
 
@@ -98,8 +97,8 @@ pub record HasEnough (a : Act) (numbers : List (List ℕ)) (s : Stage) : Type 0 
   pub four : 2 * (s.hidden + draws_in a) ≤ length (at_server numbers 4)
   pub five : 2 * (s.hidden + draws_in a) ≤ length (at_server numbers 5)
 
--- the numbers of one server, of which those that hide so many secrets from a place on are moved by what these are in
--- two worlds
+-- the numbers of one server: those that hide so many secrets, from a place on, are moved by what these are in the two
+-- worlds, and the others stay
 pub record MovesList (c : Coalition) (count : ℕ) (first second : ℕ → ℕ) (hidden : ℕ) (old new : List ℕ) : Type 0 where
   pub rho : (k : ℕ) → k < count →
       slice_index new (2 * (hidden + k))

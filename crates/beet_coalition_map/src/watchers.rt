@@ -15,7 +15,7 @@ const QUARTER: u64 = 576_460_752_303_423_488;
 /// The inverse of 5, which is `(2^63 - 3) / 5`.
 const FIFTH: u64 = 1_844_674_407_370_955_161;
 
-/// The number whose product with that of a server is 1.
+/// The inverse of a server's number.
 fn inverse(server: u32) -> Fe
     requires { IsServer server }
     ensures { result ≡ inverse_of server }

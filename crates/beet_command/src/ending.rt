@@ -7,7 +7,7 @@ ghost use Rattle.beet_command.specs.Ending.{cause_text, notice_text};
 use beet_errand::Status;
 use std::process::ExitCode;
 
-/// What standard error tells where nothing on standard output tells why the run ended.
+/// What standard error tells if nothing on standard output tells why the run ended.
 fn cause_of(status: u8) -> Option<&'static str>
     ensures { option_map (λ text. text.now) result ≡ cause_text status }
 {
@@ -25,7 +25,7 @@ pub fn end_program<R: Eprint>(rt: &R, status: u8) -> ExitCode
     ensures { exit_status result ≡ status }
 {
     if let Some(cause) = cause_of(status) {
-        // Where standard error takes nothing either, the status alone tells it.
+        // If standard error takes nothing either, the status alone tells it.
         let _told = eprintln!(rt; "beet: {cause}");
     }
     ExitCode::from(status)

@@ -16,7 +16,6 @@ pub enum Line<'a> {
     Other,
 }
 
-/// The word at a place.
 fn at(words: &[String], place: usize) -> &str
     requires { place < length words.now }
     ensures { result.now ≡ get_or (map string_bytes words.now) place [] }

@@ -8,7 +8,7 @@ use std::alloc::Global;
 use std::rt::Env;
 use std::{env, io};
 
-/// The words after the name of the program, or `None` where memory ran out. A word that is not UTF-8 names no job, and
+/// The words after the name of the program, or `None` if memory ran out. A word that is not UTF-8 names no job, and
 /// neither do no words.
 pub fn words_of<R: Env + AllocGlobal>(rt: &R, alloc: Global) -> Option<Vec<String>> {
     match env::args(rt) {

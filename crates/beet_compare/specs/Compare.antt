@@ -1,4 +1,4 @@
--- The block of a comparison: the masked difference c is opened, and then 1 where supply reaches demand, else 0.
+-- The block of a comparison: the masked difference c is opened, and then 1 if supply reaches demand, else 0.
 use Rattle.std.specs.Prelude.{◌≡◌, ◌<◌, ◌≤◌, ◌+◌, ◌-◌, ◌*◌, ◌/◌, ◌%◌, ◌==◌, ℕ, zero, suc, List, [], ◌∷◌, ◌++◌, length}
 use Rattle.std.specs.Prelude.{slice_index, Bool, if◌then◌else◌}
 use Rattle.std.specs.Int.{bit_at}
@@ -47,7 +47,7 @@ masked_batch first mask supply demand =
     ++ three_terms 0 (2, supply) (p - 2, demand) (1, first + 59) ∷ []))
     ((first + 60) ∷ [])
 
--- the wire where the bit is 1, and 1 less the wire where it is 0
+-- the wire if the bit is 1, and 1 less the wire if it is 0
 abbrev pub same_let : ℕ → ℕ → Linear
 same_let bit wire = if bit == 1 then one_term 0 (1, wire) else one_term 1 (p - 1, wire)
 
@@ -68,7 +68,7 @@ bit_batch first mask c j =
     ∷ same_let (bit_at c (j + 2)) (mask + WIRES_BEFORE_BITS + (j + 2)) ∷ [])
     ((first + 65 + 3 * j, first + 64 + 3 * j) ∷ [])
 
--- the last two batches: after the lets, b := r_0 where c_0 = 0, else 1 - r_0, is the wire `low`, and its product with
+-- the last two batches: after the lets, b := r_0 if c_0 = 0, else 1 - r_0, is the wire `low`, and its product with
 -- the whole borrow, which is the wire `borrow`, is f; then o := 1 - b - g + 2 f is opened
 abbrev pub low_bit_batch : List Linear → ℕ → ℕ → ℕ → ℕ → Batch
 low_bit_batch lets borrow low mask c =
@@ -101,7 +101,7 @@ abbrev pub level_products : ℕ → (ℕ → ℕ) → (ℕ → ℕ) → List (�
 level_products pairs g q =
     each (by_turns (λ i. (q (2 * i + 1), g (2 * i))) (λ i. (q (2 * i + 1), q (2 * i)))) (2 * pairs)
 
--- the lets that the next batch begins with, where the products begin at the first free wire: of each pair g := the high
+-- the lets that the next batch begins with, if the products begin at the first free wire: of each pair g := the high
 -- g + the high q times the low g
 abbrev pub level_lets : ℕ → (ℕ → ℕ) → ℕ → List Linear
 level_lets pairs g free = each (λ i. two_terms 0 (1, g (2 * i + 1)) (1, free + 2 * i)) pairs
@@ -153,12 +153,12 @@ compare_batches gates first mask supply demand c =
 abbrev pub doubled : ℕ → ℕ → ℕ
 doubled supply demand = mul_of 2 (sub_of supply demand)
 
--- whether twice the difference is even, which it is where supply reaches demand
+-- whether twice the difference is even, which it is if supply reaches demand
 abbrev pub is_doubled_even : ℕ → ℕ → Bool
 is_doubled_even supply demand = doubled supply demand % 2 == 0
 
--- where a comparison may stand on plain values: at its first wire, after a mask r that was accepted and whose bits have
--- their place, and after the two sums that it compares
+-- where a comparison may stand on plain values: at its first wire, after the two sums that it compares and an accepted
+-- mask r with its bits in their place
 pub record BeforeCompare (first mask supply demand r s d : ℕ) (before : Values) : Type 0 where
   pub len : length before.wires ≡ first
   pub accepted : IsElement r
@@ -172,7 +172,7 @@ pub record BeforeCompare (first mask supply demand r s d : ℕ) (before : Values
   pub demand_element : IsElement d
 
 -- what it leaves: the wires before it stand, the masked difference and the answer are opened, and no word is dealt; the
--- answer is 1 where twice the difference is even, else 0
+-- answer is 1 if twice the difference is even, else 0
 pub record AfterCompare (gates : Gates) (first r s d : ℕ) (before after : Values) : Type 0 where
   pub more : List ℕ
   pub wires : after.wires ≡ before.wires ++ more

@@ -1,7 +1,7 @@
 //! The block of a comparison: with an accepted mask it tells whether the summed supply reaches the summed demand, and
 //! nothing else.
 //!
-//! It opens twice the difference with the mask added, modulo p, and then 1 where supply reaches demand and 0 elsewhere.
+//! It opens twice the difference with the mask added, modulo p, and then 1 if supply reaches demand, else 0.
 #![tactic(auto)]
 
 ghost use Rattle.std.specs.Prelude.{◌≡◌, ◌<◌, ◌≤◌, ◌+◌, ◌-◌, ◌*◌, ◌^◌, ◌↔◌, ℕ, List, [], ◌∷◌, ◌++◌, length, slice_get};
@@ -86,7 +86,7 @@ fn bit(c: Fe, k: u32) -> u128
     ((c.value() >> k) & 1) as u128
 }
 
-/// The wire where the bit is 1, and 1 less the wire where it is 0.
+/// The wire if the bit is 1, and 1 less the wire if it is 0.
 fn same(bit: u128, wire: u32) -> Linear
     ensures { result ≡ same_let bit wire }
 {
@@ -97,8 +97,7 @@ fn same(bit: u128, wire: u32) -> Linear
     }
 }
 
-/// The borrow past a bit of c and a wire with the same bit of the mask, where `below` has the borrow that comes from
-/// below.
+/// The borrow past a bit of c and a wire with the same bit of the mask; `below` has the borrow that comes from below.
 fn borrow_past(c_bit: u128, wire: u32, below: (u128, u32)) -> Linear
     requires bit { c_bit < 2 }
     requires below { IsElement below.0 }
@@ -486,8 +485,8 @@ pub fn compare_batch(gates: Gates, step: u32, wires: CompareWires, c: Fe) -> Opt
 }
 
 /// What a block does on plain values, wherever it stands and whatever was opened before it: with an accepted mask r,
-/// and y twice the difference of supply and demand modulo p, it opens y + r modulo p and then 1 exactly where y is
-/// even. Where the two sums differ by less than 2^59, that is exactly where supply is at least demand.
+/// and y twice the difference of supply and demand modulo p, it opens y + r modulo p and then 1 exactly if y is
+/// even. If the two sums differ by less than 2^59, that is exactly if supply is at least demand.
 pub fn compare_law()
     ensures opens { (deals : ℕ → List ℕ) (gates : Gates) (first mask supply demand r s d : ℕ) (before : Values) →
         BeforeCompare first mask supply demand r s d before →

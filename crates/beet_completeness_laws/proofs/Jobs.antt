@@ -43,7 +43,7 @@ use Rattle.beet_errand.specs.Errands.{Errand, Step, answers, bad_file, reads}
 use Rattle.beet_errand.specs.Overs.{ReadsTo}
 use Rattle.beet_errand.specs.declared.answer.Status.{Status}
 use Rattle.beet_errand.specs.declared.answer.Status.TheVariants.{Done, MasksSpent as Spent}
-use Rattle.beet_differences.specs.Comparing.{compared}
+use Rattle.beet_differences.specs.Comparing.{compared, unless_apart}
 use Rattle.beet_load.specs.Counts.{counts_of, words_wanted}
 use Rattle.beet_load.specs.Wanted.{wanted_of}
 use Rattle.beet_load.specs.Farmers.{farmers_errand}
@@ -74,7 +74,7 @@ use Rattle.beet_coalition.specs.Lists.{at_server}
 use Rattle.beet_five_load.specs.FiveLoading.{five_loaded_errand}
 use Rattle.beet_job_five.specs.Five.{five_errand}
 use Rattle.beet_book_differences.specs.Differences.{refused_text}
-use Rattle.beet_job_worlds.specs.Ending.{compared_errand, difference_read, unless_differing}
+use Rattle.beet_job_worlds.specs.Ending.{compared_errand, difference_read}
 use Rattle.beet_job_worlds.specs.Reading.{both_errand, first_book, second_book, words_read}
 use Rattle.beet_job_worlds.proofs.DifferenceFacts.{no-difference}
 use Rattle.beet_job_five_worlds.specs.Ending.{compared_errand as compared_for_two, difference_for_two}
@@ -246,8 +246,8 @@ module _ (files : List File) where
       IsDoneOver files (compared refused_text difference step (λ both. answers (end both) []))
   going-on step difference end both read none done =
       then-done files step both _ read (
-      passes-done files (unless_differing (difference both)) (answers (end both) [])
-      (ap (λ (d : Option MapFault). unless_differing d (answers (end both) [])) none) done)
+      passes-done files (unless_apart refused_text (difference both)) (answers (end both) [])
+      (ap (λ (d : Option MapFault). unless_apart refused_text d (answers (end both) [])) none) done)
 
   pub compared-done : (auction servers list1 list2 server : List ℕ)
       (can : CanCompare files auction servers list1 list2 server) →

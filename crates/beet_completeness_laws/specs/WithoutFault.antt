@@ -7,8 +7,8 @@ use Rattle.beet_app.specs.Doing.{task_of}
 use Rattle.beet_app.specs.Jobs.{job_of}
 use Rattle.beet_app_laws.specs.Calls.{Call, IsOf}
 
--- a run on words that name a job of a table, for its task, over a shelf whose answers are of these files, in which
--- neither the count of faults of the shelf nor that of the desk rose: what the clause of a run says of it
+-- what the clause of a run says of a run on words that name a job of a table, for its task, over a shelf whose answers
+-- are of these files; neither the count of faults of the shelf nor that of the desk rose
 pub record RunsTableWithoutFault {J : Type 0} (job_named : List (List ℕ) → Option J) (task_for : Option J → Task)
     (files : List File) (words : List (List ℕ)) (call : Call) : Type 0 where
   pub job : J

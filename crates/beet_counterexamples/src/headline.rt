@@ -41,7 +41,7 @@ pub fn a_finish_tells_the_outcome()
 {}
 
 /// A test that tells of an auction whether its masks are spent is that of the headline, and so is a number of rounds,
-/// and where the masks are spent no server has opened an outcome.
+/// and if the masks are spent no server has opened an outcome.
 pub fn no_other_count_or_rounds()
     ensures count { (book : Book) (words : Words) (test : Bool) → IsBook book → CanRun book words →
         ((es : List Triple) (s : Point) → AllDelivered book words es →
@@ -52,8 +52,8 @@ pub fn no_other_count_or_rounds()
         HasRounds (setup_for book words) rounds → rounds ≡ book_rounds book words.masks }
 {}
 
-/// Whatever two servers were given, where both have ended they have ended alike, by the definition of an end and in any
-/// run, so that it is the cores that bring the order of the messages into the statement of all ends.
+/// Whatever two servers were given, if both have ended they have ended alike, by the definition of an end, in any run.
+/// So it is the cores that bring the order of the messages into the statement of all ends.
 pub fn all_ends_are_alike_by_definition()
     ensures { (named : List ℕ → Option Finish) (o : Setup) (rounds : ℕ) (x y : Delivered) (s t : Point)
         (one other : Option Finish) → ending_of named o rounds x s ≡ Ends one →
@@ -70,8 +70,8 @@ pub fn three_rejected_masks_spend()
     ensures two_comparisons { is_spent (slice_index (p ∷ p ∷ 0 ∷ p ∷ [])) 2 ≡ true }
 {}
 
-/// Where no server waits, all is delivered: that all have ended is false of events that leave a message undelivered,
-/// and of no events where there is a round.
+/// If no server waits, all is delivered: that all have ended is false of events that leave a message undelivered,
+/// and of no events if there is a round.
 pub fn with_a_message_undelivered_some_server_waits()
     ensures start { (book : Book) (words : Words) (s : Point) → IsBook book → CanRun book words →
         1 ≤ book_rounds book words.masks → standing book words [] s ≡ Waits 0 }
@@ -79,8 +79,8 @@ pub fn with_a_message_undelivered_some_server_waits()
         ((s : Point) (round : ℕ) → standing book words es s ≢ Waits round) → AllDelivered book words es }
 {}
 
-/// Whatever the words, a server sees the same of two auctions, of which the first is not spent, only where their books
-/// agree for it, and so it is of the bytes of its transcripts, where the views are within the limits of one.
+/// Whatever the words, a server sees the same of two auctions, of which the first is not spent, only if their books
+/// agree for it, and so it is of the bytes of its transcripts, if the views are within the limits of one.
 pub fn only_books_that_agree_look_the_same()
     ensures views { (s : Point) (first second : Book) (words words' : Words) → IsBook first → IsBook second →
         CanRun first words → CanRun second words' → are_spent first words ≡ false →
@@ -125,7 +125,7 @@ pub fn without_conditions_other_words_seal_the_same()
         × (envelope_for grid curve other s ≡ envelope_for grid curve one s) × (other ≢ one) }
 {}
 
-/// With the same words for two bids, also one server tells them apart: its envelopes are the same only where the bids
+/// With the same words for two bids, also one server tells them apart: its envelopes are the same only if the bids
 /// are.
 pub fn the_same_words_seal_only_the_same_bid()
     ensures { (grid : Grid) (s : Point) (one other : Curve) (words : List ℕ) → AreTwoBids grid one other →

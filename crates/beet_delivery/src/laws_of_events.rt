@@ -23,7 +23,7 @@ pub fn rounds_stay_close()
         after rounds front from to t ≡ true → after rounds (front ++ es) from to t ≡ true }
 {}
 
-/// Nothing is undelivered exactly where each server has passed all rounds, and so where each
+/// Nothing is undelivered exactly if each server has passed all rounds, and so if each
 /// message that is sent is delivered. After a list of events all messages of the run are delivered
 /// then, and no others.
 pub fn nothing_undelivered_means_ended()
@@ -41,7 +41,7 @@ pub fn nothing_undelivered_means_ended()
 {}
 
 /// In a set of messages that were sent, one more that is sent and was not in it is one fewer
-/// undelivered, and each message that is sent by this is one more. So where none is, it is one
+/// undelivered, and each message that is sent by this is one more. So if none is, it is one
 /// fewer.
 pub fn a_delivery_counts_down()
     ensures counts { (rounds : ℕ) (x : Delivered) (e : Triple) →
@@ -76,7 +76,7 @@ pub fn repeats_change_nothing()
 {}
 
 /// The list of a set has each of its messages of the run once, and nothing that is not in it. So
-/// after two lists of events the sets are the same where their lists are.
+/// after two lists of events the sets are the same if their lists are.
 pub fn a_set_is_told_by_its_list()
     ensures once { (rounds : ℕ) (x : Delivered) (e : Triple) → e.from ≢ e.to → e.round < rounds →
         count_by (λ d. same d.from e.from && same d.to e.to && (d.round == e.round))
@@ -97,8 +97,8 @@ pub fn passed_is_the_largest()
         ((r : ℕ) → r < t → (side : Side) → x (peer s side) s r ≡ true) → t ≤ passed rounds x s }
 {}
 
-/// After every list of events, a message that is sent is of the first round that its receiver has
-/// not passed, or the next, or of one that it has passed.
+/// After every list of events, each message that is sent is of a round that its receiver has passed, or of the first
+/// round that it has not passed, or of the next.
 pub fn sent_messages_come_close()
     ensures { (rounds : ℕ) (es : List Triple) (e : Triple) →
         is_sent rounds (after rounds es) e ≡ true →

@@ -1,7 +1,7 @@
 //! The messages of a run that were delivered, as definitions and laws: the set after a list of
 //! events, the rounds that each server has passed by it, and what is sent and not delivered.
 //!
-//! It knows who sends to whom in which of how many rounds, and nothing of the numbers in a message.
+//! It knows who sends to whom in which round, and how many rounds there are, and nothing of the numbers in a message.
 #![tactic(auto)]
 
 mod laws_of_events;

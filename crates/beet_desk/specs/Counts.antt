@@ -1,6 +1,6 @@
 -- How many notes there are, and how many numbers they name.
 use Rattle.std.specs.Prelude.{◌≡◌, ◌≤◌, ◌<◌, ◌+◌, ◌*◌, ◌^◌, ℕ, List, [], ◌∷◌, Some, slice_get, length}
-use Rattle.beet_field.specs.Trio.{member, trio_of, with_member}
+use Rattle.beet_field.specs.Trio.{member, with_member}
 use Rattle.beet_field.specs.declared.TheConstants.{MOST_NUMBERS}
 use Rattle.beet_field.specs.declared.point.Point.{Point}
 use Rattle.beet_field.specs.declared.trio.Trio.{Trio}
@@ -12,7 +12,6 @@ use Rattle.beet_desk.specs.declared.counts.NoteCount.{NoteCount}
 abbrev pub none_yet : NoteCount
 none_yet = record { notes = 0; opened = 0 }
 
--- one note more
 abbrev pub one_more : DeskNote → NoteCount → NoteCount
 one_more note c = record { notes = c.notes + 1; opened = c.opened + length note.numbers.items }
 
@@ -20,14 +19,9 @@ one_more note c = record { notes = c.notes + 1; opened = c.opened + length note.
 abbrev pub together : NoteCount → NoteCount → NoteCount
 together a b = record { notes = a.notes + b.notes; opened = a.opened + b.opened }
 
--- of a list
 abbrev pub count_of : List DeskNote → NoteCount
 count_of [] = none_yet
 count_of (note ∷ notes) = one_more note (count_of notes)
-
--- of each server
-abbrev pub tally : List DeskNote → Trio NoteCount
-tally taken = trio_of (λ s. count_of (of_server s taken))
 
 abbrev pub with_note : DeskNote → Trio NoteCount → Trio NoteCount
 with_note note t = with_member t note.server (one_more note (member t note.server))

@@ -3,9 +3,9 @@
 ghost use Rattle.std.specs.Prelude.{◌≡◌, ◌<◌, ◌≤◌, ◌*◌, ◌^◌, ℕ, length, [], Some, slice_get};
 ghost use Rattle.beet_field.specs.Trio.{member, trio_of};
 ghost use Rattle.beet_field.specs.declared.TheConstants.{MOST_NUMBERS};
-ghost use Rattle.beet_field.specs.declared.point.Point.{Point as Server};
+ghost use Rattle.beet_field.specs.declared.point.Point.{Point};
 ghost use Rattle.beet_desk.specs.Ends.{AreSmall, AreFirst};
-ghost use Rattle.beet_desk.specs.Counts.{Added, HasPlace, IsTally, count_of, none_yet, one_more, tally, together};
+ghost use Rattle.beet_desk.specs.Counts.{Added, HasPlace, IsTally, count_of, none_yet, one_more, together};
 ghost use Rattle.beet_desk.specs.Counts.{with_note};
 
 use crate::ending::Ending;
@@ -80,7 +80,7 @@ fn with_note(counts: Trio<NoteCount>, note: &DeskNote) -> Trio<NoteCount>
 /// are there before it sleeps.
 pub fn watch<R: Wait>(rt: &R, rx: NoteRx, ending: &Ending) -> (NoteRx, Trio<NoteCount>)
     requires none { rx.taken ≡ [] }
-    requires small { (s : Server) → AreSmall (member rx.notes s) }
+    requires small { (s : Point) → AreSmall (member rx.notes s) }
     ensures queue { result.0.queue ≡ rx.queue }
     ensures notes { result.0.notes ≡ rx.notes }
     ensures first { AreFirst result.0.notes result.0.taken }
@@ -105,8 +105,8 @@ pub fn watch<R: Wait>(rt: &R, rx: NoteRx, ending: &Ending) -> (NoteRx, Trio<Note
 
 /// Counts what is left.
 pub fn count_rest<R: Wait>(rt: &R, rest: NoteRest, counts: Trio<NoteCount>) -> Trio<NoteCount>
-    requires { (s : Server) → HasPlace (member counts s) (member rest s) }
-    ensures { (s : Server) → Added (member counts s) (member rest s) (member result s) }
+    requires { (s : Point) → HasPlace (member counts s) (member rest s) }
+    ensures { (s : Point) → Added (member counts s) (member rest s) (member result s) }
 {
     let mut left = rest;
     let mut sums = counts;

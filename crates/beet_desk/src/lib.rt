@@ -11,4 +11,4 @@ pub use beet_station::DeskNote;
 pub use counts::NoteCount;
 pub use ends::{NoteRest, NoteRx, NoteTx};
 pub use making::note_queue;
-pub use running::{Watched, run_watched};
+pub use running::{WatchedServers, run_watched};

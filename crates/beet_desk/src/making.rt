@@ -2,7 +2,7 @@
 
 ghost use Rattle.std.specs.Prelude.{◌≡◌, ◌≤◌, ◌<◌, ◌*◌, ◌^◌, IfOk, max};
 ghost use Rattle.beet_field.specs.Trio.{member};
-ghost use Rattle.beet_field.specs.declared.point.Point.{Point as Server};
+ghost use Rattle.beet_field.specs.declared.point.Point.{Point};
 ghost use Rattle.beet_server.specs.Cores.{AreFresh};
 ghost use Rattle.beet_queue.specs.Rule.{all_named};
 ghost use Rattle.beet_desk.specs.Ends.{AreSmall, AreFrom, sender_at_start, receiver_at_start};
@@ -27,12 +27,12 @@ pub fn note_queue<S: Script<3>>(
 ) -> Result<(Trio<NoteTx>, NoteRx), AllocError>
     requires fresh { AreFresh S.batch_of S.inputs_of cores.now }
     requires few { 3 * S.rounds_of cores.now.one.script < 2 ^ 31 }
-    ensures senders { IfOk result (λ ends. (s : Server) → member ends.0 s
+    ensures senders { IfOk result (λ ends. (s : Point) → member ends.0 s
         ≡ sender_at_start ends.1.queue (notes_from S.batch_of S.inputs_of S.rounds_of cores.now) s) }
     ensures receiver { IfOk result (λ ends. ends.1
         ≡ receiver_at_start ends.1.queue (max (3 * S.rounds_of cores.now.one.script) 3)
         (notes_from S.batch_of S.inputs_of S.rounds_of cores.now)) }
-    ensures small { IfOk result (λ ends. (s : Server) → AreSmall (member ends.1.notes s)) }
+    ensures small { IfOk result (λ ends. (s : Point) → AreSmall (member ends.1.notes s)) }
 {
     let capacity = (3 * cores.one.script().rounds() as usize).max(3);
     open::<Brand, S>(alloc, cores, capacity)
@@ -46,8 +46,8 @@ fn open<K: Named<DeskNote>, S: Script<3>>(
 ) -> Result<(Trio<NoteTx>, NoteRx), AllocError>
     requires positive { 0 < capacity }
     requires room { all_named K.streams ≤ capacity }
-    requires named { (s : Server) → AreFrom s (member K.streams s) }
-    ensures senders { IfOk result (λ ends. (s : Server) → member ends.0 s ≡ sender_at_start ends.1.queue K.streams s) }
+    requires named { (s : Point) → AreFrom s (member K.streams s) }
+    ensures senders { IfOk result (λ ends. (s : Point) → member ends.0 s ≡ sender_at_start ends.1.queue K.streams s) }
     ensures receiver { IfOk result (λ ends. ends.1 ≡ receiver_at_start ends.1.queue capacity K.streams) }
 {
     let (queue, mut pass) = Queue::ruled(alloc, capacity)?;

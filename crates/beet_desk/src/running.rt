@@ -2,7 +2,7 @@
 
 ghost use Rattle.std.specs.Prelude.{◌≡◌, ◌<◌, ◌*◌, ◌^◌, IfErr, IfOk, [], length};
 ghost use Rattle.beet_field.specs.Trio.{member};
-ghost use Rattle.beet_field.specs.declared.point.Point.{Point as Server};
+ghost use Rattle.beet_field.specs.declared.point.Point.{Point};
 ghost use Rattle.beet_server.specs.Cores.{AreFresh, setup_of};
 ghost use Rattle.beet_server.specs.Lockstep.{HaveEnded};
 ghost use Rattle.beet_link.specs.Streams.{rounds_from};
@@ -29,7 +29,7 @@ use std::time::Clock;
 
 /// Three servers that have ended, and the counts of their notes.
 #[derive(Drop)]
-pub struct Watched<S: Script<3>> {
+pub struct WatchedServers<S: Script<3>> {
     pub cores: Trio<ServerCore<S>>,
     pub counts: Trio<NoteCount>,
 }
@@ -46,10 +46,10 @@ fn count_at<S: Script<3>>(core: &ServerCore<S>) -> NoteCount
 }
 
 /// Runs three fresh servers in lockstep, and counts the notes from their rounds and opened numbers.
-fn unwatched<S: Script<3>>(fresh: Trio<ServerCore<S>>) -> Watched<S>
+fn unwatched<S: Script<3>>(fresh: Trio<ServerCore<S>>) -> WatchedServers<S>
     requires { AreFresh S.batch_of S.inputs_of fresh }
     ensures cores { HaveEnded S.batch_of S.inputs_of S.rounds_of fresh result.cores }
-    ensures counts { (s : Server) → member result.counts s
+    ensures counts { (s : Point) → member result.counts s
         ≡ count_in (setup_of S.batch_of S.inputs_of fresh) (rounds_from S.batch_of S.inputs_of S.rounds_of fresh) }
 {
     let cores = lockstep(fresh);
@@ -58,7 +58,7 @@ fn unwatched<S: Script<3>>(fresh: Trio<ServerCore<S>>) -> Watched<S>
         two: count_at(&cores.two),
         three: count_at(&cores.three),
     };
-    Watched { cores, counts }
+    WatchedServers { cores, counts }
 }
 
 /// What comes of three servers in threads: each with the end that it has told, or, if a worker could not be started,
@@ -72,14 +72,14 @@ pub fn run_watched<S: Script<3> + Send, R: Threads + Wait + Clock + Sync>(
     rt: &R,
     alloc: Global,
     cores: Trio<ServerCore<S>>,
-) -> Result<Watched<S>, AllocError>
+) -> Result<WatchedServers<S>, AllocError>
 where
     S::Place: Send,
     requires fresh { AreFresh S.batch_of S.inputs_of cores }
     requires few { 3 * S.rounds_of cores.one.script < 2 ^ 31 }
     ensures cores { IfOk result (λ watched.
         HaveEnded S.batch_of S.inputs_of S.rounds_of cores watched.cores) }
-    ensures counts { IfOk result (λ watched. (s : Server) → member watched.counts s
+    ensures counts { IfOk result (λ watched. (s : Point) → member watched.counts s
         ≡ count_in (setup_of S.batch_of S.inputs_of cores) (rounds_from S.batch_of S.inputs_of S.rounds_of cores)) }
 {
     let runs = runs(&cores);
@@ -103,7 +103,7 @@ where
         rt,
         move || -> (NoteRx, Trio<NoteCount>)
             requires { (receiver.taken ≡ [])
-                × ((s : Server) → AreSmall (member receiver.notes s)) }
+                × ((s : Point) → AreSmall (member receiver.notes s)) }
             ensures { (result.0.queue ≡ receiver.queue) × (result.0.notes ≡ receiver.notes)
                 × AreFirst result.0.notes result.0.taken
                 × IsTally result.0.taken result.1 }
@@ -137,7 +137,7 @@ where
     let (servers, told) = apart(ends);
     let rest = receiver.close(told);
     let counts = count_rest(rt, rest, counts);
-    Ok(Watched {
+    Ok(WatchedServers {
         cores: servers,
         counts,
     })

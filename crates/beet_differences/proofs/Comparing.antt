@@ -3,7 +3,7 @@ use Rattle.std.proofs.Common.{◌≡◌, ℕ, List, Option, Some, None, Result, 
 use Rattle.beet_store.specs.Files.{Seen, Told}
 use Rattle.beet_errand.specs.Errands.{Answer, Step, ◌>>◌, gives, refuses}
 use Rattle.beet_errand.specs.Fetches.{IsDone, Reads, Refuses, Stops}
-use Rattle.beet_errand.specs.Tasks.{DoesTask}
+use Rattle.beet_errand.specs.Tasks.{DoesTask, ShowsRead, Task, ToShow}
 use Rattle.beet_errand.specs.declared.answer.OwnRefusal.TheVariants.{OfWorlds}
 use Rattle.beet_errand.specs.declared.answer.Refusal.TheVariants.{Own}
 use Rattle.beet_errand.specs.declared.answer.Stop.{Stop}
@@ -11,7 +11,11 @@ use Rattle.beet_errand.specs.declared.answer.Stop.TheVariants.{Refused, OutOfMem
 use Rattle.beet_errand.proofs.Frame.{stopped}
 use Rattle.beet_errand.proofs.Steps.{went_none, stops_after}
 use Rattle.beet_errand.proofs.Tasks.{read_value, reading_stops, shown_ends, unread_stops}
-use Rattle.beet_differences.specs.Comparing.{AnswersBoth, TellsApart, compared, comparing_task, unless_apart}
+use Rattle.beet_differences.specs.Comparing.{AnswersBoth, TellsApart, compared, unless_apart}
+
+-- the job compares both worlds, and its answer shows this of them
+abbrev pub comparing_task : {A F : Type 0} → (F → List ℕ) → (A → Option F) → Step A → (A → Answer → Type 0) → Task
+comparing_task line difference step shows = ToShow OfWorlds (compared line difference step) (ShowsRead step shows)
 
 module _ {F : Type 0} (line : F → List ℕ) where
   -- worlds that are told apart stop the errand

@@ -2,7 +2,6 @@
 use Rattle.std.specs.Prelude.{◌≡◌, ℕ, List, ◌++◌, codes, decimal, Option, Some, None, Result, Ok, Err}
 use Rattle.beet_errand.specs.Errands.{Answer, Errand, Step, gives, refuses, ◌>>=◌, ◌>>◌}
 use Rattle.beet_errand.specs.Fetches.{Refuses}
-use Rattle.beet_errand.specs.Tasks.{ShowsRead, Task, ToShow}
 use Rattle.beet_errand.specs.Texts.{line_of}
 use Rattle.beet_errand.specs.declared.answer.OwnRefusal.TheVariants.{OfWorlds}
 use Rattle.beet_errand.specs.declared.answer.Refusal.TheVariants.{Own}
@@ -24,10 +23,6 @@ compared line difference step = do
   both ← step
   unless_apart line (difference both)
   gives both
-
--- the job compares both worlds, and its answer shows this of them
-abbrev pub comparing_task : {A F : Type 0} → (F → List ℕ) → (A → Option F) → Step A → (A → Answer → Type 0) → Task
-comparing_task line difference step shows = ToShow OfWorlds (compared line difference step) (ShowsRead step shows)
 
 -- two worlds are refused by the line of the difference between them, unless memory ran out
 abbrev pub TellsApart : {F : Type 0} → (F → List ℕ) → Option F → Stop → Type 0

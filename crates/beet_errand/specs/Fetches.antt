@@ -67,8 +67,8 @@ Judges name (Ok v) (Err stop) = ⊥
 Judges name (Err (Bad place reason)) (Err stop) = Refuses BadFile (fault_line_of name place reason) stop
 Judges name (Err MemoryOut) (Err stop) = stop ≡ OutOfMemory
 
--- the cause of each refusal, with the count of faults before and after: words name no job where `unnamed` holds, a file
--- cannot be fetched exactly where the count rose, and `own` tells which refusals of its own a job has
+-- the cause of each refusal, with the count of faults before and after: words name no job if `unnamed` holds, a file
+-- cannot be fetched exactly if the count rose, and `own` tells which refusals of its own a job has
 abbrev pub CauseOf : Type 0 → (OwnRefusal → Type 0) → ℕ → ℕ → Refusal → Type 0
 CauseOf unnamed own before now Usage = unnamed × (now ≡ before)
 CauseOf unnamed own before now Unread = Rose before now
@@ -81,7 +81,7 @@ abbrev pub Causes : ℕ → ℕ → Stop → Type 0
 Causes before now (Refused refusal line) = CauseOf ⊥ (λ own. ⊥) before now refusal
 Causes before now OutOfMemory = now ≡ before
 
--- the count of faults after a step: as it was where it gives a value, and else as its cause says
+-- the count of faults after a step: as it was if it gives a value, and else as its cause says
 abbrev pub Counts : {T : Type 0} → ℕ → ℕ → Result T Stop → Type 0
 Counts before now (Ok value) = now ≡ before
 Counts before now (Err stop) = Causes before now stop
@@ -99,7 +99,7 @@ pub record ReadsFor {A T : Type 0} (shows : T → A → Type 0) (old now : Seen)
   pub cause : Counts old.faults now.faults result
   pub later : old.faults ≤ now.faults
 
--- the same, where the next step takes the value as `view` shows it
+-- the same, if the next step takes the value as `view` shows it
 abbrev pub Reads : {A T : Type 0} → (T → A) → Seen → Seen → Step A → Result T Stop → Type 0
 Reads view old now step result = ReadsFor (λ value a. a ≡ view value) old now step result
 

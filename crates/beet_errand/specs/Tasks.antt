@@ -46,8 +46,8 @@ MayRefuse own (ToAnswer errand) = ⊥
 MayRefuse own (ToShow other step shows) = other ≡ own
 
 -- what holds of the errand of a task, with what the shelf tells before it. Words that name no job are answered by the
--- usage line. Of a task that shows it holds of an answer that shows this much; or of the errand that reads, however it
--- would go on, so that the job ends in it
+-- usage line. For a task that shows, it holds of an answer that shows this much; or, if the job ends while it reads, of
+-- the errand that reads, however it would go on
 abbrev pub OfTask : Task → Told → Told → (Told → Errand → Type 0) → Type 0
 OfTask NoTask old now P = P old (refuses Usage usage_text)
 OfTask (ToAnswer errand) old now P = P old errand
@@ -74,7 +74,7 @@ AnswerShows (ToAnswer errand) old now result = Unit {0}
 AnswerShows (ToShow own step shows) old now (Ok answer) = shows old now answer
 AnswerShows (ToShow own step shows) old now (Err stop) = Unit {0}
 
--- the job of a task does what its errand says and no more: it has gone to its end, or it stops with a cause; where it
+-- the job of a task does what its errand says and no more: it has gone to its end, or it stops with a cause; if it
 -- shows, its answer does
 pub record DoesTask (task : Task) (old now : Seen) (result : Result Answer Stop) : Type 0 where
   pub finishes : OfTask task old.told now.told (λ told errand. Finishes told now.told errand result)
@@ -87,7 +87,7 @@ abbrev pub DoesNamed : Task → Seen → Seen → Option (Result Answer Stop) �
 DoesNamed task old now None = IsNoTask task × (now ≡ old)
 DoesNamed task old now (Some result) = DoesTask task old now result
 
--- the result of the job that words name, or the usage line where they name none, unless memory ran out
+-- the result of the job that words name, or the usage line if they name none, unless memory ran out
 abbrev pub OrUsage : Option (Result Answer Stop) → Result Answer Stop → Type 0
 OrUsage (Some given) result = result ≡ given
 OrUsage None (Ok answer) = ⊥
@@ -113,15 +113,15 @@ LeavesShown (ToShow own step shows) old now desk desk_now =
 pub record DoesRun (task : Task) (shelf shelf_now : Seen) (desk desk_now : DeskSeen) (status : ℕ) : Type 0 where
   -- the answer is one of the exit statuses
   pub known : IsStatus status
-  -- the status of wrong words comes only where the words name no job
+  -- the status of wrong words comes only if the words name no job
   pub usage : status ≡ 2 → IsNoTask task
   -- then exactly the usage line is said, and nothing is put
   pub usage_line : status ≡ 2 → Said desk.told desk_now.told usage_text
-  -- where the words name no job no other status comes, unless memory ran out or the desk took no line
+  -- if the words name no job no other status comes, unless memory ran out or the desk took no line
   pub no_job : IsNoTask task → (status ≡ 2) ⊎ (status ≡ 1) ⊎ (status ≡ 4)
-  -- a file that cannot be fetched is told only where the shelf's count of faults rose
+  -- a file that cannot be fetched is told only if the shelf's count of faults rose
   pub read : status ≡ 3 → Rose shelf.faults shelf_now.faults
-  -- a file or a text that is not taken is told only where the desk's count of faults rose
+  -- a file or a text that is not taken is told only if the desk's count of faults rose
   pub write : status ≡ 4 → Rose desk.faults desk_now.faults
   -- and a fault of the desk is not passed over: at every other status its count is as it was
   pub desk_count : (status ≡ 4) ⊎ (desk_now.faults ≡ desk.faults)

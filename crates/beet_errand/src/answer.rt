@@ -140,7 +140,7 @@ pub enum Stop {
 }
 
 impl Stop {
-    /// Refuses a job by the line that was made for it. Where there was no memory for the line, the job stops for that.
+    /// Refuses a job by the line that was made for it. If there was no memory for the line, the job stops for that.
     pub fn of_line(refusal: Refusal, line: Result<Vec<u8>, AllocError>) -> Stop
         ensures refused { IfOk line (λ line. result ≡ Stop.Refused refusal line) }
         ensures memory { IfErr line (λ error. result ≡ Stop.OutOfMemory) }

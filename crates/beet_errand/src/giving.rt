@@ -41,7 +41,7 @@ fn send<K: Desk>(alloc: Global, desk: &mut K, reply: &Reply) -> Status
     }
 }
 
-/// Gives what a job answers to the desk: its files in order, and then its text. Where memory ran out nothing is given.
+/// Gives what a job answers to the desk: its files in order, and then its text. If memory ran out nothing is given.
 pub fn give_answer<K: Desk>(alloc: Global, desk: &mut K, job: Result<Reply, Stop>) -> Status
     ensures { EndGoesOut (K.seen desk.old) (K.seen desk.new) job result }
 {

@@ -24,7 +24,7 @@ fn usage(alloc: Global) -> Stop
     Stop::of_line(Refusal::Usage, usage_line(alloc))
 }
 
-/// What the job that words name answers, or the usage line where they name none.
+/// What the job that words name answers, or the usage line if they name none.
 fn or_usage(alloc: Global, named: Option<Result<Reply, Stop>>) -> Result<Reply, Stop>
     ensures { OrUsage named result }
 {
@@ -34,7 +34,7 @@ fn or_usage(alloc: Global, named: Option<Result<Reply, Stop>>) -> Result<Reply, 
     }
 }
 
-/// Ends a run: gives what the job that words name answers to the desk, or the usage line where they name none.
+/// Ends a run: gives what the job that words name answers to the desk, or the usage line if they name none.
 /// Answers the exit status.
 pub fn end_run<K: Desk>(alloc: Global, desk: &mut K, named: Option<Result<Reply, Stop>>) -> u8
     ensures { EndsRun named (K.seen desk.old) (K.seen desk.new) result }

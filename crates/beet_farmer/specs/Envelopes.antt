@@ -39,7 +39,7 @@ after_header grid server bytes = do
   prices ← number_at bytes (only grid.prices WRONG_GRID) tick.1
   Ok prices.1
 
--- what an envelope reads as, where this server and this grid are expected
+-- what an envelope reads as, if this server and this grid are expected
 unfoldable pub envelope_of : Grid → Point → List ℕ → Reading Envelope
 envelope_of grid server bytes = do
   start ← after_header grid server bytes

@@ -14,7 +14,7 @@ use beet_words::Tape;
 use std::alloc::{AllocError, Global};
 
 /// The envelopes for the three servers, in their order. Their points are those that `deal_bidder` deals from the same
-/// tape. Where memory runs out, the tape is as before.
+/// tape. If memory runs out, the tape is as before.
 pub fn seal(
     alloc: Global,
     grid: &Grid,

@@ -8,7 +8,7 @@ number_of One = 1
 number_of Two = 2
 number_of Three = 3
 
--- the server of a digit, or none where the text is no server's
+-- the server of a digit, or none if the text is no server's
 abbrev pub server_of : List ℕ → Option Point
 server_of text =
     if bytes_eq text (codes "1") then Some One

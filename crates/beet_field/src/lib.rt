@@ -73,7 +73,7 @@ fn take_modulus(n: u64) -> Fe
 }
 
 impl Fe {
-    /// The number `n`, or `None` where `n` is `P` or more.
+    /// The number `n`, or `None` if `n` is `P` or more.
     pub fn of(n: u64) -> Option<Fe>
         ensures refused { IsNone result ↔ (p ≤ n) }
         ensures value { IfSome result (λ x. x ≡ n) }

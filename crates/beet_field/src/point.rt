@@ -26,7 +26,7 @@ impl Point {
         }
     }
 
-    /// The point of the number `n`, or `None` where `n` is not 1, 2 or 3.
+    /// The point of the number `n`, or `None` if `n` is not 1, 2 or 3.
     pub fn of_number(n: u64) -> Option<Point>
         ensures refused { IsNone result ↔ ((n ≡ 0) ⊎ (4 ≤ n)) }
         ensures value { IfSome result (λ at. number_of at ≡ n) }
@@ -39,7 +39,7 @@ impl Point {
         }
     }
 
-    /// The point of the digit `1`, `2` or `3`, or `None` where the text is none of them.
+    /// The point of the digit `1`, `2` or `3`, or `None` if the text is none of them.
     pub fn of_digit(text: &[u8]) -> Option<Point>
         ensures { result ≡ server_of text.now }
     {

@@ -24,7 +24,7 @@ use std::marker::Model;
 /// The row of the kind of gates in an auction file.
 pub const GATES_ROW: u32 = 5;
 
-/// The reason against gates that are trees, where five servers are to run the auction.
+/// The reason against gates that are trees, if five servers are to run the auction.
 pub const TREE_GATES: u32 = 7;
 
 /// The grid of an auction, its script, the seeds of its servers, and the entries of its book.

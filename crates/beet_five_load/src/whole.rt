@@ -10,9 +10,8 @@ ghost use Rattle.beet_five_load.specs.FiveServers.{AreFew};
 use beet_bids::Book;
 use beet_five_dealing::FiveWords;
 
-/// An auction among five servers that is read: its book, whose gates are chains and which is within the limit, and the
-/// words of the servers and of the bidders, with which five servers can run it. No server has 2^32 mask words or more,
-/// or as many for numbers.
+/// An auction among five servers that is read: its book, with chain gates and within the limit, and words of the
+/// servers and of the bidders with which it can be run. No server has 2^32 mask words or more, or as many for numbers.
 #[derive(Drop)]
 pub struct FiveWhole {
     pub book: Book,

@@ -14,8 +14,9 @@ use Rattle.beet_five_server.specs.Answers.{Core}
 use Rattle.beet_five_server.specs.Cores.{has_ended}
 use Rattle.beet_five_server.specs.Fits.{IsRound}
 use Rattle.beet_five_server.specs.Network.{five}
-use Rattle.beet_five_server.specs.Runs.{HasRounds, coming, rounds_among}
+use Rattle.beet_five_server.specs.Runs.{HasRounds, coming}
 use Rattle.beet_five_server.proofs.Passing.{ended-at, round-most}
+use Rattle.beet_five_server.proofs.RunNames.{rounds_among}
 use Rattle.beet_five_server.proofs.Standing.{coming-is}
 use Rattle.beet_five_lockstep.specs.FiveLockstep.{AreAtRound, HaveEnded, IsAtRound}
 

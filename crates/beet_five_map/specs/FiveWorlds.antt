@@ -62,10 +62,10 @@ BiddersMapped a b prices (one ∷ ones) [] = ⊥
 BiddersMapped a b prices (one ∷ ones) (other ∷ others) =
     BidderMapped a b prices one other × BiddersMapped a b prices ones others
 
--- the words of two worlds, mapped for servers a and b: all are words, with as many lists, and the mask words of the
--- lowest other server turn each mask that is compared; the words of bidders are mapped, and so are the coefficient
--- words, of which those that are all ones stand at the same places, those of a and b are the same, and the numbers that
--- another server draws for a secret are moved by it
+-- the words of two worlds, mapped for servers a and b. All are words, with as many lists. The mask words of the lowest
+-- other server turn each mask that is compared. The words of bidders are mapped, and so are the coefficient words:
+-- those that are all ones stand at the same places, those of a and b are the same, and the numbers that another server
+-- draws for a secret are moved by it
 pub record MappedForTwo (a b : ℕ) (first : Book) (words : FiveWords) (second : Book) (words' : FiveWords) : Type 0 where
   pub are_words : AreAllWords words
   pub are_words' : AreAllWords words'

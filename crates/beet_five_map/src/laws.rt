@@ -28,12 +28,12 @@ pub fn masks_are_mapped_one_to_one()
         (words' : List (List ℕ)) × AreFive words' × MasksMapped l losses words words' }
 {}
 
-/// For two books that agree for two of five servers, which is to say that they are over one grid, clear alike, and have
-/// as many bidders with the same marks and the same curves of those that one of the two knows, all words with which the
-/// auction of the first can be run go with exactly one choice of words of the second, and all words of the second go
-/// with exactly one choice of the first. Whatever the words, the two servers together have the same words, hold the
-/// same shares of each bidder and the same points, get the same messages and open the same numbers in both worlds.
-/// Nothing is said of three servers.
+/// Two books agree for two of five servers if they are over one grid, clear alike, and have as many bidders with the
+/// same marks, and the same curves of the bidders known to one of the two. Then all words with which the auction of the
+/// first can be run go with exactly one choice of words of the second, and all words of the second with exactly one
+/// choice of the first. Whatever the words, the two servers together have the same words, hold the same shares of each
+/// bidder and the same points, get the same messages and open the same numbers in both worlds. Nothing is said of three
+/// servers.
 pub fn two_of_five_cannot_tell_books_apart_that_clear_alike()
     ensures second { (a b : ℕ) (first second : Book) (words : FiveWords) → 1 ≤ a → a < b → b ≤ 5 →
         AreTwoBooks a b first second → CanRun first words →

@@ -105,9 +105,9 @@ fn map_words(
 /// and open the same numbers.
 ///
 /// They are the only words that are mapped from these, and these are the only words from which they are mapped. The
-/// books must agree for the two servers: they are refused where a bidder stands in one of them alone or has another
-/// mark in the other, then where a bidder that is marked by one of the two has another curve, and then where the
-/// outcomes differ. Want of memory comes only where they agree.
+/// books must agree for the two servers: they are refused if a bidder stands in one of them alone or has another
+/// mark in the other, then if a bidder that is marked by one of the two has another curve, and then if the
+/// outcomes differ. Want of memory comes only if they agree.
 pub fn five_map(
     alloc: Global,
     two: Watchers,

@@ -76,7 +76,7 @@ fn turning_words(
     Ok(mapped.one)
 }
 
-/// The words of one server in the second world, where the words of `turner` turn each mask that is compared in the
+/// The words of one server in the second world, if the words of `turner` turn each mask that is compared in the
 /// first.
 fn words_of(
     alloc: Global,

@@ -1,11 +1,11 @@
 use beet_bids::{Bidder, Book, Curve, Grid, outcome};
 use beet_coalition_map::Watchers;
-use beet_field::Point;
+use beet_field::{P, Point};
 use beet_five_dealing::FiveWords;
 use beet_five_map::{FiveMapFault, enough, five_map};
 use beet_gates::Gates;
 use beet_plan::{most_coefficients, most_masks};
-use beet_words::{Tape, WordList};
+use beet_words::{Tape, Word, WordList};
 use std::alloc::Global;
 use std::process::Abort;
 
@@ -96,6 +96,40 @@ fn lists(rt: &impl Abort, alloc: Global, count: u64, stream: u64, length: u32) -
     lists
 }
 
+/// The word whose bits are all set.
+const ONES: u64 = P;
+
+/// The words of server 1 for the four masks that three prices may want, if those of all others are 0. One mask is
+/// rejected, or two, or three, so that the masks are spent.
+const MASKS: [[u64; 4]; 4] = [
+    [ONES, 0, 0, 0],
+    [0, ONES, 5, 0],
+    [ONES, 6, ONES, 7],
+    [ONES, ONES, 8, ONES],
+];
+
+/// The list of these words.
+fn list(rt: &impl Abort, alloc: Global, numbers: &[u64]) -> WordList {
+    let mut words = WordList::new(alloc);
+    for number in numbers {
+        let word = Word::of(*number).expect(rt, "a word");
+        words.push(word).expect(rt, "memory");
+    }
+    words
+}
+
+/// Words for a book, of which server 1 has these for masks, and all others 0.
+fn words_with(rt: &impl Abort, alloc: Global, masks: &[u64; 4]) -> FiveWords {
+    let mut words = words(rt, alloc);
+    let mut lists = Vec::new(alloc);
+    lists.push(list(rt, alloc, masks)).expect(rt, "memory");
+    for _ in 1..5 {
+        lists.push(list(rt, alloc, &[0; 4])).expect(rt, "memory");
+    }
+    words.masks = lists;
+    words
+}
+
 /// Words for a book.
 fn words(rt: &impl Abort, alloc: Global) -> FiveWords {
     FiveWords {
@@ -129,6 +163,31 @@ fn mapped(
     five_map(alloc, two, first, second, words)
 }
 
+/// The word at a place of a list.
+fn word(rt: &impl Abort, list: &WordList, place: usize) -> Word {
+    *list.as_slice().get(place).expect(rt, "a word")
+}
+
+/// Whether the exclusive or of the words at a place is all ones.
+fn is_rejected(rt: &impl Abort, lists: &[WordList], place: usize) -> bool {
+    let mut mask = Word::of(0).expect(rt, "a word");
+    for list in lists {
+        mask = mask.xor(word(rt, list, place));
+    }
+    mask.is_ones()
+}
+
+/// The same masks are rejected in both worlds, and their words are the same.
+fn expect_rejected(rt: &impl Abort, words: &FiveWords, there: &FiveWords) {
+    for place in 0..most_masks(PRICES) as usize {
+        let rejected = is_rejected(rt, &words.masks, place);
+        assert!(rt; is_rejected(rt, &there.masks, place) == rejected);
+        for (one, other) in words.masks.iter().zip(there.masks.iter()) {
+            assert!(rt; !rejected || word(rt, one, place) == word(rt, other, place));
+        }
+    }
+}
+
 /// Maps the words, and back. The answer is whether the books have the same outcome.
 fn there_and_back(
     rt: &impl Abort,
@@ -136,20 +195,20 @@ fn there_and_back(
     two: Watchers,
     first: &Book,
     second: &Book,
+    words: &FiveWords,
 ) -> bool {
-    let words = words(rt, alloc);
-    match mapped(rt, alloc, two, first, second, &words) {
+    match mapped(rt, alloc, two, first, second, words) {
         Ok(there) => {
+            expect_rejected(rt, words, &there);
             let back = mapped(rt, alloc, two, second, first, &there).expect(rt, "a map");
             assert!(rt; same(&back.masks, &words.masks));
             assert!(rt; same(&back.coefficients, &words.coefficients));
             assert!(rt; same(&back.bidders, &words.bidders));
             assert!(rt; !same(&there.bidders, &words.bidders));
-            drop((there, back, words));
+            drop((there, back));
             true
         }
         Err(fault) => {
-            drop(words);
             assert!(rt; fault == FiveMapFault::OutcomesDiffer(outcome(first), outcome(second)));
             false
         }
@@ -157,12 +216,12 @@ fn there_and_back(
 }
 
 /// Whether some of the pairs of books that are drawn for two servers have the same outcome.
-fn some_agree(rt: &impl Abort, alloc: Global, two: Watchers) -> bool {
+fn some_agree(rt: &impl Abort, alloc: Global, two: Watchers, words: &FiveWords) -> bool {
     let mut agree = false;
     for seed in 0..DRAWN {
         let first = book(rt, alloc, &MARKS, two, seed, seed);
         let second = book(rt, alloc, &MARKS, two, seed, seed + 100);
-        if there_and_back(rt, alloc, two, &first, &second) {
+        if there_and_back(rt, alloc, two, &first, &second, words) {
             agree = true;
         }
         drop((first, second));
@@ -172,11 +231,28 @@ fn some_agree(rt: &impl Abort, alloc: Global, two: Watchers) -> bool {
 
 #[test]
 fn words_go_there_and_back(rt: HostRuntime) {
+    let words = words(&rt, rt.alloc());
     for a in 1..5 {
         for b in a + 1..6 {
             let two = Watchers::of(a, b).expect(&rt, "two servers");
-            assert!(rt; some_agree(&rt, rt.alloc(), two));
+            assert!(rt; some_agree(&rt, rt.alloc(), two, &words));
         }
+    }
+    drop(words);
+}
+
+/// Pairs of servers for which the words of server 3, of 2 and of 1 turn masks.
+const PAIRS: [(u32, u32); 3] = [(1, 2), (1, 4), (3, 5)];
+
+#[test]
+fn rejected_masks_stay(rt: HostRuntime) {
+    for masks in &MASKS {
+        let words = words_with(&rt, rt.alloc(), masks);
+        for (a, b) in PAIRS {
+            let two = Watchers::of(a, b).expect(&rt, "two servers");
+            assert!(rt; some_agree(&rt, rt.alloc(), two, &words));
+        }
+        drop(words);
     }
 }
 

@@ -5,7 +5,7 @@ use Rattle.beet_five_auction.specs.FiveEndings.{book_finish, book_rounds}
 use Rattle.beet_five_load.specs.FiveLoading.{FiveRead}
 use Rattle.beet_run.specs.Outcomes.{outcome_answer}
 
--- the answer that tells the outcome of an auction that is read, and the rounds in which five servers find it
+-- the answer for an auction that is read: its outcome, and after how many rounds five servers find it
 abbrev pub cleared_by_five : FiveRead → Answer
 cleared_by_five read =
     let masks = at_server read.words.masks in

@@ -2,6 +2,7 @@ pub mod MailFacts
 pub mod Places
 pub mod Ranks
 pub mod Handing
+pub mod RunNames
 pub mod RunSteps
 pub mod Peers
 pub mod Standing

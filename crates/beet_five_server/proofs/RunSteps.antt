@@ -14,8 +14,9 @@ use Rattle.beet_gates.proofs.Lists.{item-taken, item-map, each-map}
 use Rattle.beet_weights.specs.Quadratics.{IsServer, point_of, recombined, reshared}
 use Rattle.beet_weights.specs.Weights.{five_weights, three_weights, weighted}
 use Rattle.beet_linear_sharing.specs.Runs.{Setup, Shared}
-use Rattle.beet_five_server.specs.Runs.{drawn as drawn_in, draws_in, gained, hidden_at, opened_by, product_at, sent_for}
+use Rattle.beet_five_server.specs.Runs.{drawn as drawn_in, draws_in}
 use Rattle.beet_five_server.specs.Parts.{numbers_for, points_given, numbers_opened}
+use Rattle.beet_five_server.proofs.RunNames.{gained, hidden_at, opened_by, product_at, sent_for}
 
 -- a message has the size of its batch
 pub length-sent_for : (o : Setup) (s : Shared) (a : Act) (from to : ℕ) → length (sent_for o s a from to) ≡ size_of a

@@ -17,7 +17,7 @@ use Rattle.beet_gates.specs.declared.Batch.{Batch}
 use Rattle.beet_delivery.specs.Networks.{Delivered, all_in}
 use Rattle.beet_weights.specs.Quadratics.{IsServer}
 use Rattle.beet_linear_sharing.specs.Runs.{Setup, Shared}
-use Rattle.beet_five_server.specs.Runs.{coming, drawn as drawn_in, draws_in, message, sent_for, shared_at, standing_at}
+use Rattle.beet_five_server.specs.Runs.{coming, drawn as drawn_in, draws_in, message, shared_at, standing_at}
 use Rattle.beet_five_server.specs.Answers.{HandsOut, MovesOn, handed_out, message_out, messages_out, Core}
 use Rattle.beet_five_server.specs.Cores.{Work, batch_of, handing, has_ended, passing, sends}
 use Rattle.beet_five_server.specs.Fits.{Fits, Stands, message_of, messages_from, some_if, taken}
@@ -27,6 +27,7 @@ use Rattle.beet_five_server.specs.Parts.{numbers_opened, points_given}
 use Rattle.beet_five_server.specs.declared.mail.FiveMessage.{FiveMessage}
 use Rattle.beet_five_server.proofs.MailFacts.{one-place}
 use Rattle.beet_five_server.proofs.Peers.{five-heard, five-hears, peer-is, peer-or, there-all, there-each}
+use Rattle.beet_five_server.proofs.RunNames.{sent_for}
 use Rattle.beet_five_server.proofs.RunSteps.{drawn-more, gains-run, given-by, length-sent_for, opened-by-same, opens-run, sends-run}
 use Rattle.beet_server.proofs.Delivering.{below-cases}
 

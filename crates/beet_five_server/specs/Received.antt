@@ -7,6 +7,5 @@ use Rattle.beet_five_server.specs.Mails.{Mailbag, cell}
 abbrev pub numbers_from : Mailbag → ℕ → ℕ → Option (List ℕ)
 numbers_from b from round = option_map (λ m. m.numbers.items) (cell b.places round from)
 
--- so at a core
 abbrev pub received_from : {S : Type 0} → Core S → ℕ → ℕ → Option (List ℕ)
 received_from c from round = numbers_from c.mail from round

@@ -1,2 +1,5 @@
+mod masks;
 mod servers;
+mod starts;
+mod verdicts;
 mod world;

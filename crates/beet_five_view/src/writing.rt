@@ -48,7 +48,6 @@ fn push_numbers(file: &mut Vec<u8>, numbers: &[u64]) -> Result<(), AllocError>
     Ok(())
 }
 
-/// The number of a policy.
 fn number_of_policy(policy: Policy) -> u64
     ensures { result ≡ number_of_policy policy }
 {

@@ -1,3 +1,4 @@
 pub mod MemberFacts
 pub mod WorldFacts
 pub mod MissingFacts
+pub mod PlayFacts

@@ -3,7 +3,9 @@ use Rattle.std.proofs.Common.{◌≡◌, ◌≤◌, ◌<◌, ◌+◌, ◌-◌, �
 use Rattle.std.proofs.Common.{Some, slice_get, sym, refl, ap, subst, ◌∙◌, inl, inr, arith}
 use Rattle.std.proofs.lemmas.Option.{same_Some, slice_get_within}
 use Rattle.std.proofs.lemmas.Bool.{both_ways, cases_Bool, cases_eq, cases_lt, false_from_ne_true}
-use Rattle.beet_delivery.specs.Networks.{Delivered, Triple, after_from, deliver, has, is_sent, nothing, passed, with_triple}
+use Rattle.beet_delivery.specs.Networks.{Delivered, Triple, after_from, deliver, has, is_sent, nothing, passed, undelivered}
+use Rattle.beet_delivery.specs.Networks.{with_triple}
+use Rattle.beet_delivery.proofs.Undelivered.{passed_all}
 use Rattle.beet_delivery.proofs.NetworkFacts.{deliver_sent, deliver_unsent, deliver_keeps_sent, near, sent_from, sent_parts}
 use Rattle.beet_gates.specs.declared.Batch.{Batch}
 use Rattle.beet_gates.proofs.EachFacts.{get-append, get-each, length-each}
@@ -12,7 +14,7 @@ use Rattle.beet_linear_sharing.specs.Runs.{Setup}
 use Rattle.beet_five_server.specs.Cores.{has_ended}
 use Rattle.beet_five_server.specs.Answers.{Core, fresh_core}
 use Rattle.beet_five_server.specs.Fits.{Fits, message_of, messages_from}
-use Rattle.beet_five_server.specs.Runs.{HasRounds}
+use Rattle.beet_five_server.specs.Runs.{HasRounds, shared_at}
 use Rattle.beet_five_server.proofs.Beginning.{begins}
 use Rattle.beet_words.specs.Words.{accepted}
 use Rattle.beet_five_server.specs.Network.{five, rank, sends_to}
@@ -22,8 +24,14 @@ use Rattle.beet_five_server.proofs.Passing.{at-passed, away, ended-at, is-round,
 use Rattle.beet_five_server.proofs.Peers.{peer-sends}
 use Rattle.beet_five_server.proofs.Places.{get-seam}
 use Rattle.beet_five_server.proofs.Ranks.{at-rank}
-use Rattle.beet_five_world.specs.Members.{AllBegin, AllFit, AreFresh, Begins, GivesAt, HaveBegun, IsAt, IsMember, LeadAll}
+use Rattle.beet_five_world.specs.Members.{AllBegin, AllFit, AreFresh, Begins, GivesAt, IsAt, IsMember, LeadAll}
 use Rattle.beet_five_world.specs.Members.{Seen, Stands, handed_rounds, triple}
+
+-- each server of a list began from the core at its place
+pub record HaveBegun {S : Type 0} (next : S → ℕ → List ℕ → Batch) (cores : List (Core S))
+    (ms : List (Seen S)) : Type 0 where
+  pub count : length ms ≡ length cores
+  pub each_began : (k : ℕ) (m : Seen S) → IsAt ms k m → (c : Core S) × (slice_get cores k ≡ Some c) × Begins next c m
 
 module _ {S : Type 0} (next : S → ℕ → List ℕ → Batch) (script : S) (o : Setup) (rounds : ℕ) (x : Delivered ℕ) where
   -- a message that is sent is delivered to the server at its place, and nothing changes at the others
@@ -85,6 +93,20 @@ module _ {S : Type 0} (next : S → ℕ → List ℕ → Batch) (script : S) (o 
       let at = f.stands j server m there in
       at-passed next o x m.core.work m.core.mail rounds f.has (subst IsServer (sym at.me) server) at.member.fits at.quiet
       ∙ ap (passed five rounds x) at.me
+
+  -- if nothing is undelivered, a server has ended, after all rounds and with all numbers opened
+  pub all-ended : (ms : List (Seen S)) (j : ℕ) (m : Seen S) → AllFit next script o rounds x ms →
+      undelivered five rounds x ≡ 0 → IsServer j → IsAt ms (j - 1) m →
+      (has_ended next m.core.work ≡ true) × (m.core.work.round ≡ rounds)
+      × (m.core.work.opened ≡ (shared_at o rounds).opened)
+  all-ended ms j m f none server there =
+      let at = f.stands j server m there in
+      let w = m.core.work in
+      let all : w.round ≡ rounds = is-passed ms j m server f there ∙ passed_all five-is rounds x none j in (
+        (ended-at next o x w m.core.mail rounds f.has (subst IsServer (sym at.me) server) at.member.fits).1 all,
+        all,
+        at.member.fits.opened ∙ ap (λ t. (shared_at o t).opened) all,
+      )
 
   -- how many rounds' messages a server has handed out
   count-sent : (ms : List (Seen S)) (from : ℕ) (s : Seen S) → Stands next script o x from s → length s.sent ≡ handed_rounds s.core

@@ -1,6 +1,6 @@
 -- A server of a world: its core, and the messages that it handed out.
 use Rattle.std.specs.Prelude.{◌≡◌, ◌≤◌, ◌+◌, ◌-◌, ℕ, List, [], ◌∷◌, length, true, false, Some, slice_get}
-use Rattle.std.specs.Prelude.{if◌then◌else◌}
+use Rattle.std.specs.Prelude.{if◌then◌else◌, map}
 use Rattle.beet_words.specs.Tapes.{Tape}
 use Rattle.beet_delivery.specs.Networks.{Delivered, Triple, deliver, has as is_in, is_sent, nothing, with_triple}
 use Rattle.beet_gates.specs.Each.{each}
@@ -15,6 +15,7 @@ use Rattle.beet_five_server.specs.Mails.{verdict_of}
 use Rattle.beet_five_server.specs.Network.{five, sends_to}
 use Rattle.beet_five_server.specs.declared.mail.FiveMessage.{FiveMessage}
 use Rattle.beet_weights.specs.Quadratics.{IsServer}
+use Rattle.beet_five_world.specs.declared.world.FiveDelivery.{FiveDelivery}
 
 pub record Seen (S : Type 0) : Type 0 where
   pub core : Core S
@@ -41,7 +42,7 @@ pub record IsKept {S : Type 0} (next : S → ℕ → List ℕ → Batch) (rounds
 abbrev pub verdict_at : {S : Type 0} → (S → ℕ → List ℕ → Batch) → Core S → FiveMessage → Verdict
 verdict_at next core m = if has_ended next core.work then late_verdict core.work m else verdict_of core.mail m
 
--- what giving a server a message leaves: where it was a member of a run, and this is a message of the run to it that it
+-- what giving a server a message leaves: if it was a member of a run, and this is a message of the run to it that it
 -- may get, it is one with the message delivered, and quiet
 abbrev pub Gives : {S : Type 0} → (S → ℕ → List ℕ → Batch) → Seen S → Seen S → FiveMessage → Type 0
 Gives next old new m =
@@ -126,12 +127,6 @@ pub record Begins {S : Type 0} (next : S → ℕ → List ℕ → Batch) (c : Co
   pub begins : (o : Setup) (x : Delivered ℕ) → Fits next o x c.work c.mail →
       IsMember next o x m.core m.sent × (is_quiet next m.core.work ≡ true)
 
--- each server of a list began from the core at its place
-pub record HaveBegun {S : Type 0} (next : S → ℕ → List ℕ → Batch) (cores : List (Core S))
-    (ms : List (Seen S)) : Type 0 where
-  pub count : length ms ≡ length cores
-  pub each_began : (k : ℕ) (m : Seen S) → IsAt ms k m → (c : Core S) × (slice_get cores k ≡ Some c) × Begins next c m
-
 -- each of these cores is that of the server of its place, runs the script, and fits a run before any delivery
 abbrev pub AllBegin : {S : Type 0} → (S → ℕ → List ℕ → Batch) → S → Setup → List (Core S) → Type 0
 AllBegin {S} next script o cores =
@@ -141,3 +136,13 @@ AllBegin {S} next script o cores =
 -- the message of a server's round to another
 abbrev pub triple : ℕ → ℕ → ℕ → Triple ℕ
 triple from to t = record { from = from; to = to; round = t }
+
+-- the messages of a schedule, in order
+abbrev pub named_in : List FiveDelivery → List (Triple ℕ)
+named_in schedule = map (λ d. triple d.from d.to d.round) schedule
+
+-- the events that deliver a message: without those whose message is not sent when their turn comes
+abbrev pub sent_in : ℕ → Delivered ℕ → List (Triple ℕ) → List (Triple ℕ)
+sent_in rounds x [] = []
+sent_in rounds x (e ∷ es) =
+    if is_sent five rounds x e then e ∷ sent_in rounds (with_triple five x e) es else sent_in rounds x es

@@ -6,4 +6,4 @@ mod member;
 mod world;
 
 pub use laws_of_worlds::{five_servers_end_alike, servers_stand_after_all_events};
-pub use world::{FiveEvent, FiveWorld};
+pub use world::{FiveDelivery, FiveEvent, FiveWorld};

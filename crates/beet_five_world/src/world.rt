@@ -1,16 +1,16 @@
 //! Five servers and the events of a run.
 
 ghost use Rattle.std.specs.Prelude.{◌≡◌, ◌↔◌, ◌≤◌, ◌<◌, ◌+◌, ◌-◌, ℕ, ◌≢◌, List, length, true, false, slice_get, Some};
-ghost use Rattle.std.specs.Prelude.{MatchOption, IfOk, ◌^◌, ◌&&◌, not, count_by, if◌then◌else◌, map};
-ghost use Rattle.beet_delivery.specs.Networks.{Delivered, is_missing, is_sent, nothing, of_round};
+ghost use Rattle.std.specs.Prelude.{All, MatchOption, IfOk, ◌^◌, ◌&&◌, not, count_by, if◌then◌else◌, map};
+ghost use Rattle.beet_delivery.specs.Networks.{Delivered, after_from, is_missing, is_sent, nothing, of_round};
 ghost use Rattle.beet_delivery.specs.Networks.{undelivered as undelivered_in};
 ghost use Rattle.beet_weights.specs.Quadratics.{IsServer};
 ghost use Rattle.beet_linear_sharing.specs.Runs.{Setup};
-ghost use Rattle.beet_five_server.specs.Cores.{is_quiet};
+ghost use Rattle.beet_five_server.specs.Cores.{has_ended, is_quiet};
 ghost use Rattle.beet_five_server.specs.Network.{five, peers, rank};
-ghost use Rattle.beet_five_server.specs.Runs.{HasRounds};
-ghost use Rattle.beet_five_world.specs.Members.{AllBegin, AllFit, AreFresh, AreNear, GivesAt, IsAt, Leads, Seen};
-ghost use Rattle.beet_five_world.specs.Members.{triple, verdict_at};
+ghost use Rattle.beet_five_server.specs.Runs.{HasRounds, shared_at};
+ghost use Rattle.beet_five_world.specs.Members.{AllBegin, AllFit, AreFresh, AreNear, GivesAt, IsAt, LeadAll, Leads};
+ghost use Rattle.beet_five_world.specs.Members.{Seen, named_in, sent_in, triple, verdict_at};
 ghost use Rattle.beet_five_world.specs.declared.world.FiveEvent.TheVariants.{Delivered as DeliveredBy, NotSent};
 ghost use Rattle.beet_five_server.specs.declared.mail.FiveMessage.{FiveMessage as Message};
 
@@ -28,6 +28,17 @@ pub enum FiveEvent {
     Delivered(Verdict),
     /// The message was never sent.
     NotSent,
+}
+
+/// The message that one server sends to another in a round is delivered.
+#[derive(Clone, Copy, PartialEq, Eq, Debug)]
+pub struct FiveDelivery {
+    /// The sender, 1 to 5.
+    pub from: u32,
+    /// The receiver, 1 to 5. If it is the sender, there is no such message.
+    pub to: u32,
+    /// The round of the message, from 0.
+    pub round: u32,
 }
 
 /// Gives the server at a place of the list a message.
@@ -135,6 +146,24 @@ impl<S: Script<5>> FiveWorld<S> {
         }
     }
 
+    /// Delivers the messages of a schedule, one after another, as `event` does. One that is not sent when its turn
+    /// comes is passed over.
+    pub fn play(&mut self, schedule: &[FiveDelivery])
+        requires from { All (λ delivery. IsServer delivery.from) schedule.now }
+        requires to { All (λ delivery. IsServer delivery.to) schedule.now }
+        ensures leads { LeadAll S.batch_of self.old (named_in schedule.now) self.new }
+        ensures passed_over { (script : S) (o : Setup) (rounds : ℕ) (x : Delivered ℕ)
+            → AllFit S.batch_of script o rounds x self.old
+            → LeadAll S.batch_of self.old (sent_in rounds x (named_in schedule.now)) self.new }
+        ensures fits { (script : S) (o : Setup) (rounds : ℕ) (x : Delivered ℕ)
+            → AllFit S.batch_of script o rounds x self.old
+            → AllFit S.batch_of script o rounds (after_from five rounds x (named_in schedule.now)) self.new }
+    {
+        for delivery in schedule {
+            self.event(delivery.from, delivery.to, delivery.round);
+        }
+    }
+
     /// The fewest rounds that a server has passed.
     fn behind(&self) -> u32
         ensures least { (j : ℕ) (s : Seen S) → IsServer j → IsAt self.now (j - 1) s → result ≤ s.core.work.round }
@@ -205,6 +234,11 @@ impl<S: Script<5>> FiveWorld<S> {
         ensures count { (script : S) (o : Setup) (rounds : ℕ) (x : Delivered ℕ)
             → AllFit S.batch_of script o rounds x self.now → result ≡ undelivered_in five rounds x }
         ensures few { result ≤ 40 }
+        ensures ended { result ≡ 0 → (script : S) (o : Setup) (rounds : ℕ) (x : Delivered ℕ)
+            → AllFit S.batch_of script o rounds x self.now
+            → (j : ℕ) (s : Seen S) → IsServer j → IsAt self.now (j - 1) s
+            → (has_ended S.batch_of s.core.work ≡ true) × (s.core.work.round ≡ rounds)
+            × (s.core.work.opened ≡ (shared_at o rounds).opened) }
     {
         let behind = self.behind();
         self.missing_of(behind) + self.missing_of(behind + 1)

@@ -27,7 +27,7 @@ reading_of (Some fault) value = Err fault
 abbrev pub row_reading : {A : Type 0} → ℕ → Option ℕ → A → Reading A
 row_reading number reason value = reading_of (option_map (at_row number) reason) value
 
--- the fault of the first row that is refused, where the rows from this number on have these reasons
+-- the fault of the first row that is refused, if the rows from this number on have these reasons
 abbrev pub first_fault : ℕ → List (Option ℕ) → Option Fault
 first_fault number [] = None
 first_fault number (reason ∷ reasons) = option_or (option_map (at_row number) reason) (first_fault (number + 1) reasons)

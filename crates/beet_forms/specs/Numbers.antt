@@ -15,7 +15,7 @@ read_on n (d ∷ ds) = read_on (10 * n + (d - 48)) ds
 abbrev pub decimal_value : List ℕ → ℕ
 decimal_value ds = read_on 0 ds
 
--- the number of a text of digits, and within that none where it is above the largest; none where a byte is no digit
+-- the number of a text of digits, and within that none if it is above the largest; none if a byte is no digit
 abbrev pub digits_within : ℕ → List ℕ → Option (Option ℕ)
 digits_within max ds =
     if list_all is_ascii_digit ds then

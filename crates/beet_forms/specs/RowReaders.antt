@@ -33,7 +33,7 @@ pub record Reads (reader : Reader (Bor (List ℕ))) : Type 0 where
 abbrev pub IsReading : Reader (Bor (List ℕ)) → Type 0
 IsReading reader = has_failed reader ≡ false → Reads reader
 
--- where a row was found, it is the first of those that were left
+-- if a row was found, it is the first of those that were left
 abbrev pub Gives : Bool → List (List (List ℕ)) → List (List ℕ) → List (List (List ℕ)) → Type 0
 Gives true old row new = old ≡ row ∷ new
 Gives false old row new = old ≡ []

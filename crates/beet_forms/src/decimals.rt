@@ -44,7 +44,7 @@ fn has_leading_zero(digits: &[u8]) -> bool
     digits.len() > 1 && digits[0] == b'0'
 }
 
-/// The number that the digits write, or none where it is above the largest.
+/// The number that the digits write, or none if it is above the largest.
 fn value_within(digits: &[u8], max: u64) -> Option<u64>
     ensures { result ≡ (if nat_lt max (decimal_value digits.now) then None else Some (decimal_value digits.now)) }
 {
@@ -89,7 +89,7 @@ fn read_few(digits: &[u8], max: u64) -> Option<Option<u64>>
     Some(Some(value))
 }
 
-/// The number that the digits write, and within that none where it is above the largest. None where a byte is no digit.
+/// The number that the digits write, and within that none if it is above the largest. None if a byte is no digit.
 fn read_digits(digits: &[u8], max: u64) -> Option<Option<u64>>
     ensures { result ≡ digits_within max digits.now }
 {

@@ -11,7 +11,7 @@ use thiserror::Error;
 /// The most bytes of a file of any format.
 pub const LONGEST_FILE: u64 = 67_108_864;
 
-/// The reason against row 1 of a text file where it is missing or is not the header.
+/// The reason against row 1 of a text file if it is missing or is not the header.
 pub const BAD_HEADER: u32 = 1;
 
 /// The reason of a text file against a row that is missing, has another number of fields, or has a field that is not of

@@ -19,7 +19,7 @@ fn are_plain(bytes: &[u8]) -> bool
     bytes.iter().all(|byte| *byte >= 32 && *byte != 127)
 }
 
-/// The bytes as text, where they are UTF-8.
+/// The bytes as text, if they are UTF-8.
 fn as_text(bytes: &[u8]) -> Option<&str>
     ensures { MatchOption result (is_utf8 bytes.now ≡ false)
         (λ text. (text.now ≡ bytes.now) × (is_utf8 bytes.now ≡ true)) }
@@ -30,7 +30,7 @@ fn as_text(bytes: &[u8]) -> Option<&str>
     }
 }
 
-/// The bytes as text, where they are a name.
+/// The bytes as text, if they are a name.
 fn as_name(bytes: &[u8]) -> Option<&str>
     ensures { MatchOption result (is_name_of bytes.now ≡ false)
         (λ text. (text.now ≡ bytes.now) × (is_name_of bytes.now ≡ true)) }
@@ -66,7 +66,7 @@ impl Model for Name {
 }
 
 impl Name {
-    /// The name of these bytes, or none where they are no name. Want of memory is the only error.
+    /// The name of these bytes, or none if they are no name. Want of memory is the only error.
     pub fn of(alloc: Global, bytes: &[u8]) -> Result<Option<Name>, AllocError>
         ensures { IfOk result (λ name. name ≡ (if is_name_of bytes.now then Some bytes.now else None)) }
     {

@@ -34,7 +34,7 @@ pub record Values : Type 0 where
   pub opened : List ℕ
   pub dealt : ℕ
 
--- what an act does, where the n-th deal appends the numbers `deals n`
+-- what an act does, if the n-th deal appends the numbers `deals n`
 abbrev pub act_on : (ℕ → List ℕ) → Act → Values → Values
 act_on deals Deal v = record v { wires = v.wires ++ deals v.dealt; dealt = v.dealt + 1 }
 act_on deals (Mul pairs) v = record v { wires = v.wires ++ map (product_of v.wires) pairs.items }
@@ -76,7 +76,7 @@ abbrev pub EndsAfter : (ℕ → List ℕ → Batch) → (ℕ → List ℕ) → L
 EndsAfter next deals inputs r =
     (is_end (clear_act next deals inputs r) ≡ true) × ((k : ℕ) → k < r → is_end (clear_act next deals inputs k) ≡ false)
 
--- of acts, the place of the first that is the end, among so many; their number where none is
+-- of acts, the place of the first that is the end, among so many; their number if none is
 abbrev pub first_end : (ℕ → Act) → ℕ → ℕ
 first_end acts most = position_or_len (λ t. is_end (acts t)) (range_with_len 0 most)
 
@@ -88,7 +88,7 @@ rounds_dealt next most inputs deals = first_end (clear_act next deals inputs) mo
 abbrev pub values_dealt : (ℕ → List ℕ → Batch) → ℕ → List ℕ → (ℕ → List ℕ) → Values
 values_dealt next most inputs deals = clear_at next deals inputs (suc (rounds_dealt next most inputs deals))
 
--- the same where three servers deal words
+-- the same if three servers deal words
 abbrev pub rounds_run : (ℕ → List ℕ → Batch) → ℕ → List ℕ → Trio (List ℕ) → ℕ
 rounds_run next most inputs words = rounds_dealt next most inputs (deals_of words)
 

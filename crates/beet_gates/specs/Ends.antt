@@ -11,7 +11,7 @@ ComesTo next (suc n) opened =
     (before : List ℕ) × (new : List ℕ) × ComesTo next n before × ((next n before).act ≢ End)
     × (length new ≡ revealed (next n before).act) × (opened ≡ before ++ new)
 
--- the answer is there exactly where the next batch is the end, after any number of batches at which these may be the
+-- the answer is there exactly if the next batch is the end, after any number of batches at which these may be the
 -- opened numbers
 abbrev pub TellsEnd : {F : Type 0} → (ℕ → List ℕ → Batch) → List ℕ → Option F → Type 0
 TellsEnd next opened answer = (done : ℕ) → ComesTo next done opened → IsSome answer ↔ ((next done opened).act ≡ End)

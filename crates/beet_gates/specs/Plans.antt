@@ -45,7 +45,7 @@ plan_length (Block bs next) = length bs
 plan_length (Quiet b rest) = suc (plan_length rest)
 plan_length (Last b n named) = 1
 
--- the plan after the number that the next block opens; where the last batch opens more, its others are still to be
+-- the plan after the number that the next block opens; if the last batch opens more, its others are still to be
 -- read, and the end stands in its place
 abbrev pub plan_after : {F : Type 0} → Plan F → ℕ → Plan F
 plan_after (Ended f) x = Ended f

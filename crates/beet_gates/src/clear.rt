@@ -55,7 +55,7 @@ fn weigh(wires: &[Fe], terms: &[(Fe, u32)]) -> Fe
     sum
 }
 
-/// The value of a let, or its point where the wires are points.
+/// The value of a let, or its point if the wires are points.
 pub fn evaluate(wires: &[Fe], linear: &Linear) -> Fe
     requires { TermsBelow (length wires.now) linear.now.terms }
     ensures { result ≡ let_of wires.now linear.now }

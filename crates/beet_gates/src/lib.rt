@@ -146,7 +146,7 @@ pub trait Script<const SERVERS: usize>: Copy {
     fn wires(&self) -> u32
         ensures { result ≡ wires_of self.now };
 
-    /// The batch that comes after `done` batches, where these numbers were opened so far.
+    /// The batch that comes after `done` batches, if these numbers were opened so far.
     fn next(&self, done: u32, opened: &[Fe]) -> Batch
         ensures { result ≡ batch_of self.now done opened.now };
 

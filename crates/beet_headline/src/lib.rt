@@ -40,7 +40,7 @@ mod five;
 pub use five::{three_of_five_tell_every_bid, two_of_five_cannot_tell_books_apart};
 
 /// For every book of accepted bids, all words that are enough, and every order, repeat or delay of the messages, a
-/// server that has ended has opened the outcome of the plaintext auction. The only other end is spent, exactly where
+/// server that has ended has opened the outcome of the plaintext auction. The only other end is spent, exactly if
 /// the mask words say so, and it comes after the number of rounds that the book and the mask words tell. Nothing else
 /// could be said of all ends. For every book there are words that are enough.
 ///
@@ -82,12 +82,12 @@ pub fn with_all_delivered_all_have_ended()
         (more : List Triple) × AllDelivered book words (es ++ more) }
 {}
 
-/// For two books that agree for a server, which is to say that they are over one grid, clear alike, and have as many
-/// bidders with the same marks and the same curves of the server's own, all words with which the auction of the first
-/// can be run go with exactly one choice of words of the second, and all words of the second go with exactly one choice
-/// of the first. Whatever the words, the server's transcripts are the same bytes in both worlds, and at every moment it
-/// has, receives and sends the same. Both choices are as long, list by list. Words that are mapped, as `world_map`
-/// answers them, are such a pair.
+/// Two books agree for a server if they are over one grid, clear alike, and have as many bidders with the same marks,
+/// and the same curves of the server's own. Then all words with which the auction of the first can be run go with
+/// exactly one choice of words of the second, and all words of the second with exactly one choice of the first.
+/// Whatever the words, the server's transcripts are the same bytes in both worlds, and at every moment it has, receives
+/// and sends the same. Both choices are as long, list by list. Words that are mapped, as `world_map` answers them, are
+/// such a pair.
 pub fn books_that_clear_alike_look_the_same()
     ensures second { (s : Point) (first second : Book) (words : Words) → AreTwoBooks s first second →
         CanRun first words → (words' : Words) × AreOnePair s first words second words' }
@@ -125,8 +125,8 @@ pub fn an_envelope_tells_nothing()
         CanSeal grid words → (words' : List ℕ) × AreOneEnvelope grid s one words other words' }
 {}
 
-/// Two of the three servers tell every bid, whatever the words: where what both of them see is the same, so are the
-/// books, and where two envelopes are the same, so are the bids. So one server is the most that a bid is hidden from.
+/// Two of the three servers tell every bid, whatever the words: if what both of them see is the same, so are the
+/// books, and if two envelopes are the same, so are the bids. So one server is the most that a bid is hidden from.
 pub fn two_servers_tell_every_bid()
     ensures views { (s t : Point) (first second : Book) (words words' : Words) → s ≢ t → IsBook first → IsBook second →
         CanRun first words → CanRun second words' → view_with second words' s ≡ view_with first words s →
@@ -156,7 +156,7 @@ pub fn words_used_twice_tell_the_difference()
         ≡ sub_of (quantity other.curve n) (quantity one.curve n) }
 {}
 
-/// What a server sees tells how the auction ends: where the views of two auctions are equal, both have opened the same,
+/// What a server sees tells how the auction ends: if the views of two auctions are equal, both have opened the same,
 /// or both are spent. So only books that clear alike can look the same, unless both are spent.
 pub fn equal_views_end_alike()
     ensures { (s : Point) (first second : Book) (words words' : Words) → IsBook first → IsBook second →

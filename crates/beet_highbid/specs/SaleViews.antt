@@ -14,7 +14,7 @@ use Rattle.beet_sale_map.specs.Enough.{cut_words}
 use Rattle.beet_sale_map.specs.MappedSales.{run_seen_of}
 use Rattle.beet_sale_map.specs.Worlds.{bid_in, party_of, point_in}
 
--- a bid at a server: which server knows it, if one does, its point, and the bid and its words, where this server knows
+-- a bid at a server: which server knows it, if one does, its point, and the bid and its words, if this server knows
 -- them
 pub record SeenBid : Type 0 where
   pub known : Option Point

@@ -9,12 +9,11 @@ ghost use Rattle.beet_sale_map.specs.Worlds.{Mapped};
 ghost use Rattle.beet_sale_map.specs.Bids.{AreTwoSales};
 ghost use Rattle.beet_highbid.specs.SalePairs.{AreOneSalePair, CanSell, DifferInTheWinningBid};
 
-/// For two sales that agree for a server, which is to say that they have as many bidders with the same marks, the same
-/// bids of the server's own, and the same winner and price, all words with which the first can be run go with exactly
-/// one choice of words of the second, and all words of the second go with exactly one choice of the first. Whatever the
-/// words, the server's transcripts are the same bytes in both. Words that are mapped, as `sale_map` answers them, are
-/// such a pair. So a server that does not know the winner's bid cannot tell it from any other bid that gives the same
-/// winner and price.
+/// Two sales agree for a server if they have as many bidders with the same marks, the same bids of the server's own,
+/// and the same winner and price. Then all words with which the first can be run go with exactly one choice of words of
+/// the second, and all words of the second with exactly one choice of the first. Whatever the words, the server's
+/// transcripts are the same bytes in both. Words that are mapped, as `sale_map` answers them, are such a pair. So a
+/// server that does not know the winner's bid cannot tell it from any other bid that gives the same winner and price.
 pub fn sales_that_sell_alike_look_the_same()
     ensures second { (s : Point) (gates : Gates) (first second : List SaleBid) (words : Words) →
         AreTwoSales s first second → CanSell first words →

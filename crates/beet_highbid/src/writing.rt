@@ -4,7 +4,7 @@ ghost use Rattle.std.specs.Prelude.{◌≡◌, ◌++◌, IfOk, OnOk, codes, leng
 ghost use Rattle.std.specs.List.{flat_map};
 ghost use Rattle.beet_mapped.specs.Dealers.{dealers_of};
 ghost use Rattle.beet_sale_file.specs.Sales.{bids_of};
-ghost use Rattle.beet_sale_map.specs.InputLines.{line_of, lines_of};
+ghost use Rattle.beet_sale_map.specs.InputLines.{dealer_line, dealer_lines};
 ghost use Rattle.beet_sale_map.specs.Worlds.{party_of};
 ghost use Rattle.beet_view.specs.BookViews.{names};
 ghost use Rattle.beet_highbid.specs.SaleViews.{kept_if, own_bytes, sale_bytes, seen_bid, seen_bytes};
@@ -50,7 +50,7 @@ fn push_bid(
     line: Line,
     words: &WordList,
 ) -> Result<(), AllocError>
-    requires { line ≡ line_of (record { party = party_of bid.now; words = words.now }) }
+    requires { line ≡ dealer_line (record { party = party_of bid.now; words = words.now }) }
     ensures { OnOk result (file.new.items ≡ file.old.items
         ++ seen_bytes (seen_bid me (record { party = party_of bid.now; words = words.now }))) }
 {
@@ -69,7 +69,7 @@ fn push_bids(
     words: &[WordList],
 ) -> Result<(), AllocError>
     requires count { length words.now ≡ length bids.now }
-    requires lines { lines.now ≡ lines_of bids.now words.now }
+    requires lines { lines.now ≡ dealer_lines bids.now words.now }
     ensures { OnOk result (file.new.items ≡ file.old.items
         ++ flat_map seen_bytes (map (seen_bid me) (dealers_of (map party_of bids.now) words.now))) }
 {
@@ -90,7 +90,7 @@ fn push_sale(
     run: &RunView,
 ) -> Result<(), AllocError>
     requires count { length words.now ≡ length sale.now.rows }
-    requires lines { lines.now ≡ lines_of (bids_of sale.now.rows) words.now }
+    requires lines { lines.now ≡ dealer_lines (bids_of sale.now.rows) words.now }
     requires file { file.old.items ≡ codes "BEETHB01" }
     ensures { OnOk result (file.new.items ≡ sale_bytes (record {
       server = me;

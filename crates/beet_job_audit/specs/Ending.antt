@@ -17,14 +17,14 @@ use Rattle.beet_job_audit.specs.Reading.{read_errand}
 use Rattle.beet_job_audit.specs.Refusals.{fault_text}
 use Rattle.beet_job_audit.specs.declared.reading.ReadViews.{ReadViews}
 
--- how the run of the views ended, which is that of the book of the curves that the bidders' points recombine to
+-- how the run of the views ended: as that of the recombined book, whose curves the bidders' points tell
 abbrev pub run_answer : ReadViews → Answer
 run_answer read =
     let book = recombined_book read.grid read.views in
     let masks = of_each (λ view. view.masks) read.views in
     outcome_answer read.grid (book_finish book masks) (book_rounds book masks)
 
--- how the run ended where nothing is wrong, and else the line of what is
+-- how the run ended if nothing is wrong, and else the line of what is
 abbrev pub audit_answer : ReadViews → Option AuditFault → Answer
 audit_answer read None = run_answer read
 audit_answer read (Some fault) = text_answer (IsRefused (Own OfAudit)) (fault_text fault)

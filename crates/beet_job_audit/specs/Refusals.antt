@@ -38,7 +38,7 @@ of_message sender receiver round =
 abbrev pub held_for : ℕ → ℕ → List ℕ
 held_for held expected = codes " held " ++ decimal held ++ codes " expected " ++ decimal expected
 
--- the line of a fault; where memory ran out nothing is said
+-- the line of a fault; if memory ran out nothing is said
 abbrev pub fault_text : AuditFault → List ℕ
 fault_text (HeaderDiffers s) = line_of (refused_text 1 ++ of_server s)
 fault_text (NotALine bidder place side) = line_of (refused_text 2 ++ of_bidder bidder ++ at_place place ++ on_side side)

@@ -38,7 +38,7 @@ fn reply_for<R: Threads + Wait + Clock + Sync, G: Gate>(
     Ok(outcome_reply(alloc, &grid, finish, rounds)?)
 }
 
-/// The outcome of a book, and the rounds in which three servers find it, in threads and under the gate where
+/// The outcome of a book, and the rounds in which three servers find it, in threads and under the gate if
 /// `run_servers` says so: `clear AUCTION SERVERS BOOK`.
 pub fn clear<S: Shelf, R: Threads + Wait + Clock + Sync, G: Gate>(
     rt: &R,

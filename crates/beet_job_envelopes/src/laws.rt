@@ -25,7 +25,7 @@ ghost use Rattle.beet_farmer.specs.Sealing.{sealed_envelope};
 ghost use Rattle.beet_job_envelopes.specs.SealedBooks.{HaveWords, HoldEachSealed, sealed_points};
 ghost use Rattle.beet_farmer.specs.declared.envelope.TheConstants.{ENVELOPE_LIMIT};
 
-/// Where each bidder's envelopes are those that `seal` makes of its curve and its words, the servers begin with the
+/// If each bidder's envelopes are those that `seal` makes of its curve and its words, the servers begin with the
 /// inputs of the book of these curves, and the answer of `open` is the outcome of that book.
 pub fn sealed_books_open_their_outcome()
     // What is sealed is read again.

@@ -38,9 +38,9 @@ fn open_entries<S: Shelf, R: Threads + Wait + Clock + Sync, G: Gate>(
 }
 
 /// The outcome of the bids in the envelopes of a list, and the rounds in which three servers find it, in threads and
-/// under the gate where `run_servers` says so. The points in the envelopes need not lie on lines. Where they were
-/// sealed, `sealed_books_open_their_outcome` says that each file is within its limit and is read, that the bidders of
-/// the list have the points that were sealed, and that the outcome is that of their book.
+/// under the gate if `run_servers` says so. The points in the envelopes need not lie on lines. If they were sealed,
+/// each file is within its limit and is read, the bidders of the list have the points that were sealed, and the outcome
+/// is that of their book, as `sealed_books_open_their_outcome` says.
 pub fn open_envelopes<S: Shelf, R: Threads + Wait + Clock + Sync, G: Gate>(
     rt: &R,
     alloc: Global,

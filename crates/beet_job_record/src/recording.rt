@@ -36,7 +36,7 @@ fn reply_for<R: Threads + Wait + Clock + Sync, G: Gate>(
     Ok(reply_of_run(rt, alloc, &grid, begun.seen, cores, out)?)
 }
 
-/// Runs the auction of a book among three servers, in threads and under the gate where `run_servers` says so. What each
+/// Runs the auction of a book among three servers, in threads and under the gate if `run_servers` says so. What each
 /// server has seen is put into the file of the name `out`, a dot and the server's number; the text is that of the job
 /// `clear`.
 pub fn record<S: Shelf, R: Threads + Wait + Clock + Sync, G: Gate>(

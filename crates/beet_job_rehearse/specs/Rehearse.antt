@@ -28,7 +28,7 @@ is_spent (Ended (Price place volume supply)) = false
 is_spent (Ended NoPrice) = false
 is_spent (Ended MasksSpent) = true
 
--- the masks are spent where they are at one server at least
+-- the masks are spent if they are at one server at least
 abbrev pub servers_status : Trio Standing → Status
 servers_status servers =
     if is_spent servers.one || is_spent servers.two || is_spent servers.three then Spent else Done

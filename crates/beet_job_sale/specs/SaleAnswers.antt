@@ -19,6 +19,6 @@ status_of MasksSpent = Spent
 abbrev pub end_answer : List SaleRow → SaleEnd → ℕ → Answer
 end_answer rows end rounds = text_answer (status_of end) (sale_text rows end rounds)
 
--- the answer that tells who wins a sale that is read, and for how much, and the rounds in which three servers find it
+-- the answer for a sale that is read: who wins it, for how much, and after how many rounds among three servers
 abbrev pub sold : SaleRead → Answer
 sold read = end_answer read.sale.rows (finish_read read) (rounds_read read)

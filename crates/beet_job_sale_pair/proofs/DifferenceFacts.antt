@@ -4,6 +4,7 @@ use Rattle.std.proofs.lemmas.Bool.{eq-eqb, eqb-true, and_parts, false_from_ne_tr
 use Rattle.beet_field.specs.declared.point.Point.{Point}
 use Rattle.beet_differences.proofs.Told.{ends-none, ends-some, first-ends, first-none, first-own, first-shape}
 use Rattle.beet_differences.proofs.Told.{marks-none, marks-some, own-none, own-some}
+use Rattle.beet_differences.specs.Comparing.{unless_apart}
 use Rattle.beet_differences.specs.Differences.{ends_between, own_between}
 use Rattle.beet_view.specs.BookViews.{names}
 use Rattle.beet_view.proofs.Marks.{names-is, names-own}
@@ -13,8 +14,13 @@ use Rattle.beet_sale_map.specs.Disagreement.{IsResult, Refuses}
 use Rattle.beet_sale_map.specs.declared.results.SaleResult.{SaleResult}
 use Rattle.beet_sale_map.specs.declared.agreeing.SaleFault.{SaleFault}
 use Rattle.beet_sale_map.specs.declared.agreeing.SaleFault.TheVariants.{ShapeDiffers, OwnBidsDiffer, SalesDiffer, OutOfMemory}
+use Rattle.beet_errand.specs.Errands.{Errand}
 use Rattle.beet_sale_run.proofs.ResultFacts.{told-sale}
-use Rattle.beet_job_sale_pair.specs.Differences.{difference_between, result_of, same_result}
+use Rattle.beet_job_sale_pair.specs.Differences.{difference_between, refused_text, result_of, same_result}
+
+-- two sales go on together if there is no difference between them; else the job ends with its line
+abbrev pub unless_differing : Option SaleFault → Errand → Errand
+unless_differing = unless_apart refused_text
 
 module _ (first second : List SaleBid) where
   abbrev ends : Option SaleFault

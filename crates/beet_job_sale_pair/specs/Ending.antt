@@ -4,22 +4,18 @@ use Rattle.beet_field.specs.declared.point.Point.{Point}
 use Rattle.beet_sale_file.specs.Sales.{SaleRecord, bids_of}
 use Rattle.beet_sale_map.specs.declared.agreeing.SaleFault.{SaleFault}
 use Rattle.beet_sale_map.specs.declared.agreeing.SaleFault.TheVariants.{OutOfMemory as MemoryOut}
-use Rattle.beet_errand.specs.Errands.{Answer, Errand, Step}
+use Rattle.beet_errand.specs.Errands.{Answer, Step}
 use Rattle.beet_errand.specs.Fetches.{Refuses}
 use Rattle.beet_errand.specs.Tasks.{Shows, ShowsRead, Task, ToShow}
 use Rattle.beet_errand.specs.declared.answer.OwnRefusal.TheVariants.{OfWorlds}
 use Rattle.beet_errand.specs.declared.answer.Refusal.TheVariants.{Own}
 use Rattle.beet_errand.specs.declared.answer.Stop.{Stop}
 use Rattle.beet_errand.specs.declared.answer.Stop.TheVariants.{OutOfMemory}
-use Rattle.beet_differences.specs.Comparing.{AnswersBoth, compared, unless_apart}
+use Rattle.beet_differences.specs.Comparing.{AnswersBoth, compared}
 use Rattle.beet_sale_load.specs.SaleLoading.{SaleRead}
 use Rattle.beet_job_sale_pair.specs.Differences.{difference_between, refused_text}
 use Rattle.beet_job_sale_pair.specs.Reading.{Both, both_errand}
 use Rattle.beet_job_sale_pair.specs.Answering.{ShowsTheSameSale}
-
--- two sales go on together if there is no difference between them; else the job ends with its line
-abbrev pub unless_differing : Option SaleFault → Errand → Errand
-unless_differing = unless_apart refused_text
 
 -- the difference between two sales that are read
 abbrev pub difference_read : Point → Both → Option SaleFault

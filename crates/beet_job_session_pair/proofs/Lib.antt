@@ -1,6 +1,6 @@
 mod LotReads
 mod KeptLots
 mod BooksRead
-mod SeenLots
 mod LotsSeen
+mod SeenLots
 mod SessionAnswers

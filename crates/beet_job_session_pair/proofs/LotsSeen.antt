@@ -17,10 +17,18 @@ use Rattle.beet_lot_map.specs.LotMaps.{session_transcripts}
 use Rattle.beet_lot_view.specs.SessionViews.{lot_part, lots_start, view_magic, words_magic}
 use Rattle.beet_job_worlds.specs.declared.seeing.SeenWorlds.{SeenWorlds}
 use Rattle.beet_job_session_pair.specs.Kept.{loaded_each}
-use Rattle.beet_job_session_pair.specs.Seeing.{AddsLot, AreSeen, SeesLot}
+use Rattle.beet_job_session_pair.specs.Seeing.{AddsLot, AreSeen}
 use Rattle.beet_job_session_pair.specs.Starting.{CanStartEach}
 use Rattle.beet_job_session_pair.specs.declared.answering.SeenSessions.{SeenSessions}
 use Rattle.beet_job_session_pair.proofs.KeptLots.{loaded-at, loaded-many}
+
+-- a lot is seen in both sessions: the server sees the same, the bundle is that of the mapped words, and it is told how
+-- the first auction ends
+pub record SeesLot (s : Point) (first : Book) (words mapped : Words) (seen : SeenWorlds) : Type 0 where
+  pub first_seen : seen.first.items ≡ transcript_with first words s
+  pub second_seen : seen.second.items ≡ transcript_with first words s
+  pub bundle : seen.words.items ≡ bundle_bytes mapped
+  pub reply : seen.reply ≡ cleared (loaded_with first words)
 
 -- one part more is put behind the others
 parts-more : (parts : List (List ℕ)) (n : ℕ) (part front before after : List ℕ) → n < length parts → get_or parts n part ≡ part →

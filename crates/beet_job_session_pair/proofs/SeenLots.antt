@@ -10,8 +10,8 @@ use Rattle.beet_run.specs.Outcomes.{outcome_answer}
 use Rattle.beet_view.specs.BookViews.{transcript_for}
 use Rattle.beet_job_worlds.specs.declared.seeing.SeenWorlds.{SeenWorlds}
 use Rattle.beet_job_worlds.proofs.SecondWords.{can-run, words-uncut}
-use Rattle.beet_job_session_pair.specs.Seeing.{SeesLot}
 use Rattle.beet_job_session_pair.proofs.KeptLots.{cleared-is}
+use Rattle.beet_job_session_pair.proofs.LotsSeen.{SeesLot}
 
 module _ (s : Point) (first second : Book) (words mapped : Words) (r : CanStart first words)
     (m : LotMapped s first words second mapped) where

@@ -68,7 +68,6 @@ pub record Both : Type 0 where
   pub lots : List AuctionWithBidders
   pub seconds : List Book
 
--- the book of a lot
 abbrev pub book_of_lot : AuctionWithBidders → Book
 book_of_lot lot = book_with lot.grid lot.farmers
 
@@ -80,7 +79,6 @@ words_of_lot lot = all_words lot.servers (map (λ farmer. farmer.words) lot.farm
 abbrev pub first_books : Both → List Book
 first_books both = map book_of_lot both.lots
 
--- its words
 abbrev pub first_words : Both → List Words
 first_words both = map words_of_lot both.lots
 

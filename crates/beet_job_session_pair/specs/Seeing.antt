@@ -1,10 +1,8 @@
 -- What a server sees of the lots of two sessions, and what is told of them.
 use Rattle.std.specs.Prelude.{◌≡◌, ◌++◌, List, map}
 use Rattle.beet_field.specs.declared.point.Point.{Point}
-use Rattle.beet_words.specs.Bundles.{Words, bundle_bytes}
+use Rattle.beet_words.specs.Bundles.{Words}
 use Rattle.beet_bids.specs.Books.{Book}
-use Rattle.beet_auction_map.specs.ViewsWith.{transcript_with}
-use Rattle.beet_load.specs.WholeViews.{loaded_with}
 use Rattle.beet_run.specs.Outcomes.{cleared}
 use Rattle.beet_lot_files.specs.declared.session_file.LotRow.{LotRow}
 use Rattle.beet_lot_load.specs.Telling.{TellsLot, TellsLots}
@@ -13,14 +11,6 @@ use Rattle.beet_lot_view.specs.SessionViews.{lot_part, session_view_bytes, sessi
 use Rattle.beet_job_worlds.specs.declared.seeing.SeenWorlds.{SeenWorlds}
 use Rattle.beet_job_session_pair.specs.Kept.{loaded_each}
 use Rattle.beet_job_session_pair.specs.declared.answering.SeenSessions.{SeenSessions}
-
--- a lot is seen in both sessions: the server sees the same, the bundle is that of the mapped words, and it is told how
--- the first auction ends
-pub record SeesLot (s : Point) (first : Book) (words mapped : Words) (seen : SeenWorlds) : Type 0 where
-  pub first_seen : seen.first.items ≡ transcript_with first words s
-  pub second_seen : seen.second.items ≡ transcript_with first words s
-  pub bundle : seen.words.items ≡ bundle_bytes mapped
-  pub reply : seen.reply ≡ cleared (loaded_with first words)
 
 -- one lot more is put and told
 pub record AddsLot (row : LotRow) (lot : SeenWorlds) (before after : SeenSessions) : Type 0 where

@@ -1,12 +1,11 @@
 -- The bidders one after another.
 use Rattle.std.proofs.Common.{◌≡◌, ◌≤◌, ◌<◌, ◌-◌, ℕ, zero, suc, ◌+◌, ◌*◌, [], ◌∷◌, ◌++◌, length, Result, Ok, Err, arith}
 use Rattle.std.proofs.Common.{refl, ap, sym, ◌∙◌, length-append, append-nil, append_assoc, subst, List, None}
-use Rattle.std.specs.Prelude.{IfOk, IsErrAnd}
+use Rattle.std.specs.Prelude.{IfOk, IsErrAnd, OnOk}
 use Rattle.std.proofs.lemmas.Result.{err_from_is_err_and}
 use Rattle.std.proofs.lemmas.List.{map-append}
 use Rattle.std.proofs.lemmas.List.FromFn.{length-map-range_with_len, map-range_with_len_more}
 use Rattle.beet_words.specs.Words.{accepted}
-use Rattle.beet_words.specs.Tapes.{Tape, left_of}
 use Rattle.beet_bids.specs.Curves.{Curve, IsOfGrid}
 use Rattle.beet_bids.specs.Grids.{Grid}
 use Rattle.beet_book.specs.Farmers.{BidderWithWords, summed_points}
@@ -32,18 +31,16 @@ carry-none : (grid : Grid) (totals : Totals) → totals ≡ none_of grid.prices 
 carry-none grid totals e = rw e (record { prices = refl; points = sym (no-points grid.prices); shares = shares-none grid.prices })
 
 -- one bidder more
-pub adds-farmer : (grid : Grid) (farmer : BidderWithWords) (curve : Curve) (tape : Tape) (before after : Totals) →
-    curve ≡ farmer.bidder.curve →
-    tape ≡ record { words = farmer.words; passed = 0 } → IsOfGrid grid farmer.bidder.curve → 2 * grid.prices ≤ length (left_of tape) →
-    after ≡ record before { points = added before.points (dealt_points curve (left_of tape)) } →
+pub adds-farmer : (grid : Grid) (farmer : BidderWithWords) (curve : Curve) (before after : Totals) →
+    curve ≡ farmer.bidder.curve → IsOfGrid grid farmer.bidder.curve → 2 * grid.prices ≤ length (accepted farmer.words) →
+    after ≡ record before { points = added before.points (dealt_points curve (accepted farmer.words)) } →
     AddsQuantities curve before.points after.points →
     AddsFarmers grid (farmer ∷ []) before after
-adds-farmer grid farmer curve tape before after e f of_grid enough sums adds =
+adds-farmer grid farmer curve before after e of_grid enough sums adds =
     let own = farmer.bidder.curve in
+    let numbers = accepted farmer.words in
     let count : length (quantities own) ≡ length own.buy + length own.sell = length-append own.buy own.sell in
     let long : length (quantities own) ≡ 2 * grid.prices = omega (arith, count, of_grid.buy_length, of_grid.sell_length) in
-    let numbers : left_of tape ≡ accepted farmer.words = ap left_of f in
-    let dealt : dealt_points curve (left_of tape) ≡ dealt_points own (accepted farmer.words) = rw (e, numbers) refl in
     record {
       prices = ap (λ t. t.prices) sums;
       carry = λ farmers c.
@@ -56,9 +53,9 @@ adds-farmer grid farmer curve tape before after e f of_grid enough sums adds =
           record {
             prices = ap (λ t. t.prices) sums ∙ c.prices;
             points = ap (λ t. t.points) sums
-                ∙ ap (λ points. added points (dealt_points curve (left_of tape))) c.points
-                ∙ ap (λ points. added (summed_points grid.prices farmers) points) dealt
-                ∙ sym (points-more grid.prices farmers farmer long (rw numbers at enough));
+                ∙ ap (λ points. added points (dealt_points curve numbers)) c.points
+                ∙ ap (λ one. added (summed_points grid.prices farmers) (dealt_points one numbers)) e
+                ∙ sym (points-more grid.prices farmers farmer long enough);
             shares = rw values (adds before_all c.shares);
           };
     }
@@ -200,6 +197,11 @@ part-carries grid from count (Err stop) d = tt
 pub holds-anyway : {T : Type 0} (P : Type 0) (result : Result T Stop) → P → IfOk result (λ value. P)
 holds-anyway P (Ok value) p = p
 holds-anyway P (Err stop) p = tt
+
+-- what follows from a test that holds if it passes
+pub holds-passed : {P Q : Type 0} (result : Result (Unit {0}) Stop) → OnOk result P → (P → Q) → IfOk result (λ done. Q)
+holds-passed (Ok done) p f = f p
+holds-passed (Err stop) p f = tt
 
 -- all bidders are dealt after a test
 pub deals-read : (grid : Grid) (bidders : ℕ) {seen : Seen} {test : Errand → Errand} {answer : Answer} {result : Result Totals Stop} →

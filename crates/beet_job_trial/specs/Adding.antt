@@ -31,7 +31,7 @@ pub record CarrySums (grid : Grid) (farmers : List BidderWithWords) (totals : To
   pub points : totals.points ≡ summed_points grid.prices farmers
   pub shares : AreShares (summed_quantities grid.prices (curves_of farmers)) totals.points
 
--- totals over the same grid, which carry the sums of these further bidders too where they carried those of some before
+-- totals over the same grid, which carry the sums of these further bidders too if they carried those of some before
 pub record AddsFarmers (grid : Grid) (more : List BidderWithWords) (before after : Totals) : Type 0 where
   pub prices : after.prices ≡ before.prices
   pub carry : (farmers : List BidderWithWords) → CarrySums grid farmers before → CarrySums grid (farmers ++ more) after

@@ -39,11 +39,11 @@ bidder_seed i = replicate 24 0 ++ number_bytes (FIRST_SEED + i)
 abbrev pub weight : ℕ → ℕ
 weight i = 1 + i % 7
 
--- the weight with which it buys: none where i is odd
+-- the weight with which it buys: none if i is odd
 abbrev pub buying : ℕ → ℕ
 buying i = if i % 2 == 0 then weight i else 0
 
--- the weight with which it sells: none where i is even
+-- the weight with which it sells: none if i is even
 abbrev pub selling : ℕ → ℕ
 selling i = if i % 2 == 0 then 0 else weight i
 

@@ -1,17 +1,18 @@
-//! Dealing the bidders of a trial straight into sums, by threads that each keep the words of one bidder.
+//! Dealing the bidders of a trial straight into sums, by threads that each draw one bidder's numbers after another's.
 
 ghost use Rattle.std.specs.Prelude.{◌≡◌, ◌≤◌, ◌<◌, ◌+◌};
 ghost use Rattle.beet_job_trial.specs.Adding.{AddsPart, CanDealPart, DealsPart};
 ghost use Rattle.beet_job_trial.specs.Rules.{trial_curves};
 ghost use Rattle.beet_words.specs.declared.bundle.TheConstants.{MOST_BIDDERS};
 
-use crate::rules::{curve_at, curves_of, tape_of};
+use crate::rules::{curve_at, curves_of, seed_of};
 use beet_bids::{Curve, Grid};
 use beet_book::Totals;
 use beet_errand::Stop;
 use beet_forms::beside;
-use beet_load::{auction_wants, check_words};
+use beet_load::{auction_wants, check_accepted};
 use beet_parts::{Parts, in_parts};
+use beet_plan::words_kept;
 use std::alloc::Global;
 use std::marker::Sync;
 use std::thread::Threads;
@@ -30,10 +31,8 @@ fn add_bidder(
     ensures { AddsPart grid.now i 1 totals.old totals.new result }
 {
     let curve = curve_at(curves, i);
-    let mut tape = tape_of(alloc, grid, i)?;
-    check_words(alloc, &auction_wants(None, grid), i + 1, &tape)?;
-    totals.deal(curve, &mut tape);
-    Ok(())
+    let drawn = totals.deal_seed(curve, &seed_of(i), 0, words_kept(grid));
+    check_accepted(alloc, &auction_wants(None, grid), i + 1, drawn as u32)
 }
 
 /// Adds so many bidders from bidder `from` on, one after another.
@@ -71,8 +70,8 @@ fn deal_in_order(
     Ok(totals)
 }
 
-/// The bidders of a trial over a grid, and the curves that they have. Nothing is lent to them: each makes its own
-/// words.
+/// The bidders of a trial over a grid, and the curves that they have. Nothing is lent to them: each draws its own
+/// numbers.
 #[derive(Drop)]
 struct Bidders<'a> {
     grid: &'a Grid,
@@ -128,7 +127,7 @@ fn deal_by_threads<R: Threads + Sync>(
 }
 
 /// Makes and deals so many bidders, by a thread for each processor, and adds up their points. The curves are made once,
-/// as many as differ. Each thread draws the words of its own bidders and adds to totals of its own. Where some bidders
+/// as many as differ. Each thread draws the numbers of its own bidders and adds to totals of its own. If some bidders
 /// have too few words, the first in order is named.
 pub(crate) fn deal_bidders<R: Threads + Sync>(
     rt: &R,

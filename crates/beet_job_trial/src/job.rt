@@ -56,7 +56,7 @@ fn sized_reply(
     Ok(Reply::of_text(alloc, outcome.status, text))
 }
 
-/// The points of so many bidders, added up, where each server and then each bidder has enough words.
+/// The points of so many bidders, added up, if each server and then each bidder has enough words.
 fn totals_of<R: Threads + Sync>(
     rt: &R,
     alloc: Global,
@@ -76,7 +76,7 @@ fn totals_of<R: Threads + Sync>(
 }
 
 /// Makes a book of so many bidders over so many prices by rule, deals it bidder by bidder, and clears it among three
-/// servers, in threads and under the gate where `run_servers` says so. The same numbers give the same text. It fetches
+/// servers, in threads and under the gate if `run_servers` says so. The same numbers give the same text. It fetches
 /// nothing.
 pub fn trial<R: Threads + Wait + Clock + Sync, G: Gate>(
     rt: &R,

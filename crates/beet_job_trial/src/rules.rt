@@ -2,8 +2,6 @@
 
 ghost use Rattle.std.specs.Prelude.{◌≡◌, ◌≤◌, IfOk, None, length};
 ghost use Rattle.beet_field.specs.Point.{number_of};
-ghost use Rattle.beet_words.specs.Seeds.{seed_words as words_of_seed};
-ghost use Rattle.beet_plan.specs.Kept.{words_kept as kept_of};
 ghost use Rattle.beet_load.specs.Wanted.{wanted_of};
 ghost use Rattle.beet_load.specs.Servers.{seeded};
 ghost use Rattle.beet_job_trial.specs.Rules.{bidder_seed, bought, buying, selling, server_seed, sold, trial_curve};
@@ -15,8 +13,6 @@ use beet_bids::{Curve, Grid};
 use beet_field::{Point, Trio};
 use beet_gates::Gates;
 use beet_load::{ServerWords, auction_wants, seed_words};
-use beet_plan::words_kept;
-use beet_words::Tape;
 use std::alloc::{AllocError, Global};
 
 /// The lowest price.
@@ -58,21 +54,13 @@ pub(crate) fn servers_of(alloc: Global, grid: &Grid) -> Result<Trio<ServerWords>
 }
 
 /// The seed of bidder `i`, from 0.
-fn seed_of(i: u32) -> [u8; 32]
+pub(crate) fn seed_of(i: u32) -> [u8; 32]
     ensures { result ≡ bidder_seed i }
 {
     let mut seed = [0; 32];
     let number = FIRST_SEED + i as u64;
     seed[24..].copy_from_slice(&number.to_be_bytes());
     seed
-}
-
-/// The words of bidder `i`, at the first.
-pub(crate) fn tape_of(alloc: Global, grid: &Grid, i: u32) -> Result<Tape, AllocError>
-    ensures { IfOk result (λ tape. tape
-        ≡ record { words = words_of_seed (bidder_seed i) 0 (kept_of grid.now.prices); passed = 0 }) }
-{
-    Tape::of_seed(alloc, &seed_of(i), 0, words_kept(grid))
 }
 
 /// The weights with which bidder `i` buys and sells.

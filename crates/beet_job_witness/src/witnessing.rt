@@ -52,7 +52,7 @@ fn witness_entries<S: Shelf, R: Threads + Wait + Clock + Sync, G: Gate>(
     Ok(reply_of_run(rt, alloc, grid, seen, cores, out)?)
 }
 
-/// Opens the envelopes of a list as the job `open` does, in threads and under the gate where `run_servers` says so.
+/// Opens the envelopes of a list as the job `open` does, in threads and under the gate if `run_servers` says so.
 /// What each server has seen is put into the file of the name `out`, a dot and the server's number; the text is that of
 /// `open`. The points in the envelopes need not lie on lines. Right after it was read, the list is refused at row 0 for
 /// the reason 6 if its bidders, each counted once for each price, are more than 500,000.

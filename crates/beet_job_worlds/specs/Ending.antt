@@ -4,24 +4,20 @@ use Rattle.beet_field.specs.declared.point.Point.{Point}
 use Rattle.beet_words.specs.Bundles.{Words}
 use Rattle.beet_bids.specs.Books.{Book}
 use Rattle.beet_two_books.specs.declared.agreeing.MapFault.{MapFault}
-use Rattle.beet_errand.specs.Errands.{Answer, Errand, Step}
+use Rattle.beet_errand.specs.Errands.{Answer, Step}
 use Rattle.beet_errand.specs.Tasks.{Shows, ShowsRead, Task, ToShow}
 use Rattle.beet_errand.specs.declared.answer.OwnRefusal.TheVariants.{OfWorlds}
 use Rattle.beet_errand.specs.declared.answer.Stop.{Stop}
-use Rattle.beet_differences.specs.Comparing.{AnswersBoth, compared, unless_apart}
+use Rattle.beet_differences.specs.Comparing.{AnswersBoth, compared}
 use Rattle.beet_book_differences.specs.Differences.{difference_between, refused_text}
 use Rattle.beet_job_worlds.specs.Reading.{Both, both_errand, first_book, second_book, words_read}
 use Rattle.beet_job_worlds.specs.Answering.{ShowsTheSame}
-
--- two books go on together where there is no difference between them; else the job ends with its line
-abbrev pub unless_differing : Option MapFault → Errand → Errand
-unless_differing = unless_apart refused_text
 
 -- the difference between two books that are read
 abbrev pub difference_read : Point → Both → Option MapFault
 difference_read s both = difference_between s (first_book both) (second_book both)
 
--- both books are read, and they are refused where one server can tell them apart
+-- both books are read, and they are refused if one server can tell them apart
 abbrev pub compared_errand : List ℕ → List ℕ → List ℕ → List ℕ → Point → Step Both
 compared_errand auction servers book1 book2 s =
     compared refused_text (difference_read s) (both_errand auction servers book1 book2)

@@ -41,7 +41,7 @@ fn agreed_reply<R: Threads + Sync>(
     )
 }
 
-/// The answer for two books over one grid: they are refused where they do not agree for server `me`.
+/// The answer for two books over one grid: they are refused if they do not agree for server `me`.
 pub(crate) fn answer_both<R: Threads + Sync>(
     rt: &R,
     alloc: Global,

@@ -31,7 +31,7 @@ pub record Shared : Type 0 where
 abbrev pub number_drawn : Sharing → Setup → Shared → ℕ → ℕ → ℕ → ℕ
 number_drawn q o s j k m = slice_index (o.numbers j) (q.degree * (s.hidden + k) + m)
 
--- this secret, where the lets of the batch are among the wires
+-- this secret, if the lets of the batch are among the wires
 abbrev pub secret_hidden : Setup → Shared → Act → ℕ → ℕ → ℕ
 secret_hidden o s a j k = secret_of a (s.wires j) (slice_index (o.masks j) s.dealt) k
 

@@ -31,7 +31,7 @@ fn words_of(alloc: Global, line: &str) -> Result<Vec<String>, AllocError> {
     Ok(words)
 }
 
-/// 0 where two files hold the same bytes, else 1.
+/// 0 if two files hold the same bytes, else 1.
 fn compare<S: Shelf>(alloc: Global, shelf: &mut S, one: &str, other: &str) -> u8 {
     let Ok(one) = shelf.fetch(alloc, one, FILE_LIMIT) else {
         return 1;
@@ -42,7 +42,7 @@ fn compare<S: Shelf>(alloc: Global, shelf: &mut S, one: &str, other: &str) -> u8
     if one == other { 0 } else { 1 }
 }
 
-/// Says how many bytes a file holds. Answers 0, or 1 where the file or memory is wanting.
+/// Says how many bytes a file holds. Answers 0, or 1 if the file or memory is wanting.
 fn say_size<S: Shelf, K: Desk>(alloc: Global, shelf: &mut S, desk: &mut K, name: &str) -> u8 {
     let Ok(bytes) = shelf.fetch(alloc, name, FILE_LIMIT) else {
         return 1;
@@ -74,7 +74,7 @@ struct SplicedFile<'a> {
     out: &'a str,
 }
 
-/// The bytes, of which so many from a place on give way to others. `None` where there are not as many, or memory runs
+/// The bytes, of which so many from a place on give way to others. `None` if there are not as many, or memory runs
 /// out.
 fn spliced(alloc: Global, bytes: &[u8], words: &SplicedFile<'_>) -> Option<Vec<u8>> {
     let at = words.at.parse::<usize>().ok()?;
@@ -87,7 +87,7 @@ fn spliced(alloc: Global, bytes: &[u8], words: &SplicedFile<'_>) -> Option<Vec<u
     Some(out)
 }
 
-/// Puts a file with other bytes in the place of some. Answers 0, or 1 where that is not done.
+/// Puts a file with other bytes in the place of some. Answers 0, or 1 if that is not done.
 fn splice<S: Shelf, K: Desk>(
     alloc: Global,
     shelf: &mut S,

@@ -19,7 +19,7 @@ use Rattle.beet_errand.specs.declared.answer.Refusal.TheVariants.{TooFewWords}
 use Rattle.beet_words.specs.declared.tape_file.TheConstants.{TAPE_LIMIT}
 use Rattle.beet_bids.specs.declared.bid_file.TheConstants.{BID_LIMIT}
 
--- the list of the bidder at a place, where lists are given
+-- the list of the bidder at a place, if lists are given
 abbrev pub list_at : Option (List (List ℕ)) → ℕ → Option (List ℕ)
 list_at lists i = option_and_then (λ all. slice_get all i) lists
 
@@ -29,12 +29,14 @@ words_errand (Some words) source kept = gives (take kept words)
 words_errand None (Seed seed) kept = gives (seed_words seed 0 kept)
 words_errand None (Tape name) kept = reads name TAPE_LIMIT (λ bytes. tape_of bytes kept)
 
--- of these words enough are accepted, or the bidder with this number has too few
+-- so many accepted words are enough, or the bidder with this number has too few
+abbrev pub enough_accepted : Option ℕ → ℕ → ℕ → ℕ → Errand → Errand
+enough_accepted lot number wanted held next =
+    if nat_lt held wanted then refuses TooFewWords (too_few_text lot number held wanted) else next
+
+-- of these words enough are accepted, or the bidder has too few
 abbrev pub enough_words : Option ℕ → ℕ → ℕ → List ℕ → Errand → Errand
-enough_words lot number wanted words next =
-    if nat_lt (length (accepted words)) wanted
-    then refuses TooFewWords (too_few_text lot number (length (accepted words)) wanted)
-    else next
+enough_words lot number wanted words next = enough_accepted lot number wanted (length (accepted words)) next
 
 -- the words of the bidder with this number: those that are given, or else those of its source
 abbrev pub bidder_errand : Wanted → Option (List ℕ) → ℕ → BidderSource → Step (List ℕ)

@@ -28,7 +28,7 @@ pub record ServerWords : Type 0 where
   pub masks : List ℕ
   pub coefficients : List ℕ
 
--- the words of the three servers, and those of the bidders where a bundle has them
+-- the words of the three servers, and those of the bidders if a bundle has them
 pub record AllWords : Type 0 where
   pub servers : Trio ServerWords
   pub bidders : Option (List (List ℕ))
@@ -50,7 +50,6 @@ pub record HasEnough (counts : Counts) (words : ServerWords) : Type 0 where
   pub coefficients : counts.coefficients ≤ length (accepted words.coefficients)
   pub masks : counts.masks ≤ length words.masks
 
--- each server has
 pub record HaveEnough (counts : Counts) (servers : Trio ServerWords) : Type 0 where
   pub one : HasEnough counts servers.one
   pub two : HasEnough counts servers.two
@@ -135,7 +134,6 @@ cut_servers counts words = record {
   three = cut_server counts words.masks.three words.coefficients.three;
 }
 
--- each server has enough words
 abbrev pub enough_of_all : Wanted → Trio ServerWords → Errand → Errand
 enough_of_all wanted servers next =
     enough_of wanted 1 servers.one (enough_of wanted 2 servers.two (enough_of wanted 3 servers.three next))

@@ -45,7 +45,7 @@ fn read_bids<S: Shelf>(
 }
 
 /// Reads a book without its words, over this grid. Right after its entries were read, it is refused at row 0 for the
-/// reason 6 where its bidders, each counted once for each price, are more than 500,000.
+/// reason 6 if its bidders, each counted once for each price, are more than 500,000.
 pub fn load_curves<S: Shelf>(
     alloc: Global,
     shelf: &mut S,

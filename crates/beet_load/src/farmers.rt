@@ -10,7 +10,8 @@ ghost use Rattle.beet_bids.specs.BidFiles.{bid_of};
 ghost use Rattle.beet_load.specs.WordTexts.{too_few_text};
 ghost use Rattle.beet_errand.specs.Errands.{reads};
 ghost use Rattle.beet_masking.specs.Masks.{with_spare};
-ghost use Rattle.beet_load.specs.Farmers.{words_errand, bidder_errand, farmer_errand, enough_words};
+ghost use Rattle.beet_load.specs.Farmers.{words_errand, bidder_errand, farmer_errand};
+ghost use Rattle.beet_load.specs.Farmers.{enough_accepted, enough_words};
 ghost use Rattle.beet_load.specs.FarmerViews.{farmer_of};
 ghost use Rattle.beet_errand.specs.Fetches.{Reads, Refuses, Tests};
 ghost use Rattle.beet_bids.specs.declared.bid_file.TheConstants.{BID_LIMIT};
@@ -145,23 +146,30 @@ pub(crate) fn too_few_words(
     Stop::of_line(Refusal::TooFewWords, line)
 }
 
-/// Refuses the bidder of this number where its tape, at its first word, has fewer accepted words than it wants, with
-/// the line `too few words: bidder N H of W`. Want of memory is the only other error.
-pub fn check_words(alloc: Global, wanted: &Wanted, number: u32, tape: &Tape) -> Result<(), Stop>
-    requires { tape.now.passed ≡ 0 }
-    ensures tests { Tests (enough_words wanted.now.lot number wanted.now.counts.words tape.now.words) result }
-    ensures enough { OnOk result (wanted.now.counts.words ≤ length (accepted tape.now.words)) }
+/// Refuses the bidder of this number if so many accepted words are fewer than it wants, with the line
+/// `too few words: bidder N H of W`. Want of memory is the only other error.
+pub fn check_accepted(alloc: Global, wanted: &Wanted, number: u32, held: u32) -> Result<(), Stop>
+    ensures tests { Tests (enough_accepted wanted.now.lot number wanted.now.counts.words held) result }
+    ensures enough { OnOk result (wanted.now.counts.words ≤ held) }
 {
     let want = wanted.counts.words();
-    let held = tape.accepted_left();
     if held < want {
         return Err(too_few_words(alloc, wanted.lot, number, held, want));
     }
     Ok(())
 }
 
+/// Refuses the bidder of this number as `check_accepted` does, by the accepted words of its tape, at its first word.
+pub fn check_words(alloc: Global, wanted: &Wanted, number: u32, tape: &Tape) -> Result<(), Stop>
+    requires { tape.now.passed ≡ 0 }
+    ensures tests { Tests (enough_words wanted.now.lot number wanted.now.counts.words tape.now.words) result }
+    ensures enough { OnOk result (wanted.now.counts.words ≤ length (accepted tape.now.words)) }
+{
+    check_accepted(alloc, wanted, number, tape.accepted_left())
+}
+
 /// The tape of the bidder of this number, at its first word: the words that are given or those of its source, cut to
-/// those that are kept. Where they are fewer than are wanted, it is refused as by `check_words`; a tape file that
+/// those that are kept. If they are fewer than are wanted, it is refused as by `check_words`; a tape file that
 /// cannot be fetched, is too long or breaks the format is refused with its line.
 pub fn read_bidder<S: Shelf>(
     alloc: Global,

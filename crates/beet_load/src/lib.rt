@@ -21,7 +21,8 @@ pub use books::{read_entries, read_grid};
 pub use collecting::{add_farmers, list_of};
 pub use curves::load_curves;
 pub use farmers::{
-    BidderWithTape, check_words, front, read_bidder, read_curve, read_farmer, read_tape_file,
+    BidderWithTape, check_accepted, check_words, front, read_bidder, read_curve, read_farmer,
+    read_tape_file,
 };
 pub use files::AuctionFiles;
 pub use keeping::{Farmers, read_farmers};

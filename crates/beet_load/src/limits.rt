@@ -12,7 +12,7 @@ use beet_errand::{Stop, refuse};
 use beet_forms::FaultPlace;
 use std::alloc::Global;
 
-/// Refuses the book of this name at row 0 for the reason 6 where its bidders, at most 2,000, each counted once for each
+/// Refuses the book of this name at row 0 for the reason 6 if its bidders, at most 2,000, each counted once for each
 /// price of the grid, are more than 500,000 with those of the books before it. Want of memory is the only other error.
 pub fn check_product(
     alloc: Global,

@@ -53,7 +53,7 @@ impl ServerWords {
     }
 }
 
-/// The words of the servers, and those of the bidders where a bundle has them.
+/// The words of the servers, and those of the bidders if a bundle has them.
 #[derive(Drop)]
 pub struct AllWords {
     pub servers: Trio<ServerWords>,
@@ -171,7 +171,7 @@ fn too_few_words(
     Stop::of_line(Refusal::TooFewWords, line)
 }
 
-/// Refuses the server of this number where it has too few words, of which those for numbers are counted first.
+/// Refuses the server of this number if it has too few words, of which those for numbers are counted first.
 fn check_counts(
     alloc: Global,
     wanted: &Wanted,
@@ -195,7 +195,7 @@ fn check_counts(
     Ok(())
 }
 
-/// The words of the server of this number, cut to those that are kept. Where they are fewer than are wanted, the server
+/// The words of the server of this number, cut to those that are kept. If they are fewer than are wanted, the server
 /// is refused with the line `too few words: server S coefficients H of W` or `too few words: server S masks H of W`,
 /// which names a lot before the server; a tape file that cannot be fetched, is too long or breaks the format is refused
 /// with its line.
@@ -238,7 +238,7 @@ fn read_three<S: Shelf>(
     Ok(Trio { one, two, three })
 }
 
-/// The fault of a bundle that has another number of bidders, where a number is given.
+/// The fault of a bundle that has another number of bidders, if a number is given.
 fn check_count(words: &Words, count: Option<usize>) -> Result<(), ReadFault>
     ensures { Answers (λ done. words.now) (counted count (Ok words.now)) result }
 {
@@ -248,7 +248,7 @@ fn check_count(words: &Words, count: Option<usize>) -> Result<(), ReadFault>
     }
 }
 
-/// The words of a bundle, which has so many bidders where a number is given.
+/// The words of a bundle, which has so many bidders if a number is given.
 fn counted_bundle(alloc: Global, bytes: &[u8], count: Option<usize>) -> Result<Words, ReadFault>
     requires { length bytes.now ≤ LONGEST_FILE }
     ensures { Answers (λ words. words) (counted count (bundle_of bytes.now)) result }
@@ -358,7 +358,7 @@ fn read_bundled<S: Shelf>(
     Ok(words)
 }
 
-/// All words, of the servers and of so many bidders where a bundle has them.
+/// All words, of the servers and of so many bidders if a bundle has them.
 pub fn read_words<S: Shelf>(
     alloc: Global,
     shelf: &mut S,

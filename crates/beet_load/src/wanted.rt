@@ -85,7 +85,7 @@ impl Counts {
     }
 }
 
-/// What is wanted of the words that a job reads: how many of them, and for which lot, where it has several. The lot,
+/// What is wanted of the words that a job reads: how many of them, and for which lot, if it has several. The lot,
 /// counted from 0, says which streams of a server's seed hold its words, and is named in the line on too few of them.
 #[derive(Clone, Copy)]
 pub struct Wanted {

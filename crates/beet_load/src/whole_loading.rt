@@ -99,7 +99,7 @@ pub fn load_whole_rest<S: Shelf>(
 }
 
 /// Reads an auction, its servers and its book, which is kept whole. Right after it was read, the book is refused at row
-/// 0 for the reason 6 where its bidders, each counted once for each price, are more than 500,000.
+/// 0 for the reason 6 if its bidders, each counted once for each price, are more than 500,000.
 pub fn load_whole<S: Shelf>(
     alloc: Global,
     shelf: &mut S,

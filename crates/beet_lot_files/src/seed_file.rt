@@ -9,7 +9,7 @@ use beet_book::{ServerSource, Servers, read_servers};
 use beet_forms::{ReadFault, beside};
 use std::alloc::Global;
 
-/// The reason against the first row of a servers file that has no seed, where all servers are to have one.
+/// The reason against the first row of a servers file that has no seed, if all servers are to have one.
 pub const NOT_SEED: u32 = 7;
 
 /// Whether the words of a server come from a seed.
@@ -49,7 +49,7 @@ fn check_seeds(servers: &Servers) -> Result<(), ReadFault>
 
 /// Where the words of the servers of a session come from: a servers file, as `read_servers` reads it, with a seed for
 /// each server. One in which nothing else is wrong is refused as [`NOT_SEED`] at the first row of a server that has no
-/// seed, or at row 2 where that names a bundle.
+/// seed, or at row 2 if that names a bundle.
 pub fn read_seed_servers(alloc: Global, bytes: &[u8]) -> Result<Servers, ReadFault>
     requires { length bytes.now ≤ LONGEST_FILE }
     ensures { Answers (λ servers. servers) (seed_servers_of bytes.now) result }

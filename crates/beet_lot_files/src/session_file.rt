@@ -42,7 +42,6 @@ fn lot_of(name: Option<Name>, auction: Option<Name>, book: Option<Name>) -> Resu
     })
 }
 
-/// The lot of a row.
 fn read_lot(alloc: Global, number: u32, row: &Row) -> Result<LotRow, ReadFault>
     ensures lot { Answers (λ lot. lot) (reading_at number (lot_in row.now)) result }
     ensures name { IfOk result (λ lot. lot.name ≡ first_field row.now) }

@@ -7,7 +7,7 @@ pub record LotTriple : Type 0 where
   pub lot : ℕ
   pub triple : Triple
 
--- an event changes the set of its lot as it does where there is that lot alone, and no other; the run of each lot has
+-- an event changes the set of its lot as it does if there is that lot alone, and no other; the run of each lot has
 -- so many rounds
 abbrev pub deliver_in : (ℕ → ℕ) → (ℕ → Delivered) → LotTriple → ℕ → Delivered
 deliver_in rounds x e lot = if lot == e.lot then deliver (rounds lot) (x lot) e.triple else x lot

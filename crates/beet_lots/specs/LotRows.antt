@@ -13,11 +13,11 @@ abbrev pub lot_numbered : Result ℕ NumberFault → Option ℕ
 lot_numbered (Ok number) = if number == 0 then None else Some (number - 1)
 lot_numbered (Err fault) = None
 
--- the lot that a field names, of so many lots, or none where it names none of them
+-- the lot that a field names, of so many lots, or none if it names none of them
 abbrev pub lot_named : ℕ → List ℕ → Option ℕ
 lot_named lots field = lot_numbered (number_of field lots)
 
--- the delivery of a message of a lot, where there are both
+-- the delivery of a message of a lot, if there are both
 abbrev pub in_lot : Option ℕ → Option Delivery → Option LotDelivery
 in_lot (Some lot) (Some delivery) = Some (record { lot = lot; delivery = delivery })
 in_lot _ _ = None
@@ -27,6 +27,6 @@ abbrev pub lot_delivery_of_fields : ℕ → Option (List ℕ × List ℕ × List
 lot_delivery_of_fields lots None = None
 lot_delivery_of_fields lots (Some (lot, from, to, round)) = in_lot (lot_named lots lot) (delivery_named from to round)
 
--- the delivery of a row in a schedule for so many lots, or none where the row is not of its form
+-- the delivery of a row in a schedule for so many lots, or none if the row is not of its form
 abbrev pub lot_delivery_in : ℕ → Row → Option LotDelivery
 lot_delivery_in lots row = lot_delivery_of_fields lots (four_of row)

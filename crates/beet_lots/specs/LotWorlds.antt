@@ -49,7 +49,7 @@ module _ {S : Type 0} (next : S → ℕ → List ℕ → Batch) (inputs most : S
     pub delivered : delivered_in now ≡ after_from (rounds_in next inputs most before) (delivered_in before) es
     pub start : now.start ≡ before.start
 
-  -- lots after a list of events: in each lot that is delivered which the events of this lot alone deliver
+  -- lots after a list of events: in each lot those messages are delivered that its own events deliver
   pub record PlaysIn (old new : List (World S)) (es : List LotTriple) : Type 0 where
     pub many : length new ≡ length old
     pub each : (lot : ℕ) (before now : World S) → slice_get old lot ≡ Some before → slice_get new lot ≡ Some now →

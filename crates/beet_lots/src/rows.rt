@@ -17,7 +17,7 @@ fn read_lot(lots: u32, field: &[u8]) -> Option<u32>
     }
 }
 
-/// The delivery of a row `LOT,FROM,TO,ROUND`, or none where the row is not of its form.
+/// The delivery of a row `LOT,FROM,TO,ROUND`, or none if the row is not of its form.
 fn read_row(lots: u32, row: &Row) -> Option<LotDelivery>
     ensures { result ≡ lot_delivery_in lots row.now }
 {

@@ -13,11 +13,9 @@ pub record Secrets : Type 0 where
   pub inputs : List Line
   pub masks : Trio (List ℕ)
 
--- the values of lines
 abbrev pub values_of : List Line → List ℕ
 values_of lines = map (λ l. l.value) lines
 
--- their slopes
 abbrev pub slopes_of : List Line → List ℕ
 slopes_of lines = map (λ l. l.slope) lines
 

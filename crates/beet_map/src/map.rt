@@ -18,10 +18,9 @@ use std::alloc::Global;
 /// The coefficient words of the second world that show the server `me` what these words show it in
 /// the first: its points, each message to it and the opened numbers are the same in both.
 ///
-/// They are the only words that do so and keep the places of the words that are all ones, and these
-/// words are the only ones of the first world that they belong to. Words past those that the run
-/// draws stay as they are. The refusals are tested in the order of [`GateFault`]; want of memory may
-/// come at any time.
+/// They are the only such words that keep the places of the words of all ones, and they are mapped from these words
+/// alone. Words past those that the run draws stay as they are. The refusals are tested in the order of [`GateFault`];
+/// want of memory may come at any time.
 pub fn gate_map<S: Script<3>>(
     alloc: Global,
     me: Point,

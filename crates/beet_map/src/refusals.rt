@@ -29,7 +29,7 @@ pub enum GateFault {
     /// The first of the server's mask words that differs, counted from 0.
     #[error("mask word {0} of the server differs")]
     OwnMaskDiffers(u32),
-    /// The first opened number that differs, counted from 0, with the number of each world; none where
+    /// The first opened number that differs, counted from 0, with the number of each world; none if
     /// a run opens fewer.
     #[error("opened number {place} differs")]
     RevealDiffers {

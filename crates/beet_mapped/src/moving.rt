@@ -27,7 +27,7 @@ fn word_for(me: Point, first: &[Fe], second: &[Fe], drawn: usize, word: Word) ->
     ))
 }
 
-/// One more where the word is drawn as a number.
+/// One more if the word is drawn as a number.
 fn count_drawn(before: usize, word: Word) -> usize
     requires { before + 1 < 2 ^ 64 }
     ensures { result ≡ before + (if word == ones then 0 else 1) }

@@ -74,7 +74,7 @@ abbrev pub product_batches : Gates → List Linear → ℕ → List Batch
 product_batches Chain lets bits = chain_batches lets bits
 product_batches Tree lets bits = tree_batches 6 lets 61 (λ k. bits + k) (bits + 61)
 
--- the batches where n words are left, of which the first has its bits from `right` on: the exclusive or of those before
+-- the batches if n words are left, of which the first has its bits from `right` on: the exclusive or of those before
 -- it, which the lets form, has its bits from `left` on, and the products begin at the first free wire
 abbrev pub xor_batches : Gates → ℕ → List Linear → ℕ → ℕ → ℕ → List Batch
 xor_batches gates zero lets left right free = product_batches gates lets left
@@ -115,7 +115,7 @@ abbrev pub mask_of : ℕ → ℕ → ℕ → ℕ
 mask_of a b c = xor_of (a ∷ b ∷ c ∷ [])
 
 -- what a block of so many words leaves on plain values, where r is the mask: the wires before it stand, the bits of r
--- have their place, one number is opened, which is 1 where all 61 bits are 1 and else 0, and one word of each server is
+-- have their place, one number is opened, which is 1 if all 61 bits are 1 and else 0, and one word of each server is
 -- dealt
 pub record AfterMask (words first r : ℕ) (before after : Values) : Type 0 where
   pub more : List ℕ

@@ -1,7 +1,7 @@
 //! The block of a mask: each of three servers deals the bits of one word, and the mask is the exclusive or of the
 //! words.
 //!
-//! The product of the bits of the mask is opened. Where it is 1, all bits are 1 and the mask is to be rejected.
+//! The product of the bits of the mask is opened. If it is 1, all bits are 1 and the mask is to be rejected.
 #![tactic(auto)]
 
 ghost use Rattle.std.specs.Prelude.{◌≡◌, ◌<◌, ◌≤◌, ◌+◌, ◌-◌, ◌*◌, ◌^◌, ◌↔◌, ℕ, List, [], ◌∷◌, length, slice_get};
@@ -293,8 +293,8 @@ pub fn mask_batch(gates: Gates, words: u32, step: u32, first: u32) -> Option<Bat
     Some(batch)
 }
 
-/// What a block does on plain values, wherever it stands and whatever was opened before it: where two words or more are
-/// dealt, the wires of the mask are the bits of their exclusive or, and the opened number is 1 exactly where all 61 are
+/// What a block does on plain values, wherever it stands and whatever was opened before it: if two words or more are
+/// dealt, the wires of the mask are the bits of their exclusive or, and the opened number is 1 exactly if all 61 are
 /// 1.
 pub fn mask_law()
     ensures { (deals : ℕ → List ℕ) (gates : Gates) (first a b : ℕ) (ws : List ℕ) (before : Values) →

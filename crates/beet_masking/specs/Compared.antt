@@ -3,7 +3,7 @@ use Rattle.std.specs.Prelude.{ℕ, List, length, slice_get, Option, None, nat_le
 use Rattle.beet_masking.specs.declared.TheConstants.{SPARE_MASKS}
 use Rattle.beet_masking.specs.Masks.{is_accepted, rejected_among, accepted_among}
 
--- what a mask is compared for, if it is: where it is accepted, after no more rejected ones than may be, what comes
+-- what a mask is compared for, if it is: if it is accepted, after no more rejected ones than may be, what comes
 -- after those of the masks that were accepted before
 abbrev pub item_after : {A : Type 0} → List A → ℕ → ℕ → ℕ → Option A
 item_after items mask rejected accepted =

@@ -28,7 +28,7 @@ dealt_at words i = bits_of (words_at words i)
 abbrev pub mask_among : List (List ℕ) → ℕ → ℕ
 mask_among words i = xor_of (words_at words i)
 
--- a mask is accepted where it is not all ones
+-- a mask is accepted if it is not all ones
 abbrev pub is_accepted : ℕ → Bool
 is_accepted mask = if mask == p then false else true
 
@@ -43,11 +43,11 @@ accepted_among masks n = filter (λ i. is_accepted (masks i)) (range_with_len 0 
 abbrev pub is_spent : (ℕ → ℕ) → ℕ → Bool
 is_spent masks c = nat_le (SPARE_MASKS + 1) (length (rejected_among masks (c + SPARE_MASKS)))
 
--- how many masks are dealt where it is spent: up to the first that is one too many
+-- how many masks are dealt if it is spent: up to the first that is one too many
 abbrev pub dealt_until_spent : (ℕ → ℕ) → ℕ → ℕ
 dealt_until_spent masks c = slice_index (rejected_among masks (c + SPARE_MASKS)) SPARE_MASKS + 1
 
--- how many masks are dealt where it is not: up to the c-th accepted one
+-- how many masks are dealt if it is not: up to the c-th accepted one
 abbrev pub dealt_for : (ℕ → ℕ) → ℕ → ℕ
 dealt_for masks zero = 0
 dealt_for masks (suc k) = slice_index (accepted_among masks (suc k + SPARE_MASKS)) k + 1

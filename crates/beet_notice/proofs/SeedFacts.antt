@@ -23,7 +23,7 @@ use Rattle.beet_book.specs.BookFiles.{book_of}
 use Rattle.beet_book.specs.ServerFiles.{servers_of}
 use Rattle.beet_notice.specs.Notices.{come_twice, if_read, is_among, seeds_fetched, seeds_in}
 use Rattle.beet_notice.specs.Notices.{seeds_of_entries, seeds_of_servers, seeds_seen}
-use Rattle.beet_notice.specs.Noting.{HasNoted, Keeps}
+use Rattle.beet_notice.specs.Noting.{HasNoted, HasSeeds}
 use Rattle.beet_notice.specs.declared.seeds.Seeds.{Seeds}
 use Rattle.beet_notice.specs.declared.watch.TheConstants.{BOOK}
 use Rattle.beet_notice.specs.declared.watch.Watch.{Watch}
@@ -64,7 +64,7 @@ not-not : (a : Bool) → not (not a) ≡ a
 not-not true = refl
 not-not false = refl
 
-module _ (seeds : List (List ℕ)) (seed : List ℕ) (before after : Seeds) (new : Bool) (keeps : Keeps seeds before)
+module _ (seeds : List (List ℕ)) (seed : List ℕ) (before after : Seeds) (new : Bool) (keeps : HasSeeds seeds before)
     (updates : Updates (slice_cmp nat_cmp) before.set after.set seed true)
     (added : new ≡ not (contains (slice_cmp nat_cmp) before.set seed)) where
   set-more : (other : List ℕ) → contains_by (slice_cmp nat_cmp other) after.set ≡ is_among other (seeds ++ seed ∷ [])
@@ -75,7 +75,7 @@ module _ (seeds : List (List ℕ)) (seed : List ℕ) (before after : Seeds) (new
       ∙ either-way (bytes_eq other seed) (is_among other seeds)
       ∙ sym (among-more other seed seeds)
 
-  pub keeps-more : after.twice ≡ (before.twice || not new) → Keeps (seeds ++ seed ∷ []) after
+  pub keeps-more : after.twice ≡ (before.twice || not new) → HasSeeds (seeds ++ seed ∷ []) after
   keeps-more twice = record {
     set = set-more;
     twice = twice
@@ -111,9 +111,9 @@ uncounted-more (auction ∷ servers ∷ book ∷ others) fetch none = refl
 -- ---- what is kept after a file
 
 -- nothing more
-pub keeps-same : (seeds more : List (List ℕ)) (kept : Seeds) → more ≡ [] → Keeps seeds kept → Keeps (seeds ++ more) kept
+pub keeps-same : (seeds more : List (List ℕ)) (kept : Seeds) → more ≡ [] → HasSeeds seeds kept → HasSeeds (seeds ++ more) kept
 keeps-same seeds more kept none keeps =
-    subst (λ l. Keeps l kept) (sym (ap (λ l. seeds ++ l) none ∙ append-nil seeds)) keeps
+    subst (λ l. HasSeeds l kept) (sym (ap (λ l. seeds ++ l) none ∙ append-nil seeds)) keeps
 
 pub fetched-short : (bytes : List ℕ) → length bytes ≤ LONGEST_FILE → seeds_fetched (Bytes bytes) ≡ seeds_in bytes
 fetched-short bytes short = rw (le-ltb LONGEST_FILE (length bytes) short) refl
@@ -129,10 +129,10 @@ none-read view seeds reading fault place reason e answers =
 pub keeps-file : (before : List (List ℕ)) (bytes : List ℕ) (kept : Seeds) (servers bidders : List (List ℕ)) →
     length bytes ≤ LONGEST_FILE → if_read seeds_of_servers (servers_of bytes) ≡ servers →
     if_read seeds_of_entries (book_of bytes) ≡ bidders →
-    Keeps ((before ++ servers) ++ bidders) kept → Keeps (before ++ seeds_fetched (Bytes bytes)) kept
+    HasSeeds ((before ++ servers) ++ bidders) kept → HasSeeds (before ++ seeds_fetched (Bytes bytes)) kept
 keeps-file before bytes kept servers bidders short s b keeps =
-    subst (λ l. Keeps (before ++ l) kept) (sym (fetched-short bytes short ∙ (λ j. s j ++ b j)))
-    (subst (λ l. Keeps l kept) (append_assoc before servers bidders) keeps)
+    subst (λ l. HasSeeds (before ++ l) kept) (sym (fetched-short bytes short ∙ (λ j. s j ++ b j)))
+    (subst (λ l. HasSeeds l kept) (append_assoc before servers bidders) keeps)
 
 -- ---- what is kept after an answer
 
@@ -149,17 +149,18 @@ module _ (fetches : List Fetch) (fetch : Fetch) (before after : Watch) (noted : 
     noted = λ kept.
         let same = uncounted-more fetches fetch
         (λ some few. none (omega (arith, noted.counted, some, few)) (omega (arith, noted.counted, some, few))) in
-        subst (λ l. Keeps l after.seeds) (sym same)
-        (subst (Keeps (seeds_seen fetches)) (sym s) (noted.noted (sym l ∙ kept)));
+        subst (λ l. HasSeeds l after.seeds) (sym same)
+        (subst (HasSeeds (seeds_seen fetches)) (sym s) (noted.noted (sym l ∙ kept)));
   }
 
   -- that counts
   pub notes : 0 < before.count → before.count < BOOK →
-      (after.lost ≡ false → Keeps (seeds_seen fetches ++ seeds_fetched fetch.answer) after.seeds) → HasNoted (fetches ++ fetch ∷ []) after
+      (after.lost ≡ false → HasSeeds (seeds_seen fetches ++ seeds_fetched fetch.answer) after.seeds) →
+      HasNoted (fetches ++ fetch ∷ []) after
   notes some few keeps = record {
     counted = counted;
     noted = λ kept.
-        subst (λ l. Keeps l after.seeds)
+        subst (λ l. HasSeeds l after.seeds)
         (sym (counted-more fetches fetch (omega (arith, noted.counted, some, few)) (omega (arith, noted.counted, some, few))))
         (keeps kept);
   }

@@ -20,12 +20,10 @@ abbrev pub seed_of_server : ServerSource → List (List ℕ)
 seed_of_server (ServerSeed seed) = seed ∷ []
 seed_of_server (Tapes coefficients masks) = []
 
--- that of a bidder
 abbrev pub seed_of_bidder : BidderSource → List (List ℕ)
 seed_of_bidder (BidderSeed seed) = seed ∷ []
 seed_of_bidder (Tape name) = []
 
--- the seeds of the servers
 abbrev pub seeds_of_servers : Servers → List (List ℕ)
 seeds_of_servers (Three sources) =
     seed_of_server sources.one ++ (seed_of_server sources.two ++ seed_of_server sources.three)

@@ -10,14 +10,14 @@ use Rattle.beet_notice.specs.declared.watch.Watch.{Watch}
 use Rattle.beet_notice.specs.declared.watch.TheConstants.{BOOK}
 
 -- the set of these seeds, and whether one comes twice
-pub record Keeps (seeds : List (List ℕ)) (kept : Seeds) : Type 0 where
+pub record HasSeeds (seeds : List (List ℕ)) (kept : Seeds) : Type 0 where
   pub set : (seed : List ℕ) → contains_by (slice_cmp nat_cmp seed) kept.set ≡ is_among seed seeds
   pub twice : kept.twice ≡ come_twice seeds
 
 -- of these fetches the seeds are kept, unless some were lost
 pub record HasNoted (fetches : List Fetch) (watch : Watch) : Type 0 where
   pub counted : watch.count ≡ min BOOK (length fetches)
-  pub noted : watch.lost ≡ false → Keeps (seeds_seen fetches) watch.seeds
+  pub noted : watch.lost ≡ false → HasSeeds (seeds_seen fetches) watch.seeds
 
 -- a shelf that is watched, and whether memory for a seed was wanting
 pub record Watching (S : Type 0) : Type 0 where

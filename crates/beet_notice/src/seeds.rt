@@ -1,7 +1,7 @@
 //! The seeds of the sources of words, and whether one of them comes twice.
 
 ghost use Rattle.std.specs.Prelude.{◌≡◌, ◌++◌, ◌∷◌, [], ℕ, List, OnOk};
-ghost use Rattle.beet_notice.specs.Noting.{Keeps};
+ghost use Rattle.beet_notice.specs.Noting.{HasSeeds};
 ghost use Rattle.beet_notice.specs.Notices.{seed_of_bidder, seed_of_server, seeds_of_entries, seeds_of_servers};
 
 use beet_book::{BidderSource, Entry, ServerSource, Servers};
@@ -17,7 +17,7 @@ pub(crate) struct Seeds {
 
 impl Seeds {
     pub(crate) fn new(alloc: Global) -> Seeds
-        ensures { Keeps [] result }
+        ensures { HasSeeds [] result }
     {
         Seeds {
             set: BTreeSet::new(alloc),
@@ -33,7 +33,8 @@ impl Seeds {
     }
 
     fn note(&mut self, seed: [u8; 32]) -> Result<(), AllocError>
-        ensures { OnOk result ((seeds : List (List ℕ)) → Keeps seeds self.old → Keeps (seeds ++ seed ∷ []) self.new) }
+        ensures { OnOk result ((seeds : List (List ℕ)) → HasSeeds seeds self.old
+            → HasSeeds (seeds ++ seed ∷ []) self.new) }
     {
         let Ok(new) = self.set.insert(seed) else {
             return Err(AllocError);
@@ -43,8 +44,8 @@ impl Seeds {
     }
 
     fn note_server(&mut self, source: &ServerSource) -> Result<(), AllocError>
-        ensures { OnOk result ((seeds : List (List ℕ)) → Keeps seeds self.old
-            → Keeps (seeds ++ seed_of_server source.now) self.new) }
+        ensures { OnOk result ((seeds : List (List ℕ)) → HasSeeds seeds self.old
+            → HasSeeds (seeds ++ seed_of_server source.now) self.new) }
     {
         match source {
             ServerSource::Seed(seed) => self.note(*seed),
@@ -53,8 +54,8 @@ impl Seeds {
     }
 
     fn note_bidder(&mut self, source: &BidderSource) -> Result<(), AllocError>
-        ensures { OnOk result ((seeds : List (List ℕ)) → Keeps seeds self.old
-            → Keeps (seeds ++ seed_of_bidder source.now) self.new) }
+        ensures { OnOk result ((seeds : List (List ℕ)) → HasSeeds seeds self.old
+            → HasSeeds (seeds ++ seed_of_bidder source.now) self.new) }
     {
         match source {
             BidderSource::Seed(seed) => self.note(*seed),
@@ -63,8 +64,8 @@ impl Seeds {
     }
 
     pub(crate) fn note_servers(&mut self, servers: &Servers) -> Result<(), AllocError>
-        ensures { OnOk result ((seeds : List (List ℕ)) → Keeps seeds self.old
-            → Keeps (seeds ++ seeds_of_servers servers.now) self.new) }
+        ensures { OnOk result ((seeds : List (List ℕ)) → HasSeeds seeds self.old
+            → HasSeeds (seeds ++ seeds_of_servers servers.now) self.new) }
     {
         let Servers::Three(sources) = servers else {
             return Ok(());
@@ -76,8 +77,8 @@ impl Seeds {
     }
 
     pub(crate) fn note_entries(&mut self, entries: &[Entry]) -> Result<(), AllocError>
-        ensures { OnOk result ((seeds : List (List ℕ)) → Keeps seeds self.old
-            → Keeps (seeds ++ seeds_of_entries entries.now) self.new) }
+        ensures { OnOk result ((seeds : List (List ℕ)) → HasSeeds seeds self.old
+            → HasSeeds (seeds ++ seeds_of_entries entries.now) self.new) }
     {
         for entry in entries {
             self.note_bidder(&entry.source)?;

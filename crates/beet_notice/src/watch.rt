@@ -1,7 +1,7 @@
 //! What is kept of the answers of a shelf: the seeds in those of them that count.
 
 ghost use Rattle.std.specs.Prelude.{◌≡◌, ◌≤◌, ◌<◌, ◌+◌, ◌++◌, ℕ, List, OnOk, [], false, length, if◌then◌else◌, min};
-ghost use Rattle.beet_notice.specs.Noting.{HasNoted, Keeps};
+ghost use Rattle.beet_notice.specs.Noting.{HasNoted, HasSeeds};
 ghost use Rattle.beet_notice.specs.Notices.{if_read, seeds_fetched, seeds_of_entries, seeds_of_servers};
 ghost use Rattle.beet_book.specs.BookFiles.{book_of};
 ghost use Rattle.beet_book.specs.ServerFiles.{servers_of};
@@ -16,8 +16,8 @@ use std::alloc::{AllocError, Global};
 /// Notes the seeds in a file of servers; another file has none. Want of memory is the only error.
 fn note_servers(alloc: Global, seeds: &mut Seeds, bytes: &[u8]) -> Result<(), AllocError>
     requires { length bytes.now ≤ LONGEST_FILE }
-    ensures { OnOk result ((before : List (List ℕ)) → Keeps before seeds.old
-        → Keeps (before ++ if_read seeds_of_servers (servers_of bytes.now)) seeds.new) }
+    ensures { OnOk result ((before : List (List ℕ)) → HasSeeds before seeds.old
+        → HasSeeds (before ++ if_read seeds_of_servers (servers_of bytes.now)) seeds.new) }
 {
     match read_servers(alloc, bytes) {
         Ok(servers) => {
@@ -32,8 +32,8 @@ fn note_servers(alloc: Global, seeds: &mut Seeds, bytes: &[u8]) -> Result<(), Al
 /// Notes the seeds in a book; another file has none. Want of memory is the only error.
 fn note_book(alloc: Global, seeds: &mut Seeds, bytes: &[u8]) -> Result<(), AllocError>
     requires { length bytes.now ≤ LONGEST_FILE }
-    ensures { OnOk result ((before : List (List ℕ)) → Keeps before seeds.old
-        → Keeps (before ++ if_read seeds_of_entries (book_of bytes.now)) seeds.new) }
+    ensures { OnOk result ((before : List (List ℕ)) → HasSeeds before seeds.old
+        → HasSeeds (before ++ if_read seeds_of_entries (book_of bytes.now)) seeds.new) }
 {
     match read_book(alloc, bytes) {
         Ok(entries) => {
@@ -47,8 +47,8 @@ fn note_book(alloc: Global, seeds: &mut Seeds, bytes: &[u8]) -> Result<(), Alloc
 
 /// Notes the seeds in a file. Want of memory is the only error.
 fn note_file(alloc: Global, seeds: &mut Seeds, bytes: &[u8]) -> Result<(), AllocError>
-    ensures { OnOk result ((before : List (List ℕ)) → Keeps before seeds.old
-        → Keeps (before ++ seeds_fetched (Bytes bytes.now)) seeds.new) }
+    ensures { OnOk result ((before : List (List ℕ)) → HasSeeds before seeds.old
+        → HasSeeds (before ++ seeds_fetched (Bytes bytes.now)) seeds.new) }
 {
     if bytes.len() as u64 > LONGEST_FILE {
         return Ok(());
@@ -106,8 +106,8 @@ impl Watch {
     fn note_counted(&mut self, alloc: Global, bytes: &[u8])
         requires { self.old.count < BOOK }
         ensures count { self.new.count ≡ self.old.count + 1 }
-        ensures seeds { (before : List (List ℕ)) → (self.old.lost ≡ false → Keeps before self.old.seeds)
-            → self.new.lost ≡ false → Keeps (before ++ seeds_fetched (Bytes bytes.now)) self.new.seeds }
+        ensures seeds { (before : List (List ℕ)) → (self.old.lost ≡ false → HasSeeds before self.old.seeds)
+            → self.new.lost ≡ false → HasSeeds (before ++ seeds_fetched (Bytes bytes.now)) self.new.seeds }
     {
         self.count += 1;
         if note_file(alloc, &mut self.seeds, bytes).is_err() {

@@ -12,7 +12,7 @@ pub data Job : Type 0 where
   Answering : Errand → Job
   Comparing : List ℕ → List ℕ → List ℕ → Point → List ℕ → Job
 
--- the job that the words name, where a program has this table of the errands of its own commands, of which none has
+-- the job that the words name, if a program has this table of the errands of its own commands, of which none has
 -- five words
 abbrev pub job_in : (Words → Option Errand) → Words → Option Job
 job_in own (WithFive command first second servers server out) =
@@ -22,7 +22,7 @@ job_in own words = option_map Answering (own words)
 abbrev pub job_of : (Words → Option Errand) → List (List ℕ) → Option Job
 job_of own words = job_in own (words_in words)
 
--- the task of the job that words name, where a program has this one for two files that it compares
+-- the task of the job that words name, if a program has this one for two files that it compares
 abbrev pub task_of : (List ℕ → List ℕ → List ℕ → Point → List ℕ → Task) → Option Job → Task
 task_of comparing None = NoTask
 task_of comparing (Some (Answering errand)) = ToAnswer errand

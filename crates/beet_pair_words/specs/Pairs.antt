@@ -13,8 +13,8 @@ pair_of made command first second servers server out =
     then option_map (λ s. made first second servers s out) (server_of server)
     else None
 
--- what the words of a command `pair` stand for: two files that are compared, that of the servers, one of these, and the
--- name with which the files that are put begin
+-- what the words of a command `pair` stand for: the two files to compare, the servers file, a server, and the name with
+-- which the files that are put begin
 pub record Pair : Type 0 where
   pub first : List ℕ
   pub second : List ℕ
@@ -31,7 +31,6 @@ words_of first second servers s out = record {
   out = out;
 }
 
--- the words that are read
 abbrev pub read_words : PairFiles × Point → Pair
 read_words read = words_of read.0.first.now read.0.second.now read.0.servers.now read.1 read.0.out.now
 

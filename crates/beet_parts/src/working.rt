@@ -11,7 +11,7 @@ use std::thread::{Threads, available_parallelism, join_mut};
 const FEWEST_FOR_TWO: usize = 16;
 
 /// Work on items that have numbers in a row. A part of it is the items from one number on, and gives one result. Each
-/// item may be lent something of its own, a `T`, that the work changes; where nothing is lent, the list of it is empty.
+/// item may be lent something of its own, a `T`, that the work changes; if nothing is lent, the list of it is empty.
 pub trait Parts<T, X> {
     /// The items from a number on, so many, can be done with what is lent to them.
     ghost can: { Self → ℕ → ℕ → List T → Type 0 };
@@ -39,7 +39,7 @@ pub trait Parts<T, X> {
         can s from few front × can s (from + few) rest back };
 }
 
-/// How many threads can work at the same time: one for each processor, or one where that cannot be told.
+/// How many threads can work at the same time: one for each processor, or one if that cannot be told.
 fn workers(rt: &impl Threads) -> usize
     ensures { 1 ≤ result }
 {
@@ -49,23 +49,25 @@ fn workers(rt: &impl Threads) -> usize
     }
 }
 
-/// How many of the items that are lent something are in the first of two parts.
-fn lent_to_few<T, X, W: Parts<T, X>>(
-    work: &W,
+/// Two parts, one after the other: the first has `few` items, from the number `from` on, and the second has the `rest`.
+#[derive(Clone, Copy)]
+struct TwoParts {
     from: usize,
     few: usize,
     rest: usize,
-    own: &[T],
-) -> usize
-    requires { W.can work.now from (few + rest) own.now }
-    ensures within { result ≤ length own.now }
-    ensures splits { (front back : List T) → own.now ≡ front ++ back → length front ≡ result →
-        W.can work.now from few front × W.can work.now (from + few) rest back }
-{
-    few.min(own.len())
 }
 
-/// Does a part by so many threads, or in order where it has few items.
+/// How many of the items that are lent something are in the first of two parts.
+fn lent_to_few<T, X, W: Parts<T, X>>(work: &W, parts: TwoParts, own: &[T]) -> usize
+    requires { W.can work.now parts.from (parts.few + parts.rest) own.now }
+    ensures within { result ≤ length own.now }
+    ensures splits { (front back : List T) → own.now ≡ front ++ back → length front ≡ result →
+        W.can work.now parts.from parts.few front × W.can work.now (parts.from + parts.few) parts.rest back }
+{
+    parts.few.min(own.len())
+}
+
+/// Does a part by so many threads, or in order if it has few items.
 #[cycle(halves)]
 fn part_by<R: Threads + Sync, T: Send, X: Send + Drop, W: Parts<T, X> + Sync>(
     rt: &R,
@@ -85,9 +87,10 @@ fn part_by<R: Threads + Sync, T: Send, X: Send + Drop, W: Parts<T, X> + Sync>(
     }
     let few = count / 2;
     let rest = count - few;
-    let lent = lent_to_few(work, from, few, rest, own);
+    let parts = TwoParts { from, few, rest };
+    let lent = lent_to_few(work, parts, own);
     let (front, back) = own.split_at_mut(lent);
-    let (few_done, rest_done) = both_parts(rt, alloc, threads, work, from, few, rest, front, back);
+    let (few_done, rest_done) = both_parts(rt, alloc, threads, work, parts, front, back);
     work.join(few_done, rest_done)
 }
 
@@ -98,19 +101,18 @@ fn both_parts<R: Threads + Sync, T: Send, X: Send + Drop, W: Parts<T, X> + Sync>
     alloc: Global,
     threads: usize,
     work: &W,
-    from: usize,
-    few: usize,
-    rest: usize,
+    parts: TwoParts,
     front: &mut [T],
     back: &mut [T],
 ) -> (X, X)
     requires threads { 2 ≤ threads }
-    requires room { from + few + rest < 2 ^ 64 }
-    requires front { W.can work.now from few front.old }
-    requires back { W.can work.now (from + few) rest back.old }
-    ensures front { W.does work.now from few front.old front.new result.0 }
-    ensures back { W.does work.now (from + few) rest back.old back.new result.1 }
+    requires room { parts.from + parts.few + parts.rest < 2 ^ 64 }
+    requires front { W.can work.now parts.from parts.few front.old }
+    requires back { W.can work.now (parts.from + parts.few) parts.rest back.old }
+    ensures front { W.does work.now parts.from parts.few front.old front.new result.0 }
+    ensures back { W.does work.now (parts.from + parts.few) parts.rest back.old back.new result.1 }
 {
+    let TwoParts { from, few, rest } = parts;
     let half = threads.div_ceil(2);
     let middle = from + few;
     let mut first = || -> X

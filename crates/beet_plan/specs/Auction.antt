@@ -39,7 +39,7 @@ abbrev pub compare_plan : {F : Type 0} → Blocks → ℕ → ℕ → ℕ → �
 compare_plan blocks prices first mask place next =
     Block (blocks.masked first mask place (prices + place) ∷ []) (λ c. Block (blocks.answer first mask c) next)
 
--- wires are opened, where there are some, and what they hold names the finish
+-- wires are opened, if there are some, and what they hold names the finish
 abbrev pub opening_plan : {F : Type 0} → List ℕ → (List ℕ → F) → Plan F
 opening_plan [] named = Ended (named [])
 opening_plan (wire ∷ wires) named = Last (reveal_batch [] (wire ∷ wires)) (length (wire ∷ wires)) named
@@ -48,7 +48,7 @@ opening_plan (wire ∷ wires) named = Last (reveal_batch [] (wire ∷ wires)) (l
 abbrev pub price_with : ℕ → List ℕ → Finish
 price_with place shown = Price place (slice_get shown 0) (slice_get shown 1)
 
--- the end of the search at a place: what the policy shows of it is opened, where it is a place of the grid
+-- the end of the search at a place: what the policy shows of it is opened, if it is a place of the grid
 abbrev pub end_plan : Policy → ℕ → ℕ → Plan Finish
 end_plan policy prices place =
     if nat_lt place prices then opening_plan (shown_by policy (prices + place) place) (price_with place)
@@ -66,7 +66,7 @@ with_mask blocks prices search lo hi spare mask =
     compare_plan blocks prices (after_mask blocks mask) mask ((lo + hi) / 2)
     (after_answer blocks search lo hi spare mask)
 
--- the search between two places, with at most n comparisons, where so many masks may be rejected, and `first` is the
+-- the search between two places, with at most n comparisons, if so many masks may be rejected, and `first` is the
 -- first free wire
 unfoldable pub search_plan : Blocks → Policy → ℕ → ℕ → ℕ → ℕ → ℕ → ℕ → Plan Finish
 search_plan blocks policy prices zero lo hi spare first = end_plan policy prices lo

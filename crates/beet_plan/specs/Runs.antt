@@ -24,7 +24,7 @@ opening_rounds PriceAlone = 0
 opening_rounds Volume = 1
 opening_rounds Full = 1
 
--- the number of rounds of a run whose search ends at z, where what the policy shows is opened at the end if there is a
+-- the number of rounds of a run whose search ends at z, if what the policy shows is opened at the end if there is a
 -- price
 abbrev pub run_rounds_with : Blocks → Policy → ℕ → (ℕ → ℕ) → ℕ → ℕ
 run_rounds_with blocks policy prices masks z =
@@ -33,7 +33,7 @@ run_rounds_with blocks policy prices masks z =
 abbrev pub run_rounds : Auction → (ℕ → ℕ) → ℕ → ℕ
 run_rounds a masks z = run_rounds_with (blocks_of a.gates) a.policy a.prices masks z
 
--- the finish of a run whose search over these supplies and demands ends at z, where it is not spent
+-- the finish of a run whose search over these supplies and demands ends at z, if it is not spent
 abbrev pub found : Policy → ℕ → (ℕ → ℕ) → (ℕ → ℕ) → ℕ → Finish
 found policy prices supply demand z =
     if nat_lt z prices then price_with z (shown_by policy (demand z) (supply z)) else NoPrice
@@ -50,7 +50,7 @@ finish_run a inputs words =
 abbrev pub rounds_of_run : Auction → List ℕ → Trio (List ℕ) → ℕ
 rounds_of_run a inputs words = rounds_run (auction_batch a) (most_rounds a) inputs words
 
--- a run with these blocks on inputs and deals, where these are the masks: it ends with this finish, unless it is spent,
+-- a run with these blocks on inputs and deals, if these are the masks: it ends with this finish, unless it is spent,
 -- and has the rounds of a search that ends at z
 pub record EndsWith (blocks : Blocks) (policy : Policy) (prices : ℕ) (inputs : List ℕ) (deals : ℕ → List ℕ)
     (masks : ℕ → ℕ) (z : ℕ) (finish : Finish) : Type 0 where

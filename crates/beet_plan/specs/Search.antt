@@ -2,7 +2,7 @@
 use Rattle.std.specs.Prelude.{◌+◌, ◌/◌, ℕ, zero, suc, List, [], ◌∷◌, nat_lt, nat_le, if◌then◌else◌, Bool}
 use Rattle.beet_bids.specs.Grids.{comparisons_of}
 
--- the places that a search between two places tests, at most n, where `test` answers whether supply reaches demand at a
+-- the places that a search between two places tests, at most n, if `test` answers whether supply reaches demand at a
 -- place
 unfoldable pub tested : (ℕ → Bool) → ℕ → ℕ → ℕ → List ℕ
 tested test zero lo hi = []
@@ -25,6 +25,6 @@ place_between test (suc n) lo hi =
 abbrev pub place_found : ℕ → (ℕ → Bool) → ℕ
 place_found prices test = place_between test (comparisons_of prices) 0 prices
 
--- the path to z: the places that the search tests where the test at m answers whether z is at most m
+-- the path to z: the places that the search tests if the test at m answers whether z is at most m
 abbrev pub path : ℕ → ℕ → List ℕ
 path prices z = tested (nat_le z) (comparisons_of prices) 0 prices

@@ -1,4 +1,4 @@
--- What each command has read, put and said where its run ends with status 0 or 6, over a shelf whose answers are of
+-- What each command has read, put and said if its run ends with status 0 or 6, over a shelf whose answers are of
 -- these files.
 use Rattle.std.specs.Prelude.{◌≡◌, ◌≤◌, ◌++◌, ℕ, List, [], ◌∷◌, All, length, map, codes, decimal, Some}
 use Rattle.std.specs.Prelude.{Ok}
@@ -125,8 +125,8 @@ pub record RecordsRun (files : List File) (auction servers book_file out : List 
   pub gives : Puts call (transcript_files out book words) text
 
 -- `rehearse`: the files read as a book with words, and a schedule; it was said how each server stands after the
--- deliveries of the schedule, and how many messages are undelivered. The status is 6 where a server has ended with
--- spent masks. Where nothing is undelivered, all have ended
+-- deliveries of the schedule, and how many messages are undelivered. The status is 6 if a server has ended with
+-- spent masks. If nothing is undelivered, all have ended
 pub record ShowsStandings (files : List File) (auction servers book_file name : List ℕ) (call : Call) : Type 0 where
   pub book : Book
   pub words : Words

@@ -63,8 +63,8 @@ pub record ServersOpen (book : Book) (words : Words) : Type 0 where
   pub opens : (es : List Triple) (s : Point) → OpensTheOutcome book words es s
 
 -- a book of accepted bids, and words of five servers with which its auction can be run: the run on what its bidders
--- deal has these rounds, and so a server of a world that began with it has ended that has ended, whatever the order,
--- the repeats and the delays of the messages
+-- deal has these rounds and this end; and if a server of a world that began with it has ended, it has ended so,
+-- whatever the order, the repeats and the delays of the messages
 pub record FiveServersOpen (book : Book) (words : FiveWords) : Type 0 where
   pub is_book : IsBook book
   pub can_run : CanRunAmongFive book words

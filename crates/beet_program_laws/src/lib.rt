@@ -147,9 +147,9 @@ pub fn what_witness_puts_is_audited_by_its_points()
         IsAuditedByPoints files auction servers list out call }
 {}
 
-/// What `worlds AUCTION SERVERS BOOK1 BOOK2 SERVER OUT` puts can be made again: whoever records the second book over
-/// the same files of the auction and of its bids, with the bundle of words that was put, and is done, puts for that
-/// server the transcript that was put for both books.
+/// What `worlds AUCTION SERVERS BOOK1 BOOK2 SERVER OUT` puts can be made again: if the second book is recorded over the
+/// same files of the auction and of its bids, with the bundle of words that was put, and this is done, the transcript
+/// that it puts for that server is the one that was put for both books.
 pub fn recording_the_second_world_puts_its_transcript()
     ensures { (files : List File) (auction servers book1 book2 server out : List ℕ) (call : Call) →
         IsDoneCall files (codes "worlds" ∷ auction ∷ servers ∷ book1 ∷ book2 ∷ server ∷ out ∷ []) call →

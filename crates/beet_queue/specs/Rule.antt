@@ -85,7 +85,7 @@ module _ {T : Type 0} (server : T → Point) where
       (slice_get (member v.streams (server x)) (length (of server (server x) v.taken)) ≡ Some x)
       × (member v.puts (server x) ≡ true → length (of server (server x) v.taken) < member v.put (server x))
 
-  -- what the receiver knows of the queue, where it may also put the items of a server
+  -- what the receiver knows of the queue, if it may also put the items of a server
   abbrev pub KnowsAll : Known T → List T → Type 0
   KnowsAll v items =
       v.takes ≡ true → (s : Point) → member v.puts s ≡ true →

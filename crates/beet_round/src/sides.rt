@@ -15,7 +15,7 @@ pub enum Side {
 }
 
 impl Side {
-    /// The side of the server `from`, or `None` where that is the server `me` itself.
+    /// The side of the server `from`, or `None` if that is the server `me` itself.
     pub fn of(me: Point, from: Point) -> Option<Side>
         ensures value { result ≡ side_of me from }
         ensures refused { IsNone result ↔ (from ≡ me) }

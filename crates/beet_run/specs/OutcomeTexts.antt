@@ -7,7 +7,7 @@ use Rattle.beet_errand.specs.Texts.{line_of}
 use Rattle.beet_plan.specs.declared.Finish.{Finish}
 use Rattle.beet_plan.specs.declared.Finish.TheVariants.{Price, NoPrice, MasksSpent}
 
--- a number that may be opened, behind a text before it and its name; nothing where it is not opened
+-- a number that may be opened, behind a text before it and its name; nothing if it is not opened
 abbrev pub opened_text : List ℕ → List ℕ → Option ℕ → List ℕ
 opened_text before name None = []
 opened_text before name (Some number) = before ++ name ++ decimal number

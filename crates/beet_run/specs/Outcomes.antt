@@ -22,7 +22,7 @@ status_of MasksSpent = Spent
 abbrev pub outcome_answer : Grid → Finish → ℕ → Answer
 outcome_answer grid finish rounds = text_answer (status_of finish) (outcome_text grid finish rounds)
 
--- the answer that tells the outcome of an auction that is read, and the rounds in which three servers find it
+-- the answer for an auction that is read: its outcome, and after how many rounds three servers find it
 abbrev pub cleared : AuctionWithBidders → Answer
 cleared loaded =
     let book = book_with loaded.grid loaded.farmers in

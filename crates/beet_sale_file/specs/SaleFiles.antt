@@ -36,7 +36,7 @@ abbrev pub sale_with : Gates → Reading (List SaleRow) → Reading SaleRecord
 sale_with gates (Ok bidders) = Ok (record { gates = gates; rows = bidders })
 sale_with gates (Err fault) = Err fault
 
--- what the rows after the header read as, where row 2 has these gates
+-- what the rows after the header read as, if row 2 has these gates
 abbrev pub sale_from : Option Gates → List Row → Reading SaleRecord
 sale_from None rows = Err (at_row 2 BAD_GATES)
 sale_from (Some gates) rows = sale_with gates (bidders_in rows)

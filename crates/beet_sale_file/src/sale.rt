@@ -30,7 +30,6 @@ impl Model for Sale {
     ghost invariant = { λ a. Holds (record { gates = a.gates; rows = a.rows.items }) a.bids.items };
 }
 
-/// The bids of rows.
 fn copy_bids(alloc: Global, rows: &[SaleRow]) -> Result<Vec<SaleBid>, AllocError>
     ensures { IfOk result (λ bids. bids.items ≡ bids_of rows.now) }
 {

@@ -71,7 +71,6 @@ fn read_bidders(
     Ok(bidders)
 }
 
-/// The sale of all rows.
 fn read_all(alloc: Global, rows: &mut RowReader, row: &mut Row) -> Result<Sale, ReadFault>
     ensures { Answers (λ sale. sale) (sale_in rows.old) result }
 {

@@ -18,9 +18,9 @@ use Rattle.beet_sale_run.specs.SaleRuns.{finish_read}
 use Rattle.beet_job_sale.specs.SaleAnswers.{sold, status_of}
 use Rattle.beet_job_sale.specs.Sales.{sale_errand}
 use Rattle.beet_job_sale.proofs.SaleEnds.{status-done}
-use Rattle.beet_job_sale_pair.specs.Ending.{ShowsPair, compared_errand, difference_read, unless_differing}
+use Rattle.beet_job_sale_pair.specs.Ending.{ShowsPair, compared_errand, difference_read}
 use Rattle.beet_job_sale_pair.specs.Reading.{Both, both_errand}
-use Rattle.beet_job_sale_pair.proofs.DifferenceFacts.{no-difference}
+use Rattle.beet_job_sale_pair.proofs.DifferenceFacts.{no-difference, unless_differing}
 use Rattle.beet_pair_words.specs.Jobs.{Comparing}
 use Rattle.beet_pair_words.proofs.Naming.{errand-named, pair-named}
 use Rattle.beet_app_laws.specs.Calls.{Call}
@@ -28,9 +28,9 @@ use Rattle.beet_app_laws.specs.Dues.{EndsAsDue}
 use Rattle.beet_app_laws.proofs.Led.{read-to, run-led, shows-led}
 use Rattle.beet_completeness_laws.specs.WithoutFault.{IsDoneOrShort}
 use Rattle.beet_completeness_laws.proofs.Leading.{undisturbed, undisturbed-by}
-use Rattle.beet_sale_laws.specs.Commands.{PutsBothSales, RunsJob, SaysTheSale, bids_in, pair_words, sale_words, second_bids}
+use Rattle.beet_sale_laws.specs.Commands.{PutsBothSales, SaysTheSale, bids_in, pair_words, sale_words, second_bids}
 use Rattle.beet_sale_laws.specs.Complete.{CanPair, CanHoldSale, IsWholeOrShort, MasksSufficeIn, RunsSaleWithoutFault}
-use Rattle.beet_sale_laws.proofs.Saying.{puts-both, says}
+use Rattle.beet_sale_laws.proofs.Saying.{RunsJob, puts-both, says}
 
 -- a sale whose masks suffice is sold
 masks-done : (read : SaleRead) → MasksSufficeIn read → Done ≡ status_of (finish_read read)

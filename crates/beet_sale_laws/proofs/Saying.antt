@@ -36,17 +36,22 @@ use Rattle.beet_job_sale_pair.specs.Ending.{ShowsPair, compared_errand, differen
 use Rattle.beet_job_sale_pair.specs.Reading.{Both, both_errand}
 use Rattle.beet_job_sale_pair.proofs.DifferenceFacts.{no-difference}
 use Rattle.beet_job_sale_pair.proofs.SaleAnswers.{answered-done}
-use Rattle.beet_pair_words.specs.Jobs.{Answering, Comparing}
+use Rattle.beet_pair_words.specs.Jobs.{Answering, Comparing, Job}
 use Rattle.beet_pair_words.proofs.Naming.{pair-at-server}
 use Rattle.beet_sale_app.specs.Doing.{task_of}
 use Rattle.beet_app_laws.specs.Calls.{Call, IsOf, Puts}
+use Rattle.beet_app_laws.specs.Tables.{RunsJobBy}
 use Rattle.beet_app_laws.proofs.Led.{read-to}
 use Rattle.beet_program_laws.proofs.Compared.{not-seven, told-apart, undone}
 use Rattle.beet_program_laws.proofs.Ends.{WentOut, WentWhole, found, named-in, no-job, no-usage, refused-answer, refused-whole}
 use Rattle.beet_program_laws.proofs.Ends.{shown-ends}
-use Rattle.beet_sale_laws.specs.Commands.{IsDoneSale, PutsBothSales, RefusesBothSales, RunsJob, RunsSale, SaysTheSale}
+use Rattle.beet_sale_laws.specs.Commands.{IsDoneSale, PutsBothSales, RefusesBothSales, RunsSale, SaysTheSale}
 use Rattle.beet_sale_laws.specs.Commands.{ServersSell, TellsTheSale, bids_in, is_spent, pair_words, sale_words, second_bids}
 use Rattle.beet_sale_laws.proofs.Reading.{CanBeHeld, IsBoth, IsHeldSale, both-yield, is-both, sale-yield}
+
+-- the call ran this job of the program of sales
+abbrev pub RunsJob : Option Job → Call → Type 0
+RunsJob = RunsJobBy task_of
 
 -- ---- what is told of a sale
 

@@ -1,6 +1,6 @@
--- What each command of the program of sales has read, put and said where its run ends with status 0 or 6, over a shelf
+-- What each command of the program of sales has read, put and said if its run ends with status 0 or 6, over a shelf
 -- whose answers are of these files; and why `pair` refuses two sales.
-use Rattle.std.specs.Prelude.{◌≡◌, ◌∷◌, ◌++◌, ℕ, Bool, List, [], Option, Some, codes, true, false}
+use Rattle.std.specs.Prelude.{◌≡◌, ◌∷◌, ◌++◌, ℕ, Bool, List, [], Some, codes, true, false}
 use Rattle.beet_field.specs.declared.point.Point.{Point}
 use Rattle.beet_store.specs.Files.{File}
 use Rattle.beet_words.specs.Bundles.{Words, bundle_bytes}
@@ -24,12 +24,11 @@ use Rattle.beet_job_sale.specs.SaleTexts.{sale_text}
 use Rattle.beet_job_sale_pair.specs.Answering.{transcript_of}
 use Rattle.beet_job_sale_pair.specs.Differences.{difference_between, refused_text}
 use Rattle.beet_job_sale_pair.specs.Reading.{Both, both_errand}
-use Rattle.beet_pair_words.specs.Jobs.{Job}
 use Rattle.beet_sale_app.specs.Doing.{task_of}
 use Rattle.beet_sale_app.specs.Jobs.{job_of}
 use Rattle.beet_app_laws.specs.Calls.{Call, Puts, Says}
 use Rattle.beet_app_laws.specs.Readings.{Read}
-use Rattle.beet_app_laws.specs.Tables.{IsDoneTable, RunsJobBy, RunsTable}
+use Rattle.beet_app_laws.specs.Tables.{IsDoneTable, RunsTable}
 
 -- the words of each command
 abbrev pub sale_words : List ℕ → List ℕ → List (List ℕ)
@@ -37,10 +36,6 @@ sale_words sale servers = codes "sale" ∷ sale ∷ servers ∷ []
 
 abbrev pub pair_words : List ℕ → List ℕ → List ℕ → List ℕ → List ℕ → List (List ℕ)
 pair_words sale1 sale2 servers server out = codes "pair" ∷ sale1 ∷ sale2 ∷ servers ∷ server ∷ out ∷ []
-
--- the call ran this job of the program of sales
-abbrev pub RunsJob : Option Job → Call → Type 0
-RunsJob = RunsJobBy task_of
 
 -- the call ran these words over these files
 abbrev pub RunsSale : List File → List (List ℕ) → Call → Type 0

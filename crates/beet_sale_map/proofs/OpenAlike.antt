@@ -32,14 +32,14 @@ use Rattle.beet_turned.proofs.MaskFacts.{mask-turned, mask-ones}
 use Rattle.beet_turned.proofs.MasksBack.{compared-map}
 use Rattle.beet_turned.proofs.Small.{mapped-masks}
 use Rattle.beet_turned.proofs.Turned.{turned-opens}
-use Rattle.beet_sale_plan.specs.Kept.{Kept, kept_after, kept_first, kept_of, compared_from, compared_of}
+use Rattle.beet_sale_plan.specs.Kept.{Kept, kept_after, kept_first, compared_from, compared_of}
 use Rattle.beet_sale_plan.specs.Outcome.{IsSale}
 use Rattle.beet_sale_plan.specs.Sale.{Sale, bidders_of, sale_plan, sale_batch, comparisons, most_rounds, most_masks}
 use Rattle.beet_sale_plan.specs.Sale.{most_coefficients, most_wires}
 use Rattle.beet_sale_plan.specs.SaleRuns.{rounds_of_sale, values_of_sale}
 use Rattle.beet_sale_plan.proofs.Ending.{may-select}
 use Rattle.beet_sale_plan.proofs.SaleClaims.{sale-claim}
-use Rattle.beet_sale_plan.proofs.SaleFacts.{is-sale, sale-only}
+use Rattle.beet_sale_plan.proofs.SaleFacts.{is-sale, kept_of, sale-only}
 use Rattle.beet_sale_plan.proofs.SaleRun.{sale-run, keeps-start}
 use Rattle.beet_sale_plan.proofs.SaleStands.{plan-stands, follows-itself}
 use Rattle.beet_sale_map.specs.Losses.{lost, compared_both, losses_of}

@@ -37,7 +37,7 @@ use Rattle.beet_sale_file.specs.declared.rows.SaleBid.{SaleBid}
 use Rattle.beet_sale_map.specs.Bids.{Agree, AreSaleBids, bids_of, sale_over}
 use Rattle.beet_sale_map.specs.Enough.{AreEnough, wants_of}
 use Rattle.beet_sale_map.specs.Losses.{lost}
-use Rattle.beet_sale_map.specs.InputLines.{lines_of}
+use Rattle.beet_sale_map.specs.InputLines.{dealer_lines}
 use Rattle.beet_sale_map.specs.MappedSales.{SalesMapped}
 use Rattle.beet_sale_map.specs.Worlds.{losses_between, party_of}
 use Rattle.beet_sale_map.proofs.SaleWorlds.{bid-values, elements-of, lines-there, look-same, losses-small, numbers-here}
@@ -45,7 +45,7 @@ use Rattle.beet_sale_map.proofs.SaleWorlds.{sales-mapped, secrets-here}
 
 values-small : (bids : List SaleBid) (words : List (List ℕ)) → All (λ (b : SaleBid). IsBid b.bid) bids → length words ≡ length bids →
     (k : ℕ) →
-    IsElement (slice_index (values_of (lines_of bids words)) k)
+    IsElement (slice_index (values_of (dealer_lines bids words)) k)
 values-small bids words all e k =
     let each : All IsElement (bids_of bids) = All-map IsElement (λ (b : SaleBid). b.bid) bids
     (λ n d lt. let small = all n d lt in omega (arith, small)) in
@@ -72,10 +72,10 @@ module _ (me : Point) (gates : Gates) (first second : List SaleBid) (words : Wor
       are_words.bidders (all-drawn 1 words.bidders enough.bidders)
 
   abbrev here : Secrets
-  here = world_with (lines_of first words.bidders) words.masks
+  here = world_with (dealer_lines first words.bidders) words.masks
 
   abbrev there : Secrets
-  there = world_with (lines_of second lists.lists) masks.0
+  there = world_with (dealer_lines second lists.lists) masks.0
 
   many : length lists.lists ≡ length second
   many = lists.count ∙ enough.count ∙ sym (as-many (λ (b : SaleBid). b.known) first second agree.shape)
@@ -169,7 +169,7 @@ module _ (me : Point) (gates : Gates) (first second : List SaleBid) (words' : Wo
   w = there me gates second first words' are' are agree' are_words' enough'
 
   abbrev w' : Secrets
-  w' = world_with (lines_of second words'.bidders) words'.masks
+  w' = world_with (dealer_lines second words'.bidders) words'.masks
 
   drawn : (c : Trio (List ℕ)) × CanDraw (most_coefficients bids') c × GoTogether (sale_batch bids') (most_rounds bids') me w w' c
       words'.coefficients

@@ -43,20 +43,21 @@ use Rattle.beet_sale_file.specs.declared.rows.SaleBid.{SaleBid}
 use Rattle.beet_sale_map.specs.Bids.{Agree, AreSaleBids, SameOwn, bids_of, sale_over}
 use Rattle.beet_sale_map.specs.Losses.{compared_both, lost}
 use Rattle.beet_sale_map.specs.Enough.{AreEnough, wants_of}
-use Rattle.beet_sale_map.specs.InputLines.{line_of, lines_of}
+use Rattle.beet_sale_map.specs.InputLines.{dealer_line, dealer_lines}
 use Rattle.beet_sale_map.specs.MappedSales.{Ends, SalesMapped, run_seen_of}
 use Rattle.beet_sale_map.specs.Worlds.{Mapped, losses_between, party_of, point_in, points_of, trade_of}
 use Rattle.beet_sale_map.proofs.OpenAlike.{opens-alike}
 
 -- the points of the lines are the inputs
 pub input-lines : (gates : Gates) (bids : List SaleBid) (words : List (List ℕ)) →
-    AreInputLines (trade_of gates bids) words (lines_of bids words)
+    AreInputLines (trade_of gates bids) words (dealer_lines bids words)
 input-lines gates bids words i =
     let dealers = dealers_of (map party_of bids) words in
-    map-map _ line_of dealers ∙ sym (member-trio (points_of dealers) i)
+    map-map _ dealer_line dealers ∙ sym (member-trio (points_of dealers) i)
 
 -- their values are the bids
-pub bid-values : (bids : List SaleBid) (words : List (List ℕ)) → length words ≡ length bids → values_of (lines_of bids words) ≡ bids_of bids
+pub bid-values : (bids : List SaleBid) (words : List (List ℕ)) → length words ≡ length bids →
+    values_of (dealer_lines bids words) ≡ bids_of bids
 bid-values [] words e = refl
 bid-values (b ∷ bs) [] e = absurd (omega arith)
 bid-values (b ∷ bs) (w ∷ ws) e = ap (λ (l : List ℕ). b.bid ∷ l) (bid-values bs ws (omega arith))
@@ -67,8 +68,8 @@ many-dealers [] words e = refl
 many-dealers (b ∷ bs) [] e = absurd (omega arith)
 many-dealers (b ∷ bs) (w ∷ ws) e = ap suc (many-dealers bs ws (omega arith))
 
-pub many-lines : (bids : List SaleBid) (words : List (List ℕ)) → length words ≡ length bids → length (lines_of bids words) ≡ length bids
-many-lines bids words e = length-map (dealers_of (map party_of bids) words) line_of ∙ many-dealers bids words e
+pub many-lines : (bids : List SaleBid) (words : List (List ℕ)) → length words ≡ length bids → length (dealer_lines bids words) ≡ length bids
+many-lines bids words e = length-map (dealers_of (map party_of bids) words) dealer_line ∙ many-dealers bids words e
 
 -- a bid and its words that are read at a place
 pub dealer-read : (bids : List SaleBid) (words : List (List ℕ)) (k : ℕ) (bid : SaleBid) (list : List ℕ) (d : Dealer) →
@@ -90,7 +91,7 @@ OneQuantity d = (length d.party.quantities ≡ 1) × AreElements d.party.quantit
 shares-same : (s : Point) (dealers dealers' : List Dealer) → All OneQuantity dealers → All OneQuantity dealers' →
     ((k : ℕ) (one other : Dealer) → slice_get dealers k ≡ Some one → slice_get dealers' k ≡ Some other →
     one.party.known ≡ Some s → other.party.quantities ≡ one.party.quantities) →
-    DealersMapped s dealers dealers' → shares_of (map line_of dealers) s ≡ shares_of (map line_of dealers') s
+    DealersMapped s dealers dealers' → shares_of (map dealer_line dealers) s ≡ shares_of (map dealer_line dealers') s
 shares-same s [] [] a b own m = refl
 shares-same s [] (g ∷ gs) a b own m = absurd (omega (arith, m.count))
 shares-same s (f ∷ fs) [] a b own m = absurd (omega (arith, m.count))
@@ -201,7 +202,7 @@ module _ (me : Point) (gates : Gates) (first second : List SaleBid) (words : Wor
   sale = sale_over gates first
 
   abbrev here : Secrets
-  here = world_with (lines_of first words.bidders) words.masks
+  here = world_with (dealer_lines first words.bidders) words.masks
 
   abbrev lost_all : List ℕ
   lost_all = losses_between first second
@@ -227,7 +228,7 @@ module _ (me : Point) (gates : Gates) (first second : List SaleBid) (words : Wor
     masks = (omega (arith, count, enough.masks.0), omega (arith, count, enough.masks.1), omega (arith, count, enough.masks.2));
   }
 
-  pub lines-there : length (lines_of second lists) ≡ bidders_of sale
+  pub lines-there : length (dealer_lines second lists) ≡ bidders_of sale
   lines-there = many-lines second lists lists-count ∙ many ∙ sym count
 
   pub numbers-here : HasWords (most_coefficients sale) (numbers_of words.coefficients)
@@ -237,7 +238,7 @@ module _ (me : Point) (gates : Gates) (first second : List SaleBid) (words : Wor
 
   -- the server cannot tell the worlds, which is what the map of coefficient words asks for
   pub look-same : (masks : Trio (List ℕ)) → MasksMapped me lost_all words.masks masks →
-      LookSame (sale_batch sale) (most_rounds sale) (most_masks sale) me here (world_with (lines_of second lists) masks)
+      LookSame (sale_batch sale) (most_rounds sale) (most_masks sale) me here (world_with (dealer_lines second lists) masks)
   look-same masks masks_mapped =
       let bids = bids_of first in
       let bids' = bids_of second in
@@ -250,8 +251,8 @@ module _ (me : Point) (gates : Gates) (first second : List SaleBid) (words : Wor
       (are-masks words are_words) secrets-here.masks masks_mapped agree.results.winner agree.results.price agree.results.sold
       agree.results.sold' in
       let run : List ℕ → Trio (List ℕ) → List ℕ = λ values words. (clear_values (sale_batch sale) (most_rounds sale) values words).opened in
-      let values : values_of (lines_of first words.bidders) ≡ bids = bid-values first words.bidders enough.count in
-      let values' : values_of (lines_of second lists) ≡ bids' = bid-values second lists lists-count in
+      let values : values_of (dealer_lines first words.bidders) ≡ bids = bid-values first words.bidders enough.count in
+      let values' : values_of (dealer_lines second lists) ≡ bids' = bid-values second lists lists-count in
       record {
         shares = shares-same me (dealers_of (map party_of first) words.bidders) (dealers_of (map party_of second) lists)
             (one-quantity first words.bidders are.limits) (one-quantity second lists are'.limits)
@@ -261,14 +262,14 @@ module _ (me : Point) (gates : Gates) (first second : List SaleBid) (words : Wor
       }
 
   module _ (masks coefficients : Trio (List ℕ)) (masks_mapped : MasksMapped me lost_all words.masks masks)
-      (c : GoTogether (sale_batch sale) (most_rounds sale) me here (world_with (lines_of second lists) masks)
+      (c : GoTogether (sale_batch sale) (most_rounds sale) me here (world_with (dealer_lines second lists) masks)
       words.coefficients coefficients)
       (are_words' : AreWords (record { masks = masks; coefficients = coefficients; bidders = lists })) where
     abbrev words' : Words
     words' = record { masks = masks; coefficients = coefficients; bidders = lists }
 
-    stands : Stands me lost_all (trade_of gates first) (trade_of gates second) words masks lists (lines_of first words.bidders)
-        (lines_of second lists)
+    stands : Stands me lost_all (trade_of gates first) (trade_of gates second) words masks lists (dealer_lines first words.bidders)
+        (dealer_lines second lists)
     stands = record {
       script = ap sale_batch same-sale;
       most = ap most_rounds same-sale;
@@ -288,11 +289,11 @@ module _ (me : Point) (gates : Gates) (first second : List SaleBid) (words : Wor
     looks : LooksAlike me (rounds_in (trade_of gates first) words) (setup_in (trade_of gates first) words)
         (setup_in (trade_of gates second) words')
     looks = look me lost_all (trade_of gates first) (trade_of gates second) words masks coefficients lists
-        (lines_of first words.bidders) (lines_of second lists) stands c are_words'
+        (dealer_lines first words.bidders) (dealer_lines second lists) stands c are_words'
 
     mapped : Mapped me gates first words second words'
     mapped = trades-mapped me lost_all (trade_of gates first) (trade_of gates second) words masks coefficients lists
-        (lines_of first words.bidders) (lines_of second lists) stands c are_words'
+        (dealer_lines first words.bidders) (dealer_lines second lists) stands c are_words'
 
     enough' : AreEnough second words'
     enough' =
@@ -304,7 +305,7 @@ module _ (me : Point) (gates : Gates) (first second : List SaleBid) (words : Wor
     ends' =
         subst (λ n. HasRounds (setup_in (trade_of gates second) words') n)
         (sym (rounds-same me lost_all (trade_of gates first) (trade_of gates second) words masks coefficients lists
-        (lines_of first words.bidders) (lines_of second lists) stands c are_words'))
+        (dealer_lines first words.bidders) (dealer_lines second lists) stands c are_words'))
         looks.second_ends
 
     seen : run_seen_of gates second words' me ≡ run_seen_of gates first words me
@@ -315,7 +316,7 @@ module _ (me : Point) (gates : Gates) (first second : List SaleBid) (words : Wor
         (subst (λ n. Reads (trade_of gates second) (wants_of n) words') many (reads gates second words' are' enough'))
         looks.first_ends ends'
         (seen-same me lost_all (trade_of gates first) (trade_of gates second) words masks coefficients lists
-        (lines_of first words.bidders) (lines_of second lists) stands c are_words')
+        (dealer_lines first words.bidders) (dealer_lines second lists) stands c are_words')
 
     pub sales-mapped : SalesMapped me gates first words second words'
     sales-mapped = record {
@@ -325,7 +326,7 @@ module _ (me : Point) (gates : Gates) (first second : List SaleBid) (words : Wor
       ends' = ends';
       looks = seen;
       only = only me lost_all (trade_of gates first) (trade_of gates second) words masks coefficients lists
-          (lines_of first words.bidders) (lines_of second lists) stands c are_words';
+          (dealer_lines first words.bidders) (dealer_lines second lists) stands c are_words';
       back = back me lost_all (trade_of gates first) (trade_of gates second) words masks coefficients lists
-          (lines_of first words.bidders) (lines_of second lists) stands c are_words';
+          (dealer_lines first words.bidders) (dealer_lines second lists) stands c are_words';
     }

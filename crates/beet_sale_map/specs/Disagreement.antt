@@ -30,7 +30,7 @@ Refuses s first second (SalesDiffer one other) =
     × (IsResult first one × IsResult second other × (other ≢ one))
 Refuses s first second OutOfMemory = ⊥
 
--- why words are not mapped from one sale to another: memory runs out only where the sales agree
+-- why words are not mapped from one sale to another: memory runs out only if the sales agree
 abbrev pub RefusesMap : Point → List SaleBid → List SaleBid → SaleFault → Type 0
 RefusesMap s first second OutOfMemory = Agree s first second
 RefusesMap s first second fault = Refuses s first second fault

@@ -6,8 +6,8 @@ use Rattle.beet_sale_file.specs.declared.rows.SaleBid.{SaleBid}
 use Rattle.beet_sale_map.specs.Worlds.{bid_in, party_of, slope_in}
 
 -- the bid, with the number that is drawn for it as the slope
-abbrev pub line_of : Dealer → Line
-line_of dealer = record { value = bid_in dealer; slope = slope_in dealer }
+abbrev pub dealer_line : Dealer → Line
+dealer_line dealer = record { value = bid_in dealer; slope = slope_in dealer }
 
-abbrev pub lines_of : List SaleBid → List (List ℕ) → List Line
-lines_of bids words = map line_of (dealers_of (map party_of bids) words)
+abbrev pub dealer_lines : List SaleBid → List (List ℕ) → List Line
+dealer_lines bids words = map dealer_line (dealers_of (map party_of bids) words)

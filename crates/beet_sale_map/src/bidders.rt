@@ -6,7 +6,7 @@ ghost use Rattle.beet_sale_plan.specs.Outcome.{IsBid};
 ghost use Rattle.beet_mapped.specs.Dealers.{DealerMapped};
 ghost use Rattle.beet_trades.specs.ListsMapped.{ListsMapped};
 ghost use Rattle.beet_sale_map.specs.Bids.{HaveOneShape};
-ghost use Rattle.beet_sale_map.specs.InputLines.{line_of, lines_of};
+ghost use Rattle.beet_sale_map.specs.InputLines.{dealer_line, dealer_lines};
 ghost use Rattle.beet_sale_map.specs.Worlds.{party_of};
 
 use crate::bids::row_at;
@@ -76,7 +76,7 @@ pub fn map_bidders(
 /// The line of a bid that is dealt by these words.
 fn input_line(alloc: Global, bid: &SaleBid, words: &WordList) -> Result<Line, AllocError>
     requires { IsBid bid.now.bid }
-    ensures { IfOk result (λ line. line ≡ line_of (record { party = party_of bid.now; words = words.now })) }
+    ensures { IfOk result (λ line. line ≡ dealer_line (record { party = party_of bid.now; words = words.now })) }
 {
     let numbers = numbers_in(alloc, words.as_slice())?;
     Ok(Line {
@@ -93,7 +93,7 @@ pub fn input_lines(
 ) -> Result<Vec<Line>, AllocError>
     requires bids { All (λ b. IsBid b.bid) bids.now }
     requires count { length words.now ≡ length bids.now }
-    ensures { IfOk result (λ lines. lines.items ≡ lines_of bids.now words.now) }
+    ensures { IfOk result (λ lines. lines.items ≡ dealer_lines bids.now words.now) }
 {
     let mut lines = Vec::with_capacity(alloc, words.len())?;
     for i in 0..words.len() {

@@ -18,7 +18,7 @@ use beet_words::{WordList, Words};
 use std::alloc::{AllocError, Global};
 
 /// The mask words and the coefficient words of the second sale, whose bidders have these words.
-fn map_for_servers(
+fn map_sale_servers(
     alloc: Global,
     me: Point,
     gates: Gates,
@@ -56,7 +56,7 @@ fn map_words(
     ensures { IfOk result (SalesMapped me gates first.now words.now second.now) }
 {
     let bidders = map_bidders(alloc, me, first, second, words.bidders.as_slice())?;
-    let servers = map_for_servers(alloc, me, gates, first, second, words, bidders.as_slice());
+    let servers = map_sale_servers(alloc, me, gates, first, second, words, bidders.as_slice());
     all_words(servers, bidders)
 }
 

@@ -41,7 +41,6 @@ impl Model for SoFar {
     ghost inverse = { λ v. record { best = v.best; who = v.who; next = v.next } };
 }
 
-/// The bid at a place.
 fn bid_at(bids: &[SaleBid], place: usize) -> u64
     requires limits { All (λ b. IsBid b.bid) bids.now }
     requires place { place < length bids.now }

@@ -26,8 +26,9 @@ use Rattle.beet_sale_plan.specs.Selections.{result_wire, selection_plan}
 use Rattle.beet_sale_plan.specs.Sale.{best_lets, best_wire, first_selection, second_selection, sold, sale_from, sum_let}
 use Rattle.beet_sale_plan.specs.declared.SaleEnd.{SaleEnd}
 use Rattle.beet_sale_plan.specs.declared.SaleEnd.TheVariants.{Sold, MasksSpent}
-use Rattle.beet_sale_plan.specs.Kept.{Kept, kept_after, kept_all, compared_from}
+use Rattle.beet_sale_plan.specs.Kept.{Kept, kept_after, compared_from}
 use Rattle.beet_sale_plan.proofs.Ending.{MaySelect}
+use Rattle.beet_sale_plan.proofs.SaleFacts.{kept_all}
 use Rattle.beet_sale_plan.proofs.SaleWires.{Keeps, first-operands, after-first, second-operands, after-second}
 use Rattle.beet_sale_plan.proofs.Selected.{selection-claim}
 

@@ -5,7 +5,16 @@ use Rattle.std.specs.Prelude.{nat_le}
 use Rattle.std.proofs.lemmas.Bool.{cases_eq, cases_lt}
 use Rattle.std.proofs.lemmas.Bool.Decides.{nat_tests}
 use Rattle.beet_sale_plan.specs.Outcome.{IsPrice, IsSale, IsWinner}
-use Rattle.beet_sale_plan.specs.Kept.{Kept, kept_after, kept_all, kept_first, kept_of}
+use Rattle.beet_sale_plan.specs.Kept.{Kept, kept_after, kept_first}
+
+-- what is kept after so many more bids, the first of which stands at place j
+abbrev pub kept_all : (ℕ → ℕ) → ℕ → ℕ → Kept → Kept
+kept_all bid zero j k = k
+kept_all bid (suc n) j k = kept_all bid n (j + 1) (kept_after k (bid j) (j + 1))
+
+-- what is kept of a first bid and so many further ones
+abbrev pub kept_of : (ℕ → ℕ) → ℕ → Kept
+kept_of bid further = kept_all bid further 1 (kept_first bid)
 
 -- of the first m bids the greatest, its bidder and the greatest of the others are kept; of one bid there is no other
 pub record SoFar (bid : ℕ → ℕ) (m : ℕ) (k : Kept) : Type 0 where

@@ -26,9 +26,10 @@ use Rattle.beet_sale_plan.specs.Sale.{most_coefficients, most_wires}
 use Rattle.beet_sale_plan.specs.SaleRuns.{SaleEnds}
 use Rattle.beet_sale_plan.specs.declared.SaleEnd.{SaleEnd}
 use Rattle.beet_sale_plan.specs.declared.SaleEnd.TheVariants.{MasksSpent}
-use Rattle.beet_sale_plan.specs.Kept.{kept_of, kept_first, compared_of}
+use Rattle.beet_sale_plan.specs.Kept.{kept_first, compared_of}
 use Rattle.beet_sale_plan.proofs.Ending.{may-select}
 use Rattle.beet_sale_plan.proofs.SaleClaims.{end_of, sale-claim}
+use Rattle.beet_sale_plan.proofs.SaleFacts.{kept_of}
 use Rattle.beet_sale_plan.proofs.SaleStands.{plan-stands, follows-itself}
 use Rattle.beet_sale_plan.proofs.SaleWires.{Keeps}
 

@@ -17,11 +17,6 @@ kept_after k bid bidder =
     if nat_le bid k.best then record { best = k.best; who = k.who; next = max k.next bid }
     else record { best = bid; who = bidder; next = max k.next k.best }
 
--- after so many more bids, the first of which stands at place j
-abbrev pub kept_all : (ℕ → ℕ) → ℕ → ℕ → Kept → Kept
-kept_all bid zero j k = k
-kept_all bid (suc n) j k = kept_all bid n (j + 1) (kept_after k (bid j) (j + 1))
-
 -- the pairs that are compared for so many more bids: the greatest bid so far and the next bid, and then the second
 -- greatest and the lesser of the two
 abbrev pub compared_from : (ℕ → ℕ) → ℕ → ℕ → Kept → List (ℕ × ℕ)
@@ -29,9 +24,6 @@ compared_from bid zero j k = []
 compared_from bid (suc n) j k =
     (k.best, bid j) ∷ (k.next, min k.best (bid j)) ∷ compared_from bid n (j + 1) (kept_after k (bid j) (j + 1))
 
--- what is kept of a first bid and so many further ones, and the pairs that are compared for them
-abbrev pub kept_of : (ℕ → ℕ) → ℕ → Kept
-kept_of bid further = kept_all bid further 1 (kept_first bid)
-
+-- the pairs that are compared for a first bid and so many further ones
 abbrev pub compared_of : (ℕ → ℕ) → ℕ → List (ℕ × ℕ)
 compared_of bid further = compared_from bid further 1 (kept_first bid)

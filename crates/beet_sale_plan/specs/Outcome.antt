@@ -2,7 +2,6 @@
 use Rattle.std.specs.Prelude.{◌≡◌, ◌≢◌, ◌<◌, ◌≤◌, ◌+◌, ℕ, List, length, slice_index}
 use Rattle.beet_sale_plan.specs.declared.TheConstants.{LARGEST_BID}
 
--- a bid
 abbrev pub IsBid : ℕ → Type 0
 IsBid bid = bid ≤ LARGEST_BID
 

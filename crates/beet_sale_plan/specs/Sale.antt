@@ -49,7 +49,7 @@ rest_let x y z = three_terms 0 (1, x) (1, y) (p - 1, z)
 abbrev pub less_let : ℕ → ℕ → Linear
 less_let x n = one_term (p - n) (1, x)
 
--- the wire of the greatest bid so far, or none while the let best := bid 1 is still to be made; that let, where it is
+-- the wire of the greatest bid so far, or none while the let best := bid 1 is still to be made; that let, if it is
 -- to be made; and the wire, where that let stands at the first free wire
 abbrev pub best_lets : Option ℕ → List Linear
 best_lets None = one_term 0 (1, 0) ∷ []
@@ -59,7 +59,7 @@ abbrev pub best_wire : Option ℕ → ℕ → ℕ
 best_wire None free = free
 best_wire (Some wire) free = wire
 
--- whether the greatest bid so far reaches the bid at a wire: its products with best - bid and who - i, where the let of
+-- whether the greatest bid so far reaches the bid at a wire: its products with best - bid and who - i, if the let of
 -- who stands first
 abbrev pub first_selection : Blocks → ℕ → Option ℕ → Linear → ℕ → Selection
 first_selection blocks bid best who free =
@@ -90,8 +90,8 @@ second_selection blocks bid best product next free =
 abbrev pub sold : List ℕ → SaleEnd
 sold opened = Sold (slice_index opened 0) (slice_index opened 1)
 
--- so many further bids, the first at this wire, where so many masks may be rejected, `first` is the first free wire,
--- and who and next are lets that the first batch makes that uses them
+-- so many further bids, the first at this wire, if so many masks may be rejected and the first free wire is `first`;
+-- the lets who and next are made in the first batch that uses them
 unfoldable pub sale_from : Blocks → ℕ → ℕ → ℕ → ℕ → Option ℕ → Linear → Linear → Plan SaleEnd
 sale_from blocks zero bid spare first best who next =
     Last (reveal_batch (who ∷ next ∷ []) (first ∷ (first + 1) ∷ [])) 2 sold

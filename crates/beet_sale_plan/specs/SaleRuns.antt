@@ -33,7 +33,7 @@ pub record SaleEnds (sale : Sale) (bids : List ℕ) (words : Trio (List ℕ)) (w
       ≡ Some (sale_finish sale (mask_at words) winner price)
   pub rounds : rounds_of_sale sale bids words ≡ sale_rounds sale (mask_at words)
 
--- these are the first numbers, so many as they are, that a run of a sale on bids opens
+-- a run of a sale on bids opens these numbers first
 pub record AreOpened (sale : Sale) (opened : List ℕ) : Type 0 where
   pub bids : List ℕ
   pub words : Trio (List ℕ)

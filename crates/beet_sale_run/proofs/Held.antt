@@ -30,11 +30,10 @@ use Rattle.beet_map.proofs.Grounds.{on_lines}
 use Rattle.beet_mapped.specs.Dealers.{Dealer, dealers_of}
 use Rattle.beet_mapped.specs.Trades.{rounds_in, setup_in}
 use Rattle.beet_sale_plan.specs.Outcome.{IsBid}
-use Rattle.beet_sale_plan.specs.Kept.{kept_of}
 use Rattle.beet_sale_plan.specs.Sale.{Sale, bidders_of, most_coefficients, most_masks, most_rounds, most_wires, sale_batch, sale_plan}
 use Rattle.beet_sale_plan.specs.SaleRuns.{AreOpened, SaleEnds, values_of_sale}
 use Rattle.beet_sale_plan.specs.declared.SaleEnd.{SaleEnd}
-use Rattle.beet_sale_plan.proofs.SaleFacts.{is-sale}
+use Rattle.beet_sale_plan.proofs.SaleFacts.{is-sale, kept_of}
 use Rattle.beet_sale_plan.proofs.SaleRun.{sale-run}
 use Rattle.beet_sale_plan.proofs.SaleStands.{sale-law}
 use Rattle.beet_sale_file.specs.Sales.{IsSaleRecord, SaleRecord, bids_of as bids_in}
@@ -42,7 +41,7 @@ use Rattle.beet_sale_file.specs.declared.rows.SaleBid.{SaleBid}
 use Rattle.beet_sale_file.specs.declared.rows.SaleRow.{SaleRow}
 use Rattle.beet_sale_map.specs.Bids.{AreSaleBids, bids_of, sale_over}
 use Rattle.beet_sale_map.specs.Enough.{AreEnough, cut_words}
-use Rattle.beet_sale_map.specs.InputLines.{lines_of}
+use Rattle.beet_sale_map.specs.InputLines.{dealer_lines}
 use Rattle.beet_sale_map.specs.MappedSales.{run_seen_in, run_seen_of}
 use Rattle.beet_sale_map.specs.Worlds.{party_of, point_in, points_of, trade_of}
 use Rattle.beet_sale_map.proofs.SaleWorlds.{bid-values, input-lines, many-dealers}
@@ -81,7 +80,7 @@ module _ (gates : Gates) (bids : List SaleBid) (words : Words) (are : AreSaleBid
   points = trio_of (points_of (dealers_of (map party_of bids) words.bidders))
 
   -- the points of the lines are the inputs
-  pub points-are : trio_of (shares_of (lines_of bids words.bidders)) ≡ points
+  pub points-are : trio_of (shares_of (dealer_lines bids words.bidders)) ≡ points
   points-are = λ i. record {
     one = input-lines gates bids words.bidders One i;
     two = input-lines gates bids words.bidders Two i;
@@ -125,13 +124,13 @@ module _ (gates : Gates) (bids : List SaleBid) (words : Words) (are : AreSaleBid
           omega (arith, none))
     ]
 
-    values : values_of (lines_of bids words.bidders) ≡ bids_of bids
+    values : values_of (dealer_lines bids words.bidders) ≡ bids_of bids
     values = bid-values bids words.bidders enough.count
 
     -- and lie on lines whose values are the bids
-    lines : OnLines (bids_of bids) (slopes_of (lines_of bids words.bidders)) points
+    lines : OnLines (bids_of bids) (slopes_of (dealer_lines bids words.bidders)) points
     lines =
-        let all = lines_of bids words.bidders in
+        let all = dealer_lines bids words.bidders in
         subst (λ t. OnLines (bids_of bids) (slopes_of all) t) points-are
         (subst (λ v. OnLines v (slopes_of all) (trio_of (shares_of all))) values
         (on_lines all (λ k. subst (λ v. IsElement (slice_index v k)) (sym values) (element k))))
@@ -151,7 +150,7 @@ module _ (gates : Gates) (bids : List SaleBid) (words : Words) (are : AreSaleBid
     pub alike : (rounds_among setup (most_rounds sale) ≡ rounds_run (sale_batch sale) (most_rounds sale) (bids_of bids) words.masks)
         × ((shared_at setup (rounds_among setup (most_rounds sale))).opened
         ≡ (clear_values (sale_batch sale) (most_rounds sale) (bids_of bids) words.masks).opened)
-    alike = ends-alike setup bounds (most_rounds sale) (bids_of bids) (slopes_of (lines_of bids words.bidders)) law lines
+    alike = ends-alike setup bounds (most_rounds sale) (bids_of bids) (slopes_of (dealer_lines bids words.bidders)) law lines
 
     -- the sale of the bids ends with their winner and price, or spent
     pub ends : AreMasks words.masks → SaleEnds sale (bids_of bids) words.masks (winner_of (bids_of bids)) (price_of (bids_of bids))
@@ -232,7 +231,8 @@ module _ (gates : Gates) (bids : List SaleBid) (words : Words) (are : AreSaleBid
 
 module _ (read : SaleRead) (limits : IsSaleRecord read.sale) (start : Starts read) (script : Sale) (inputs : Trio (List ℕ))
     (tapes : Trio ServerWords) (is : script ≡ sale_over read.sale.gates (bids_in read.sale.rows))
-    (dealt : inputs ≡ trio_of (shares_of (lines_of (bids_in read.sale.rows) read.words.bidders))) (cut : tapes ≡ by_server read.words) where
+    (dealt : inputs ≡ trio_of (shares_of (dealer_lines (bids_in read.sale.rows) read.words.bidders)))
+    (cut : tapes ≡ by_server read.words) where
   abbrev row_bids : List SaleBid
   row_bids = bids_in read.sale.rows
 

@@ -6,9 +6,8 @@ use Rattle.std.proofs.lemmas.List.{get_or_append_left, get_or-append_right, get_
 use Rattle.std.proofs.lemmas.List.{length-take}
 use Rattle.std.proofs.lemmas.List.Recursion.{max_bounds, max_least}
 use Rattle.beet_bids.proofs.GridFacts.{find-range_some}
-use Rattle.beet_sale_plan.specs.Kept.{kept_of}
 use Rattle.beet_sale_plan.specs.Outcome.{IsGreatest, IsPrice, IsSale, IsWinner}
-use Rattle.beet_sale_plan.proofs.SaleFacts.{is-sale}
+use Rattle.beet_sale_plan.proofs.SaleFacts.{is-sale, kept_of}
 use Rattle.beet_sale_run.specs.Results.{all_but, greatest, price_of, winner_of, winning_place}
 
 covers : (bids : List ℕ) (k : ℕ) → k < length bids → slice_index bids k ≤ greatest bids

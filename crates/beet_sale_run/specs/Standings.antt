@@ -52,8 +52,8 @@ AllDelivered gates bids words es =
     undelivered (rounds_for gates bids words) (after (rounds_for gates bids words) es) ≡ 0
 
 -- so the core of a server stands after these events: it is in the round to which they bring it, and has ended exactly
--- where these are all rounds. Then its script names the winner and the price of the sale after the numbers that it has
--- opened, or that the masks are spent, exactly where they are
+-- if these are all rounds. Then its script names the winner and the price of the sale after the numbers that it has
+-- opened, or that the masks are spent, exactly if they are
 pub record StandsRight (gates : Gates) (bids : List SaleBid) (words : Words) (es : List Triple) (s : Point)
     (c : Core Sale) : Type 0 where
   pub rounds : rounds_for gates bids words ≡ bids_rounds gates bids words.masks

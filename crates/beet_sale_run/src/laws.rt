@@ -24,7 +24,7 @@ pub fn bids_sell_so()
 {}
 
 /// Whatever the order, the repeats and the delays of the messages, a server that has ended has sold to the first bidder
-/// whose bid is at least every other, at the greatest bid of the others, or it is spent, exactly where the mask words
+/// whose bid is at least every other, at the greatest bid of the others, or it is spent, exactly if the mask words
 /// say so; and it ends after the rounds that the bids and the mask words tell. If no message is left that was sent and
 /// not delivered, it has ended.
 ///

@@ -9,7 +9,7 @@ ghost use Rattle.beet_map.specs.Secrets.{shares_of};
 ghost use Rattle.beet_sale_plan.specs.Sale.{Sale as Script};
 ghost use Rattle.beet_sale_file.specs.Sales.{IsSaleRecord, bids_of};
 ghost use Rattle.beet_sale_load.specs.SaleLoading.{SaleRead};
-ghost use Rattle.beet_sale_map.specs.InputLines.{lines_of};
+ghost use Rattle.beet_sale_map.specs.InputLines.{dealer_lines};
 ghost use Rattle.beet_sale_map.specs.Bids.{sale_over};
 ghost use Rattle.beet_sale_run.specs.SaleRuns.{HaveHeld, finish_read, rounds_read};
 
@@ -48,13 +48,12 @@ fn points_of_lines(alloc: Global, lines: &[Line]) -> Result<Trio<FeList>, AllocE
 /// The points of the bids at each server, as the bidders deal them.
 fn deal_bids(alloc: Global, whole: &SaleWithWords) -> Result<Trio<FeList>, AllocError>
     ensures { IfOk result (λ points. points
-        ≡ trio_of (shares_of (lines_of (bids_of whole.now.sale.rows) whole.now.words.bidders))) }
+        ≡ trio_of (shares_of (dealer_lines (bids_of whole.now.sale.rows) whole.now.words.bidders))) }
 {
     let lines = input_lines(alloc, whole.sale.bids(), whole.words.bidders.as_slice())?;
     points_of_lines(alloc, lines.as_slice())
 }
 
-/// The tapes of each server.
 fn all_tapes(alloc: Global, whole: &SaleWithWords) -> Result<Trio<ServerWords>, AllocError>
     ensures { IfOk result (λ tapes. tapes ≡ by_server whole.now.words) }
 {
@@ -62,7 +61,6 @@ fn all_tapes(alloc: Global, whole: &SaleWithWords) -> Result<Trio<ServerWords>, 
     cut_three(alloc, &counts, &whole.words)
 }
 
-/// The script of a sale.
 fn script_of(sale: &Sale) -> SaleScript
     ensures limits { IsSaleRecord sale.now }
     ensures value { result ≡ sale_over sale.now.gates (bids_of sale.now.rows) }

@@ -17,15 +17,19 @@ use Rattle.beet_sale_plan.specs.SaleRuns.{AreOpened, SaleEnds}
 use Rattle.beet_sale_plan.specs.declared.SaleEnd.{SaleEnd}
 use Rattle.beet_sale_plan.specs.declared.SaleEnd.TheVariants.{MasksSpent, Sold as SoldEnd}
 use Rattle.beet_sale_plan.specs.declared.TheConstants.{MOST_SALE_BIDDERS}
-use Rattle.beet_sale_plan.specs.Kept.{kept_of}
 use Rattle.beet_sale_plan.proofs.Quietly.{quietly-finish}
-use Rattle.beet_sale_plan.proofs.SaleFacts.{kept-few}
+use Rattle.beet_sale_plan.proofs.SaleFacts.{kept-few, kept_of}
 use Rattle.beet_sale_plan.proofs.SaleRun.{sale-run}
 use Rattle.beet_sale_plan.proofs.SaleStands.{follows-itself, plan-stands, sale-none, until-none}
-use Rattle.beet_sale_script.specs.Walk.{IsSmallEnd, IsSmallStage, plan_at, stage_plan, tail_batches}
+use Rattle.beet_sale_script.specs.Walk.{IsSmallStage, plan_at, stage_plan, tail_batches}
 use Rattle.beet_sale_script.specs.declared.walk.Stage.{Stage}
 use Rattle.beet_sale_script.specs.declared.walk.Stage.TheVariants.{First, FirstMasked, Second, SecondMasked, Price, Sold, Spent}
 use Rattle.beet_sale_script.specs.declared.walk.Walk.{Walk}
+
+-- a winner's number fits, if there is one
+abbrev pub IsSmallEnd : SaleEnd → Type 0
+IsSmallEnd (SoldEnd winner price) = winner < 2 ^ 32
+IsSmallEnd MasksSpent = Unit {0}
 
 -- how a stage has ended, if it has
 abbrev pub stage_end : Stage → Option SaleEnd

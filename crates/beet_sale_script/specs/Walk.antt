@@ -12,7 +12,7 @@ use Rattle.beet_sale_plan.specs.Selections.{quietly, multiplied, with_last, resu
 use Rattle.beet_sale_plan.specs.Sale.{best_lets, best_wire, difference_let, less_let, first_selection, second_selection}
 use Rattle.beet_sale_plan.specs.Sale.{sale_from, sold, sum_let}
 use Rattle.beet_sale_plan.specs.declared.SaleEnd.{SaleEnd}
-use Rattle.beet_sale_plan.specs.declared.SaleEnd.TheVariants.{MasksSpent, Sold as SoldEnd}
+use Rattle.beet_sale_plan.specs.declared.SaleEnd.TheVariants.{MasksSpent}
 use Rattle.beet_sale_plan.specs.declared.TheConstants.{MOST_SALE_BIDDERS, SELECTION_WIRES}
 use Rattle.beet_sale_script.specs.declared.walk.Stage.{Stage}
 use Rattle.beet_sale_script.specs.declared.walk.Stage.TheVariants.{First, FirstMasked, Second, SecondMasked}
@@ -21,7 +21,7 @@ use Rattle.beet_sale_script.specs.declared.walk.Tail.{Tail}
 use Rattle.beet_sale_script.specs.declared.walk.Tail.TheVariants.{AfterFirst, AfterSecond}
 use Rattle.beet_sale_script.specs.declared.walk.Walk.{Walk}
 
--- what follows the second selection of a bid, where so many bids are left after it, and the first
+-- what follows the second selection of a bid, if so many bids are left after it, and the first
 abbrev pub after_second : Blocks → ℕ → ℕ → ℕ → ℕ → ℕ → Plan SaleEnd
 after_second g n bid product left free =
     sale_from g n (bid + 1) left (result_wire g (free + 3) + 2 + 1) (Some (free + 1))
@@ -85,7 +85,7 @@ busy (Price winner) = 0
 busy (Sold winner price) = 0
 busy Spent = 0
 
--- how many selections may still use wires, where so many bids are left
+-- how many selections may still use wires, if so many bids are left
 abbrev pub selections_left : Stage → ℕ → ℕ
 selections_left First n = 2 * n
 selections_left FirstMasked n = 2 * n
@@ -110,11 +110,7 @@ pub record Fits (w : Walk) : Type 0 where
   pub product : w.product < 2 ^ 31
   pub tail : tail_end w.tail < 2 ^ 32
 
--- a winner's number fits, where there is one
-abbrev pub IsSmallEnd : SaleEnd → Type 0
-IsSmallEnd (SoldEnd winner price) = winner < 2 ^ 32
-IsSmallEnd MasksSpent = Unit {0}
-
+-- a winner's number fits, if there is one
 abbrev pub IsSmallStage : Stage → Type 0
 IsSmallStage First = Unit {0}
 IsSmallStage FirstMasked = Unit {0}

@@ -34,7 +34,6 @@ pub enum Dealers {
 }
 
 impl Dealers {
-    /// The rounds of a mask.
     pub fn mask_rounds(self) -> u32
         ensures { result ≡ (blocks_among self).mask_rounds }
     {
@@ -44,7 +43,6 @@ impl Dealers {
         }
     }
 
-    /// The wires of a mask.
     pub fn mask_wires(self) -> u32
         ensures value { result ≡ (blocks_among self).mask_wires }
         ensures few { result ≤ mask_wires_of 5 }
@@ -66,14 +64,12 @@ impl Dealers {
         }
     }
 
-    /// The rounds of a comparison.
     pub fn compare_rounds(self) -> u32
         ensures { result ≡ (blocks_among self).compare_rounds }
     {
         compare_rounds(self.gates())
     }
 
-    /// The wires of a comparison.
     pub fn compare_wires(self) -> u32
         ensures value { result ≡ (blocks_among self).compare_wires }
         ensures few { result ≤ compare_wires_of Tree }

@@ -13,9 +13,9 @@ ghost use Rattle.beet_masking.specs.Masks.{dealt_at, mask_among};
 ghost use Rattle.beet_bids.specs.declared.outcomes.Policy.{Policy};
 ghost use Rattle.beet_bids.specs.Sums.{sums_of};
 
-/// A run on any inputs ends at the place where the search ends whose tests answer whether twice the difference of
-/// supply and demand is even, with what the policy shows there, or spent exactly where the third rejected mask comes
-/// first. Its rounds are counted by the path to that place and the masks.
+/// A run on any inputs ends at a place with what the policy shows there, or spent exactly if the third rejected mask
+/// comes first. The place is the end of the search that asks whether twice the difference of supply and demand is even.
+/// The rounds of the run are counted by the path to that place and the masks.
 pub fn auction_law()
     ensures { (auction : Auction) (inputs : List ℕ) (words : Trio (List ℕ)) →
         length inputs ≡ 2 * auction.prices → All IsElement inputs → AreMasks words →
@@ -24,14 +24,14 @@ pub fn auction_law()
         (place_of_inputs auction inputs)) }
 {}
 
-/// A run on the sums of a book ends with the outcome of the book, or spent exactly where at least three of the first
+/// A run on the sums of a book ends with the outcome of the book, or spent exactly if at least three of the first
 /// masks that it may want are rejected. Its rounds are counted by the path to the clearing place and the masks.
 pub fn book_law()
     ensures { (book : Book) (words : Trio (List ℕ)) → IsBook book → AreMasks words →
         RunEnds (auction_over book.grid) (sums_of book) words (clearing_place book) (finish_of (outcome_of book)) }
 {}
 
-/// Where five servers deal words, a run on any inputs with chain gates ends so too; the i-th mask is the exclusive or
+/// If five servers deal words, a run on any inputs with chain gates ends so too; the i-th mask is the exclusive or
 /// of the five i-th words, and a mask takes 66 rounds.
 pub fn five_law()
     ensures ends { (policy : Policy) (prices : ℕ) (inputs : List ℕ) (words : List (List ℕ)) →

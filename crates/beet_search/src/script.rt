@@ -39,7 +39,7 @@ impl AuctionScript {
     ghost use Rattle.beet_plan.specs.Auction.{auction_batch};
     ghost use Rattle.beet_gates.specs.Ends.{TellsEnd};
 
-    /// The script that opens the price and the volume, or none where the number of prices is outside 1 to 4,096.
+    /// The script that opens the price and the volume, or none if the number of prices is outside 1 to 4,096.
     pub fn new(prices: u32, gates: Gates) -> Option<AuctionScript>
         ensures accepted { IsSome result ↔ IsGridSize prices }
         ensures value { IfSome result
@@ -82,7 +82,7 @@ impl AuctionScript {
         Walk::start(Dealers::Three(self.gates), self.policy, self.prices)
     }
 
-    /// How the script has ended after these opened numbers, or none where it has not ended.
+    /// How the script has ended after these opened numbers, or none if it has not ended.
     pub fn finish(&self, opened: &[Fe]) -> Option<Finish>
         ensures value { result ≡ plan_finish (auction_plan self.now) opened.now }
         ensures ended { TellsEnd (auction_batch self.now) opened.now result }

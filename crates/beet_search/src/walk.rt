@@ -68,7 +68,7 @@ impl Walk {
         }
     }
 
-    /// Whether a mask comes next, where the search goes on.
+    /// Whether a mask comes next, if the search goes on.
     fn is_open(&self) -> bool
         ensures { IsTrue result ↔ ((0 < self.now.left) × (self.now.lo < self.now.hi)) }
     {
@@ -86,7 +86,7 @@ impl Walk {
         }
     }
 
-    /// What is shown of the place at which the search has ended, or none where that is no place of the grid.
+    /// What is shown of the place at which the search has ended, or none if that is no place of the grid.
     fn shown(&self) -> Option<Policy>
         ensures { MatchOption result (self.now.prices ≤ self.now.lo)
             (λ policy. (self.now.lo < self.now.prices) × (policy ≡ self.now.policy)) }
@@ -133,7 +133,7 @@ impl Walk {
         }
     }
 
-    /// The stage after a number that comes at the end of the search: the demand there, where it is opened.
+    /// The stage after a number that comes at the end of the search: the demand there, if it is opened.
     fn after_end(&self, number: Fe) -> Stage
         ensures { plan_at (record self.now { stage = result })
             ≡ plan_after (end_plan self.now.policy self.now.prices self.now.lo) number }
@@ -146,7 +146,7 @@ impl Walk {
         }
     }
 
-    /// How the script has ended at the end of the search, or none where something is still opened.
+    /// How the script has ended at the end of the search, or none if something is still opened.
     fn finish_end(&self) -> Option<Finish>
         ensures { result ≡ plan_finish (end_plan self.now.policy self.now.prices self.now.lo) [] }
     {
@@ -220,7 +220,7 @@ impl Walk {
         walk
     }
 
-    /// How the script has ended here, or none where a block comes next.
+    /// How the script has ended here, or none if a block comes next.
     pub fn finish(&self) -> Option<Finish>
         ensures { result ≡ plan_finish (plan_at self.now) [] }
     {

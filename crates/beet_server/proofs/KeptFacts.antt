@@ -8,7 +8,7 @@ use Rattle.beet_round.specs.declared.sides.Side.TheVariants.{Low, High}
 use Rattle.beet_round.specs.Sides.{side_of}
 use Rattle.beet_server.specs.Cores.{Core}
 use Rattle.beet_server.specs.Steps.{received_from}
-use Rattle.beet_server.specs.Kept.{messages_of, message_with, numbers_in, AreShort}
+use Rattle.beet_server.specs.Kept.{messages_of, message_with, numbers_kept, AreShort}
 
 pub messages-more : (me : Point) (t : ℕ) (lows highs : List (List ℕ)) (l h : List ℕ) → length highs ≡ length lows →
     messages_of me t (lows ++ l ∷ []) (highs ++ h ∷ []) ≡
@@ -28,14 +28,14 @@ length-messages me t (x ∷ xs) [] e = absurd (omega (arith, e))
 length-messages me t (x ∷ xs) (y ∷ ys) e = ap suc (length-messages me (t + 1) xs ys (omega (arith, e)))
 
 pub numbers-low : (me : Point) (t : ℕ) (lows highs : List (List ℕ)) (k : ℕ) → length highs ≡ length lows →
-    numbers_in (messages_of me t lows highs) k Low ≡ slice_get lows k
+    numbers_kept (messages_of me t lows highs) k Low ≡ slice_get lows k
 numbers-low me t [] highs k e = refl
 numbers-low me t (x ∷ xs) [] k e = absurd (omega (arith, e))
 numbers-low me t (x ∷ xs) (y ∷ ys) zero e = refl
 numbers-low me t (x ∷ xs) (y ∷ ys) (suc k) e = numbers-low me (t + 1) xs ys k (omega (arith, e))
 
 pub numbers-high : (me : Point) (t : ℕ) (lows highs : List (List ℕ)) (k : ℕ) → length highs ≡ length lows →
-    numbers_in (messages_of me t lows highs) k High ≡ slice_get highs k
+    numbers_kept (messages_of me t lows highs) k High ≡ slice_get highs k
 numbers-high me t [] [] k e = refl
 numbers-high me t [] (y ∷ ys) k e = absurd (omega (arith, e))
 numbers-high me t (x ∷ xs) [] k e = absurd (omega (arith, e))
@@ -53,6 +53,6 @@ short-at (x ∷ rs) (suc k) r h e = short-at rs k r h.1 e
 
 -- the numbers from a side are those from its server
 pub from-kept : {S : Type 0} (c : Core S) (round : ℕ) (sender : Point) (side : Side) → side_of c.me sender ≡ Some side →
-    numbers_in c.received round side ≡ received_from c round sender
+    numbers_kept c.received round side ≡ received_from c round sender
 from-kept c round sender Low e = rw e refl
 from-kept c round sender High e = rw e refl

@@ -20,14 +20,14 @@ pub record Keeps {S : Type 0} (old new : Core S) : Type 0 where
   pub masks : new.masks.words ≡ old.masks.words
   pub coefficients : new.coefficients.words ≡ old.coefficients.words
 
--- what handing out its messages makes of how far a core is: it passes the round where both messages to it are in, and
+-- what handing out its messages makes of how far a core is: it passes the round if both messages to it are in, and
 -- else it stays in the round
 abbrev pub Moves : {S : Type 0} → Core S → Core S → Type 0
 Moves old new =
     (HasBoth old.mail.now × (new.round ≡ old.round + 1) × (new.handed ≡ false))
     ⊎ (¬ (HasBoth old.mail.now) × (new.round ≡ old.round) × (new.handed ≡ true))
 
--- what is left of a core that hands out its messages: it then passes the round where both messages to it are in
+-- what is left of a core that hands out its messages: it then passes the round if both messages to it are in
 abbrev pub HandsOut : {S : Type 0} → (S → ℕ → List ℕ → Batch) → Core S → Core S → Type 0
 HandsOut next old new =
     (HasBoth old.mail.now × (new ≡ moved_on next (handed_out next old)))
@@ -53,7 +53,7 @@ other_side Low = High
 other_side High = Low
 
 -- the verdict of a server in a round on a message of the run from its peer of a side, of a round that is no later than
--- the next: old below the server's round, else a repeat where it is in the set, else ready where it is of the round and
+-- the next: old below the server's round, else a repeat if it is in the set, else ready if it is of the round and
 -- the other peer's message of it is in, and else stored
 abbrev pub verdict_on : Delivered → Point → ℕ → Side → ℕ → Verdict
 verdict_on x s round side t =

@@ -34,7 +34,7 @@ messages_to o me t = message_of o (peer me Low) me t ∷ message_of o (peer me H
 abbrev pub messages_from : Setup → Point → ℕ → List RoundMessage
 messages_from o me t = message_of o me (peer me Low) t ∷ message_of o me (peer me High) t ∷ []
 
--- a message where it was delivered
+-- a message if it was delivered
 abbrev pub some_if : Bool → RoundMessage → Option RoundMessage
 some_if true m = Some m
 some_if false m = None

@@ -25,8 +25,8 @@ messages_of me round (l ∷ lows) [] = []
 messages_of me round (l ∷ lows) (h ∷ highs) =
     (message_with me round Low l ∷ message_with me round High h ∷ []) ∷ messages_of me (round + 1) lows highs
 
-abbrev pub numbers_in : List (List RoundMessage) → ℕ → Side → Option (List ℕ)
-numbers_in messages round side = option_and_then
+abbrev pub numbers_kept : List (List RoundMessage) → ℕ → Side → Option (List ℕ)
+numbers_kept messages round side = option_and_then
     (λ pair. option_map (λ m. m.numbers.items) (slice_get pair (place_of side))) (slice_get messages round)
 
 -- each has no more numbers than a message may

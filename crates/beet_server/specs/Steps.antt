@@ -64,7 +64,7 @@ work_of c = record {
   handed = c.handed;
 }
 
--- the numbers of a sender, where these came from the lower and the higher peer
+-- the numbers of a sender, if these came from the lower and the higher peer
 abbrev pub came_from : {S : Type 0} → Work S → List ℕ → List ℕ → Point → List ℕ
 came_from w low high sender = at_side (side_of w.me sender) w.own low high
 
@@ -113,7 +113,7 @@ module _ {S : Type 0} (next : S → ℕ → List ℕ → Batch) where
         handed = false;
       }
 
-  -- both messages, where they are there
+  -- both messages, if they are there
   abbrev pub both_of : Option RoundMessage → Option RoundMessage → List RoundMessage
   both_of (Some low) (Some high) = low ∷ high ∷ []
   both_of None high = []

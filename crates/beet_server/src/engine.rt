@@ -206,7 +206,6 @@ impl<S: Script<3>> Engine<S> {
         &self.script
     }
 
-    /// The opened numbers.
     pub fn opened(&self) -> &[Fe]
         ensures { result.now ≡ self.now.opened }
     {

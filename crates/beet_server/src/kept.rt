@@ -4,7 +4,7 @@ ghost use Rattle.std.specs.Prelude.{◌≡◌, ◌<◌, ◌≤◌, ◌+◌, ◌*
 ghost use Rattle.beet_field.specs.declared.TheConstants.{MOST_NUMBERS};
 ghost use Rattle.beet_round.specs.Boxes.{IsFrom};
 ghost use Rattle.beet_round.specs.declared.sides.Side.TheVariants.{Low, High};
-ghost use Rattle.beet_server.specs.Kept.{numbers_in};
+ghost use Rattle.beet_server.specs.Kept.{numbers_kept};
 
 use crate::rows::Rows;
 use beet_field::{Fe, MOST_NUMBERS, Point};
@@ -59,7 +59,7 @@ impl KeptRounds {
     /// The numbers of the message of this round from the peer of this side.
     pub fn numbers(&self, round: usize, side: Side) -> &[Fe]
         requires { round < length self.now.messages }
-        ensures numbers { Some result.now ≡ numbers_in self.now.messages round side }
+        ensures numbers { Some result.now ≡ numbers_kept self.now.messages round side }
         ensures few { length result.now ≤ MOST_NUMBERS }
     {
         match side {

@@ -11,7 +11,7 @@ ghost use Rattle.beet_server.specs.Answers.{Keeps, Moves};
 ghost use Rattle.beet_server.specs.Cores.{Core, has_ended, is_quiet};
 ghost use Rattle.beet_server.specs.Fits.{Fits};
 
-/// Where nothing is undelivered, all three servers have ended, each with what the script names
+/// If nothing is undelivered, all three servers have ended, each with what the script names
 /// after the opened numbers of the run.
 pub fn all_end_alike<F>()
     ensures { (finish : List ℕ → Option F) (o : Setup) (rounds : ℕ) (x : Delivered) →
@@ -21,7 +21,7 @@ pub fn all_end_alike<F>()
 
 /// A core that fits a run, whatever its script, has passed no more rounds than the set gives its
 /// server, and one fewer at most. Once it has handed out its messages, or has ended, it has passed
-/// just as many. It has ended exactly where it has passed all rounds.
+/// just as many. It has ended exactly if it has passed all rounds.
 pub fn a_core_that_has_sent_is_at_its_passed_rounds<S>()
     ensures quiet { (next : S → ℕ → List ℕ → Batch) (o : Setup) (x : Delivered) (c : Core S)
         (rounds : ℕ) → HasRounds o rounds → Fits next o x c → is_quiet next c ≡ true →
@@ -36,7 +36,7 @@ pub fn a_core_that_has_sent_is_at_its_passed_rounds<S>()
         (has_ended next c ≡ true) ↔ (c.round ≡ rounds) }
 {}
 
-/// A core that fits a run hands out messages at most twice with nothing delivered in between: where
+/// A core that fits a run hands out messages at most twice with nothing delivered in between: if
 /// it is not quiet, and still not quiet once it has handed out, it is quiet once it has handed out
 /// again.
 pub fn messages_go_out_at_most_twice<S>()

@@ -79,7 +79,6 @@ pub fn append_lets(wires: &mut Vec<Fe>, lets: &[Linear])
     }
 }
 
-/// Appends the numbers.
 pub fn append_all(list: &mut Vec<Fe>, numbers: &[Fe])
     requires room { length list.old.items + length numbers.now ≤ vec_capacity list.old }
     ensures items { list.new.items ≡ list.old.items ++ numbers.now }

@@ -125,7 +125,7 @@ impl<S: Script<3>> Model for ServerCore<S> {
 }
 
 impl<S: Script<3>> ServerCore<S> {
-    /// A server in round 0, or ended where the script has no rounds. `inputs` are its points of the
+    /// A server in round 0, or ended if the script has no rounds. `inputs` are its points of the
     /// inputs; it deals the words of `masks`, and draws its numbers from `coefficients`. No other
     /// call takes memory.
     pub fn start(
@@ -168,8 +168,8 @@ impl<S: Script<3>> ServerCore<S> {
         })
     }
 
-    /// Hands out the two messages of the round, to the lower peer first. Where both messages to
-    /// this server of that round are in, it then passes the round. The answer is `None` where the
+    /// Hands out the two messages of the round, to the lower peer first. If both messages to
+    /// this server of that round are in, it then passes the round. The answer is `None` if the
     /// messages of the round were handed out before, or the script has ended. In a run it answers
     /// with messages at most twice between two deliveries.
     pub fn out(&mut self) -> Option<[RoundMessage; 2]>
@@ -333,7 +333,7 @@ impl<S: Script<3>> ServerCore<S> {
         self.engine.coefficients()
     }
 
-    /// The numbers that the sender sent it in a round that it has passed, or `None` where it has
+    /// The numbers that the sender sent it in a round that it has passed, or `None` if it has
     /// not passed the round or is the sender itself.
     pub fn received(&self, round: u32, sender: Point) -> Option<&[Fe]>
         ensures none { IsNone result ↔ ((self.now.round ≤ round) ⊎ (sender ≡ self.now.me)) }

@@ -41,10 +41,9 @@ use Rattle.beet_completeness_laws.specs.WithoutFault.{IsDoneOrShort}
 use Rattle.beet_completeness_laws.proofs.Jobs.{rehearsal-done}
 use Rattle.beet_completeness_laws.proofs.Leading.{IsDoneOver, book-done, then-done, undisturbed}
 use Rattle.beet_session_laws.specs.Complete.{CanPair, CanReplay, CanRunSession, MasksSufficeIn, RunsSessionWithoutFault}
-use Rattle.beet_session_laws.specs.Lots.{RunsJob}
 use Rattle.beet_session_laws.specs.Pairs.{SessionsAgree}
 use Rattle.beet_session_laws.proofs.PairReading.{told-both}
-use Rattle.beet_session_laws.proofs.Pairing.{sessions-apart}
+use Rattle.beet_session_laws.proofs.Pairing.{RunsJob, sessions-apart}
 
 -- the masks of no lot are spent where they suffice in each
 none-spent : (lots : List AuctionWithBidders) → All MasksSufficeIn lots → any_spent (map cleared lots) ≡ false

@@ -45,18 +45,24 @@ use Rattle.beet_job_session_pair.specs.Answering.{ShowsTheSame}
 use Rattle.beet_job_session_pair.specs.Ending.{ShowsSessions, TellsApart, TellsOf}
 use Rattle.beet_job_session_pair.specs.Reading.{Both, book_of_lot, both_errand, first_books, words_of_lot}
 use Rattle.beet_job_session_pair.specs.Refusals.{IsLineOf, refused_text}
-use Rattle.beet_pair_words.specs.Jobs.{Comparing}
+use Rattle.beet_pair_words.specs.Jobs.{Comparing, Job}
 use Rattle.beet_pair_words.proofs.Naming.{pair-at-server}
+use Rattle.beet_session_app.specs.Doing.{task_of}
 use Rattle.beet_app_laws.specs.Calls.{Call, IsOf, Puts}
+use Rattle.beet_app_laws.specs.Tables.{RunsJobBy}
 use Rattle.beet_app_laws.proofs.Led.{read-to}
 use Rattle.beet_app_laws.proofs.Telling.{one-value}
 use Rattle.beet_program_laws.proofs.Ends.{WentOut, WentWhole, no-job, no-usage, refused-answer, refused-whole, shown-ends}
 use Rattle.beet_program_laws.proofs.Jobs.{book_in, runs-in, words_in}
 use Rattle.beet_program_laws.proofs.Read.{IsLoaded, back}
-use Rattle.beet_session_laws.specs.Lots.{IsDoneSession, RunsJob, RunsSession, end_of_lot, loaded_lot}
+use Rattle.beet_session_laws.specs.Lots.{IsDoneSession, RunsSession, end_of_lot, loaded_lot}
 use Rattle.beet_session_laws.specs.Pairs.{LotPair, PutsBothSessions, RefusesBothSessions, SessionsAgree, first_lot, first_seen}
 use Rattle.beet_session_laws.specs.Pairs.{second_seen}
 use Rattle.beet_session_laws.proofs.PairReading.{IsBoth, both-yield, is-both, told-both}
+
+-- the call ran this job of the program of sessions
+abbrev pub RunsJob : Option Job → Call → Type 0
+RunsJob = RunsJobBy task_of
 
 -- ---- lots of two sessions
 

@@ -1,7 +1,6 @@
--- What each command of the program of sessions has read and said where its run ends with status 0 or 6, over a shelf
+-- What each command of the program of sessions has read and said if its run ends with status 0 or 6, over a shelf
 -- whose answers are of these files.
-use Rattle.std.specs.Prelude.{◌≡◌, ◌++◌, ◌+◌, ℕ, List, [], ◌∷◌, if◌then◌else◌, length, map, slice_get, sum}
-use Rattle.std.specs.Prelude.{Option, Some}
+use Rattle.std.specs.Prelude.{◌≡◌, ◌++◌, ◌+◌, ℕ, List, [], ◌∷◌, Some, if◌then◌else◌, length, map, slice_get, sum}
 use Rattle.beet_field.specs.Trio.{member}
 use Rattle.beet_field.specs.declared.point.Point.{Point}
 use Rattle.beet_store.specs.Files.{File}
@@ -34,17 +33,12 @@ use Rattle.beet_lot_load.specs.Telling.{lots_status, lots_text}
 use Rattle.beet_job_rehearse.specs.Rehearse.{servers_answer}
 use Rattle.beet_job_rehearse.specs.StandingTexts.{undelivered_line}
 use Rattle.beet_job_rehearse.specs.declared.standing.Rehearsal.{Rehearsal}
-use Rattle.beet_pair_words.specs.Jobs.{Job}
 use Rattle.beet_session_app.specs.Doing.{task_of}
 use Rattle.beet_session_app.specs.Jobs.{job_of}
 use Rattle.beet_app_laws.specs.Calls.{Call, Says}
 use Rattle.beet_app_laws.specs.Readings.{Read}
-use Rattle.beet_app_laws.specs.Tables.{IsDoneTable, RunsJobBy, RunsTable}
+use Rattle.beet_app_laws.specs.Tables.{IsDoneTable, RunsTable}
 use Rattle.beet_program_laws.specs.Outcomes.{IsShown, ServersOpen}
-
--- the call ran this job of the program of sessions
-abbrev pub RunsJob : Option Job → Call → Type 0
-RunsJob = RunsJobBy task_of
 
 -- the call ran these words over these files
 abbrev pub RunsSession : List File → List (List ℕ) → Call → Type 0

@@ -1,4 +1,4 @@
--- What the command `pair` of the program of sessions has read, put and said where its run ends with status 0 or 6, over
+-- What the command `pair` of the program of sessions has read, put and said if its run ends with status 0 or 6, over
 -- a shelf whose answers are of these files; and why it refuses two sessions.
 use Rattle.std.specs.Prelude.{◌≡◌, ◌++◌, ℕ, List, length, map}
 use Rattle.beet_field.specs.declared.point.Point.{Point}

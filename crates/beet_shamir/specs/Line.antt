@@ -22,7 +22,7 @@ points_of value slope = record {
 abbrev pub recombined : Trio ℕ → ℕ
 recombined points = sub_of (mul_of 2 points.one) points.two
 
--- where the points are those of a line, this is its value
+-- if the points are those of a line, this is its value
 abbrev pub GivesValue : Trio ℕ → ℕ → Type 0
 GivesValue points value = (v s : ℕ) → IsElement v → points ≡ points_of v s → value ≡ v
 
@@ -63,7 +63,7 @@ dealt_again v a w b numbers to = record {
   three = point_of (local_product v a w b Three) numbers.three to;
 }
 
--- where the numbers were dealt so for two lines, the share is the point of a line with the product of their values
+-- if the numbers were dealt so for two lines, the share is the point of a line with the product of their values
 abbrev pub SharesProduct : Trio ℕ → ℕ → Type 0
 SharesProduct received share =
     (v a w b : ℕ) (numbers : Trio ℕ) (to : Point) → received ≡ dealt_again v a w b numbers to →

@@ -18,7 +18,7 @@ trio a b c = record { one = a; two = b; three = c }
 abbrev pub sends : Setup → Point → ℕ → Trio (List ℕ)
 sends o from t = trio_of (λ to. message o from to t)
 
--- the product of two inputs, on the points 3 + 5i and 4 + 2i, where the servers draw 1, 2 and 4
+-- the product of two inputs, on the points 3 + 5i and 4 + 2i, if the servers draw 1, 2 and 4
 abbrev pub product_setup : Setup
 product_setup = record {
   next = λ done opened. product_batch done;

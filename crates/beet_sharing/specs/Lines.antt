@@ -40,7 +40,7 @@ slopes_gained o s (Mul pairs) = each (λ k. reshared (trio_of (λ j. number_draw
 slopes_gained o s (Reveal shown) = []
 slopes_gained o s End = []
 
--- the slopes after t batches, where those of the inputs are given
+-- the slopes after t batches, if those of the inputs are given
 abbrev pub slopes_at : Setup → List ℕ → ℕ → List ℕ
 slopes_at o slopes zero = slopes
 slopes_at o slopes (suc t) =

@@ -39,7 +39,7 @@ pub record Shared : Type 0 where
 abbrev pub number_drawn : Setup → Shared → Point → ℕ → ℕ
 number_drawn o s j k = slice_index (member o.numbers j) (s.drawn + k)
 
--- the k-th secret that it hides, where the lets of the batch are among the wires
+-- the k-th secret that it hides, if the lets of the batch are among the wires
 abbrev pub secret_hidden : Setup → Shared → Act → Point → ℕ → ℕ
 secret_hidden o s a j k = secret_of a (member s.wires j) (slice_index (member o.masks j) s.dealt) k
 

@@ -38,13 +38,9 @@ numbers_opened (Mul pairs) one two three = []
 numbers_opened (Reveal shown) one two three = each (λ k. recombined (three_at one two three k)) (length one)
 numbers_opened End one two three = []
 
--- how many points of wires an act gives, where so many servers deal
+-- how many points of wires an act gives, if so many servers deal
 abbrev pub gained_among : ℕ → Act → ℕ
 gained_among servers Deal = 61 * servers
 gained_among servers (Mul pairs) = length pairs.items
 gained_among servers (Reveal shown) = 0
 gained_among servers End = 0
-
--- the same among three
-abbrev pub gained_in : Act → ℕ
-gained_in = gained_among 3

@@ -9,7 +9,7 @@ ghost use Rattle.beet_sharing.specs.Rounds.{HasInputs, RoundIsWithin};
 ghost use Rattle.beet_sharing.specs.Examples.{bent_setup, deal_setup, product_setup, sends, trio, wire_at};
 ghost use Rattle.beet_field.specs.declared.point.Point.TheVariants.{One, Two, Three};
 
-/// Where the points of the inputs are those of lines, so are the points of each wire after each
+/// If the points of the inputs are those of lines, so are the points of each wire after each
 /// batch: those of the line with the value of the clear run and the stated slope. The opened
 /// numbers are the clear run's, and so is the number of words dealt.
 pub fn wires_stay_on_lines()
@@ -17,7 +17,7 @@ pub fn wires_stay_on_lines()
         (t : ℕ) → IsAtOne o values slopes t }
 {}
 
-/// Where the points of the inputs are those of lines, the run ends after as many rounds as the
+/// If the points of the inputs are those of lines, the run ends after as many rounds as the
 /// clear run on their values, or both go on for ever.
 pub fn rounds_are_the_clear_runs()
     ensures { (o : Setup) (values slopes : List ℕ) → OnLines values slopes o.inputs →
@@ -32,7 +32,7 @@ pub fn lawful_runs_end()
         HasRounds o (rounds_among o most) × (rounds_among o most ≤ most) }
 {}
 
-/// Where each server has a lawful script's number of points of the inputs, each round of a run of
+/// If each server has a lawful script's number of points of the inputs, each round of a run of
 /// the script takes no more numbers, words and points than the law allows. A message has at least
 /// one number and at most `MOST_NUMBERS`.
 pub fn rounds_stay_within()
@@ -41,7 +41,7 @@ pub fn rounds_stay_within()
         (t : ℕ) → t < rounds_among o most → RoundIsWithin o bounds t }
 {}
 
-/// Where the points of the inputs are those of lines, a run of a lawful script has the rounds of
+/// If the points of the inputs are those of lines, a run of a lawful script has the rounds of
 /// the clear run. At the end it has opened the clear run's numbers, and the points of each wire,
 /// also of the lets of the end, are those of the line with the clear run's value and the stated
 /// slope.
@@ -60,7 +60,7 @@ pub fn lines_end_alike()
         (standing_at o (rounds_among o most)).wires }
 {}
 
-/// The product of 3 and 4, on the lines 3 + 5i and 4 + 2i, where the servers draw 1, 2 and 4: the
+/// The product of 3 and 4, on the lines 3 + 5i and 4 + 2i, if the servers draw 1, 2 and 4: the
 /// messages, the new points, the opened number and the rounds.
 #[tactic(auto, unfolding(beet_gates::specs::Clear::weighed, beet_gates::specs::Each::each))]
 pub fn product_example()

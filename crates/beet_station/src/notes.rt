@@ -27,7 +27,7 @@ pub trait Sink {
     ghost use Rattle.std.specs.Prelude.{List};
     ghost use Rattle.beet_station.specs.declared.notes.DeskNote.{DeskNote};
 
-    /// The notes that it still awaits, where these are left in the run: the same, if it is to be told them.
+    /// The notes that it still awaits, if these are left in the run: the same, if it is to be told them.
     ghost due: { Self → List DeskNote → List DeskNote };
 
     /// It, before it was told of any round.

@@ -66,7 +66,7 @@ pub record SaysAll (bytes : List ℕ) (old new : Given) : Type 0 where
   pub files : new.files ≡ old.files
   pub said : new.said ≡ old.said ++ bytes
 
--- what a call leaves of files and text: what was asked for where it is taken, and for want of memory what stood; after
+-- what a call leaves of files and text: what was asked for if it is taken, and for want of memory what stood; after
 -- a failure nothing is known of the name, or it is not known how much of the text went out
 abbrev pub Leaves : DeskCall → Given → Given → Type 0
 Leaves (Put name bytes (Ok done)) old new = Replaced name bytes old new
@@ -76,7 +76,7 @@ Leaves (Say bytes (Ok done)) old new = SaysAll bytes old new
 Leaves (Say bytes (Err Failed)) old new = SaysSome bytes old new
 Leaves (Say bytes (Err OutOfMemory)) old new = Stands old new
 
--- what a call leaves, where the desk tells it
+-- what a call leaves, if the desk tells it
 abbrev pub LeavesGiven : Option Given → Option Given → DeskCall → Type 0
 LeavesGiven None new call = new ≡ None
 LeavesGiven (Some old) new call = IsSomeAnd new (Leaves call old)

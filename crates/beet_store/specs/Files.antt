@@ -25,7 +25,7 @@ pub data FetchAnswer : Type 0 where
   Longer : ℕ → FetchAnswer
   Nothing : FetchAnswer
 
--- the answer that is recorded: none where memory ran out
+-- the answer that is recorded: none if memory ran out
 abbrev pub answer_of : Fetched → Option FetchAnswer
 answer_of (Ok bytes) = Some (Bytes bytes.items)
 answer_of (Err (TooLong n)) = Some (Longer n)
@@ -86,7 +86,7 @@ pub record Seen : Type 0 where
 abbrev pub with_fetches : Told → List Fetch → Told
 with_fetches told fetches = record told { fetches = fetches }
 
--- what a fetch records, and, where the shelf tells its files, what it answers; what it holds never changes
+-- what a fetch records, and, if the shelf tells its files, what it answers; what it holds never changes
 pub record TellsFetch (old new : Told) (name : List ℕ) (limit : ℕ) (result : Fetched) : Type 0 where
   pub recorded : new ≡ with_fetches old (fetches_after old.fetches name limit (answer_of result))
   pub held : IfSome old.files (λ files. IfSome (answer_of result) (Answers (bytes_of files name)))

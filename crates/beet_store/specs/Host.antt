@@ -6,11 +6,11 @@ use Rattle.beet_store.specs.Files.{Fetch, Fetched, Seen}
 use Rattle.beet_store.specs.Desks.{DeskCall, DeskSeen, Done}
 use Rattle.beet_store.specs.declared.shelf.FetchFault.TheVariants.{Failed, TooLong, OutOfMemory}
 
--- the count of faults after a call: one more where it failed
+-- the count of faults after a call: one more if it failed
 abbrev pub count_after : ℕ → Bool → ℕ
 count_after before failed = if failed then next_count before else before
 
--- the bytes that were read are the whole, or so many that the limit is passed
+-- the bytes that were read are the whole, or more than the limit
 abbrev pub IsWhole : Option (List ℕ) → List ℕ → Fetched → Type 0
 IsWhole left bytes (Ok whole) = (whole.items ≡ bytes) × IsAtEnd left
 IsWhole left bytes (Err (TooLong n)) = n ≡ length bytes
@@ -31,7 +31,7 @@ StopsBeyond limit (Err (TooLong n)) = n ≡ limit + 1
 StopsBeyond limit (Err Failed) = ⊤
 StopsBeyond limit (Err OutOfMemory) = ⊤
 
--- what a writer got, told or not: all the bytes, in order and once, where it is done, and else some front of them
+-- what a writer got, told or not: all the bytes, in order and once, if it is done, and else some front of them
 abbrev pub WritesAll : Option (List ℕ) → Option (List ℕ) → List ℕ → Done → Type 0
 WritesAll old new bytes (Ok done) = Appends old new bytes
 WritesAll old new bytes (Err fault) = (n : ℕ) × Appends old new (take n bytes)

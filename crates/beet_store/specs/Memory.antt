@@ -15,7 +15,7 @@ pub record CallsSeen : Type 0 where
 abbrev pub is_listed : CallsSeen → Bool
 is_listed calls = list_any (λ n. nat_eq n (next_count calls.made)) calls.failing
 
--- one call more, and one fault more where it fails
+-- one call more, and one fault more if it fails
 abbrev pub after_call : CallsSeen → Bool → CallsSeen
 after_call calls fails =
     record calls { made = next_count calls.made; faults = if fails then next_count calls.faults else calls.faults }
@@ -30,7 +30,7 @@ abbrev pub shelf_seen : ShelfInMemory → Seen
 shelf_seen shelf =
     record { told = record { files = Some shelf.files; fetches = shelf.fetches }; faults = shelf.calls.faults }
 
--- a fetch fails where the name is not held, and where its call is listed
+-- a fetch fails if the name is not held, and if its call is listed
 abbrev pub fetch_fails : ShelfInMemory → List ℕ → Bool
 fetch_fails shelf name = if is_none (bytes_of shelf.files name) then true else is_listed shelf.calls
 

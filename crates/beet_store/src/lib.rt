@@ -1,6 +1,6 @@
 //! The outside, as the program meets it: a shelf that files are fetched from, and a desk that files and a text are
 //! given to. Each tells what it was asked and what it answered. The memory types tell what they hold besides, and fail
-//! where they are told; the host types reach the files of the system and standard output, and are trusted.
+//! when they are told; the host types reach the files of the system and standard output, and are trusted.
 #![tactic(auto)]
 
 mod calls;

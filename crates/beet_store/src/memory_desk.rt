@@ -53,7 +53,7 @@ fn replace(files: &mut Vec<Held>, alloc: Global, name: &str, bytes: &[u8]) -> Re
     Ok(())
 }
 
-/// Puts the bytes under the name, where the call does not fail.
+/// Puts the bytes under the name, if the call does not fail.
 fn put_into(
     files: &mut Vec<Held>,
     alloc: Global,
@@ -74,7 +74,7 @@ fn put_into(
     Ok(())
 }
 
-/// Appends the bytes to the text, where the call does not fail.
+/// Appends the bytes to the text, if the call does not fail.
 fn say_into(said: &mut Vec<u8>, fails: bool, bytes: &[u8]) -> Result<(), PutFault>
     ensures exact { IsErrOf result Failed ↔ IsTrue fails }
     ensures ok { OnOk result (said.new.items ≡ said.old.items ++ bytes.now) }

@@ -13,7 +13,7 @@ pub enum FetchFault {
     /// The file is not there, or cannot be read; the count of faults rose.
     #[error("the file cannot be read")]
     Failed,
-    /// The file is longer than the limit. The number is its length where the shelf tells its files, and else some
+    /// The file is longer than the limit. The number is its length if the shelf tells its files, and else some
     /// number above the limit.
     #[error("the file is too long: {0} bytes")]
     TooLong(u64),

@@ -16,7 +16,7 @@ module _ {S : Type 0} (next : S → ℕ → List ℕ → Batch) (inputs most : S
   HasTold start me sink end =
       IsEnded next inputs most start me end.0 × Awaits (due end.1) [] × (origin end.1 ≡ origin sink)
 
-  -- the word is that of this lock: where it is that the servers run, this one has ended, and else it stands as it began
+  -- the word is that of this lock: if it is that the servers run, this one has ended, and else it stands as it began
   pub record HasServed (start : Trio (Core S)) (me : Point) (sink : K) (lock of : ℕ) (told : Bool)
       (end : Core S × K) : Type 0 where
     pub heard : of ≡ lock

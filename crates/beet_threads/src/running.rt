@@ -10,7 +10,7 @@ ghost use Rattle.beet_station.specs.Notes.{Awaits, notes_left};
 ghost use Rattle.beet_station.specs.Stations.{IsTied};
 ghost use Rattle.beet_threads.specs.Words.{HasTold};
 
-use crate::serving::{Served, Serving, Word, end, say, serve_if_told, start};
+use crate::serving::{Served, Serving, Start, end, say, serve_if_told, start};
 use beet_field::{Point, Trio};
 use beet_gates::Script;
 use beet_link::Gate;
@@ -27,7 +27,6 @@ use std::time::Clock;
 /// A server, and whom it has told of its rounds.
 pub type Telling<S, K> = (ServerCore<S>, K);
 
-/// Of one that has served.
 fn telling<'s, S: Script<3>, K: Drop>(served: Served<'s, S, K>) -> Telling<S, K>
     ensures { result ≡ (served.entry.station.core, served.entry.sink) }
 {
@@ -51,10 +50,10 @@ pub fn apart<S: Script<3>, K>(ends: Trio<Telling<S, K>>) -> (Trio<ServerCore<S>>
     (Trio { one, two, three }, told)
 }
 
-/// The servers, once each has served: `Ok` where they have run, and `Err` where they stand as they began. All have
+/// The servers, once each has served: `Ok` if they have run, and `Err` if they stand as they began. All have
 /// heard one word.
 fn settle<'s, S: Script<3>, K: Drop>(
-    word: &'s Word,
+    word: &'s Start,
     one: Served<'s, S, K>,
     two: Served<'s, S, K>,
     three: Served<'s, S, K>,
@@ -110,7 +109,7 @@ where
         × (cores.two ≡ member servings.two.run.value servings.two.me)
         × (cores.three ≡ member servings.three.run.value servings.three.me)) }
 {
-    let word: Word = OnceLock::new();
+    let word: Start = OnceLock::new();
     let word = &word;
     let Trio { one, two, three } = servings;
     thread::scope(
@@ -210,7 +209,7 @@ pub fn rooms<S: Script<3>>(
     Ok((links, mails))
 }
 
-/// Runs three fresh servers to the end, the second and the third in workers. Where a link finds no memory or a worker
+/// Runs three fresh servers to the end, the second and the third in workers. If a link finds no memory or a worker
 /// cannot be started, no server has begun, and all three run in lockstep instead, without the gate.
 pub fn run_three<S: Script<3> + Send, R: Threads + Wait + Clock + Sync, G: Gate>(
     rt: &R,

@@ -30,7 +30,7 @@ pub struct Serving<S: Script<3>, K: Sink> {
 }
 
 /// Whether the servers are to run, once that is said. The first word stands.
-pub type Word = OnceLock<bool>;
+pub type Start = OnceLock<bool>;
 
 /// A server that has heard whether it is to run, and then has run to its end or stands as it began.
 #[derive(Drop)]
@@ -45,7 +45,7 @@ pub struct Served<'s, S: Script<3>, K> {
 #[derive(Drop)]
 pub struct Ends<S: Script<3>, K: Sink> {
     serving: Snapshot<Serving<S, K>>,
-    word: Snapshot<Word>,
+    word: Snapshot<Start>,
 }
 
 impl<'s, S: Script<3>, K: Sink> Promise<Served<'s, S, K>> for Ends<S, K> {
@@ -57,11 +57,11 @@ impl<'s, S: Script<3>, K: Sink> Promise<Served<'s, S, K>> for Ends<S, K> {
 }
 
 /// Says whether the servers are to run, unless that was said before.
-pub fn say<R: Wait>(rt: &R, word: &Word, go: bool) {
+pub fn say<R: Wait>(rt: &R, word: &Start, go: bool) {
     let _said = word.set(rt, go);
 }
 
-fn hear_word<'s, R: Wait>(rt: &R, word: &'s Word) -> OnceToken<'s, bool>
+fn hear_word<'s, R: Wait>(rt: &R, word: &'s Start) -> OnceToken<'s, bool>
     ensures { result.of ≡ word.now.id }
 {
     for _ in rt.forever() {
@@ -77,7 +77,7 @@ fn hear_word<'s, R: Wait>(rt: &R, word: &'s Word) -> OnceToken<'s, bool>
 pub fn serve_if_told<'s, S: Script<3>, R: Wait + Clock, G: Gate, K: Sink>(
     rt: &R,
     gate: &G,
-    word: &'s Word,
+    word: &'s Start,
     serving: Serving<S, K>,
 ) -> Served<'s, S, K>
     ensures { HasServed S.batch_of S.inputs_of S.rounds_of K.due K.origin serving.run.value serving.me
@@ -112,7 +112,7 @@ pub fn serve_if_told<'s, S: Script<3>, R: Wait + Clock, G: Gate, K: Sink>(
 /// A worker that runs a server.
 pub type Worker<'s, S, K> = PromisedHandle<Served<'s, S, K>, Ends<S, K>>;
 
-/// Starts a worker that runs the server if it is told to. Where no thread can be made it says that no server is to
+/// Starts a worker that runs the server if it is told to. If no thread can be made it says that no server is to
 /// run, and answers the server.
 pub fn start<
     's,
@@ -125,7 +125,7 @@ pub fn start<
     scope: &Scope<'s, E>,
     rt: &'s R,
     gate: &'s G,
-    word: &'s Word,
+    word: &'s Start,
     serving: Serving<S, K>,
 ) -> Result<Worker<'s, S, K>, Served<'s, S, K>>
 where

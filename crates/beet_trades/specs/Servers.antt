@@ -1,4 +1,4 @@
--- The words of the servers in two worlds of a script, where the compared numbers lose some amount.
+-- The words of the servers in two worlds of a script, if the compared numbers lose some amount.
 use Rattle.std.specs.Prelude.{◌≡◌, ℕ, List, All, length}
 use Rattle.beet_field.specs.declared.point.Point.{Point}
 use Rattle.beet_field.specs.declared.trio.Trio.{Trio}

@@ -109,7 +109,7 @@ impl SeenByAll {
     }
 }
 
-/// The curve and the words of a bidder, in memory of their own, where this server knows it.
+/// The curve and the words of a bidder, in memory of their own, if this server knows it.
 fn own_part(
     alloc: Global,
     at: Point,
@@ -145,7 +145,7 @@ fn see(
     })
 }
 
-/// Appends a bidder with these points, as this server sees it, where bidders are kept for the server, and else nothing.
+/// Appends a bidder with these points, as this server sees it, if bidders are kept for the server, and else nothing.
 fn show(
     alloc: Global,
     whom: Option<Point>,
@@ -376,7 +376,7 @@ pub(crate) struct DealtBook {
 }
 
 /// Deals the quantities of all bidders of a book, each by its own words, by a thread for each processor. The bidders
-/// are kept for one server alone, or for all three where none is named.
+/// are kept for one server alone, or for all three if none is named.
 pub(crate) fn deal_book<R: Threads + Sync>(
     rt: &R,
     alloc: Global,

@@ -68,7 +68,7 @@ pub struct Ready {
 }
 
 /// Deals the bidders of a book on all processors, and keeps as many of each server's words as of a tape. The bidders
-/// are kept for one server alone, or for all three where none is named.
+/// are kept for one server alone, or for all three if none is named.
 pub fn make_ready<R: Threads + Sync>(
     rt: &R,
     alloc: Global,

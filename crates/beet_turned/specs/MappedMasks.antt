@@ -9,7 +9,7 @@ use Rattle.beet_round.specs.Sides.{peer}
 use Rattle.beet_round.specs.declared.sides.Side.TheVariants.{Low}
 use Rattle.beet_turned.specs.Turn.{turned}
 
--- a mask in the second world: turned where it is compared, by what the number under it has lost, modulo p
+-- a mask in the second world: turned if it is compared, by what the number under it has lost, modulo p
 abbrev pub mask_mapped : ℕ → Option ℕ → ℕ
 mask_mapped mask None = mask
 mask_mapped mask (Some loss) = turned mask loss

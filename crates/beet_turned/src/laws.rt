@@ -12,7 +12,7 @@ ghost use Rattle.beet_round.specs.declared.sides.Side.TheVariants.{Low};
 ghost use Rattle.beet_turned.specs.MappedMasks.{MasksMapped, loss_in, mask_mapped};
 ghost use Rattle.beet_turned.specs.Turn.{turned};
 
-/// A turned mask is turned back by what takes the number off again, a mask is all ones exactly where the turned one is,
+/// A turned mask is turned back by what takes the number off again, a mask is all ones exactly if the turned one is,
 /// and under an accepted mask the number that has lost as much shows the same sum.
 pub fn turned_masks()
     ensures back { (r d : ℕ) → IsWord r → IsElement d → turned (turned r d) (neg_of d) ≡ r }
@@ -21,7 +21,7 @@ pub fn turned_masks()
         add_of z (turned r (sub_of y z)) ≡ add_of y r }
 {}
 
-/// Of mapped mask words those of the server itself are the same. The exclusive ors are the turned masks where they are
+/// Of mapped mask words those of the server itself are the same. The exclusive ors are the turned masks if they are
 /// compared, and words again. The same masks are all ones, so that the same are rejected and accepted, and the runs are
 /// spent alike.
 pub fn mapped_masks_count_alike()

@@ -52,7 +52,7 @@ pub fn loss_for(losses: &[Fe], mask: Word, rejected: usize, accepted: usize) -> 
     }
 }
 
-/// The word of a server in the second world, where the number under the mask loses so much.
+/// The word of a server in the second world, if the number under the mask loses so much.
 pub fn word_for(mask: Word, word: Word, loss: Option<Fe>) -> Word
     ensures { result ≡ word_mapped mask word loss }
 {
@@ -62,7 +62,7 @@ pub fn word_for(mask: Word, word: Word, loss: Option<Fe>) -> Word
     }
 }
 
-/// One more where the mask is rejected.
+/// One more if the mask is rejected.
 pub fn count_rejected(before: usize, mask: Word) -> usize
     requires { before + 1 < 2 ^ 64 }
     ensures { result ≡ before + (if mask == ones then 1 else 0) }
@@ -94,7 +94,7 @@ fn turning_words(
     Ok(turned)
 }
 
-/// The words of one server in the second world, where the words of `turner` turn each mask that is compared in the
+/// The words of one server in the second world, if the words of `turner` turn each mask that is compared in the
 /// first.
 fn words_of(
     alloc: Global,
@@ -116,7 +116,7 @@ fn words_of(
     }
 }
 
-/// The mask words of the second world, with which its comparisons open what those of the first world do, where the
+/// The mask words of the second world, with which its comparisons open what those of the first world do, if the
 /// numbers that are compared, one after another, lose so much. The words of the lower of the other two servers turn
 /// each mask that is compared; all others are the same.
 pub fn map_masks(

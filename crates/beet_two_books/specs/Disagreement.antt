@@ -35,12 +35,12 @@ RefusesWhere same_own own_differs first second (OutcomesDiffer one other) =
     × ((one ≡ outcome_of first) × (other ≡ outcome_of second) × (other ≢ one))
 RefusesWhere same_own own_differs first second OutOfMemory = ⊥
 
--- where own bidders are those known to a server that passes a test
+-- if own bidders are those known to a server that passes a test
 abbrev pub RefusesFor : (Point → Bool) → Book → Book → MapFault → Type 0
 RefusesFor knows first second fault =
     RefusesWhere (AllSame knows first second) (DiffersFor knows first.bidders second.bidders) first second fault
 
--- why words are not mapped from one book to another: memory runs out only where the books agree
+-- why words are not mapped from one book to another: memory runs out only if the books agree
 abbrev pub RefusesUnlessAgreed : Type 0 → (MapFault → Type 0) → MapFault → Type 0
 RefusesUnlessAgreed agree refuses OutOfMemory = agree
 RefusesUnlessAgreed agree refuses fault = refuses fault

@@ -22,7 +22,7 @@ pub enum MapFault {
     /// The first bidder, counted from 1, that one book lacks, or that is not known to the same server in both.
     #[error("bidder {0} is not in both books with the same mark")]
     ShapeDiffers(u32),
-    /// The first bidder, counted from 1, that a server that watches knows and that has another curve in the second
+    /// The first bidder, counted from 1, that is known to a server that watches and has another curve in the second
     /// book.
     #[error("bidder {0} is known to a server that watches and has another curve in the second book")]
     OwnBidsDiffer(u32),

@@ -38,7 +38,7 @@ pub fn agreeing_books_open_alike()
         (sums_of first) words (sums_of second) words' }
 {}
 
-/// Where five servers deal words, the runs of two books over one grid that clear alike open the same numbers all along,
+/// If five servers deal words, the runs of two books over one grid that clear alike open the same numbers all along,
 /// if the same masks are all ones, and each that is compared at a place is turned by what twice the difference there is
 /// more in the first book.
 pub fn books_open_alike_among_five()

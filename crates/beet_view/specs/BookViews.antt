@@ -27,7 +27,7 @@ names (Some at) s = same at s
 abbrev pub kept_if : Bool → Curve → List ℕ → Option (Curve × List ℕ)
 kept_if known curve words = if known then Some (curve, words) else None
 
--- the curve and the words of a bidder, where this server knows it
+-- the curve and the words of a bidder, if this server knows it
 abbrev pub own_at : Point → BidderWithWords → Option (Curve × List ℕ)
 own_at s farmer = kept_if (names farmer.bidder.known s) farmer.bidder.curve farmer.words
 
@@ -35,7 +35,7 @@ own_at s farmer = kept_if (names farmer.bidder.known s) farmer.bidder.curve farm
 abbrev pub seen_with : Point → BidderWithWords → List ℕ → Seen
 seen_with s farmer points = record { known = farmer.bidder.known; points = points; own = own_at s farmer }
 
--- a bidder as a server sees it: its mark, its points at the server, and its curve and words where the server knows it
+-- a bidder as a server sees it: its mark, its points at the server, and its curve and words if the server knows it
 abbrev pub seen_at : Grid → Point → BidderWithWords → Seen
 seen_at grid s farmer = seen_with s farmer (each (point_for farmer s) (2 * grid.prices))
 
@@ -51,7 +51,7 @@ view_of_book grid farmers masks coefficients s =
 abbrev pub transcript_of_book : Grid → List BidderWithWords → Trio (List ℕ) → Trio (List ℕ) → Point → List ℕ
 transcript_of_book grid farmers masks coefficients s = view_bytes (view_of_book grid farmers masks coefficients s)
 
--- what a server sees of the auction of a book with these words of servers and bidders: with all of them, also where
+-- what a server sees of the auction of a book with these words of servers and bidders: with all of them, also if
 -- they are more than a run keeps
 abbrev pub view_for : Book → Words → Point → Viewed
 view_for book words s = view_of_book book.grid (farmers_of book.bidders words.bidders) words.masks words.coefficients s

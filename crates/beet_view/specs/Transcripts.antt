@@ -44,7 +44,7 @@ magic tells = if tells then codes "BEETVW02" else codes "BEETVW01"
 abbrev pub from_to : ℕ → ℕ → Allowed
 from_to lowest highest = record { low = lowest; high = highest; truncated = TRUNCATED; outside = BAD_NUMBER }
 
--- the most bidders, also where each is counted once for each price
+-- the most bidders, also if each is counted once for each price
 abbrev pub most_bidders : ℕ → ℕ
 most_bidders prices = min MOST_BIDDERS (MOST_PRODUCT / prices)
 
@@ -74,7 +74,7 @@ number_of_gates Tree = 1
 abbrev pub policy_of : ℕ → Policy
 policy_of n = if nat_eq n 0 then Price else Full
 
--- the number of a policy, where a transcript tells it
+-- the number of a policy, if a transcript tells it
 abbrev pub policy_field : Policy → List ℕ
 policy_field Price = 0 ∷ []
 policy_field Volume = []
@@ -92,7 +92,7 @@ server_at bytes at = do
   number ← number_at bytes (from_to 1 3) at
   Ok (server_of number.0, number.1)
 
--- the policy, which is told by 0 or 2, or Volume where none is told
+-- the policy, which is told by 0 or 2, or Volume if none is told
 unfoldable pub policy_at : List ℕ → Bool → Part Policy
 policy_at bytes false at = Ok (Volume, at)
 policy_at bytes true at = do
@@ -139,12 +139,12 @@ own_at bytes prices at = do
   words ← words_at bytes (words_kept prices) sell.1
   Ok ((record { buy = buy.0; sell = sell.0 }, words.0), words.1)
 
--- the curve and the words, where the mark is the server's number
+-- the curve and the words, if the mark is the server's number
 unfoldable pub own_where_known : List ℕ → Point → ℕ → ℕ → Part (Option (Curve × List ℕ))
 own_where_known bytes server prices mark at =
     if nat_eq mark (number_of server) then (own_at bytes prices at >>= λ own. Ok (Some own.0, own.1)) else Ok (None, at)
 
--- a bidder: the mark, two points for each price, and the curve and the words where this server knows them
+-- a bidder: the mark, two points for each price, and the curve and the words if this server knows them
 unfoldable pub seen_at : List ℕ → Point → ℕ → Part Seen
 seen_at bytes server prices at = do
   mark ← number_at bytes (from_to 0 3) at

@@ -35,7 +35,7 @@ view_with_run server grid bidders run = record {
 abbrev pub run_in : Viewed → SeenRun
 run_in view = record { masks = view.masks; coefficients = view.coefficients; rounds = view.rounds }
 
--- a bidder at a server: two points for each price, and a curve of the grid exactly where the server knows the bidder
+-- a bidder at a server: two points for each price, and a curve of the grid exactly if the server knows the bidder
 pub record IsSeenAt (server : Point) (grid : Grid) (seen : Seen) : Type 0 where
   pub points : length seen.points ≡ 2 * grid.prices
   pub own : MatchOption seen.own (seen.known ≢ Some server) (λ own. (seen.known ≡ Some server) × IsOfGrid grid own.0)

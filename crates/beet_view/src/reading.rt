@@ -70,7 +70,7 @@ fn gates_of(number: u64) -> Gates
     }
 }
 
-/// The policy, where the transcript tells one, or Volume.
+/// The policy, if the transcript tells one, or Volume.
 #[tactic(auto, unfolding(crate::specs::Transcripts::policy_at))]
 fn read_policy(bytes: &[u8], tells: bool, at: usize) -> Result<(Policy, usize), ReadFault>
     requires { at ≤ length bytes.now }
@@ -140,7 +140,7 @@ fn known_of(mark: u64) -> Option<Point>
     }
 }
 
-/// The curve and the words of a bidder with this mark, where the server knows it.
+/// The curve and the words of a bidder with this mark, if the server knows it.
 #[tactic(auto, unfolding(crate::specs::Transcripts::own_where_known))]
 fn read_own_where_known(
     alloc: Global,
@@ -277,20 +277,20 @@ fn read_parts(alloc: Global, bytes: &[u8]) -> Result<View, ReadFault>
 
 /// The view of a transcript.
 ///
-/// After `BEETVW01`, or `BEETVW02` where the policy is not Volume, all is numbers of 8 bytes, the highest byte first:
+/// After `BEETVW01`, or `BEETVW02` if the policy is not Volume, all is numbers of 8 bytes, the highest byte first:
 /// the server, the base, the tick and the number of prices, 0 for a chain of gates or 1 for a tree, after `BEETVW02`
 /// alone 0 for the policy Price or 2 for Full, and the number of bidders. For each bidder: its mark, which is 0 or the
-/// number of the server that knows it, its buy points and its sell points; where the mark is the server, its buy and
+/// number of the server that knows it, its buy points and its sell points; if the mark is the server, its buy and
 /// its sell quantities, and its words after their count. Then the mask words and the coefficient words, each after
 /// their count, the number of rounds, and for each round the numbers of the lower and then of the higher peer, each
 /// after their count.
 ///
-/// A transcript is refused at the first place from the left that breaks its format: for the reason 1 at 0 where it
+/// A transcript is refused at the first place from the left that breaks its format: for the reason 1 at 0 if it
 /// begins with neither text; for the reason 2 at a field that is cut off; for the reason 3 at a field with a number
 /// that is not allowed; for the reason 4 at the first byte after the last field. Allowed are 1 to 3 for the server; the
-/// limits of a grid; at most 2,000 bidders, and at most 500,000 where each is counted once for each price; 0 to 3 for a
-/// mark; points below the modulus; quantities below 2^48, where none that is bought is above and none that is sold is
-/// below the one before it; at most 2 words for each price and 8 more for a bidder; at most 2 mask words more than the
+/// limits of a grid; at most 2,000 bidders, and at most 500,000 if each is counted once for each price; 0 to 3 for a
+/// mark; points below the modulus; quantities below 2^48, none that is bought above and none that is sold below the one
+/// before it; at most 2 words for each price and 8 more for a bidder; at most 2 mask words more than the
 /// search has comparisons; at most 512 coefficient words for each of as many, and 8 more; words below 2^61; at most
 /// 4,096 rounds; 1 to 64 numbers below the modulus in a message.
 ///

@@ -10,9 +10,8 @@ use beet_round::Side;
 use beet_words::{FeList, Word, WordList};
 use std::marker::Model;
 
-/// A bidder at a server: the server that knows it, if there is one, its points at the server, for each price that of
-/// the quantity that it buys and then for each that of what it sells, and its curve and its words where it is the
-/// server itself that knows it.
+/// A bidder at a server: the server that knows it, if one does; its points there, for each price the one of what it
+/// buys, and then for each price the one of what it sells; and its curve and its words, if the server itself knows it.
 #[derive(Drop)]
 pub struct Seen {
     pub known: Option<Point>,
@@ -150,7 +149,7 @@ impl View {
         self.run.received().len() as u32
     }
 
-    /// The numbers from this sender in this round, counted from 0, or none where there was no such round or the sender
+    /// The numbers from this sender in this round, counted from 0, or none if there was no such round or the sender
     /// is the server itself.
     pub fn numbers(&self, round: u32, sender: Point) -> Option<&[Fe]>
         ensures numbers { option_map (λ s. s.now) result ≡ numbers_of self.now round sender }

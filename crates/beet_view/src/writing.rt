@@ -87,7 +87,7 @@ pub fn number_of_gates(gates: Gates) -> u64
     }
 }
 
-/// The number of a policy, where a transcript tells it.
+/// The number of a policy, if a transcript tells it.
 fn policy_field(policy: Policy) -> &'static [u64]
     ensures { result.now ≡ policy_field policy }
 {

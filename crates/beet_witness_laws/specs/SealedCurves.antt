@@ -25,7 +25,6 @@ pub record AreOfCurve (grid : Grid) (points : Trio (List ℕ)) (curve : Curve) :
   pub of_grid : IsOfGrid grid curve
   pub shares : AreShares (quantities curve) points
 
--- each bidder bids a curve
 pub record BidCurves (grid : Grid) (bidders : List (Trio (List ℕ))) : Type 0 where
   pub curves : ℕ → Curve
   pub bids : (i : ℕ) → i < length bidders → AreOfCurve grid (slice_index_or bidders i no_points) (curves i)

@@ -10,3 +10,4 @@ mod Drawing
 pub mod DrawnFrom
 pub mod WordLists
 pub mod Putting
+mod SeedNumbers

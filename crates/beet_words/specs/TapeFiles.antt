@@ -20,7 +20,7 @@ lines_of bytes = map (line_at bytes) (range_with_len 0 ((length bytes + (LINE - 
 abbrev pub digits_of : List ℕ → Option ℕ
 digits_of text = if length text == DIGITS then option_map (from_be_bytes w64) (bytes_in (decode_of text)) else None
 
--- the number of a line, or none where the line is not whole, has another last byte, or other bytes than digits
+-- the number of a line, or none if the line is not whole, has another last byte, or other bytes than digits
 abbrev pub number_in : List ℕ → Option ℕ
 number_in line = if (length line == LINE) && (slice_index line DIGITS == 10) then digits_of (take DIGITS line) else None
 

@@ -153,7 +153,7 @@ fn read_server(
 /// The words of a bundle.
 ///
 /// A bundle is refused at the first place from the left that breaks its format: for the reason 1 at
-/// 0 where it does not begin with `BEETWD01`; for the reason 2 at a field that is cut off; for the
+/// 0 if it does not begin with `BEETWD01`; for the reason 2 at a field that is cut off; for the
 /// reason 3 at a number of bidders above 2,000, a count of words above 16,384 or a word of 2^61 or
 /// more; for the reason 4 at the first byte after the last field. The file is gone over once, and
 /// memory is taken for no more items than it can hold.

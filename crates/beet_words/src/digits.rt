@@ -32,7 +32,7 @@ static VALUES: [u8; 256] = [
     255, 255, 255,
 ];
 
-/// The seed that 64 hexadecimal digits of either case write, or none where the text is anything else.
+/// The seed that 64 hexadecimal digits of either case write, or none if the text is anything else.
 pub fn read_seed(text: &[u8]) -> Option<[u8; 32]>
     ensures { result ≡ seed_of text.now }
 {
@@ -46,7 +46,7 @@ fn value_of(digit: u8) -> u8
     VALUES[digit as usize]
 }
 
-/// The number that 16 hexadecimal digits of either case write, or none where the text is anything else. All digits are
+/// The number that 16 hexadecimal digits of either case write, or none if the text is anything else. All digits are
 /// judged at once, after the last.
 pub(crate) fn read_digits(text: &[u8]) -> Option<u64>
     ensures { result ≡ digits_of text.now }

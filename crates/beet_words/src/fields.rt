@@ -48,7 +48,7 @@ pub fn push_number(file: &mut Vec<u8>, number: u64) -> Result<(), AllocError>
     file.extend_from_slice(&number.to_be_bytes())
 }
 
-/// For how many of `count` items to take room where each has at least one field: for no more than
+/// For how many of `count` items to take room if each has at least one field: for no more than
 /// the file can hold from the offset on.
 pub fn room(bytes: &[u8], at: usize, count: u64) -> usize
     requires { at ≤ length bytes.now }

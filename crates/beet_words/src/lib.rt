@@ -21,6 +21,7 @@ pub use digits::read_seed;
 pub use fields::{Allowed, push_number, read_end, read_magic, read_number, room};
 pub use many::read_many;
 pub use points::{push_points, read_point, read_points};
+pub use seed::draw_seed;
 pub use tape::{Tape, count_accepted};
 pub use tape_file::{BAD_LINE, TAPE_LIMIT, WORD_TOO_LARGE, read_tape, write_tape};
 pub use word::{FeList, Word, WordList};

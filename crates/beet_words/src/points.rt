@@ -27,7 +27,7 @@ pub fn read_point(bytes: &[u8], allowed: Allowed, at: usize) -> Result<(Fe, usiz
 }
 
 /// So many numbers of the field, and the offset after the last. Room is taken at once for all that the file can hold,
-/// so that none is tested for where a number is put.
+/// so that none is tested for when a number is put.
 pub fn read_points(
     alloc: Global,
     bytes: &[u8],

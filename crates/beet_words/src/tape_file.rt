@@ -72,8 +72,8 @@ fn keep_word(words: &mut WordList, word: Word, keep: u32) -> Result<(), AllocErr
 
 /// The first `keep` words of a tape file, which is read to its end.
 ///
-/// The rows are the groups of 17 bytes, counted from 1. A row is refused for the reason 1 where it
-/// is not 16 hexadecimal digits of either case and a newline byte, and for the reason 2 where its
+/// The rows are the groups of 17 bytes, counted from 1. A row is refused for the reason 1 if it
+/// is not 16 hexadecimal digits of either case and a newline byte, and for the reason 2 if its
 /// number is 2^61 or more.
 pub fn read_tape(alloc: Global, bytes: &[u8], keep: u32) -> Result<WordList, ReadFault>
     requires { length bytes.now ≤ LONGEST_FILE }

@@ -28,7 +28,7 @@ impl Model for Word {
 }
 
 impl Word {
-    /// The word of the number `n`, or none where it is 2^61 or more.
+    /// The word of the number `n`, or none if it is 2^61 or more.
     pub fn of(n: u64) -> Option<Word>
         ensures refused { IsNone result ↔ (2 ^ 61 ≤ n) }
         ensures value { IfSome result (λ w. w ≡ n) }
@@ -71,14 +71,14 @@ impl Word {
         }
     }
 
-    /// Whether all 61 bits are set. Such a word is passed over where numbers are drawn.
+    /// Whether all 61 bits are set. Such a word is passed over when numbers are drawn.
     pub fn is_ones(self) -> bool
         ensures { IsTrue result ↔ (self ≡ ones) }
     {
         self.number == P
     }
 
-    /// The word as a number of the field, or none where all its bits are set.
+    /// The word as a number of the field, or none if all its bits are set.
     pub fn field(self) -> Option<Fe>
         ensures refused { IsNone result ↔ (self ≡ ones) }
         ensures value { IfSome result (λ x. x ≡ self) }
@@ -163,7 +163,7 @@ impl WordList {
         self.items.as_slice()
     }
 
-    /// The first so many words of the list, or all where it has no more, in memory of their own.
+    /// The first so many words of the list, or all if it has no more, in memory of their own.
     pub fn front(&self, alloc: Global, count: usize) -> Result<WordList, AllocError>
         ensures { IfOk result (λ words. words ≡ take count self.now) }
     {

@@ -9,6 +9,6 @@ use Rattle.beet_delivery.specs.Events.{Triple}
 abbrev pub to_side : Point → Side → ℕ → Triple
 to_side s side t = record { from = s; to = peer s side; round = t }
 
--- 1 where a test holds, and else 0
+-- 1 if a test holds, and else 0
 abbrev pub one_if : Bool → ℕ
 one_if b = if b then 1 else 0

@@ -15,13 +15,13 @@ use Rattle.beet_world.specs.declared.schedule.TheConstants.{BAD_DELIVERY, TOO_MA
 use Rattle.beet_world.specs.declared.schedule.TheConstants.{LATEST_ROUND}
 use Rattle.beet_world.specs.declared.schedule.Delivery.{Delivery}
 
--- the delivery of a row's parts, or none where a part is none or the sender is the receiver
+-- the delivery of a row's parts, or none if a part is none or the sender is the receiver
 abbrev pub delivery_of : Option Point → Option Point → Result ℕ NumberFault → Option Delivery
 delivery_of (Some from) (Some to) (Ok round) =
     if number_of_server from == number_of_server to then None else Some (record { from = from; to = to; round = round })
 delivery_of _ _ _ = None
 
--- the delivery of three fields, or none where one is not of its form
+-- the delivery of three fields, or none if one is not of its form
 abbrev pub delivery_named : List ℕ → List ℕ → List ℕ → Option Delivery
 delivery_named from to round = delivery_of (server_of from) (server_of to) (number_of round LATEST_ROUND)
 
@@ -30,7 +30,7 @@ abbrev pub delivery_of_fields : Option (List ℕ × List ℕ × List ℕ) → Op
 delivery_of_fields None = None
 delivery_of_fields (Some (from, to, round)) = delivery_named from to round
 
--- the delivery of a row, or none where the row is not of its form
+-- the delivery of a row, or none if the row is not of its form
 abbrev pub delivery_in : Row → Option Delivery
 delivery_in row = delivery_of_fields (three_of row)
 

@@ -41,7 +41,7 @@ pub struct Delivery {
 
 /// What the rows of a schedule after the first are read as.
 pub trait ScheduleRow: Drop {
-    /// The delivery of a row in a schedule for so many lots, or none where the row is not of its form.
+    /// The delivery of a row in a schedule for so many lots, or none if the row is not of its form.
     ghost row_in: { ℕ → List (List ℕ) → Option Self };
 
     /// The delivery of a row in a schedule for so many lots.
@@ -49,7 +49,7 @@ pub trait ScheduleRow: Drop {
         ensures { result ≡ row_in lots row.now };
 }
 
-/// The delivery of the fields FROM, TO and ROUND, or none where they are not of their form.
+/// The delivery of the fields FROM, TO and ROUND, or none if they are not of their form.
 pub fn read_delivery(from: &[u8], to: &[u8], round: &[u8]) -> Option<Delivery>
     ensures { result ≡ delivery_named from.now to.now round.now }
 {
@@ -69,7 +69,7 @@ pub fn read_delivery(from: &[u8], to: &[u8], round: &[u8]) -> Option<Delivery>
     })
 }
 
-/// The delivery of a row, or none where the row is not of its form.
+/// The delivery of a row, or none if the row is not of its form.
 fn read_row(row: &Row) -> Option<Delivery>
     ensures { result ≡ delivery_in row.now }
 {
@@ -156,8 +156,8 @@ pub fn read_schedule_rows<D: ScheduleRow>(
 }
 
 /// The deliveries of a schedule file, in order: the row `beet-schedule,1` and then at most 1,000,000 rows
-/// `FROM,TO,ROUND`, as `read_schedule_rows` reads them. A row is not of its form that has not three fields, whose FROM
-/// or TO is not `1`, `2` or `3`, whose FROM is its TO, or whose ROUND is no number up to 999,999.
+/// `FROM,TO,ROUND`, as `read_schedule_rows` reads them. A row is not of its form if it has not three fields, if FROM or
+/// TO is not `1`, `2` or `3`, if FROM is TO, or if ROUND is no number up to 999,999.
 pub fn read_schedule(alloc: Global, bytes: &[u8]) -> Result<Vec<Delivery>, ReadFault>
     requires { length bytes.now ≤ LONGEST_FILE }
     ensures { Answers (λ deliveries. deliveries.items) (schedule_of bytes.now) result }

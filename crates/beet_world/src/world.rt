@@ -82,7 +82,7 @@ fn message_to(messages: &[RoundMessage; 2], side: Side) -> &RoundMessage
     }
 }
 
-/// A copy of the message of a server to its peer on a side in a round, or `None` where it was not
+/// A copy of the message of a server to its peer on a side in a round, or `None` if it was not
 /// sent.
 fn sent_message(
     sent: &Trio<Vec<[RoundMessage; 2]>>,
@@ -151,7 +151,7 @@ fn room(alloc: Global, rounds: u32) -> Result<(Trio<Vec<[RoundMessage; 2]>>, Vec
 
 impl<S: Script<3>> World<S> {
     /// A `World` of three fresh servers, of which each has sent its messages of round 0. It takes the
-    /// memory for the messages of all rounds, and fails only where there is too little; no other
+    /// memory for the messages of all rounds, and fails only if there is too little; no other
     /// call takes memory.
     pub fn of(alloc: Global, cores: Trio<ServerCore<S>>) -> Result<World<S>, AllocError>
         requires { AreFresh S.batch_of S.inputs_of cores }
@@ -187,7 +187,7 @@ impl<S: Script<3>> World<S> {
         self.cores.get(at)
     }
 
-    /// The verdict of the receiver on a message that was delivered before, which changes nothing, or `None` where it
+    /// The verdict of the receiver on a message that was delivered before, which changes nothing, or `None` if it
     /// was not.
     fn repeated(&self, from: Point, to: Point, side: Side, round: u32) -> Option<Verdict>
         requires side { to ≡ peer from side }
@@ -206,7 +206,7 @@ impl<S: Script<3>> World<S> {
     }
 
     /// Delivers the message of one server to another in a round, counted from 0. It may be delivered
-    /// again. What the receiver then sends is sent. Where the message was not sent yet, or no such
+    /// again. What the receiver then sends is sent. If the message was not sent yet, or no such
     /// message ever is, the answer is `NotSent`, and nothing changes.
     pub fn event(&mut self, from: Point, to: Point, round: u32) -> Event
         ensures delivered { delivered_in self.new
@@ -287,7 +287,7 @@ impl<S: Script<3>> World<S> {
     }
 
     /// How many messages were sent that no event has delivered. They are of the round of the server
-    /// that is behind, and of the next. Where there are none, each server has ended.
+    /// that is behind, and of the next. If there are none, each server has ended.
     pub fn undelivered(&self) -> u32
         ensures count { result
             ≡ undelivered_in (rounds_in S.batch_of S.inputs_of S.rounds_of self.now)

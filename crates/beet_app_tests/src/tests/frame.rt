@@ -91,7 +91,7 @@ pub(crate) fn files(rt: &impl Abort, alloc: Global, made: &str) -> Vec<Held> {
     files
 }
 
-/// The numbers of the calls that fail: this one alone, or none where it is 0.
+/// The numbers of the calls that fail: this one alone, or none if it is 0.
 pub(crate) fn only(rt: &impl Abort, alloc: Global, call: u64) -> Vec<u64> {
     vec![in alloc; call].expect(rt, "memory")
 }
@@ -105,8 +105,8 @@ pub(crate) fn words_of(rt: &impl Abort, alloc: Global, line: &str) -> Vec<String
     words
 }
 
-/// Does the job of a line over these files, where this fetch fails: its status. A line that begins with `beet_session`
-/// or `beet_sale` is of that program.
+/// Does the job of a line over these files, in which this fetch fails: its status. A line that begins with
+/// `beet_session` or `beet_sale` is of that program.
 pub(crate) fn run_over<G: Gate>(
     rt: &(impl Abort + Threads + Wait + Clock + Sync),
     alloc: Global,
@@ -129,7 +129,7 @@ pub(crate) fn run_over<G: Gate>(
     }
 }
 
-/// Does the job of a line over the files, where this call of the desk fails: its status.
+/// Does the job of a line over the files, in which this call of the desk fails: its status.
 pub(crate) fn done(
     rt: &(impl Abort + Threads + Wait + Clock + Sync),
     alloc: Global,
@@ -150,7 +150,7 @@ pub(crate) fn expect_said(rt: &impl Abort, desk: &MemoryDesk, text: &str) {
     assert!(rt; desk.said() == text.as_bytes(), "not {text}");
 }
 
-/// Does a job with the file that is made, where this call of the desk fails, and compares its status and its text.
+/// Does a job with the file that is made, in which this call of the desk fails, and compares its status and its text.
 pub(crate) fn expect_job(
     rt: &(impl Abort + Threads + Wait + Clock + Sync),
     alloc: Global,
@@ -241,7 +241,7 @@ fn backwards(rt: &impl Abort, alloc: Global) -> String {
     schedule
 }
 
-/// What is said where all messages are delivered.
+/// What is said if all messages are delivered.
 const ALL_END: &str =
     "server 1 price 100 volume 35\nserver 2 price 100 volume 35\nserver 3 price 100 volume 35\nundelivered 0\n";
 

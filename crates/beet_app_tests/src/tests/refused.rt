@@ -286,7 +286,7 @@ fn expect_write_faults(
     }
 }
 
-/// Each fetch and each call of the desk of a job fails once. It makes no more: where the next ones would fail, it is
+/// Each fetch and each call of the desk of a job fails once. It makes no more: if the next ones would fail, it is
 /// done.
 fn expect_each_refused(rt: &(impl Abort + Threads + Wait + Clock + Sync), alloc: Global, job: Job) {
     let (_, fetched, (put, _), text) = job;

@@ -213,7 +213,7 @@ const TIE: &str = "beet-bid,1\n100,50,0\n105,30,30\n110,20,40\n115,10,50";
 
 const SHORT: &str = "beet-bid,1\n100,50,0\n105,50,10\n110,50,20\n115,50,49";
 
-/// A place, its price, and what is opened there: the demand, and then the supply; or none where there is no price.
+/// A place, its price, and what is opened there: the demand, and then the supply; or none if there is no price.
 type Cleared = Option<(u32, u64, &'static [u64])>;
 
 /// The outcome as it is answered.
@@ -300,7 +300,7 @@ fn many_of(rt: &impl Abort, alloc: Global, curve: &Curve) -> Vec<Bidder> {
     bidders
 }
 
-/// The largest book at one price, where all bids are this one.
+/// The largest book at one price, if all bids are this one.
 fn largest(rt: &impl Abort, alloc: Global, bid: &str) -> Book {
     let grid = grid_of(rt, 1);
     let curve = curve_in(rt, alloc, &grid, bid);
@@ -308,7 +308,7 @@ fn largest(rt: &impl Abort, alloc: Global, bid: &str) -> Book {
     Book::new(grid, bidders).expect(rt, "a book")
 }
 
-/// Compares how many bidders the largest book has where all bids are this one, and its outcome.
+/// Compares how many bidders the largest book has if all bids are this one, and its outcome.
 fn expect_largest(rt: &impl Abort, alloc: Global, bid: &str, wanted: Cleared) {
     let book = largest(rt, alloc, bid);
     assert!(rt; book.bidders().len() == MOST);

@@ -114,7 +114,7 @@ fn lines(rt: HostRuntime) {
     assert!(rt; line_of_two_points() == (3, 5, 13));
 }
 
-/// What each server sends where the lines (3, 5) and (4, 2) are multiplied, and they draw 1, 2 and 4.
+/// What each server sends if the lines (3, 5) and (4, 2) are multiplied, and they draw 1, 2 and 4.
 fn sent() -> Trio<Trio<Fe>> {
     Trio {
         one: deal(Fe::reduce(48), Fe::reduce(1)),

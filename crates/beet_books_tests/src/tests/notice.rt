@@ -45,7 +45,7 @@ const CASES: [(&str, &str, &str, bool); 6] = [
 /// The longest of these files, in bytes.
 const LIMIT: u64 = 1_000;
 
-/// Whether a seed comes twice where these files are fetched one after another.
+/// Whether a seed comes twice if these files are fetched one after another.
 fn comes_twice(rt: &impl Abort, alloc: Global, texts: &[(&str, &str)]) -> bool {
     let mut files = Vec::new(alloc);
     for (name, text) in texts {

@@ -11,7 +11,7 @@ use beet_words::{Tape, read_tape};
 use std::alloc::Global;
 use std::process::Abort;
 
-/// The row and the reason that a text is refused with, or none where it is read.
+/// The row and the reason that a text is refused with, or none if it is read.
 pub type Refusal = Option<(u32, u32)>;
 
 /// How texts are refused, and the texts.

@@ -55,7 +55,7 @@ fn expect_say<K: Desk>(rt: &impl Abort, desk: &mut K, text: &str, wanted: Result
     assert!(rt; desk.say(text.as_bytes()) == wanted, "of {text}");
 }
 
-/// Fetches from a shelf of the file `a`, one after another, and what each answers where the second fails.
+/// Fetches from a shelf of the file `a`, one after another, and what each answers if the second fails.
 const FETCHES: [(&str, u64, Result<&[u8], FetchFault>); 4] = [
     ("a", 3, Ok(b"one")),
     ("a", 3, Err(FetchFault::Failed)),
@@ -228,7 +228,7 @@ fn expect_text_file<R: Abort + Files>(rt: &R, alloc: Global, name: &str, text: &
     expect_fetch(rt, alloc, &mut shelf, name, 30_000, Ok(text));
 }
 
-/// What a desk that prints to a file of this name answers where this text is said.
+/// What a desk that prints to a file of this name answers if this text is said.
 fn say_to<R: Files>(rt: &R, name: &'static str, text: &[u8]) -> Result<(), PutFault> {
     HostDesk::new(Printing { rt, name }).say(text)
 }

@@ -109,14 +109,14 @@ pub(crate) fn ended(alloc: Global, end: Result<Reply, Stop>) -> (Status, Vec<u8>
     }
 }
 
-/// Does the job over the files, where this fetch fails, or none if it is 0: its status and its text.
+/// Does the job over the files: its status and its text. This fetch fails; at 0 none does.
 fn done(rt: &impl Abort, alloc: Global, names: Names, fetch: u64) -> (Status, Vec<u8>) {
     let refused = vec![in alloc; fetch].expect(rt, "memory");
     let mut shelf = MemoryShelf::new(files(rt, alloc, &[]), refused);
     ended(alloc, five(alloc, &mut shelf, &files_of(names)))
 }
 
-/// Does the job, where this fetch fails, and compares its status and its text.
+/// Does the job, in which this fetch fails, and compares its status and its text.
 fn expect_end(
     rt: &impl Abort,
     alloc: Global,
@@ -226,15 +226,15 @@ fn the_whole_book_is_kept(rt: HostRuntime) {
     assert!(&rt; whole.book.bidders().len() == 3);
 }
 
-/// A book of so many bidders.
-pub(crate) fn long_book(rt: &impl Abort, alloc: Global, bidders: u32) -> Held {
+/// A book of this name and of so many bidders.
+pub(crate) fn long_book(rt: &impl Abort, alloc: Global, name: &str, bidders: u32) -> Held {
     let mut text = String::from_str(alloc, "beet-book,1\n").expect(rt, "memory");
     for bidder in 0..bidders {
         let row = format!(in alloc; "{bidder},0,none,tape,none\n").expect(rt, "memory");
         text.push_str(row.as_str()).expect(rt, "memory");
     }
     Held {
-        name: String::from_str(alloc, "long.book").expect(rt, "memory"),
+        name: String::from_str(alloc, name).expect(rt, "memory"),
         bytes: text.into_bytes(),
     }
 }
@@ -243,7 +243,7 @@ pub(crate) fn long_book(rt: &impl Abort, alloc: Global, bidders: u32) -> Held {
 fn line_of(rt: &impl Abort, alloc: Global, bidders: u32) -> Vec<u8> {
     let mut files = files(rt, alloc, &[]);
     files
-        .push(long_book(rt, alloc, bidders))
+        .push(long_book(rt, alloc, "long.book", bidders))
         .expect(rt, "memory");
     let mut shelf = MemoryShelf::new(files, Vec::new(alloc));
     let names = files_of(("many.auc", "v.srv", "long.book"));

@@ -1,5 +1,6 @@
 use super::five::{OUTCOME, ended, files, files_of};
 use beet_job_five::five;
+use beet_samples::FIVE_SEEDS;
 use beet_store::{Held, MemoryShelf};
 use std::alloc::Global;
 use std::process::Abort;
@@ -101,23 +102,29 @@ const SERVERS: [(&str, &str); 24] = [
 /// The digits of a seed.
 const DIGITS: &str = "0a0A0a0a0a0a0a0a0a0a0a0a0a0a0a0a0a0a0a0a0a0a0a0a0a0a0a0a0a0a0a0a";
 
-/// The files, and a servers file of this text.
-fn files_with(rt: &impl Abort, alloc: Global, text: &str) -> Vec<Held> {
+/// The files, and a servers file of these bytes.
+fn files_with(rt: &impl Abort, alloc: Global, bytes: Vec<u8>) -> Vec<Held> {
     let mut files = files(rt, alloc, &[]);
-    let text = text.replace(alloc, "SEED", DIGITS).expect(rt, "memory");
     let file = Held {
         name: String::from_str(alloc, "x.srv").expect(rt, "memory"),
-        bytes: text.into_bytes(),
+        bytes,
     };
     files.push(file).expect(rt, "memory");
     files
 }
 
-/// Does the job with a servers file of this text, and compares what is said of it.
-fn expect_said(rt: &impl Abort, alloc: Global, text: &str, wanted: &str) {
-    let mut shelf = MemoryShelf::new(files_with(rt, alloc, text), Vec::new(alloc));
+/// What is said of an auction with a servers file of these bytes.
+fn said_with(rt: &impl Abort, alloc: Global, bytes: Vec<u8>) -> Vec<u8> {
+    let mut shelf = MemoryShelf::new(files_with(rt, alloc, bytes), Vec::new(alloc));
     let files = files_of(("g.auc", "x.srv", "b.book"));
     let (_, said) = ended(alloc, five(alloc, &mut shelf, &files));
+    said
+}
+
+/// Does the job with a servers file of this text, and compares what is said of it.
+fn expect_said(rt: &impl Abort, alloc: Global, text: &str, wanted: &str) {
+    let whole = text.replace(alloc, "SEED", DIGITS).expect(rt, "memory");
+    let said = said_with(rt, alloc, whole.into_bytes());
     assert!(rt; said.as_slice() == wanted.as_bytes(), "of {text}");
 }
 
@@ -125,5 +132,40 @@ fn expect_said(rt: &impl Abort, alloc: Global, text: &str, wanted: &str) {
 fn servers_files(rt: HostRuntime) {
     for (text, said) in &SERVERS {
         expect_said(&rt, rt.alloc(), text, said);
+    }
+}
+
+/// How many bytes the first row has, and each further row with the newline before it.
+const HEADER: usize = 14;
+
+const ROW: usize = 72;
+
+/// What is said of so many bytes of a servers file, of which the last newline may be missing.
+fn said_of_cut(rt: &impl Abort, alloc: Global, length: usize) -> String {
+    let (row, reason) = if length < HEADER {
+        (1, 1)
+    } else if (length - HEADER) % ROW < 2 {
+        ((length - HEADER) / ROW + 2, 2)
+    } else {
+        ((length - HEADER) / ROW + 2, 3)
+    };
+    let said = if row == 7 {
+        String::from_str(alloc, OUTCOME)
+    } else {
+        format!(in alloc; "bad file: x.srv row {row} reason {reason}\n")
+    };
+    said.expect(rt, "memory")
+}
+
+#[test]
+fn servers_files_are_cut(rt: HostRuntime) {
+    let alloc = rt.alloc();
+    let (_, text) = FIVE_SEEDS;
+    let whole = text.as_bytes();
+    for length in 0..whole.len() {
+        let cut = Vec::from_slice(alloc, &whole[..length]).expect(&rt, "memory");
+        let said = said_with(&rt, alloc, cut);
+        let wanted = said_of_cut(&rt, alloc, length);
+        assert!(&rt; said.as_slice() == wanted.as_bytes(), "of {length} bytes");
     }
 }

@@ -131,6 +131,9 @@ fn push_drawn(rt: &impl Abort, alloc: Global, held: &mut Vec<Held>) {
     }
 }
 
+/// Books, and how many bidders they have, of which 122 at 4,096 prices are within the limit.
+const LONG: [(&str, u32); 2] = [("within.book", 122), ("long.book", 123)];
+
 /// The names of the files of a job with this second book.
 fn names(second: &str) -> WorldsFiles<'_> {
     WorldsFiles {
@@ -142,17 +145,19 @@ fn names(second: &str) -> WorldsFiles<'_> {
     }
 }
 
-/// A shelf of all files, where this fetch fails, or none if it is 0.
+/// A shelf of all files. This fetch fails; at 0 none does.
 fn shelf(rt: &impl Abort, alloc: Global, fetch: u64) -> MemoryShelf {
     let mut held = files(rt, alloc, &MORE);
-    let long = long_book(rt, alloc, 123);
-    held.push(long).expect(rt, "memory");
+    for (name, bidders) in &LONG {
+        let book = long_book(rt, alloc, name, *bidders);
+        held.push(book).expect(rt, "memory");
+    }
     push_drawn(rt, alloc, &mut held);
     let refused = vec![in alloc; fetch].expect(rt, "memory");
     MemoryShelf::new(held, refused)
 }
 
-/// Does the job for servers a and b, where this fetch fails, or none if it is 0.
+/// Does the job for servers a and b. This fetch fails; at 0 none does.
 fn done(
     rt: &impl Abort,
     alloc: Global,
@@ -251,14 +256,44 @@ fn second_books_are_refused(rt: HostRuntime) {
     }
 }
 
+/// The first and the second book of an auction of 4,096 prices, of which one has a bidder too many or none has, and
+/// what is said of them.
+const LIMITED: [(&str, &str, Refusal, &str); 4] = [
+    (
+        "long.book",
+        "c.book",
+        Refusal::BadFile,
+        "bad file: long.book row 0 reason 6\n",
+    ),
+    (
+        "within.book",
+        "long.book",
+        Refusal::ReadFault,
+        "read fault: none\n",
+    ),
+    (
+        "b.book",
+        "long.book",
+        Refusal::BadFile,
+        "bad file: long.book row 0 reason 6\n",
+    ),
+    (
+        "b.book",
+        "within.book",
+        Refusal::ReadFault,
+        "read fault: none\n",
+    ),
+];
+
 #[test]
-fn a_book_of_two_worlds_has_its_limit(rt: HostRuntime) {
-    let mut files = names("c.book");
-    files.auction = "many.auc";
-    files.first = "long.book";
-    let status = Status::Refused(Refusal::BadFile);
-    let text = "bad file: long.book row 0 reason 6\n";
-    expect_end(&rt, rt.alloc(), &files, (2, 5), 0, status, text);
+fn both_books_of_two_worlds_have_their_limit(rt: HostRuntime) {
+    for (first, second, refusal, text) in &LIMITED {
+        let mut files = names(second);
+        files.auction = "many.auc";
+        files.first = first;
+        let status = Status::Refused(*refusal);
+        expect_end(&rt, rt.alloc(), &files, (2, 5), 0, status, text);
+    }
 }
 
 /// What is said of two books that clear as this one.
@@ -318,7 +353,6 @@ fn list(rt: &impl Abort, alloc: Global, file: &[u8], at: usize) -> (WordList, us
     (words, place)
 }
 
-/// The words of a file.
 fn words_of(rt: &impl Abort, alloc: Global, file: &[u8]) -> FiveWords {
     assert!(rt; file.starts_with(b"BEETFW01"));
     let (bidders, mut place) = number(rt, file, 8);

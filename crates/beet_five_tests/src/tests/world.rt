@@ -1,13 +1,13 @@
 //! A world of the five servers, in any order of the messages, with repeats, and with a server that hears late.
 
-ghost use Rattle.std.specs.Prelude.{◌≤◌, ◌<◌};
+ghost use Rattle.std.specs.Prelude.{◌≤◌, ◌<◌, All};
 ghost use Rattle.beet_weights.specs.Quadratics.{IsServer};
 
 use super::servers::{ROUNDS, VOLUME, servers};
 use beet_field::Fe;
 use beet_five_auction::finish_at;
 use beet_five_server::FiveCore;
-use beet_five_world::{FiveEvent, FiveWorld};
+use beet_five_world::{FiveDelivery, FiveEvent, FiveWorld};
 use beet_plan::Finish;
 use beet_round::Verdict;
 use beet_search::FiveScript;
@@ -93,7 +93,7 @@ fn feed(world: &mut FiveWorld<FiveScript>, to: u32)
 
 /// Delivers messages in an order of this number until none is undelivered. Only now and then the server that is held
 /// back gets messages; 0 is none.
-fn play(world: &mut FiveWorld<FiveScript>, order: u64, held: u32)
+pub fn play(world: &mut FiveWorld<FiveScript>, order: u64, held: u32)
     requires { held ≤ 5 }
 {
     let mut draws = Draws { last: order };
@@ -180,4 +180,94 @@ fn a_server_hears_late(rt: HostRuntime) {
     for held in 1..=5 {
         expect_played(&rt, rt.alloc(), 61, held);
     }
+}
+
+/// A message comes twice, one is not sent yet, and one is of a server to itself. Server 2 passes its round, its last
+/// message comes again, and what it sends by then comes to a server that is behind.
+const SCHEDULE: [FiveDelivery; 9] = [
+    FiveDelivery {
+        from: 1,
+        to: 2,
+        round: 0,
+    },
+    FiveDelivery {
+        from: 1,
+        to: 2,
+        round: 0,
+    },
+    FiveDelivery {
+        from: 1,
+        to: 2,
+        round: 1,
+    },
+    FiveDelivery {
+        from: 3,
+        to: 3,
+        round: 0,
+    },
+    FiveDelivery {
+        from: 3,
+        to: 2,
+        round: 0,
+    },
+    FiveDelivery {
+        from: 4,
+        to: 2,
+        round: 0,
+    },
+    FiveDelivery {
+        from: 5,
+        to: 2,
+        round: 0,
+    },
+    FiveDelivery {
+        from: 5,
+        to: 2,
+        round: 0,
+    },
+    FiveDelivery {
+        from: 2,
+        to: 1,
+        round: 1,
+    },
+];
+
+/// Delivers messages one by one.
+fn deliver_each(world: &mut FiveWorld<FiveScript>, schedule: &[FiveDelivery])
+    requires from { All (λ delivery. IsServer delivery.from) schedule.now }
+    requires to { All (λ delivery. IsServer delivery.to) schedule.now }
+{
+    for delivery in schedule {
+        world.event(delivery.from, delivery.to, delivery.round);
+    }
+}
+
+/// Compares how many messages are undelivered, and the rounds of the servers.
+fn expect_stand(
+    rt: &impl Abort,
+    world: &FiveWorld<FiveScript>,
+    undelivered: u32,
+    rounds: &[u32; 5],
+) {
+    assert!(rt; world.undelivered() == undelivered);
+    let [one, two, three, four, five] = rounds;
+    assert!(rt; world.core(1).round() == *one);
+    assert!(rt; world.core(2).round() == *two);
+    assert!(rt; world.core(3).round() == *three);
+    assert!(rt; world.core(4).round() == *four);
+    assert!(rt; world.core(5).round() == *five);
+}
+
+#[test]
+fn a_schedule_is_played(rt: HostRuntime) {
+    let mut played = world(&rt, rt.alloc());
+    let mut told = world(&rt, rt.alloc());
+    played.play(&[]);
+    expect_stand(&rt, &played, 20, &[0; 5]);
+    played.play(&SCHEDULE);
+    deliver_each(&mut told, &SCHEDULE);
+    expect_stand(&rt, &played, 19, &[0, 1, 0, 0, 0]);
+    expect_stand(&rt, &told, 19, &[0, 1, 0, 0, 0]);
+    drop(played);
+    drop(told);
 }

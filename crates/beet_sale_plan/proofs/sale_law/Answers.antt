@@ -3,8 +3,7 @@ use Rattle.std.proofs.lemmas.List.Elements.{All-get_or}
 use Rattle.beet_sale_plan.specs.Outcome.{IsBid, IsSale}
 use Rattle.beet_sale_plan.specs.Sale.{bidders_of}
 use Rattle.beet_sale_plan.specs.SaleRuns.{SaleEnds}
-use Rattle.beet_sale_plan.specs.Kept.{kept_of}
-use Rattle.beet_sale_plan.proofs.SaleFacts.{is-sale, sale-only, sale-many}
+use Rattle.beet_sale_plan.proofs.SaleFacts.{is-sale, kept_of, sale-only, sale-many}
 use Rattle.beet_sale_plan.proofs.SaleRun.{sale-run}
 use Rattle.beet_sale_plan.proofs.sale_law.Goals as goal
 

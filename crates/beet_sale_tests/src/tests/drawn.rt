@@ -16,7 +16,6 @@ const SEED: [u8; 32] = [0x5a; 32];
 /// How many streams of the seed a sale uses: one for its bids, and one for the masks of each server.
 const STREAMS: u64 = 4;
 
-/// Words of a stream.
 fn words_of(rt: &impl Abort, alloc: Global, stream: u64, count: u32) -> Tape {
     Tape::of_seed(alloc, &SEED, stream, count).expect(rt, "memory")
 }
@@ -26,7 +25,6 @@ fn masks_of(rt: &impl Abort, alloc: Global, stream: u64) -> WordList {
     words_of(rt, alloc, stream, 32).into_words()
 }
 
-/// The word at a place.
 fn word_at(rt: &impl Abort, words: &[Word], place: u64) -> u64 {
     words.get(place as usize).expect(rt, "a word").value()
 }

@@ -49,7 +49,7 @@ fn list(rt: &impl Abort, alloc: Global, rejected: usize, first: u64, other: u64)
     WordList::of(words)
 }
 
-/// The run on these bids, where so many masks are all ones and all others are 100.
+/// The run on these bids, if so many masks are all ones and all others are 100.
 fn run_after(
     rt: &impl Abort,
     alloc: Global,

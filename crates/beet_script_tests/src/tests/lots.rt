@@ -16,7 +16,7 @@ fn two_lots(rt: &impl Abort, alloc: Global) -> LotWorld<Sample> {
     LotWorld::of(alloc, lots.expect(rt, "memory")).expect(rt, "memory")
 }
 
-/// Whether a server of a lot has passed so many rounds and, where these are all, opened 12.
+/// Whether a server of a lot has passed so many rounds and, if these are all, opened 12.
 fn stands(rt: &impl Abort, world: &LotWorld<Sample>, lot: u32, at: Point, rounds: u32) -> bool {
     assert!(rt; lot < world.lots());
     let core = world.core(lot, at);
@@ -58,7 +58,7 @@ const ROUND: [Told; 6] = [
     (Point::Two, Point::Three, READY),
 ];
 
-/// One message, and what becomes of it where its round is not passed, and where it was delivered before.
+/// One message, and what becomes of it if its round is not passed, and if it was delivered before.
 const FIRST: [Told; 1] = [(Point::One, Point::Two, STORED)];
 
 const AGAIN: [Told; 1] = [(Point::One, Point::Two, Event::Delivered(Verdict::Repeat))];

@@ -133,7 +133,7 @@ fn each_verdict(rt: HostRuntime) {
     expect_each(&rt, &mut at_round_three());
 }
 
-/// The box of server 2 at round 1, which wants so many numbers, where an early message from server 1 had 2.
+/// The box of server 2 at round 1, which wants so many numbers, if an early message from server 1 had 2.
 fn after_an_early_message(want: u32) -> RoundBox {
     let mut mailbox = RoundBox::new(Point::Two, 1);
     mailbox.offer(&message(Point::One, Point::Two, 1, 7, 2));

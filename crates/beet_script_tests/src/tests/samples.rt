@@ -39,7 +39,7 @@ pub fn lists(rt: &impl Abort, alloc: Global, [one, two, three]: [&[u64]; 3]) -> 
 /// A number that is no word.
 pub const NO_WORD: u64 = u64::MAX;
 
-/// The tape of one word, or of none where the number is no word.
+/// The tape of one word, or of none if the number is no word.
 pub fn tape(rt: &impl Abort, alloc: Global, number: u64) -> Tape
     ensures { result.passed ≡ 0 }
 {

@@ -48,7 +48,7 @@ fn run(
 /// How a run is to end: with a price at a place and what is opened there of the demand and of the supply, or else.
 type Ending = Result<(u32, Option<u64>, Option<u64>), Finish>;
 
-/// An opened number, where it is opened.
+/// An opened number, if it is opened.
 fn opened(number: Option<u64>) -> Option<Fe> {
     number.map(|n| Fe::reduce(n as u128))
 }
@@ -88,7 +88,7 @@ fn expect_end(
     assert!(rt; run.rounds == rounds);
 }
 
-/// The run of the script on these sums, supply first, where so many masks are rejected.
+/// The run of the script on these sums, supply first, if so many masks are rejected.
 fn run_on(
     rt: &impl Abort,
     alloc: Global,
@@ -108,14 +108,14 @@ fn script_of(rt: &impl Abort, prices: u32, gates: Gates, policy: Policy) -> Auct
         .with_policy(policy)
 }
 
-/// Compares the numbers that a run opened, where some are wanted.
+/// Compares the numbers that a run opened, if some are wanted.
 fn expect_opened(rt: &impl Abort, run: &ClearRun, wanted: Option<&[u64]>) {
     if let Some(numbers) = wanted {
         assert!(rt; are(run.opened.as_slice(), numbers));
     }
 }
 
-/// A number of prices, what is opened, sums, how many masks are rejected, the numbers that are opened where these are
+/// A number of prices, what is opened, sums, how many masks are rejected, the numbers that are opened if these are
 /// compared, the end and the rounds.
 type Worked = (
     u32,

@@ -33,7 +33,7 @@ fn two_one_six(rt: &impl Abort, alloc: Global) -> Trio<ServerCore<Sample>> {
     }
 }
 
-/// What the server says of the message, or `None` where its own are not handed out.
+/// What the server says of the message, or `None` if its own are not handed out.
 fn give<S: Script<3>>(core: &mut ServerCore<S>, m: RoundMessage) -> Option<Verdict> {
     if core.sent() {
         Some(core.deliver(&m))
@@ -161,7 +161,7 @@ fn pass_early(rt: &impl Abort, cores: &mut Trio<ServerCore<Sample>>) -> (u32, u3
     (before, cores.three.round())
 }
 
-/// The run of the product where messages to server 3 are early.
+/// The run of the product if messages to server 3 are early.
 fn expect_early(rt: &impl Abort, cores: &mut Trio<ServerCore<Sample>>) {
     assert!(rt; pass_early(rt, cores) == (1, 2));
     assert!(rt; cores.three.ended());

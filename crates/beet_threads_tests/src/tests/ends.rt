@@ -4,7 +4,7 @@ ghost use Rattle.beet_bids.specs.Grids.{IsGrid};
 
 use super::auction::{ROUNDS, SEEDS, grid, points, servers};
 use beet_bids::Grid;
-use beet_desk::{NoteCount, Watched, run_watched};
+use beet_desk::{NoteCount, WatchedServers, run_watched};
 use beet_field::{Point, Trio};
 use beet_gates::Script;
 use beet_link::FreeGate;
@@ -85,7 +85,9 @@ fn ended<R: Abort + Threads + Wait + Clock + Sync>(
         Runner::ThreeThreads => run_three(rt, alloc, cores, &FreeGate),
         Runner::Watched => {
             assert!(rt; cores.one.script().rounds() < 10_000);
-            let Watched { cores, counts } = run_watched(rt, alloc, cores).expect(rt, "memory");
+            let WatchedServers { cores, counts } = run_watched(rt, alloc, cores).expect(
+                rt, "memory",
+            );
             assert!(rt; counts.one == COUNT && counts.two == COUNT && counts.three == COUNT);
             cores
         }

@@ -12,7 +12,7 @@ use std::sync::atomic::{AtomicU64, Ordering};
 use std::sync::{Mutex, Wait};
 use std::time::Clock;
 
-/// A gate that looks whether a message of the server that it holds is at the far end of a link of that server.
+/// A gate that holds a server, and looks whether its message is at the far end of one of its links.
 struct Looking<R: Wait> {
     rt: R,
     /// The far ends of the links from the server.

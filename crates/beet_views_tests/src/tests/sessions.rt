@@ -14,7 +14,6 @@ use std::process::Abort;
 /// A lot: what its auction opens, and its one bidder.
 type Lot = (Policy, Only);
 
-/// The books of lots.
 fn books(rt: &impl Abort, alloc: Global, lots: &[Lot]) -> Vec<Book> {
     let mut books = Vec::new(alloc);
     for (policy, bidder) in lots {
@@ -61,7 +60,7 @@ fn mapped_lots(
     Ok(mapped?.len())
 }
 
-/// Lots by their bidders, where an auction opens the price and the volume.
+/// Lots by their bidders, if an auction opens the price and the volume.
 const NONE_KNOWN: Lot = (Policy::Volume, UNKNOWN);
 
 const MORE_SOLD: Lot = (Policy::Volume, SELLS_MORE);
@@ -72,10 +71,10 @@ const ONE_KNOWN: Lot = (Policy::Volume, KNOWN);
 
 const KNOWN_MORE_SOLD: Lot = (Policy::Volume, KNOWN_SELLS_MORE);
 
-/// A lot where it opens the price alone.
+/// A lot if it opens the price alone.
 const PRICE_ALONE: Lot = (Policy::Price, UNKNOWN);
 
-/// The same where it buys less.
+/// The same if it buys less.
 const FEWER_BOUGHT: Lot = (Policy::Price, BUYS_LESS);
 
 /// Two sessions, and how many lots are mapped or why none is.

@@ -81,7 +81,7 @@ fn expect_faults(rt: &impl Abort, alloc: Global, cases: &[Case]) {
     }
 }
 
-/// Compares the fault of the small transcript where it has 4,096 prices and so many bidders.
+/// Compares the fault of the small transcript if it has 4,096 prices and so many bidders.
 fn expect_product(rt: &impl Abort, alloc: Global, bidders: u64, fault: (u64, u32)) {
     let mut numbers = SMALL;
     numbers[PRICES] = 4_096;
@@ -120,7 +120,7 @@ fn small_view(rt: HostRuntime) {
     expect_small(&rt, &small(&rt, rt.alloc()));
 }
 
-/// What the bidder of a place buys at the last price and the number of its words, where the server knows it.
+/// What the bidder of a place buys at the last price and the number of its words, if the server knows it.
 fn bought_last(view: &View, place: usize) -> Option<(u64, usize)> {
     let seen = view.bidders().get(place)?;
     let (curve, words) = seen.own.as_ref()?;

@@ -32,18 +32,18 @@ fn turned_masks(rt: HostRuntime) {
 /// A bidder: the server that knows it, and what it sells and buys at the one price.
 pub(crate) type Only = (Option<Point>, u64, u64);
 
-/// A bidder that no server knows, and the same where it sells one more.
+/// A bidder that no server knows, and the same if it sells one more.
 pub(crate) const UNKNOWN: Only = (None, 40, 35);
 
 pub(crate) const SELLS_MORE: Only = (None, 41, 35);
 
-/// The first where there is too little supply for a price.
+/// The first if there is too little supply for a price.
 pub(crate) const SELLS_LESS: Only = (None, 34, 35);
 
-/// The first where it buys one less.
+/// The first if it buys one less.
 pub(crate) const BUYS_LESS: Only = (None, 40, 34);
 
-/// The same bidders where server 2 knows them.
+/// The same bidders if server 2 knows them.
 pub(crate) const KNOWN: Only = (Some(Point::Two), 40, 35);
 
 pub(crate) const KNOWN_SELLS_MORE: Only = (Some(Point::Two), 41, 35);
@@ -113,7 +113,7 @@ fn mapped_masks(
     map_masks(alloc, me, first, second, masks).expect(rt, "memory")
 }
 
-/// Whether the words of server `at` become these for server `me`, where supply is one more in the second world.
+/// Whether the words of server `at` become these for server `me`, if supply is one more in the second world.
 fn becomes(
     rt: &impl Abort,
     alloc: Global,
@@ -159,7 +159,7 @@ fn masks_of_the_second_world(rt: HostRuntime) {
     expect_masks(&rt, rt.alloc(), &MASKS);
 }
 
-/// What tells the books of two bidders apart for server 2, by itself and where words are to be mapped.
+/// What tells the books of two bidders apart for server 2, by itself and if words are to be mapped.
 fn differences(
     rt: &impl Abort,
     alloc: Global,
@@ -304,7 +304,7 @@ fn mapped_bidders(
     map_bidders(alloc, me, first, second, lists).expect(rt, "memory")
 }
 
-/// Whether these words of a bidder become those, for server `me`, where the bidder has another mark and curve in the
+/// Whether these words of a bidder become those, for server `me`, if the bidder has another mark and curve in the
 /// second world.
 fn bidder_becomes(
     rt: &impl Abort,
@@ -345,7 +345,7 @@ fn slope_of_another_quantity(rt: HostRuntime) {
     expect_moved(&rt, rt.alloc(), &SLOPE);
 }
 
-/// The bidder that no server knows where it buys and sells one more, and the same where server 2 knows it.
+/// The bidder that no server knows if it buys and sells one more, and the same if server 2 knows it.
 const MORE: Only = (None, 41, 36);
 
 const KNOWN_MORE: Only = (Some(Point::Two), 41, 36);
@@ -506,7 +506,7 @@ fn expect_moved_words(rt: &impl Abort, mapped: &Words, bidder: &[u64]) {
     assert!(rt; holds(&mapped.bidders[0], bidder));
 }
 
-/// Compares the coefficients of a mapped world, where supply exceeds demand by one more than in the first.
+/// Compares the coefficients of a mapped world, if supply exceeds demand by one more than in the first.
 fn expect_moved_coefficients(rt: &impl Abort, mapped: &Trio<WordList>) {
     assert!(rt; mapped.one.as_slice().len() == 1_538);
     let mut own = mapped.two.as_slice().iter();

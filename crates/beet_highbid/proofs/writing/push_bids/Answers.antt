@@ -3,7 +3,7 @@ use Rattle.std.specs.List.{flat_map}
 use Rattle.std.proofs.lemmas.List.{flat_map_more, get_or-map, map_more, take_all}
 use Rattle.beet_shamir.specs.declared.Line.{Line}
 use Rattle.beet_mapped.specs.Dealers.{Dealer, dealers_of}
-use Rattle.beet_sale_map.specs.InputLines.{line_of}
+use Rattle.beet_sale_map.specs.InputLines.{dealer_line}
 use Rattle.beet_sale_map.specs.Worlds.{party_of}
 use Rattle.beet_sale_map.proofs.SaleWorlds.{dealer-read, many-dealers, many-lines}
 use Rattle.beet_highbid.specs.SaleViews.{seen_bid, seen_bytes}
@@ -29,7 +29,7 @@ push_bid-requires c =
     let read = dealer-read bids words i c.row_at-bid.result c.index-words-i.result d c.requires.count lt
     c.row_at-bid.ensures c.index-words-i.is in
     c.index-lines-i.is ∙ ap (λ (l : List Line). get_or l i c.index-lines-i.result) c.requires.lines
-    ∙ get_or-map line_of dealers i d c.index-lines-i.result (omega (arith, many, lt, c.requires.count)) ∙ ap line_of read
+    ∙ get_or-map dealer_line dealers i d c.index-lines-i.result (omega (arith, many, lt, c.requires.count)) ∙ ap dealer_line read
 
 pub loop-i-preserved : goal.loop-i-preserved
 loop-i-preserved c =

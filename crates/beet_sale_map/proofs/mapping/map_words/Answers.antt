@@ -11,8 +11,8 @@ map_bidders-requires-clause-enough c =
     let same : c.as_slice.result.now ≡ c.args.words.now.bidders = c.as_slice.ensures.value ∙ (λ i. (c.words.view_is i).bidders) in
     subst (λ l. All (λ list. 1 ≤ length (accepted list)) l) (sym same) (all-drawn 1 c.args.words.now.bidders c.requires.enough.bidders)
 
-pub map_for_servers-servers-requires : goal.map_for_servers-servers-requires
-map_for_servers-servers-requires c = record {
+pub map_sale_servers-servers-requires : goal.map_sale_servers-servers-requires
+map_sale_servers-servers-requires c = record {
   sales = c.requires.sales;
   enough = c.requires.enough;
   bidders_mapped = rw (c.as_slice-2.ensures.value, sym (c.as_slice.ensures.value ∙ (λ i. (c.words.view_is i).bidders)))
@@ -21,6 +21,6 @@ map_for_servers-servers-requires c = record {
 
 pub returns : goal.returns
 returns c =
-    words-hold (SalesMapped c.args.me c.args.gates c.args.first.now c.args.words.now c.args.second.now) c.map_for_servers-servers.result
+    words-hold (SalesMapped c.args.me c.args.gates c.args.first.now c.args.words.now c.args.second.now) c.map_sale_servers-servers.result
     c.as_slice-2.result.now c.in_ok-bidders.bidders.items c.all_words.result c.as_slice-2.ensures.value c.all_words.ensures
-    c.map_for_servers-servers.ensures
+    c.map_sale_servers-servers.ensures

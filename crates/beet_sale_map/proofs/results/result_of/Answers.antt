@@ -1,8 +1,8 @@
 use Rattle.std.proofs.Common.{◌≡◌, ◌+◌, ◌-◌, ℕ, suc, length, slice_index, refl, sym, ap, subst, ◌∙◌, arith}
 use Rattle.std.proofs.lemmas.List.{length-map}
-use Rattle.beet_sale_plan.specs.Kept.{Kept, kept_after, kept_all, kept_of}
+use Rattle.beet_sale_plan.specs.Kept.{Kept, kept_after}
 use Rattle.beet_sale_plan.specs.Outcome.{IsSale}
-use Rattle.beet_sale_plan.proofs.SaleFacts.{is-sale}
+use Rattle.beet_sale_plan.proofs.SaleFacts.{is-sale, kept_all, kept_of}
 use Rattle.beet_sale_file.specs.declared.rows.SaleBid.{SaleBid}
 use Rattle.beet_sale_map.specs.Bids.{bids_of}
 use Rattle.beet_sale_map.proofs.results.result_of.Goals as goal

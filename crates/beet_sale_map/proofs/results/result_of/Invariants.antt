@@ -1,5 +1,5 @@
 use Rattle.std.proofs.Common.{◌≡◌, ◌≤◌, ◌-◌, length, slice_index}
-use Rattle.beet_sale_plan.specs.Kept.{kept_all, kept_of}
+use Rattle.beet_sale_plan.proofs.SaleFacts.{kept_all, kept_of}
 use Rattle.beet_sale_map.specs.Bids.{bids_of}
 use Rattle.beet_sale_map.specs.KeptBids.{AreSmall}
 use Rattle.beet_sale_map.proofs.results.result_of.Given as goal

@@ -6,10 +6,9 @@ use Rattle.beet_gates.specs.Scripts.{bounds_of}
 use Rattle.beet_linear_sharing.specs.Schemes.{five_servers}
 use Rattle.beet_linear_sharing.proofs.Ends.{lawful-rounds}
 use Rattle.beet_five_server.specs.Answers.{Core}
-use Rattle.beet_five_server.specs.Runs.{rounds_among}
+use Rattle.beet_five_server.proofs.RunNames.{rounds_among}
 use Rattle.beet_delivery.specs.Networks.{nothing}
-use Rattle.beet_five_world.specs.Members.{HaveBegun}
-use Rattle.beet_five_world.proofs.WorldFacts.{all-begin, begun-fit, more-begun, their_setup, unused}
+use Rattle.beet_five_world.proofs.WorldFacts.{all-begin, begun-fit, HaveBegun, more-begun, their_setup, unused}
 use Rattle.beet_five_world.proofs.world.FiveWorld.of.Given.{Over}
 use Rattle.beet_five_world.proofs.world.FiveWorld.of.Goals.{After-drop-core-iterator-2}
 use Rattle.beet_five_world.proofs.world.FiveWorld.of.Goals as goal

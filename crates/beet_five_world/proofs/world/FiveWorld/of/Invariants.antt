@@ -1,6 +1,6 @@
 use Rattle.std.proofs.Common.{◌≡◌, ◌≤◌, ◌++◌, length, vec_capacity}
 use Rattle.std.specs.Vec.Iter.{into_iter_items, into_iter_len}
-use Rattle.beet_five_world.specs.Members.{HaveBegun}
+use Rattle.beet_five_world.proofs.WorldFacts.{HaveBegun}
 use Rattle.beet_five_world.proofs.world.FiveWorld.of.Given as goal
 
 abbrev pub invariant-loop-core : goal.invariant-loop-core

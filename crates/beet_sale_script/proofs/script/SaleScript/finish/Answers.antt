@@ -4,8 +4,8 @@ use Rattle.beet_gates.specs.Plans.{Plan, plan_finish}
 use Rattle.beet_walk.proofs.PlaceFacts.{ends-so}
 use Rattle.beet_sale_plan.specs.Sale.{sale_plan}
 use Rattle.beet_sale_plan.specs.declared.SaleEnd.{SaleEnd}
-use Rattle.beet_sale_script.specs.Walk.{plan_at, IsSmallEnd}
-use Rattle.beet_sale_script.proofs.Finishes.{opened-small, sale-tells, small-at}
+use Rattle.beet_sale_script.specs.Walk.{plan_at}
+use Rattle.beet_sale_script.proofs.Finishes.{IsSmallEnd, opened-small, sale-tells, small-at}
 use Rattle.beet_sale_script.proofs.script.SaleScript.finish.Goals as goal
 
 pub finish-requires : goal.finish-requires

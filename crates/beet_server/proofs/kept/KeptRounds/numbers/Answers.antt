@@ -1,5 +1,5 @@
 use Rattle.std.proofs.Common.{arith, ap, sym, ◌∙◌, ◌≡◌, length}
-use Rattle.beet_server.specs.Kept.{KeptMessages, numbers_in}
+use Rattle.beet_server.specs.Kept.{KeptMessages, numbers_kept}
 use Rattle.beet_round.specs.declared.sides.Side.TheVariants.{Low, High}
 use Rattle.beet_server.proofs.KeptFacts.{length-messages, numbers-low, numbers-high, short-at}
 use Rattle.beet_server.proofs.kept.KeptRounds.numbers.Goals as goal
@@ -24,15 +24,15 @@ pub returns-in-Low-clause-numbers : goal.returns-in-Low-clause-numbers
 returns-in-Low-clause-numbers c =
     let s = c.self.invariant in
     c.row.ensures ∙ sym (numbers-low c.self.inside.me 0 c.self.inside.low.rows c.self.inside.high.rows c.args.round s.same)
-    ∙ ap (λ (v : KeptMessages). numbers_in v.messages c.args.round Low) c.self.view_is
-    ∙ ap (numbers_in c.args.self.now.messages c.args.round) (sym c.in-Low.is)
+    ∙ ap (λ (v : KeptMessages). numbers_kept v.messages c.args.round Low) c.self.view_is
+    ∙ ap (numbers_kept c.args.self.now.messages c.args.round) (sym c.in-Low.is)
 
 pub returns-in-High-clause-numbers : goal.returns-in-High-clause-numbers
 returns-in-High-clause-numbers c =
     let s = c.self.invariant in
     c.row-in-High.ensures ∙ sym (numbers-high c.self.inside.me 0 c.self.inside.low.rows c.self.inside.high.rows c.args.round s.same)
-    ∙ ap (λ (v : KeptMessages). numbers_in v.messages c.args.round High) c.self.view_is
-    ∙ ap (numbers_in c.args.self.now.messages c.args.round) (sym c.in-High.is)
+    ∙ ap (λ (v : KeptMessages). numbers_kept v.messages c.args.round High) c.self.view_is
+    ∙ ap (numbers_kept c.args.self.now.messages c.args.round) (sym c.in-High.is)
 
 pub returns-in-Low-clause-few : goal.returns-in-Low-clause-few
 returns-in-Low-clause-few c = short-at c.self.inside.low.rows c.args.round c.row.result.now c.self.invariant.low_short c.row.ensures

@@ -1,5 +1,0 @@
-use Rattle.beet_program_counterexamples.proofs.TwoSealings.{not-accepted}
-use Rattle.beet_program_counterexamples.proofs.apart.envelopes_of_two_sealings_are_not_accepted.Goals as goal
-
-pub returns : goal.returns
-returns c = not-accepted
