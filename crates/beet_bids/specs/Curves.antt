@@ -8,7 +8,7 @@ pub record Curve : Type 0 where
   pub buy : List ℕ
   pub sell : List ℕ
 
--- two lists of one length, with each quantity within its limit, if buy never rises and sell never falls
+-- two lists of one length, with each quantity within its limit; buy never rises, and sell never falls
 pub record IsCurve (curve : Curve) : Type 0 where
   pub one_length : length curve.sell ≡ length curve.buy
   pub buy_limit : All (λ quantity. quantity ≤ LARGEST_QUANTITY) curve.buy

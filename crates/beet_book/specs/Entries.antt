@@ -17,7 +17,7 @@ use Rattle.beet_book.specs.declared.entries.BidderSource.TheVariants.{Seed, Tape
 abbrev pub name_of : List ℕ → Option (List ℕ)
 name_of text = if is_name_of text then Some text else None
 
--- the server that knows the bidder, if 0 stands for none; or none if the text is neither
+-- which server knows the bidder: none for 0, else that of the digit; and no answer if the text is neither
 abbrev pub known_of : List ℕ → Option (Option Point)
 known_of text = if bytes_eq text (codes "0") then Some None else option_map Some (server_of text)
 

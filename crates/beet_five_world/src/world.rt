@@ -229,7 +229,8 @@ impl<S: Script<5>> FiveWorld<S> {
     }
 
     /// How many messages were sent that no event has delivered, 40 at most. They are of the round of the server that is
-    /// behind, and of the next. If there are none, each server has ended.
+    /// behind, and of the next. If there are none, each server has ended, with all rounds of the run passed and its
+    /// numbers opened.
     pub fn undelivered(&self) -> u32
         ensures count { (script : S) (o : Setup) (rounds : ℕ) (x : Delivered ℕ)
             → AllFit S.batch_of script o rounds x self.now → result ≡ undelivered_in five rounds x }

@@ -30,7 +30,7 @@ pub count_stops : (lot : Option ℕ) (number wanted held : ℕ) (stop : Stop) �
 count_stops lot number wanted held stop h r =
     test_refused TooFewWords _ stop (λ next. rw (lt_true held wanted h) refl) r (λ count. refl)
 
--- and so do words that are enough
+-- words that are enough pass
 pub words_pass : (lot : Option ℕ) (number wanted : ℕ) (words : List ℕ) → wanted ≤ length (accepted words) →
     Tests (enough_words lot number wanted words) (Ok tt)
 words_pass lot number wanted words h = count_passes lot number wanted (length (accepted words)) h

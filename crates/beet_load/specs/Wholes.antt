@@ -1,4 +1,4 @@
--- Reading an auction, its servers and its book, if the whole book is kept.
+-- Reading an auction, its servers and its book, and keeping the whole book.
 use Rattle.std.specs.Prelude.{◌≡◌, ◌≤◌, ℕ, List, [], ◌∷◌, ◌++◌, length, All, Option, None}
 use Rattle.beet_field.specs.declared.trio.Trio.{Trio}
 use Rattle.beet_words.specs.Words.{accepted}

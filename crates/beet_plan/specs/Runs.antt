@@ -24,8 +24,7 @@ opening_rounds PriceAlone = 0
 opening_rounds Volume = 1
 opening_rounds Full = 1
 
--- the number of rounds of a run whose search ends at z, if what the policy shows is opened at the end if there is a
--- price
+-- the number of rounds of a run whose search ends at z; if there is a price, what the policy shows is opened at the end
 abbrev pub run_rounds_with : Blocks → Policy → ℕ → (ℕ → ℕ) → ℕ → ℕ
 run_rounds_with blocks policy prices masks z =
     masked_rounds blocks masks (length (path prices z)) (if nat_lt z prices then opening_rounds policy else 0)

@@ -15,8 +15,8 @@ abbrev pub if_handed : Bool → ℕ → ℕ
 if_handed true n = n
 if_handed false n = 0
 
--- the script stands if its batches before this round led, the wires and tapes are as many as it counts among so many
--- servers that draw so many numbers for each secret, and there is room for all that may come
+-- the script is as far as its batches before this round led it; the wires and tapes are as many as it counts among so
+-- many servers that draw so many numbers for each secret, and there is room for all that may come
 pub record IsSound (servers numbers : ℕ) (next : ℕ → List ℕ → Batch) (bounds : Standing) (rounds : ℕ)
     (batch : Batch) (round : ℕ)
     (wires opened : List ℕ) (masks coefficients : Tape) (handed : Bool) (wire_room opened_room : ℕ) : Type 0 where

@@ -30,7 +30,7 @@ abbrev pub shelf_seen : ShelfInMemory → Seen
 shelf_seen shelf =
     record { told = record { files = Some shelf.files; fetches = shelf.fetches }; faults = shelf.calls.faults }
 
--- a fetch fails if the name is not held, and if its call is listed
+-- a fetch fails if the name is not held, or if its call is listed
 abbrev pub fetch_fails : ShelfInMemory → List ℕ → Bool
 fetch_fails shelf name = if is_none (bytes_of shelf.files name) then true else is_listed shelf.calls
 

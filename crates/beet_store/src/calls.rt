@@ -33,7 +33,7 @@ impl Calls {
         }
     }
 
-    /// Counts a call, which fails if it has to and if it is listed. Answers whether it fails; then the fault is
+    /// Counts a call, which fails if it has to or if it is listed. Answers whether it fails; then the fault is
     /// counted too.
     pub(crate) fn begin(&mut self, must_fail: bool) -> bool
         ensures counted { self.new ≡ after_call self.old result }

@@ -35,7 +35,7 @@ RefusesWhere same_own own_differs first second (OutcomesDiffer one other) =
     × ((one ≡ outcome_of first) × (other ≡ outcome_of second) × (other ≢ one))
 RefusesWhere same_own own_differs first second OutOfMemory = ⊥
 
--- if own bidders are those known to a server that passes a test
+-- the same, of own bidders that are those known to a server that passes a test
 abbrev pub RefusesFor : (Point → Bool) → Book → Book → MapFault → Type 0
 RefusesFor knows first second fault =
     RefusesWhere (AllSame knows first second) (DiffersFor knows first.bidders second.bidders) first second fault
