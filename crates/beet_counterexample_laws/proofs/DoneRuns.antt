@@ -1,5 +1,5 @@
 -- What is right for a command has a run in which it is done.
-use Rattle.std.proofs.Common.{◌≡◌, ◌≢◌, ◌<◌, inl, ℕ, List, [], ◌∷◌, Option, Some, None, Ok}
+use Rattle.std.proofs.Common.{◌≡◌, ◌≢◌, ◌<◌, inl, inr, ℕ, List, [], ◌∷◌, Option, Some, None, Ok}
 use Rattle.std.proofs.Common.{refl, sym, ap, subst, ◌∙◌, arith}
 use Rattle.std.specs.Prelude.{codes, if◌then◌else◌, option_map}
 use Rattle.beet_field.specs.Point.{server_of}
@@ -15,14 +15,19 @@ use Rattle.beet_world.specs.declared.schedule.Delivery.{Delivery}
 use Rattle.beet_view.specs.BookViews.{transcript_for}
 use Rattle.beet_headline.specs.Statements.{AreTwoBooks}
 use Rattle.beet_headline.proofs.Pairing.{second-there}
-use Rattle.beet_errand.specs.Errands.{Answer, Errand, Ends, Step, answers}
-use Rattle.beet_errand.specs.Fetches.{IsRead}
-use Rattle.beet_errand.specs.Overs.{answer_over}
+use Rattle.beet_errand.specs.Errands.{Answer, Errand, Ends, Step, answers, text_answer}
+use Rattle.beet_errand.specs.Fetches.{IsRead, Went}
+use Rattle.beet_errand.specs.Overs.{ReadsTo, answer_over}
 use Rattle.beet_errand.specs.Records.{calls_of}
 use Rattle.beet_errand.specs.Runs.{Runs}
 use Rattle.beet_errand.specs.Statuses.{code_of}
-use Rattle.beet_errand.specs.declared.answer.Status.TheVariants.{Done}
+use Rattle.beet_errand.specs.declared.answer.OwnRefusal.TheVariants.{OfWorlds}
+use Rattle.beet_errand.specs.declared.answer.Refusal.TheVariants.{Own}
+use Rattle.beet_errand.specs.declared.answer.Status.TheVariants.{Done, Refused}
 use Rattle.beet_errand.proofs.Steps.{went_none}
+use Rattle.beet_differences.specs.Comparing.{unless_apart}
+use Rattle.beet_two_books.specs.declared.agreeing.MapFault.{MapFault}
+use Rattle.beet_book_differences.specs.Differences.{refused_text}
 use Rattle.beet_load.specs.Loading.{AuctionWithBidders, loaded_errand}
 use Rattle.beet_load.specs.Wholes.{limited_errand}
 use Rattle.beet_audit.specs.Audits.{recombined_book}
@@ -60,7 +65,7 @@ use Rattle.beet_app_laws.proofs.Led.{from-told, past, past-both}
 use Rattle.beet_app_laws.proofs.Telling.{one-value, told-both, told-both-of-five, told-views}
 use Rattle.beet_program_laws.specs.Accepted.{witness_words}
 use Rattle.beet_program_laws.specs.Commands.{five_worlds_words}
-use Rattle.beet_program_laws.proofs.FiveWorlds.{is-both as both-of-five-right}
+use Rattle.beet_program_laws.proofs.FiveWorlds.{difference_read as difference_of_five, is-both as both-of-five-right}
 use Rattle.beet_program_laws.proofs.Jobs.{runs-in}
 use Rattle.beet_program_laws.proofs.Read.{can-run-cut}
 use Rattle.beet_program_laws.proofs.Worlds.{is-both}
@@ -69,7 +74,7 @@ use Rattle.beet_completeness_laws.specs.Complete.{CanCompareForTwo, CanRunTrial,
 use Rattle.beet_completeness_laws.proofs.Jobs.{clear-done, five-done, open-done, record-done, rehearse-done, seal-done}
 use Rattle.beet_completeness_laws.proofs.Jobs.{tally-done, trial-done, watch-done, witness-done}
 use Rattle.beet_completeness_laws.proofs.Leading.{IsDoneOver, book-done, search-done}
-use Rattle.beet_counterexample_laws.specs.HasRun.{HasRun}
+use Rattle.beet_counterexample_laws.specs.HasRun.{HasRun, HasRunTo}
 use Rattle.beet_counterexample_laws.proofs.Deciding.{passes-to}
 use Rattle.beet_counterexample_laws.proofs.Loading.{both-decides, both-of-five-decides, read-decides}
 use Rattle.beet_counterexample_laws.proofs.RunsOver.{desk_of, given-all, led-over, run-over, shelf_of}
@@ -79,10 +84,10 @@ no-rise rose =
     let never : 0 < 0 = rose (λ e. absurd (omega (arith, e))) in absurd (omega (arith, never))
 
 module _ (files : List File) (words : List (List ℕ)) where
-  -- a call that ran a job and ended with status 0
-  has-run : (job : Job) (call : Call) → job_of words ≡ Some job → IsOf files call → RunsJob (Some job) call →
-      call.status ≡ 0 → HasRun files words
-  has-run job call named from ran zero = record {
+  -- a call that ran a job and ended with a status that tells no fault of the outside
+  has-run-to : (status : ℕ) → status ≢ 3 → status ≢ 4 → (job : Job) (call : Call) → job_of words ≡ Some job →
+      IsOf files call → RunsJob (Some job) call → call.status ≡ status → HasRunTo files words status
+  has-run-to status read written job call named from ran ends = record {
     call = call;
     runs = record {
       job = job;
@@ -91,15 +96,21 @@ module _ (files : List File) (words : List (List ℕ)) where
       runs = subst (λ (j : Option Job). RunsJob j call) (sym named) ran;
       shelf_faults = 0;
       shelf_faults_now = 0;
-      read = λ e. absurd (omega (arith, e, zero));
+      read = λ e. absurd (read (sym ends ∙ e));
       shelf_rests = no-rise;
       desk_faults = 0;
       desk_faults_now = 0;
-      write = λ e. absurd (omega (arith, e, zero));
+      write = λ e. absurd (written (sym ends ∙ e));
       desk_rests = no-rise;
     };
-    done = zero;
+    ends = ends;
   }
+
+  -- so it is for one that is done
+  has-run : (job : Job) (call : Call) → job_of words ≡ Some job → IsOf files call → RunsJob (Some job) call →
+      call.status ≡ 0 → HasRun files words
+  has-run job call named from ran zero =
+      has-run-to 0 (λ e. absurd (omega (arith, e))) (λ e. absurd (omega (arith, e))) job call named from ran zero
 
   -- a call in which the shelf has answered so, and the desk has taken this answer
   abbrev pub call_with : Told → Answer → Call
@@ -300,6 +311,15 @@ module _ (files : List File) where
       ∙ ap (option_map job_at) can.server_is)
 
   -- two worlds of five servers
+  of-two-named : (auction servers list1 list2 one other out : List ℕ) (two : ℕ × ℕ) →
+      job_of (five_worlds_words auction servers list1 list2 one other out) ≢ None → two_of_five one other ≡ Some two →
+      job_of (five_worlds_words auction servers list1 list2 one other out)
+      ≡ Some (ComparingForTwo auction servers list1 list2 two out)
+  of-two-named auction servers list1 list2 one other out two not are =
+      let job_for : ℕ × ℕ → Job = λ two. ComparingForTwo auction servers list1 list2 two out in
+      past (are_names (auction ∷ servers ∷ list1 ∷ list2 ∷ out ∷ [])) (option_map job_for (two_of_five one other)) not
+      ∙ ap (option_map job_for) are
+
   worlds-of-five-at : (auction servers list1 list2 one other out : List ℕ)
       (can : CanCompareForTwo files auction servers list1 list2 one other) →
       job_of (five_worlds_words auction servers list1 list2 one other out)
@@ -338,10 +358,42 @@ module _ (files : List File) where
       CanCompareForTwo files auction servers list1 list2 one other →
       HasRun files (five_worlds_words auction servers list1 list2 one other out)
   five_worlds auction servers list1 list2 one other out not can =
-      let job_for : ℕ × ℕ → Job = λ two. ComparingForTwo auction servers list1 list2 two out in
       worlds-of-five-at auction servers list1 list2 one other out can
-      (past (are_names (auction ∷ servers ∷ list1 ∷ list2 ∷ out ∷ [])) (option_map job_for (two_of_five one other)) not
-      ∙ ap (option_map job_for) can.two_are)
+      (of-two-named auction servers list1 list2 one other out can.two not can.two_are)
+
+  -- two books that two servers of five tell apart are refused
+  apart-of-five-at : (auction servers list1 list2 one other out : List ℕ) (two : ℕ × ℕ) (both : BothOfFive)
+      (fault : MapFault) → ReadsTo files (both_of_five auction servers list1 list2) both →
+      difference_of_five two both ≡ Some fault →
+      job_of (five_worlds_words auction servers list1 list2 one other out)
+      ≡ Some (ComparingForTwo auction servers list1 list2 two out) →
+      HasRunTo files (five_worlds_words auction servers list1 list2 one other out) 7
+  apart-of-five-at auction servers list1 list2 one other out two both fault reads apart named =
+      let command = five_worlds_words auction servers list1 list2 one other out in
+      let step = both_of_five auction servers list1 list2 in
+      let answer : Answer = text_answer (Refused (Own OfWorlds)) (refused_text fault) in
+      let (now, same, read) = passes-to files step both (both-of-five-decides files auction servers list1 list2) reads
+      (λ other r. one-value files step other both r reads told-both-of-five) (shelf_of files []) refl in
+      has-run-to files command 7 (λ e. absurd (omega (arith, e))) (λ e. absurd (omega (arith, e)))
+      (ComparingForTwo auction servers list1 list2 two out) (call_with files command now answer) named
+      (read-is files command now answer step both read)
+      (inr (λ next.
+      let go : BothOfFive → Errand = λ both. unless_apart refused_text (difference_of_five two both) (next both) in
+      record {
+        rest = Ends answer;
+        went = subst (λ d. Went (shelf_of files []) now (step go) (unless_apart refused_text d (next both))) apart (read go);
+        ends = inl (record { done = Ok tt; calls = given-all [] [] (refused_text fault); code = refl });
+      }))
+      refl
+
+  pub apart_of_five : (auction servers list1 list2 one other out : List ℕ) (two : ℕ × ℕ) (both : BothOfFive)
+      (fault : MapFault) → job_of (five_worlds_words auction servers list1 list2 one other out) ≢ None →
+      two_of_five one other ≡ Some two → ReadsTo files (both_of_five auction servers list1 list2) both →
+      difference_of_five two both ≡ Some fault →
+      HasRunTo files (five_worlds_words auction servers list1 list2 one other out) 7
+  apart_of_five auction servers list1 list2 one other out two both fault not are reads apart =
+      apart-of-five-at auction servers list1 list2 one other out two both fault reads apart
+      (of-two-named auction servers list1 list2 one other out two not are)
 
   -- ---- an audit
 

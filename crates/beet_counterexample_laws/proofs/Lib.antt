@@ -4,5 +4,6 @@ pub mod Loading
 pub mod DoneRuns
 pub mod Needed
 pub mod TellingApart
+pub mod TwoOfFive
 pub mod OneStatus
 pub mod TwoSealings

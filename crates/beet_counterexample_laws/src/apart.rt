@@ -1,6 +1,6 @@
 //! What the statements of commands tell apart.
 
-ghost use Rattle.std.specs.Prelude.{◌≡◌, ◌≢◌, ◌∷◌, ℕ, List, [], Option};
+ghost use Rattle.std.specs.Prelude.{◌≡◌, ◌≢◌, ◌≤◌, ◌∷◌, ℕ, List, [], Option};
 ghost use Rattle.beet_field.specs.declared.point.Point.{Point};
 ghost use Rattle.beet_store.specs.Files.{File};
 ghost use Rattle.beet_bids.specs.Grids.{Grid};
@@ -10,12 +10,13 @@ ghost use Rattle.beet_app_laws.specs.Calls.{Call};
 ghost use Rattle.beet_app_laws.specs.Recorded.{RecordsJob};
 ghost use Rattle.beet_program_laws.specs.Accepted.{AuditsPoints};
 ghost use Rattle.beet_program_laws.specs.Again.{PutsFor};
-ghost use Rattle.beet_program_laws.specs.Commands.{RecordsRun, Seals, Tallies};
+ghost use Rattle.beet_program_laws.specs.Commands.{PutsBothWorldsForTwo, RecordsRun, RefusesBooksForTwo, Seals, Tallies};
 ghost use Rattle.beet_counterexample_laws.specs.TwoSealings.{mixed_points};
 
 /// These statements do not hold of whatever was done: of no files there is no tally and no sealed bid, what a desk was
 /// given tells which transcript was put for a server, and a recording puts under no server's name the transcript of
-/// another.
+/// another. What is put for two of five servers is not put for two others, and two books that are compared for two
+/// servers are not refused for them.
 pub fn the_statements_tell_runs_apart()
     ensures tally { (auction book : List ℕ) (call : Call) → Tallies [] auction book call → ⊥ }
     ensures seal { (auction bid source out : List ℕ) (call : Call) → Seals [] auction bid source out call → ⊥ }
@@ -24,6 +25,12 @@ pub fn the_statements_tell_runs_apart()
     ensures exchanged { (files : List File) (auction servers book out : List ℕ) (call : Call)
         (recorded : RecordsRun files auction servers book out call) (s t : Point) → s ≢ t →
         PutsFor s (transcript_with recorded.book recorded.words t) out call → ⊥ }
+    ensures two { (files : List File) (auction servers book1 book2 out : List ℕ) (call : Call) (a b c d : ℕ) →
+        a ≤ 5 → b ≤ 5 → c ≤ 5 → d ≤ 5 → PutsBothWorldsForTwo files auction servers book1 book2 a b out call →
+        PutsBothWorldsForTwo files auction servers book1 book2 c d out call → (a ≡ c) × (b ≡ d) }
+    ensures refused { (files : List File) (auction servers book1 book2 out : List ℕ) (a b : ℕ) (call other : Call)
+        (done : PutsBothWorldsForTwo files auction servers book1 book2 a b out call) →
+        RefusesBooksForTwo a b done.both other → ⊥ }
 {}
 
 /// Envelopes that were not sealed together are not accepted: if at one price the third envelope of a bid is of another

@@ -1,18 +1,22 @@
 //! Runs in which a command is done.
 
-ghost use Rattle.std.specs.Prelude.{◌≢◌, ℕ, List, [], ◌∷◌, None, codes};
+ghost use Rattle.std.specs.Prelude.{◌≡◌, ◌≢◌, ℕ, List, [], ◌∷◌, None, Some, codes};
 ghost use Rattle.beet_store.specs.Files.{File};
 ghost use Rattle.beet_world.specs.declared.schedule.Delivery.{Delivery};
 ghost use Rattle.beet_load.specs.Loading.{AuctionWithBidders, loaded_errand};
 ghost use Rattle.beet_load.specs.Wholes.{limited_errand};
-ghost use Rattle.beet_app.specs.Jobs.{job_of};
+ghost use Rattle.beet_errand.specs.Overs.{ReadsTo};
+ghost use Rattle.beet_two_books.specs.declared.agreeing.MapFault.{MapFault};
+ghost use Rattle.beet_job_five_worlds.specs.Ending.{difference_for_two};
+ghost use Rattle.beet_job_five_worlds.specs.Reading.{BothOfFive, both_errand, second_book};
+ghost use Rattle.beet_app.specs.Jobs.{job_of, two_of_five};
 ghost use Rattle.beet_program_laws.specs.Accepted.{audit_words, witness_words};
 ghost use Rattle.beet_program_laws.specs.Again.{record_words};
 ghost use Rattle.beet_program_laws.specs.Commands.{five_worlds_words};
 ghost use Rattle.beet_completeness_laws.specs.Complete.{CanAudit, CanClear, CanCompare, CanOpen, CanRehearse};
 ghost use Rattle.beet_completeness_laws.specs.Complete.{CanCompareForTwo, CanRunFive, CanRunTrial, CanSeal, CanTally};
 ghost use Rattle.beet_completeness_laws.specs.Complete.{CanWitness};
-ghost use Rattle.beet_counterexample_laws.specs.HasRun.{HasRun};
+ghost use Rattle.beet_counterexample_laws.specs.HasRun.{HasRun, HasRunTo};
 
 /// The laws of completeness and of commands are not empty: what is right for a command has a run that ends with status
 /// 0, in which the outside answers every call.
@@ -60,4 +64,15 @@ pub fn what_is_right_has_a_run()
     ensures audit { (files : List File) (auction one two three : List ℕ) →
         job_of (audit_words auction one two three) ≢ None →
         CanAudit files auction one two three → HasRun files (audit_words auction one two three) }
+{}
+
+/// Nor is what is said of a refusal: two books that are read, and that something tells apart for two of five servers, have
+/// a run that ends with status 7, in which the outside answers every call.
+pub fn what_two_servers_tell_apart_has_a_run()
+    ensures { (files : List File) (auction servers book1 book2 one other out : List ℕ) (two : ℕ × ℕ)
+        (both : BothOfFive) (fault : MapFault) →
+        job_of (five_worlds_words auction servers book1 book2 one other out) ≢ None →
+        two_of_five one other ≡ Some two → ReadsTo files (both_errand auction servers book1 book2) both →
+        difference_for_two two.0 two.1 both.first.book (second_book both) ≡ Some fault →
+        HasRunTo files (five_worlds_words auction servers book1 book2 one other out) 7 }
 {}

@@ -12,5 +12,5 @@ pub use apart::{
     a_record_tells_the_status, envelopes_of_two_sealings_are_not_accepted,
     the_statements_tell_runs_apart,
 };
-pub use done::what_is_right_has_a_run;
+pub use done::{what_is_right_has_a_run, what_two_servers_tell_apart_has_a_run};
 pub use premises::the_premises_are_needed;
