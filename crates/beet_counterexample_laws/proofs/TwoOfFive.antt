@@ -18,7 +18,8 @@ use Rattle.beet_job_five_worlds.specs.Reading.{BothOfFive, both_errand, second_b
 use Rattle.beet_app_laws.specs.Calls.{Call}
 use Rattle.beet_app_laws.proofs.Recorded.{same-given}
 use Rattle.beet_app_laws.proofs.Telling.{one-value, told-both-of-five}
-use Rattle.beet_program_laws.specs.Commands.{PutsBothWorldsForTwo, RefusesBooksForTwo}
+use Rattle.beet_program_laws.specs.Commands.{PutsBothWorldsForTwo}
+use Rattle.beet_program_laws.specs.Refusals.{RefusesBooksForTwo}
 
 -- two texts that begin with the bytes of a number begin with one number
 same-number : (m n : ℕ) (rest rest' : List ℕ) → m ≤ 5 → n ≤ 5 →

@@ -10,7 +10,8 @@ ghost use Rattle.beet_app_laws.specs.Calls.{Call};
 ghost use Rattle.beet_app_laws.specs.Recorded.{RecordsJob};
 ghost use Rattle.beet_program_laws.specs.Accepted.{AuditsPoints};
 ghost use Rattle.beet_program_laws.specs.Again.{PutsFor};
-ghost use Rattle.beet_program_laws.specs.Commands.{PutsBothWorldsForTwo, RecordsRun, RefusesBooksForTwo, Seals, Tallies};
+ghost use Rattle.beet_program_laws.specs.Commands.{PutsBothWorldsForTwo, RecordsRun, Seals, Tallies};
+ghost use Rattle.beet_program_laws.specs.Refusals.{RefusesBooksForTwo};
 ghost use Rattle.beet_counterexample_laws.specs.TwoSealings.{mixed_points};
 
 /// These statements do not hold of whatever was done: of no files there is no tally and no sealed bid, what a desk was

@@ -1,20 +1,20 @@
 -- What the job `five_worlds` has read, put and said.
-use Rattle.std.proofs.Common.{◌≡◌, inl, inr, ℕ, List, [], ◌∷◌, Option, Some, None, Bool, true, false}
+use Rattle.std.proofs.Common.{◌≡◌, ℕ, List, [], ◌∷◌, Option, Some, None, Bool, true, false}
 use Rattle.std.proofs.Common.{refl, sym, ap, subst, ◌∙◌}
 use Rattle.std.specs.Prelude.{if◌then◌else◌, option_map}
 use Rattle.beet_store.specs.Files.{File}
 use Rattle.beet_bids.specs.Books.{IsBook}
 use Rattle.beet_two_books.specs.declared.agreeing.MapFault.{MapFault}
 use Rattle.beet_five_view.specs.JointViews.{joint_bytes}
-use Rattle.beet_errand.specs.Errands.{Answer, answers}
+use Rattle.beet_errand.specs.Errands.{Answer}
 use Rattle.beet_errand.specs.Fetches.{IsDone, IsRead}
-use Rattle.beet_errand.specs.Overs.{ReadsTo, answer_over}
+use Rattle.beet_errand.specs.Overs.{ReadsTo}
 use Rattle.beet_errand.specs.Statuses.{IsDoneCode, code_of}
 use Rattle.beet_errand.specs.declared.answer.OwnRefusal.TheVariants.{OfWorlds}
-use Rattle.beet_errand.specs.declared.answer.Status.TheVariants.{Done}
 use Rattle.beet_five_load.specs.FiveLoading.{five_limited_errand}
 use Rattle.beet_run.proofs.StatusFacts.{status-done}
 use Rattle.beet_coalition.specs.Lists.{at_server}
+use Rattle.beet_five_map.specs.FiveWorlds.{Agree}
 use Rattle.beet_five_auction.specs.FiveEndings.{book_finish}
 use Rattle.beet_five_run.specs.FiveOutcomes.{cleared_by_five}
 use Rattle.beet_book_differences.specs.Differences.{refused_text}
@@ -27,9 +27,11 @@ use Rattle.beet_app.specs.Jobs.{ComparingForTwo, Job, two_of_five}
 use Rattle.beet_app_laws.proofs.Led.{read-to}
 use Rattle.beet_app_laws.proofs.Telling.{told-both-of-five}
 use Rattle.beet_app_laws.specs.Calls.{Call, IsDoneCall, IsOf, Puts, RunsJob, RunsJobOf}
-use Rattle.beet_program_laws.specs.Commands.{PutsBothWorldsForTwo, RefusesBooksForTwo, five_worlds_words}
-use Rattle.beet_program_laws.proofs.Compared.{is-right, not-seven, told-apart, undone}
-use Rattle.beet_program_laws.proofs.Ends.{WentOut, WentWhole, no-job, no-usage, refused-answer, refused-whole, shown-ends}
+use Rattle.beet_program_laws.specs.Commands.{PutsBothWorldsForTwo, five_worlds_words}
+use Rattle.beet_program_laws.specs.Refusals.{RefusesBooksForTwo}
+use Rattle.beet_program_laws.proofs.Compared.{is-right, undone}
+use Rattle.beet_program_laws.proofs.Refusing.{refuses-worlds}
+use Rattle.beet_program_laws.proofs.Ends.{WentOut, no-job, no-usage, shown-ends}
 use Rattle.beet_program_laws.proofs.Ends.{tells-of-five}
 use Rattle.beet_program_laws.proofs.Fives.{IsRight, five-limited-yield, five-open}
 use Rattle.beet_program_laws.proofs.Read.{second-yield}
@@ -93,39 +95,15 @@ module _ (files : List File) (call : Call) (from : IsOf files call) (auction ser
 
   -- ---- a refusal
 
-  none-some : (d : Option MapFault) (fault : MapFault) → d ≡ None → d ≡ Some fault → ⊥
-  none-some None fault e f = absurd cc
-  none-some (Some other) fault e f = absurd cc
-
-  refused-by : (both : BothOfFive) → ReadsTo files (both_errand auction servers list1 list2) both → call.status ≡ 7 →
-      (answer : Answer) →
-      answer_over files (compared_errand auction servers list1 list2 two.0 two.1 (λ both. answers Done [])) ≡ answer →
-      WentWhole answer call → RefusesBooksForTwo two.0 two.1 both call
-  refused-by both read e answer is whole =
-      let (fault, first, told) =
-      told-apart refused_text (difference_read two) (both_errand auction servers list1 list2) files both read answer
-      (sym whole.code ∙ e) is in
-      record {
-        fault = fault;
-        first = first;
-        apart = λ agree.
-            none-some (difference_read two both) fault
-            (no-difference two.0 two.1 both.first.book (second_book both) agree) first;
-        said = subst (λ (a : Answer). Puts call a.files a.text) (sym told) whole.calls;
-      }
-
   refuses-both : (both : BothOfFive) → ReadsTo files (both_errand auction servers list1 list2) both → call.status ≡ 7 →
       RunsJob (Some (ComparingForTwo auction servers list1 list2 two out)) call → RefusesBooksForTwo two.0 two.1 both call
-  refuses-both both read e (inl (answer, shows, r)) =
-      let put : WentWhole answer call = refused-answer files call from e answer r in
-      let done : IsDone answer.status =
-      subst IsDone (sym (ap (λ (a : Answer). a.status) shows.shown.is))
-      (status-done (book_finish shows.value.first.book (at_server shows.value.first.words.masks))) in
-      absurd (not-seven answer.status done (sym put.code ∙ e))
-  refuses-both both read e (inr f) =
-      let step = compared_errand auction servers list1 list2 two.0 two.1 (λ both. answers Done []) in
-      let whole = refused-whole files call from e step (f (λ both. answers Done [])) in
-      refused-by both read e whole.answer whole.is whole.out
+  refuses-both both read e r =
+      refuses-worlds refused_text (difference_read two) (both_errand auction servers list1 list2) files call from both read e
+      (Agree two.0 two.1 both.first.book (second_book both))
+      (no-difference two.0 two.1 both.first.book (second_book both))
+      (ShowsFiveWorlds auction servers list1 list2 two.0 two.1 out)
+      (λ answer shows. subst IsDone (sym (ap (λ (a : Answer). a.status) shows.shown.is))
+      (status-done (book_finish shows.value.first.book (at_server shows.value.first.words.masks)))) r
 
 -- ---- the words
 

@@ -11,6 +11,7 @@ pub mod Tallies
 pub mod Seals
 pub mod Trials
 pub mod Compared
+pub mod Refusing
 pub mod Worlds
 pub mod FiveWorlds
 pub mod SecondBook

@@ -61,13 +61,10 @@ use Rattle.beet_app_laws.specs.Calls.{Call, Puts, Says}
 use Rattle.beet_app_laws.specs.Readings.{OpenRead, SealRead, TallyRead}
 use Rattle.beet_five_load.specs.FiveLoading.{FiveRead, five_loaded_errand}
 use Rattle.beet_five_dealing.specs.FiveWords.{FiveWords}
-use Rattle.beet_five_map.specs.FiveWorlds.{Agree as AgreeForTwo, AreTwoBooks as AreTwoBooksForTwo}
+use Rattle.beet_five_map.specs.FiveWorlds.{AreTwoBooks as AreTwoBooksForTwo}
 use Rattle.beet_five_view.specs.JointBooks.{joint_transcript}
 use Rattle.beet_five_view.specs.WordsFiles.{words_bytes}
 use Rattle.beet_headline.specs.FiveStatements.{LookTheSame}
-use Rattle.beet_two_books.specs.declared.agreeing.MapFault.{MapFault}
-use Rattle.beet_book_differences.specs.Differences.{refused_text}
-use Rattle.beet_job_five_worlds.specs.Ending.{difference_for_two}
 use Rattle.beet_job_five_worlds.specs.Reading.{BothOfFive, both_errand as both_of_five, second_book as second_of_five}
 use Rattle.beet_program_laws.specs.Outcomes.{FiveServersOpen, IsShown, ServersOpen, TellsOfFive, TellsTheEnd}
 use Rattle.beet_program_laws.specs.Outcomes.{three_files, transcript_files}
@@ -263,14 +260,6 @@ pub record PutsBothWorldsForTwo (files : List File) (auction servers book1 book2
       (files_of_worlds out (joint_transcript a b both.first.book both.first.words)
       (joint_transcript a b (second_of_five both) second_words) (words_bytes second_words))
       (text ++ equal_text)
-
--- `five_worlds` at status 7, of two books that are read: they do not agree for servers a and b together. The line tells
--- the first thing by which these can tell them apart, and nothing was put
-pub record RefusesBooksForTwo (a b : ℕ) (both : BothOfFive) (call : Call) : Type 0 where
-  pub fault : MapFault
-  pub first : difference_for_two a b both.first.book (second_of_five both) ≡ Some fault
-  pub apart : AgreeForTwo a b both.first.book (second_of_five both) → ⊥
-  pub said : Says call (refused_text fault)
 
 -- `audit`: the files read as a grid and three views of one run, which is that of a book with words: the book that the
 -- points recombine to, and the words of the tapes, with words of the bidders that begin the same run; how its auction

@@ -1,4 +1,5 @@
 pub mod Outcomes
 pub mod Commands
+pub mod Refusals
 pub mod Accepted
 pub mod Again

@@ -11,15 +11,17 @@ ghost use Rattle.beet_field.specs.Point.{server_of};
 ghost use Rattle.beet_field.specs.declared.point.Point.{Point};
 ghost use Rattle.beet_store.specs.Files.{File};
 ghost use Rattle.beet_errand.specs.Overs.{ReadsTo};
-ghost use Rattle.beet_job_five_worlds.specs.Reading.{BothOfFive, both_errand};
+ghost use Rattle.beet_job_worlds.specs.Reading.{Both, both_errand};
+ghost use Rattle.beet_job_five_worlds.specs.Reading.{BothOfFive, both_errand as both_of_five};
 ghost use Rattle.beet_app.specs.Jobs.{two_of_five};
 ghost use Rattle.beet_app_laws.specs.Calls.{Call, IsDoneCall, IsOf, RunsJobOf};
 ghost use Rattle.beet_program_laws.specs.Again.{IsPutAgain, record_words};
 ghost use Rattle.beet_program_laws.specs.Accepted.{IsAccepted, IsAuditedByPoints, audit_words, witness_words};
 ghost use Rattle.beet_program_laws.specs.Commands.{AuditsOneRun, Clears, ClearsAmongFive, OpensEnvelopes};
 ghost use Rattle.beet_program_laws.specs.Commands.{PutsBothWorlds, PutsBothWorldsForTwo, RecordsRun};
-ghost use Rattle.beet_program_laws.specs.Commands.{RefusesBooksForTwo, RunsTrial, Seals, ShowsStandings};
+ghost use Rattle.beet_program_laws.specs.Commands.{RunsTrial, Seals, ShowsStandings};
 ghost use Rattle.beet_program_laws.specs.Commands.{Tallies, Watches, WitnessesEnvelopes, five_worlds_words};
+ghost use Rattle.beet_program_laws.specs.Refusals.{RefusesBooks, RefusesBooksForTwo};
 
 /// `tally AUCTION BOOK` says the sums of what the bidders of the book sell and buy.
 pub fn what_tally_says_are_the_sums_of_the_bids()
@@ -102,6 +104,16 @@ pub fn what_worlds_puts_looks_the_same()
         × PutsBothWorlds files auction servers book1 book2 s out call }
 {}
 
+/// If it ends with status 7 over files that read as two books, these do not agree for the server, and the line tells
+/// the first thing by which it can tell them apart.
+pub fn what_worlds_refuses_does_not_agree()
+    ensures { (files : List File) (auction servers book1 book2 server out : List ℕ) (both : Both) (call : Call) →
+        IsOf files call →
+        RunsJobOf (codes "worlds" ∷ auction ∷ servers ∷ book1 ∷ book2 ∷ server ∷ out ∷ []) call →
+        ReadsTo files (both_errand auction servers book1 book2) both → call.status ≡ 7 →
+        (s : Point) × (server_of server ≡ Some s) × RefusesBooks s both call }
+{}
+
 /// `five_worlds AUCTION SERVERS BOOK1 BOOK2 A B OUT` puts what servers `A` and `B` of five see together of both books,
 /// which is the same, byte for byte, and the only words of the second that go with those of the first. `A` and `B` are
 /// digits from 1 to 5, the first below the second.
@@ -118,7 +130,7 @@ pub fn what_five_worlds_refuses_does_not_agree()
     ensures { (files : List File) (auction servers book1 book2 one other out : List ℕ) (both : BothOfFive)
         (call : Call) → IsOf files call →
         RunsJobOf (five_worlds_words auction servers book1 book2 one other out) call →
-        ReadsTo files (both_errand auction servers book1 book2) both → call.status ≡ 7 →
+        ReadsTo files (both_of_five auction servers book1 book2) both → call.status ≡ 7 →
         (two : ℕ × ℕ) × (two_of_five one other ≡ Some two) × RefusesBooksForTwo two.0 two.1 both call }
 {}
 

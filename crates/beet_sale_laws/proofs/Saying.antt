@@ -1,5 +1,5 @@
 -- What each command of the program of sales has read, put and said.
-use Rattle.std.proofs.Common.{◌≡◌, inl, inr, ℕ, List, [], ◌∷◌, ◌++◌, Bool, true, false, Option, Some, None, Ok}
+use Rattle.std.proofs.Common.{◌≡◌, ℕ, List, [], ◌∷◌, ◌++◌, Bool, true, false, Option, Some, Ok}
 use Rattle.std.proofs.Common.{if◌then◌else◌, refl, sym, ap, subst, ◌∙◌, arith}
 use Rattle.std.specs.Prelude.{codes, option_map}
 use Rattle.std.proofs.lemmas.List.{length-map}
@@ -10,18 +10,16 @@ use Rattle.beet_words.specs.Bundles.{Words, bundle_bytes}
 use Rattle.beet_gates.specs.declared.Gates.{Gates}
 use Rattle.beet_sale_plan.specs.declared.SaleEnd.TheVariants.{Sold, MasksSpent}
 use Rattle.beet_sale_file.specs.declared.rows.SaleBid.{SaleBid}
-use Rattle.beet_sale_map.specs.Bids.{AreTwoSales, bids_of as numbers_of}
-use Rattle.beet_sale_map.specs.declared.agreeing.SaleFault.{SaleFault}
+use Rattle.beet_sale_map.specs.Bids.{Agree, AreTwoSales, bids_of as numbers_of}
 use Rattle.beet_highbid.specs.SalePairs.{AreOneSalePair}
 use Rattle.beet_highbid.proofs.Pairs.{mapped-pair}
 use Rattle.beet_command.specs.Words.{are_names}
-use Rattle.beet_errand.specs.Errands.{Answer, answers}
+use Rattle.beet_errand.specs.Errands.{Answer}
 use Rattle.beet_errand.specs.Fetches.{IsRead}
 use Rattle.beet_errand.specs.Statuses.{IsDoneCode, code_of}
-use Rattle.beet_errand.specs.Overs.{ReadsTo, answer_over}
+use Rattle.beet_errand.specs.Overs.{ReadsTo}
 use Rattle.beet_errand.specs.Worlds.{equal_text}
 use Rattle.beet_errand.specs.declared.answer.OwnRefusal.TheVariants.{OfWorlds}
-use Rattle.beet_errand.specs.declared.answer.Status.TheVariants.{Done}
 use Rattle.beet_sale_load.specs.SaleLoading.{SaleRead, sale_errand as read_errand}
 use Rattle.beet_sale_run.specs.Results.{price_of, winner_of}
 use Rattle.beet_sale_run.specs.SaleRuns.{finish_read, rounds_read}
@@ -42,8 +40,9 @@ use Rattle.beet_sale_app.specs.Doing.{task_of}
 use Rattle.beet_app_laws.specs.Calls.{Call, IsOf, Puts}
 use Rattle.beet_app_laws.specs.Tables.{RunsJobBy}
 use Rattle.beet_app_laws.proofs.Led.{read-to}
-use Rattle.beet_program_laws.proofs.Compared.{not-seven, told-apart, undone}
-use Rattle.beet_program_laws.proofs.Ends.{WentOut, WentWhole, found, named-in, no-job, no-usage, refused-answer, refused-whole}
+use Rattle.beet_program_laws.proofs.Compared.{undone}
+use Rattle.beet_program_laws.proofs.Refusing.{refuses-worlds}
+use Rattle.beet_program_laws.proofs.Ends.{WentOut, found, named-in, no-job, no-usage}
 use Rattle.beet_program_laws.proofs.Ends.{shown-ends}
 use Rattle.beet_sale_laws.specs.Commands.{IsDoneSale, PutsBothSales, RefusesBothSales, RunsSale, SaysTheSale}
 use Rattle.beet_sale_laws.specs.Commands.{ServersSell, TellsTheSale, bids_in, is_spent, pair_words, sale_words, second_bids}
@@ -170,33 +169,13 @@ module _ (files : List File) (call : Call) (from : IsOf files call) (sale1 sale2
 
   -- ---- a refusal
 
-  refused-by : (both : Both) → ReadsTo files (both_errand sale1 sale2 servers) both → call.status ≡ 7 → (answer : Answer) →
-      answer_over files (compared_errand sale1 sale2 servers s (λ both. answers Done [])) ≡ answer → WentWhole answer call →
-      RefusesBothSales s both call
-  refused-by both read e answer is whole =
-      let (fault, first, told) =
-      told-apart refused_text (difference_read s) (both_errand sale1 sale2 servers) files both read answer
-      (sym whole.code ∙ e) is in
-      record {
-        fault = fault;
-        first = first;
-        apart = λ agree. none-some (difference_read s both) fault (no-difference s (bids_in both.first) (second_bids both) agree) first;
-        said = subst (λ (a : Answer). Puts call a.files a.text) (sym told) whole.calls;
-      } where
-        none-some : (difference : Option SaleFault) (fault : SaleFault) → difference ≡ None → difference ≡ Some fault → ⊥
-        none-some None fault a b = absurd cc
-        none-some (Some other) fault a b = absurd cc
-
   refuses-both : (both : Both) → ReadsTo files (both_errand sale1 sale2 servers) both → call.status ≡ 7 →
       RunsJob (Some (Comparing sale1 sale2 servers s out)) call → RefusesBothSales s both call
-  refuses-both both read e (inl (answer, shows, r)) =
-      let put : WentWhole answer call = refused-answer files call from e answer r in
-      absurd (not-seven answer.status (answered-done s out shows.value.first shows.value.second (Ok answer) shows.shown)
-      (sym put.code ∙ e))
-  refuses-both both read e (inr f) =
-      let step = compared_errand sale1 sale2 servers s (λ both. answers Done []) in
-      let whole = refused-whole files call from e step (f (λ both. answers Done [])) in
-      refused-by both read e whole.answer whole.is whole.out
+  refuses-both both read e r =
+      refuses-worlds refused_text (difference_read s) (both_errand sale1 sale2 servers) files call from both read e
+      (Agree s (bids_in both.first) (second_bids both)) (no-difference s (bids_in both.first) (second_bids both))
+      (ShowsPair sale1 sale2 servers s out)
+      (λ answer shows. answered-done s out shows.value.first shows.value.second (Ok answer) shows.shown) r
 
 module _ (files : List File) (call : Call) (sale1 sale2 servers server out : List ℕ) where
   pub puts-sales : IsDoneSale files (pair_words sale1 sale2 servers server out) call →

@@ -1,6 +1,6 @@
 -- What each command of the program of sales has read, put and said if its run ends with status 0 or 6, over a shelf
 -- whose answers are of these files; and why `pair` refuses two sales.
-use Rattle.std.specs.Prelude.{◌≡◌, ◌∷◌, ◌++◌, ℕ, Bool, List, [], Some, codes, true, false}
+use Rattle.std.specs.Prelude.{◌≡◌, ◌∷◌, ◌++◌, ℕ, Bool, List, [], codes, true, false}
 use Rattle.beet_field.specs.declared.point.Point.{Point}
 use Rattle.beet_store.specs.Files.{File}
 use Rattle.beet_words.specs.Bundles.{Words, bundle_bytes}
@@ -14,7 +14,6 @@ use Rattle.beet_sale_plan.specs.declared.SaleEnd.TheVariants.{Sold, MasksSpent}
 use Rattle.beet_sale_file.specs.Sales.{bids_of}
 use Rattle.beet_sale_file.specs.declared.rows.SaleBid.{SaleBid}
 use Rattle.beet_sale_map.specs.Bids.{Agree, AreSaleBids, AreTwoSales, bids_of as numbers_of}
-use Rattle.beet_sale_map.specs.declared.agreeing.SaleFault.{SaleFault}
 use Rattle.beet_highbid.specs.SalePairs.{AreOneSalePair, CanSell}
 use Rattle.beet_errand.specs.Worlds.{equal_text, files_of_worlds}
 use Rattle.beet_sale_load.specs.SaleLoading.{SaleRead, sale_errand}
@@ -27,6 +26,7 @@ use Rattle.beet_job_sale_pair.specs.Reading.{Both, both_errand}
 use Rattle.beet_sale_app.specs.Doing.{task_of}
 use Rattle.beet_sale_app.specs.Jobs.{job_of}
 use Rattle.beet_app_laws.specs.Calls.{Call, Puts, Says}
+use Rattle.beet_program_laws.specs.Refusals.{RefusesWorlds}
 use Rattle.beet_app_laws.specs.Readings.{Read}
 use Rattle.beet_app_laws.specs.Tables.{IsDoneTable, RunsTable}
 
@@ -112,8 +112,7 @@ pub record PutsBothSales (files : List File) (sale1 sale2 servers : List ℕ) (s
 
 -- `pair` at status 7, of two sales that are read: they do not agree for the server. The line tells the first thing by
 -- which it can tell them apart, and nothing was put
-pub record RefusesBothSales (s : Point) (both : Both) (call : Call) : Type 0 where
-  pub fault : SaleFault
-  pub first : difference_between s (bids_in both.first) (second_bids both) ≡ Some fault
-  pub apart : Agree s (bids_in both.first) (second_bids both) → ⊥
-  pub said : Says call (refused_text fault)
+abbrev pub RefusesBothSales : Point → Both → Call → Type 0
+RefusesBothSales s both =
+    RefusesWorlds refused_text (difference_between s (bids_in both.first) (second_bids both))
+    (Agree s (bids_in both.first) (second_bids both))
