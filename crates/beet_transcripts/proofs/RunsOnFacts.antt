@@ -1,5 +1,5 @@
 -- What three servers that have run the auction on any points have seen, and how their run ended.
-use Rattle.std.proofs.Common.{◌≡◌, ℕ, List, [], ◌∷◌, All, refl, sym, ap, ◌∙◌, subst, Some, Vec, Global}
+use Rattle.std.proofs.Common.{◌≡◌, ℕ, List, [], ◌∷◌, ap, ◌∙◌, subst, Some, Vec, Global}
 use Rattle.beet_field.specs.Trio.{member}
 use Rattle.beet_field.specs.declared.point.Point.{Point}
 use Rattle.beet_field.specs.declared.point.Point.TheVariants.{One, Two, Three}
@@ -20,16 +20,9 @@ use Rattle.beet_run.proofs.BookRuns.{one-end}
 use Rattle.beet_run.proofs.Ending.{ends-auction}
 use Rattle.beet_view.specs.RunViews.{view_of_run}
 use Rattle.beet_view.specs.Transcripts.{view_bytes}
-use Rattle.beet_view.specs.Views.{IsSeenAt}
 use Rattle.beet_view.specs.declared.view.Seen.{Seen}
-use Rattle.beet_transcripts.specs.RunsOn.{CanShow, answer_on, rounds_on, view_on}
-use Rattle.beet_transcripts.specs.Writing.{CanWrite, Writes}
-
--- what a server sees, under its own name
-seen-by : (s me : Point) (grid : Grid) (before after : List Seen) → me ≡ s → after ≡ before →
-    All (IsSeenAt s grid) before → All (IsSeenAt me grid) after
-seen-by s me grid before after m e h =
-    subst (λ (x : Point). All (IsSeenAt x grid) after) (sym m) (subst (All (IsSeenAt s grid)) (sym e) h)
+use Rattle.beet_transcripts.specs.RunsOn.{answer_on, rounds_on, view_on}
+use Rattle.beet_transcripts.specs.Writing.{Writes}
 
 module _ (grid : Grid) (inputs : Trio (List ℕ)) (words : Trio ServerWords) (cores : Trio (Core Auction))
     (h : HaveRunToEnd grid inputs words cores) where
@@ -39,16 +32,6 @@ module _ (grid : Grid) (inputs : Trio (List ℕ)) (words : Trio ServerWords) (co
       subst (λ n. IsAtRound auction_batch o n s (member cores s)) (ap (λ a. rounds_among o (most_rounds a)) (h.starts.script One))
       (subst (λ (x : Setup). IsAtRound auction_batch x (rounds_among x (most_rounds h.start.one.script)) s (member cores s))
       h.starts.setup (h.ended.ended s))
-
-  -- the transcript of each server can be written, with bidders that can be shown to it
-  pub can-write : (s : Point) (core : Core Auction) (bidders items : List Seen) → CanShow grid s bidders → core ≡ member cores s →
-      items ≡ bidders → CanWrite core grid items
-  can-write s core bidders items c e i =
-      rw (e, i) (record {
-        ended = h.ended.at_end s;
-        few = c.few;
-        seen = seen-by s _ grid bidders bidders (stands s).name refl c.seen;
-      })
 
   -- the view of each server is that of the run
   shows : (bidders : List Seen) (s : Point) →

@@ -1,22 +1,14 @@
--- A server that has ended, and the bytes of its transcript.
-use Rattle.std.specs.Prelude.{◌≡◌, ◌≤◌, ℕ, List, length, All, true}
+-- The bytes of the transcript of a server that has run the auction.
+use Rattle.std.specs.Prelude.{◌≡◌, ℕ, List}
 use Rattle.beet_bids.specs.Grids.{Grid}
 use Rattle.beet_plan.specs.Auction.{Auction, auction_batch}
-use Rattle.beet_server.specs.Cores.{Core, has_ended}
+use Rattle.beet_server.specs.Cores.{Core}
 use Rattle.beet_delivery.specs.Events.{Delivered}
 use Rattle.beet_server.specs.Fits.{Fits}
 use Rattle.beet_sharing.specs.Runs.{Setup}
 use Rattle.beet_view.specs.RunViews.{view_of_run}
 use Rattle.beet_view.specs.Transcripts.{view_bytes}
-use Rattle.beet_view.specs.Views.{IsSeenAt}
-use Rattle.beet_words.specs.declared.bundle.TheConstants.{MOST_BIDDERS}
 use Rattle.beet_view.specs.declared.view.Seen.{Seen}
-
--- a server that has ended, and bidders as it sees them
-pub record CanWrite (core : Core Auction) (grid : Grid) (bidders : List Seen) : Type 0 where
-  pub ended : has_ended auction_batch core ≡ true
-  pub few : length bidders ≤ MOST_BIDDERS
-  pub seen : All (IsSeenAt core.me grid) bidders
 
 -- the bytes are the transcript of a server, if it fits a run
 abbrev pub Writes : Core Auction → Grid → List Seen → List ℕ → Type 0

@@ -1,25 +1,24 @@
 //! What the bidders of a book deal, and what each server sees of them.
 
-ghost use Rattle.std.specs.Prelude.{◌≡◌, ◌≤◌, ◌++◌, ◌∷◌, [], IfOk, OnOk, All, List, None, Option, length, map, false};
-ghost use Rattle.std.specs.Prelude.{true};
+ghost use Rattle.std.specs.Prelude.{◌≡◌, ◌≤◌, ◌++◌, ◌∷◌, [], IfOk, OnOk, All, List, Option, length, map, false, true};
 ghost use Rattle.beet_field.specs.Trio.{member};
 ghost use Rattle.beet_bids.specs.Curves.{IsOfGrid};
 ghost use Rattle.beet_bids.specs.Grids.{Grid as Lattice};
 ghost use Rattle.beet_book.specs.Farmers.{BidderWithWords, book_inputs, farmers_of};
 ghost use Rattle.beet_load.specs.Counts.{counts_of};
 ghost use Rattle.beet_load.specs.Wholes.{CanDeal};
-ghost use Rattle.beet_view.specs.BookViews.{seen_at, own_at, seen_with};
+ghost use Rattle.beet_view.specs.BookViews.{seen_at, seen_with};
 ghost use Rattle.beet_transcripts.specs.DealtBooks.{CanDealAll, CanDealPart, HasDealt, part_of, shows};
 ghost use Rattle.beet_transcripts.specs.RunsOn.{seen_sealed};
 
-use beet_bids::{Bidder, Book, Curve, Grid};
+use beet_bids::{Bidder, Book, Grid};
 use beet_book::{Totals, deal_bidder};
 use beet_field::{Point, Trio};
 use beet_forms::beside;
 use beet_load::front;
 use beet_parts::{Parts, in_parts};
 use beet_plan::words_kept;
-use beet_view::Seen;
+use beet_view::ShownBidders;
 use beet_words::{FeList, WordList};
 use std::alloc::{AllocError, Global};
 use std::marker::{Model, Sync};
@@ -28,7 +27,7 @@ use std::thread::Threads;
 /// The bidders, in their order, as each server sees them.
 #[derive(Drop)]
 pub struct SeenByAll {
-    servers: Trio<Vec<Seen>>,
+    servers: Trio<ShownBidders>,
 }
 
 impl Model for SeenByAll {
@@ -38,19 +37,7 @@ impl Model for SeenByAll {
 
     ghost Value = { Each (List Shown) };
 
-    ghost view = { λ a.
-        record { one = a.servers.one.items; two = a.servers.two.items; three = a.servers.three.items } };
-}
-
-/// A bidder of which nobody knows more than these points.
-fn sealed(points: FeList) -> Seen
-    ensures { result ≡ record { known = None; points = points; own = None } }
-{
-    Seen {
-        known: None,
-        points,
-        own: None,
-    }
+    ghost view = { λ a. a.servers };
 }
 
 impl SeenByAll {
@@ -59,7 +46,7 @@ impl SeenByAll {
         ensures { result ≡ record { one = []; two = []; three = [] } }
     {
         SeenByAll {
-            servers: Trio::of(|_| Vec::new(alloc)),
+            servers: Trio::of(|_| ShownBidders::new(alloc)),
         }
     }
 
@@ -67,30 +54,31 @@ impl SeenByAll {
     pub fn push_sealed(&mut self, points: Trio<FeList>) -> Result<(), AllocError>
         ensures { OnOk result ((s : Point) → member self.new s ≡ member self.old s ++ seen_sealed s points ∷ []) }
     {
-        let Trio { one, two, three } = points;
-        self.servers.one.push(sealed(one))?;
-        self.servers.two.push(sealed(two))?;
-        self.servers.three.push(sealed(three))?;
+        let Trio { one, two, three } = &points;
+        self.servers.one.push(None, one.as_slice(), None)?;
+        self.servers.two.push(None, two.as_slice(), None)?;
+        self.servers.three.push(None, three.as_slice(), None)?;
         Ok(())
     }
 
-    /// The bidders of others after these.
-    fn append(&mut self, others: &mut SeenByAll) -> Result<(), AllocError>
+    /// The bidders of others after these. What is appended of others gives its memory back at once.
+    fn append(&mut self, others: SeenByAll) -> Result<(), AllocError>
         ensures { OnOk result (self.new ≡ record {
-          one = self.old.one ++ others.old.one;
-          two = self.old.two ++ others.old.two;
-          three = self.old.three ++ others.old.three;
+          one = self.old.one ++ others.one;
+          two = self.old.two ++ others.two;
+          three = self.old.three ++ others.three;
         }) }
     {
-        self.servers.one.append(&mut others.servers.one)?;
-        self.servers.two.append(&mut others.servers.two)?;
-        self.servers.three.append(&mut others.servers.three)?;
+        let Trio { one, two, three } = others.servers;
+        self.servers.one.append(one)?;
+        self.servers.two.append(two)?;
+        self.servers.three.append(three)?;
         Ok(())
     }
 
     /// The bidders as one server sees them; what the others see is dropped.
-    pub(crate) fn into_one(self, at: Point) -> Vec<Seen>
-        ensures { result.items ≡ member self at }
+    pub(crate) fn into_one(self, at: Point) -> ShownBidders
+        ensures { result ≡ member self at }
     {
         match at {
             Point::One => self.servers.one,
@@ -100,67 +88,33 @@ impl SeenByAll {
     }
 
     /// The bidders as each server sees them, given away.
-    pub(crate) fn into_parts(self) -> Trio<Vec<Seen>>
-        ensures one { result.one.items ≡ self.one }
-        ensures two { result.two.items ≡ self.two }
-        ensures three { result.three.items ≡ self.three }
+    pub(crate) fn into_parts(self) -> Trio<ShownBidders>
+        ensures { result ≡ self }
     {
         self.servers
     }
 }
 
-/// The curve and the words of a bidder, in memory of their own, if this server knows it.
-fn own_part(
-    alloc: Global,
-    at: Point,
-    bidder: &Bidder,
-    words: &WordList,
-) -> Result<Option<(Curve, WordList)>, AllocError>
-    ensures { IfOk result (λ own. own ≡ own_at at (record { bidder = bidder.now; words = words.now })) }
-{
-    let knows = bidder.known == Some(at);
-    if knows {
-        let curve = bidder.curve.copy(alloc)?;
-        Ok(Some(beside(curve, words.copy(alloc))?))
-    } else {
-        Ok(None)
-    }
-}
-
-/// A bidder with these points, as this server sees it.
-fn see(
-    alloc: Global,
-    at: Point,
-    bidder: &Bidder,
-    words: &WordList,
-    points: FeList,
-) -> Result<Seen, AllocError>
-    ensures { IfOk result (λ seen. seen ≡ seen_with at (record { bidder = bidder.now; words = words.now }) points) }
-{
-    let own = own_part(alloc, at, bidder, words)?;
-    Ok(Seen {
-        known: bidder.known,
-        points,
-        own,
-    })
-}
-
 /// Appends a bidder with these points, as this server sees it, if bidders are kept for the server, and else nothing.
 fn show(
-    alloc: Global,
     whom: Option<Point>,
     at: Point,
     bidder: &Bidder,
     words: &WordList,
-    points: FeList,
-    seen: &mut Vec<Seen>,
+    points: &FeList,
+    seen: &mut ShownBidders,
 ) -> Result<(), AllocError>
-    ensures shown { OnOk result (shows whom at ≡ true → seen.new.items
-        ≡ seen.old.items ++ seen_with at (record { bidder = bidder.now; words = words.now }) points ∷ []) }
-    ensures not_shown { shows whom at ≡ false → seen.new.items ≡ seen.old.items }
+    ensures shown { OnOk result (shows whom at ≡ true → seen.new
+        ≡ seen.old ++ seen_with at (record { bidder = bidder.now; words = words.now }) points.now ∷ []) }
+    ensures not_shown { shows whom at ≡ false → seen.new ≡ seen.old }
 {
     if whom.is_none() || whom == Some(at) {
-        seen.push(see(alloc, at, bidder, words, points)?)?;
+        let own = if bidder.known == Some(at) {
+            Some((&bidder.curve, words))
+        } else {
+            None
+        };
+        seen.push(bidder.known, points.as_slice(), own)?;
     }
     Ok(())
 }
@@ -169,45 +123,20 @@ impl SeenByAll {
     /// Appends a bidder with these points, as each server sees it for which bidders are kept.
     fn show_each(
         &mut self,
-        alloc: Global,
         whom: Option<Point>,
         bidder: &Bidder,
         words: &WordList,
-        points: Trio<FeList>,
+        points: &Trio<FeList>,
     ) -> Result<(), AllocError>
         ensures shown { OnOk result ((s : Point) → shows whom s ≡ true → member self.new s
             ≡ member self.old s
-            ++ seen_with s (record { bidder = bidder.now; words = words.now }) (member points s) ∷ []) }
+            ++ seen_with s (record { bidder = bidder.now; words = words.now }) (member points.now s) ∷ []) }
         ensures not_shown { (s : Point) → shows whom s ≡ false → member self.new s ≡ member self.old s }
     {
-        let Trio { one, two, three } = points;
-        show(
-            alloc,
-            whom,
-            Point::One,
-            bidder,
-            words,
-            one,
-            &mut self.servers.one,
-        )?;
-        show(
-            alloc,
-            whom,
-            Point::Two,
-            bidder,
-            words,
-            two,
-            &mut self.servers.two,
-        )?;
-        show(
-            alloc,
-            whom,
-            Point::Three,
-            bidder,
-            words,
-            three,
-            &mut self.servers.three,
-        )
+        let Trio { one, two, three } = &mut self.servers;
+        show(whom, Point::One, bidder, words, &points.one, one)?;
+        show(whom, Point::Two, bidder, words, &points.two, two)?;
+        show(whom, Point::Three, bidder, words, &points.three, three)
     }
 }
 
@@ -235,7 +164,10 @@ fn deal_one(
     drop(tape);
     let dealt = dealt?;
     totals.add(&dealt);
-    seen.show_each(alloc, whom, bidder, words, dealt.into_points())
+    let points = dealt.into_points();
+    let shown = seen.show_each(whom, bidder, words, &points);
+    drop(points);
+    shown
 }
 
 /// Some bidders of a book: their points added up, and each bidder as the servers see it for which bidders are kept.
@@ -247,15 +179,15 @@ struct DealtPart {
 
 impl DealtPart {
     /// Adds the points of another part, and takes its bidders after these.
-    fn merge(&mut self, other: &mut DealtPart) -> Result<(), AllocError>
-        requires { other.old.totals.prices ≡ self.old.totals.prices }
+    fn merge(&mut self, other: DealtPart) -> Result<(), AllocError>
+        requires { other.totals.prices ≡ self.old.totals.prices }
         ensures { (grid : Lattice) (whom : Option Point) (few rest : List BidderWithWords)
             → HasDealt grid whom few self.old.totals self.old.seen
-            → HasDealt grid whom rest other.old.totals other.old.seen
+            → HasDealt grid whom rest other.totals other.seen
             → OnOk result (HasDealt grid whom (few ++ rest) self.new.totals self.new.seen) }
     {
         self.totals.merge(&other.totals);
-        self.seen.append(&mut other.seen)
+        self.seen.append(other.seen)
     }
 }
 
@@ -271,10 +203,8 @@ fn join_parts(
         → IfOk result (λ both. HasDealt grid whom (few ++ rest) both.totals both.seen) }
 {
     let (second, few) = beside(second, first)?;
-    let (mut few, mut rest) = beside(few, second)?;
-    let merged = few.merge(&mut rest);
-    // One call lets them go, not each way out by itself.
-    drop(rest);
+    let (mut few, rest) = beside(few, second)?;
+    let merged = few.merge(rest);
     let (both, ()) = beside(few, merged)?;
     Ok(both)
 }

@@ -9,17 +9,16 @@ ghost use Rattle.beet_load.specs.Servers.{ServerWords};
 ghost use Rattle.beet_plan.specs.declared.Finish.{Finish};
 ghost use Rattle.beet_run.specs.Runs.{HaveRunToEnd};
 ghost use Rattle.beet_transcripts.specs.RunsOn.{CanShow, HasRunOn, answer_on};
-ghost use Rattle.beet_transcripts.specs.Writing.{CanWrite, Writes};
+ghost use Rattle.beet_transcripts.specs.Writing.{Writes};
 
 use crate::dealing::SeenByAll;
-use crate::running::transcript_of;
 use beet_bids::Grid;
 use beet_errand::{NewFile, Reply};
 use beet_field::{Point, Trio};
 use beet_run::{finish_at, outcome_reply};
 use beet_search::AuctionScript;
 use beet_server::ServerCore;
-use beet_view::Seen;
+use beet_view::{ShownBidders, transcript_of};
 use std::alloc::{AllocError, Global};
 use std::marker::Sync;
 use std::thread::{Threads, join};
@@ -30,14 +29,12 @@ fn write_two<R: Threads + Sync>(
     alloc: Global,
     grid: &Grid,
     first: &ServerCore<AuctionScript>,
-    seen: Vec<Seen>,
+    seen: ShownBidders,
     second: &ServerCore<AuctionScript>,
-    others: Vec<Seen>,
+    others: ShownBidders,
 ) -> (Result<Vec<u8>, AllocError>, Result<Vec<u8>, AllocError>)
-    requires first { CanWrite first.now grid.now seen.items }
-    requires second { CanWrite second.now grid.now others.items }
-    ensures first { IfOk result.0 (λ file. Writes first.now grid.now seen.items file.items) }
-    ensures second { IfOk result.1 (λ file. Writes second.now grid.now others.items file.items) }
+    ensures first { IfOk result.0 (λ file. Writes first.now grid.now seen file.items) }
+    ensures second { IfOk result.1 (λ file. Writes second.now grid.now others file.items) }
 {
     join(
         rt,
@@ -52,23 +49,19 @@ fn write_three<R: Threads + Sync>(
     alloc: Global,
     cores: &Trio<ServerCore<AuctionScript>>,
     grid: &Grid,
-    seen: Trio<Vec<Seen>>,
+    seen: Trio<ShownBidders>,
 ) -> Result<Trio<Vec<u8>>, AllocError>
-    requires one { CanWrite cores.now.one grid.now seen.one.items }
-    requires two { CanWrite cores.now.two grid.now seen.two.items }
-    requires three { CanWrite cores.now.three grid.now seen.three.items }
-    ensures one { IfOk result (λ files. Writes cores.now.one grid.now seen.one.items files.one.items) }
-    ensures two { IfOk result (λ files. Writes cores.now.two grid.now seen.two.items files.two.items) }
-    ensures three { IfOk result (λ files. Writes cores.now.three grid.now seen.three.items files.three.items) }
+    ensures one { IfOk result (λ files. Writes cores.now.one grid.now seen.one files.one.items) }
+    ensures two { IfOk result (λ files. Writes cores.now.two grid.now seen.two files.two.items) }
+    ensures three { IfOk result (λ files. Writes cores.now.three grid.now seen.three files.three.items) }
 {
     let Trio { one, two, three } = seen;
     let (one, (two, three)) = join(
         rt,
         || transcript_of(alloc, &cores.one, grid, one),
         || -> (Result<Vec<u8>, AllocError>, Result<Vec<u8>, AllocError>)
-            requires { CanWrite cores.now.two grid.now two.items × CanWrite cores.now.three grid.now three.items }
-            ensures { IfOk result.0 (λ file. Writes cores.entry.now.two grid.entry.now two.items file.items)
-                × IfOk result.1 (λ file. Writes cores.entry.now.three grid.entry.now three.items file.items) }
+            ensures { IfOk result.0 (λ file. Writes cores.entry.now.two grid.entry.now two file.items)
+                × IfOk result.1 (λ file. Writes cores.entry.now.three grid.entry.now three file.items) }
         { write_two(rt, alloc, grid, &cores.two, two, &cores.three, three) },
     );
     let files = Trio { one, two, three }.transpose()?;

@@ -9,7 +9,6 @@ ghost use Rattle.beet_load.specs.Counts.{counts_of};
 ghost use Rattle.beet_load.specs.Servers.{cut_servers};
 ghost use Rattle.beet_load.specs.Wholes.{CanStart};
 ghost use Rattle.beet_auction.specs.Endings.{book_finish, book_rounds};
-ghost use Rattle.beet_transcripts.specs.Writing.{CanWrite, Writes};
 ghost use Rattle.beet_transcripts.specs.DealtBooks.{shows};
 ghost use Rattle.beet_view.specs.BookViews.{seen_at, transcript_for};
 
@@ -21,30 +20,12 @@ use beet_forms::beside;
 use beet_load::{ServerWords, auction_counts, cut_three};
 use beet_plan::Finish;
 use beet_run::{finish_at, start_servers};
-use beet_search::AuctionScript;
-use beet_server::ServerCore;
-use beet_view::{Seen, view_of, write_view};
+use beet_view::transcript_of;
 use beet_words::{FeList, Words};
 use beet_world::lockstep;
 use std::alloc::{AllocError, Global};
 use std::marker::Sync;
 use std::thread::Threads;
-
-/// The transcript of a server that has ended, with the bidders as it sees them.
-pub(crate) fn transcript_of(
-    alloc: Global,
-    core: &ServerCore<AuctionScript>,
-    grid: &Grid,
-    bidders: Vec<Seen>,
-) -> Result<Vec<u8>, AllocError>
-    requires { CanWrite core.now grid.now bidders.items }
-    ensures { IfOk result (λ file. Writes core.now grid.now bidders.items file.items) }
-{
-    let view = view_of(alloc, core, grid, bidders)?;
-    let file = write_view(alloc, &view);
-    drop(view);
-    file
-}
 
 /// The grid of a book, which is within its limits.
 fn grid_of(book: &Book) -> Grid

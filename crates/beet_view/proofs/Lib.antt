@@ -4,6 +4,8 @@ pub mod ReadFacts
 pub mod RunFacts
 pub mod SeenBytes
 pub mod SeenFacts
+pub mod ShownBytes
 pub mod ViewAgain
 pub mod ViewBytes
 pub mod ViewLength
+pub mod Walks

@@ -29,10 +29,6 @@ rounds_received c = each (round_received c) c.round
 abbrev pub run_of_core : {S : Type 0} → Core S → SeenRun
 run_of_core c = record { masks = c.masks.words; coefficients = c.coefficients.words; rounds = rounds_received c }
 
--- what a core has seen, with a grid and bidders
-abbrev pub view_of_core : {S : Type 0} → Core S → Grid → List Seen → Viewed
-view_of_core c grid bidders = view_with_run c.me grid bidders (run_of_core c)
-
 -- the view of a server of a run of so many rounds, with a grid, bidders, and the mask and coefficient words of the
 -- server
 abbrev pub view_of_run : Setup → Point → ℕ → Grid → List Seen → List ℕ → List ℕ → Viewed

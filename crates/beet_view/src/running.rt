@@ -1,21 +1,21 @@
-//! The view of a server that has run a script.
+//! What a server that has run a script has seen, and its transcript.
 
-ghost use Rattle.std.specs.Prelude.{◌≡◌, ◌<◌, ◌≤◌, ◌^◌, true, length, All, IfOk};
+ghost use Rattle.std.specs.Prelude.{◌≡◌, ◌<◌, ◌≤◌, ◌^◌, length, IfOk};
 ghost use Rattle.beet_field.specs.declared.TheConstants.{MOST_NUMBERS};
-ghost use Rattle.beet_words.specs.declared.bundle.TheConstants.{MOST_BIDDERS};
-ghost use Rattle.beet_sharing.specs.Runs.{Setup, HasRounds};
+ghost use Rattle.beet_sharing.specs.Runs.{Setup};
 ghost use Rattle.beet_sharing.specs.Seen.{run_seen};
 ghost use Rattle.beet_delivery.specs.Events.{Delivered};
-ghost use Rattle.beet_server.specs.Cores.{has_ended};
 ghost use Rattle.beet_server.specs.Fits.{Fits};
-ghost use Rattle.beet_view.specs.Views.{IsSeenAt};
 ghost use Rattle.beet_view.specs.RunViews.{numbers_received, round_received, rounds_received, run_of_core};
-ghost use Rattle.beet_view.specs.RunViews.{view_of_core, view_of_run};
+ghost use Rattle.beet_view.specs.RunViews.{view_of_run};
+ghost use Rattle.beet_view.specs.Transcripts.{view_bytes};
 
-use crate::view::{Received, RunView, Seen, View};
+use crate::shown::ShownBidders;
+use crate::view::{Received, RunView};
 use arrayvec::ArrayVec;
 use beet_bids::Grid;
 use beet_field::{Fe, MOST_NUMBERS};
+use beet_forms::beside;
 use beet_gates::Script;
 use beet_round::Side;
 use beet_server::ServerCore;
@@ -95,28 +95,21 @@ pub fn run_view<S: Script<3>>(alloc: Global, core: &ServerCore<S>) -> Result<Run
     })
 }
 
-/// The view of a server that has ended, with these bidders in their order, as it sees them. The view has the words and
-/// numbers in memory of its own. Want of memory is the only error.
-pub fn view_of<S: Script<3>>(
+/// The transcript of a server that has ended, with these bidders in their order, as it sees them. Memory is taken once
+/// more at most for what stands beside the bidders. Want of memory is the only error.
+pub fn transcript_of<S: Script<3>>(
     alloc: Global,
     core: &ServerCore<S>,
     grid: &Grid,
-    bidders: Vec<Seen>,
-) -> Result<View, AllocError>
-    requires ended { has_ended S.batch_of core.now ≡ true }
-    requires few { length bidders.items ≤ MOST_BIDDERS }
-    requires seen { All (IsSeenAt core.now.me grid.now) bidders.items }
-    ensures core { IfOk result (λ view. view ≡ view_of_core core.now grid.now bidders.items) }
-    ensures run { (o : Setup) (x : Delivered) → Fits S.batch_of o x core.now
-        → IfOk result (λ view. view ≡ view_of_run o core.now.me core.now.round grid.now
-        bidders.items core.now.masks.words core.now.coefficients.words) }
-    ensures rounds { (o : Setup) (x : Delivered) → Fits S.batch_of o x core.now
-        → HasRounds o core.now.round }
+    bidders: ShownBidders,
+) -> Result<Vec<u8>, AllocError>
+    ensures { IfOk result (λ file. (o : Setup) (x : Delivered) → Fits S.batch_of o x core.now
+        → file.items ≡ view_bytes (view_of_run o core.now.me core.now.round grid.now bidders
+        core.now.masks.words core.now.coefficients.words)) }
 {
-    Ok(View {
-        server: core.me(),
-        grid: *grid,
-        bidders,
-        run: run_view(alloc, core)?,
-    })
+    let (bidders, run) = beside(bidders, run_view(alloc, core))?;
+    let file = bidders.into_transcript(core.me(), grid, &run);
+    // One call lets the run go, not each way out by itself.
+    drop(run);
+    file
 }

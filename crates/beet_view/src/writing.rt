@@ -1,6 +1,6 @@
 //! The writer of transcripts.
 
-ghost use Rattle.std.specs.Prelude.{◌≡◌, ◌≤◌, ◌++◌, [], ℕ, List, Ok, Some, IfOk, OnOk, All, length};
+ghost use Rattle.std.specs.Prelude.{◌≡◌, ◌≤◌, ◌++◌, [], ℕ, List, Ok, Some, IfOk, OnOk, All, length, option_map};
 ghost use Rattle.std.specs.List.{flat_map};
 ghost use Rattle.beet_field.specs.Field.{IsElement};
 ghost use Rattle.beet_forms.specs.declared.faults.TheConstants.{LONGEST_FILE};
@@ -12,8 +12,7 @@ ghost use Rattle.beet_view.specs.Views.{IsView};
 ghost use Rattle.beet_view.specs.Transcripts.{tells_policy, magic, mark_of, number_of_gates, policy_field};
 ghost use Rattle.beet_view.specs.Transcripts.{numbers_bytes, counted_bytes, header_bytes, grid_bytes, sealed_bytes};
 ghost use Rattle.beet_view.specs.Transcripts.{own_bytes, seen_bytes, round_bytes, run_bytes, view_bytes, view_in};
-ghost use Rattle.beet_view.specs.Transcripts.{FitsFile, HasElements};
-ghost use Rattle.beet_view.specs.Transcripts.{HasNumbers, AreNumbers};
+ghost use Rattle.beet_view.specs.Transcripts.{FitsFile, HasElements, HasNumbers, AreNumbers};
 
 use crate::reading::magic;
 use crate::view::{Received, RunView, Seen, View};
@@ -123,7 +122,7 @@ fn push_magic(file: &mut Vec<u8>, grid: &Grid) -> Result<(), AllocError>
 }
 
 /// Appends what a transcript begins with: its text, the server, the grid, and the number of the bidders.
-fn push_header(
+pub(crate) fn push_header(
     file: &mut Vec<u8>,
     server: Point,
     grid: &Grid,
@@ -159,6 +158,31 @@ fn push_own(file: &mut Vec<u8>, curve: &Curve, words: &WordList) -> Result<(), A
     push_list(file, words)
 }
 
+/// Appends a bidder: its mark, its points, and its curve and its words if the server knows it.
+pub(crate) fn push_seen(
+    file: &mut Vec<u8>,
+    known: Option<Point>,
+    points: &[Fe],
+    own: Option<(&Curve, &WordList)>,
+) -> Result<(), AllocError>
+    ensures bytes { OnOk result (file.new.items ≡ file.old.items ++ seen_bytes (record {
+      known = known;
+      points = points.now;
+      own = option_map (λ o. (o.0.now, o.1.now)) own.entry;
+    })) }
+    ensures limits { OnOk result (HasNumbers (record {
+      known = known;
+      points = points.now;
+      own = option_map (λ o. (o.0.now, o.1.now)) own.entry;
+    })) }
+{
+    push_sealed(file, known, points)?;
+    if let Some((curve, words)) = own {
+        push_own(file, curve, words)?;
+    }
+    Ok(())
+}
+
 impl Item for Seen {
     ghost use Rattle.beet_view.specs.Transcripts.{seen_bytes, HasNumbers};
 
@@ -167,11 +191,11 @@ impl Item for Seen {
     ghost limits_of = { HasNumbers };
 
     fn push(&self, file: &mut Vec<u8>) -> Result<(), AllocError> {
-        push_sealed(file, self.known, self.points.as_slice())?;
-        if let Some((curve, words)) = &self.own {
-            push_own(file, curve, words)?;
-        }
-        Ok(())
+        let own = match &self.own {
+            None => None,
+            Some((curve, words)) => Some((curve, words)),
+        };
+        push_seen(file, self.known, self.points.as_slice(), own)
     }
 }
 
@@ -211,10 +235,6 @@ pub fn push_run(file: &mut Vec<u8>, run: &RunView) -> Result<(), AllocError>
     Ok(())
 }
 
-/// The 8 bytes at the start, the server, the first four numbers of the grid and the four counts, each as long as a
-/// number.
-const NUMBERS_BESIDE: usize = 10;
-
 /// How many numbers stand for a bidder.
 fn numbers_for_seen(grid: &Grid, seen: &Seen) -> usize {
     let own = match &seen.own {
@@ -243,14 +263,32 @@ fn numbers_for_rounds(rounds: &[Received]) -> usize {
     numbers
 }
 
+/// How many numbers stand for what a server sees of a run: the words of both kinds and the rounds, each list after its
+/// count.
+fn numbers_for_run(run: &RunView) -> usize {
+    let tapes = run.masks.as_slice().len() + run.coefficients.as_slice().len();
+    numbers_for_rounds(run.received())
+        .saturating_add(tapes)
+        .saturating_add(3)
+}
+
+/// The 8 bytes at the start, the server, the first four numbers of the grid and the count of the bidders, each as long
+/// as a number.
+const HEADER_NUMBERS: usize = 7;
+
+/// How many bytes a transcript has beside its bidders, so that memory for them is taken once; no clause rests on it.
+pub(crate) fn room_beside(grid: &Grid, run: &RunView) -> usize {
+    let header = HEADER_NUMBERS + policy_field(grid.policy()).len();
+    numbers_for_run(run)
+        .saturating_add(header)
+        .saturating_mul(8)
+}
+
 /// How many bytes a view has, so that memory is taken once; no clause rests on it.
 fn room_for(view: &View) -> usize {
-    let tapes = view.masks().len() + view.coefficients().len();
-    let beside = NUMBERS_BESIDE + policy_field(view.grid().policy()).len();
-    let bidders = numbers_for_bidders(view.grid(), view.bidders());
-    let rounds = numbers_for_rounds(view.received());
-    let numbers = bidders.saturating_add(rounds).saturating_add(tapes);
-    numbers.saturating_add(beside).saturating_mul(8)
+    numbers_for_bidders(view.grid(), view.bidders())
+        .saturating_mul(8)
+        .saturating_add(room_beside(view.grid(), &view.run))
 }
 
 /// Writes the transcript of a view into an empty file.

@@ -1,4 +1,4 @@
-use Rattle.std.proofs.Common.{◌≡◌, length, arith, ◌∙◌}
+use Rattle.std.proofs.Common.{arith, ◌∙◌}
 use Rattle.beet_transcripts.proofs.DealtPoints.{inputs-dealt, part-whole}
 use Rattle.beet_transcripts.proofs.dealing.deal_book.Goals as goal
 

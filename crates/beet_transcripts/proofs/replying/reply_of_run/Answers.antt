@@ -1,29 +1,19 @@
-use Rattle.std.proofs.Common.{ap, refl, ◌∙◌}
+use Rattle.std.proofs.Common.{List, ap, ◌∙◌}
 use Rattle.beet_field.specs.Trio.{member}
+use Rattle.beet_field.specs.declared.trio.Trio.{Trio}
 use Rattle.beet_field.specs.declared.point.Point.TheVariants.{One, Two, Three}
 use Rattle.beet_errand.specs.Errands.{Answer}
 use Rattle.beet_view.specs.Transcripts.{view_bytes}
+use Rattle.beet_view.specs.declared.view.Seen.{Seen}
 use Rattle.beet_run.proofs.Ending.{has-ended-run}
 use Rattle.beet_transcripts.specs.RunsOn.{view_on}
-use Rattle.beet_transcripts.proofs.RunsOnFacts.{all-files, answer-on, can-write, ends-so, transcript-on}
+use Rattle.beet_transcripts.proofs.RunsOnFacts.{all-files, answer-on, ends-so, transcript-on}
 use Rattle.beet_transcripts.proofs.replying.reply_of_run.Goals as goal
 
 pub finish_at-finish-requires : goal.finish_at-finish-requires
 finish_at-finish-requires g c =
     let ran = c.requires.run.2 in
     has-ended-run c.args.grid.now _ _ _ ran.starts c.args.cores ran.ended
-
-pub write_three-transcripts-requires-clause-one : goal.write_three-transcripts-requires-clause-one
-write_three-transcripts-requires-clause-one g c = λ lifetimes outlive.
-    can-write _ _ _ _ c.requires.run.2 One _ _ _ (c.requires.shown One) refl c.into_parts.ensures.one
-
-pub write_three-transcripts-requires-clause-two : goal.write_three-transcripts-requires-clause-two
-write_three-transcripts-requires-clause-two g c = λ lifetimes outlive.
-    can-write _ _ _ _ c.requires.run.2 Two _ _ _ (c.requires.shown Two) refl c.into_parts.ensures.two
-
-pub write_three-transcripts-requires-clause-three : goal.write_three-transcripts-requires-clause-three
-write_three-transcripts-requires-clause-three g c = λ lifetimes outlive.
-    can-write _ _ _ _ c.requires.run.2 Three _ _ _ (c.requires.shown Three) refl c.into_parts.ensures.three
 
 pub returns : goal.returns
 returns g c = λ inputs words finish rounds h.
@@ -35,7 +25,7 @@ returns g c = λ inputs words finish rounds h.
     ap (λ (a : Answer). record a { files = c.in_ok-files.files.items }) c.reply.view_is
     ∙ answer-on c.args.out.now grid inputs words seen _ finish _ rounds _ _ texts same.0 same.1 c.in_ok-reply.ensures
     (all-files texts (λ s. view_bytes (view_on grid inputs words (member seen s) s))
-    (transcript-on grid inputs words cores h.ran One _ _ _ c.into_parts.ensures.one c.in_ok-transcripts.ensures.one)
-    (transcript-on grid inputs words cores h.ran Two _ _ _ c.into_parts.ensures.two c.in_ok-transcripts.ensures.two)
-    (transcript-on grid inputs words cores h.ran Three _ _ _ c.into_parts.ensures.three c.in_ok-transcripts.ensures.three))
+    (transcript-on grid inputs words cores h.ran One _ _ _ (ap (λ (each : Trio (List Seen)). each.one) c.into_parts.ensures) c.in_ok-transcripts.ensures.one)
+    (transcript-on grid inputs words cores h.ran Two _ _ _ (ap (λ (each : Trio (List Seen)). each.two) c.into_parts.ensures) c.in_ok-transcripts.ensures.two)
+    (transcript-on grid inputs words cores h.ran Three _ _ _ (ap (λ (each : Trio (List Seen)). each.three) c.into_parts.ensures) c.in_ok-transcripts.ensures.three))
     c.in_ok-files.ensures

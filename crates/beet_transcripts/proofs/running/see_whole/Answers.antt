@@ -4,8 +4,8 @@ use Rattle.beet_plan.specs.Auction.{Auction}
 use Rattle.beet_server.specs.Cores.{Core}
 use Rattle.beet_view.specs.Transcripts.{view_bytes}
 use Rattle.beet_transcripts.specs.Writing.{Writes}
-use Rattle.beet_transcripts.proofs.BookRuns.{can-show, ends-book, inputs-enough, tapes-enough, view-for}
-use Rattle.beet_transcripts.proofs.RunsOnFacts.{can-write, ends-so, transcript-on}
+use Rattle.beet_transcripts.proofs.BookRuns.{ends-book, inputs-enough, tapes-enough, view-for}
+use Rattle.beet_transcripts.proofs.RunsOnFacts.{ends-so, transcript-on}
 use Rattle.beet_run.proofs.Ending.{has-ended-run, have-run}
 use Rattle.beet_transcripts.proofs.running.see_whole.Goals as goal
 
@@ -23,22 +23,13 @@ pub finish_at-finish-requires : goal.finish_at-finish-requires
 finish_at-finish-requires g c =
     has-ended-run c.in_ok-begun.begun.grid _ _ _ c.in_ok-start_servers.ensures.starts _ c.lockstep-cores.ensures
 
-pub transcript_of-transcript-requires : goal.transcript_of-transcript-requires
-transcript_of-transcript-requires g c =
-    let h = c.in_ok-begun.ensures in
-    let shown = h.seen c.args.at (same_self c.args.at) in
-    let ran = have-run c.in_ok-begun.begun.grid _ _ _ c.in_ok-start_servers.ensures.starts _ c.lockstep-cores.ensures in
-    can-write _ _ _ _ ran c.args.at _ _ _
-    (can-show c.args.book.now c.args.words.now h.book c.requires _ h.grid _ h.inputs _ h.tapes c.args.at _ shown)
-    c.get.ensures c.into_one-seen.ensures
-
 pub returns-clause-transcript : goal.returns-clause-transcript
 returns-clause-transcript g c =
     let h = c.in_ok-begun.ensures in
     let shown = h.seen c.args.at (same_self c.args.at) in
     let ran = have-run c.in_ok-begun.begun.grid _ _ _ c.in_ok-start_servers.ensures.starts _ c.lockstep-cores.ensures in
     transcript-on _ _ _ _ ran c.args.at _ _ _ c.into_one-seen.ensures
-    (subst (λ (core : Core Auction). Writes core c.in_ok-begun.begun.grid c.into_one-seen.result.items
+    (subst (λ (core : Core Auction). Writes core c.in_ok-begun.begun.grid c.into_one-seen.result
     c.in_ok-transcript.field-0.items) c.get.ensures
     c.in_ok-transcript.ensures)
     ∙ ap view_bytes (view-for c.args.book.now c.args.words.now h.book c.requires _ h.grid _ h.inputs _ h.tapes c.args.at _ shown)
