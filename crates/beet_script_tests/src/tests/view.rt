@@ -1,20 +1,53 @@
 use super::product::three_and_four;
 use beet_bids::{Grid, Policy};
-use beet_field::Point;
+use beet_field::{Fe, Point};
 use beet_gates::Gates;
 use beet_samples::Sample;
 use beet_server::ServerCore;
-use beet_view::{View, view_of};
+use beet_view::{ShownBidders, View, read_view, transcript_of};
 use beet_world::lockstep;
 use std::alloc::Global;
 use std::process::Abort;
 
-/// The view of a server that has ended, without bidders.
-fn view_without_bidders(rt: &impl Abort, alloc: Global, core: &ServerCore<Sample>) -> View {
+/// A bidder that server 1 knows, with a point of its own at the last place, as another server sees it.
+fn push_bidder(rt: &impl Abort, bidders: &mut ShownBidders, last: u128) {
+    let points = [Fe::reduce(7), Fe::reduce(8), Fe::reduce(9), Fe::reduce(last)];
+    bidders
+        .push(Some(Point::One), &points, None)
+        .expect(rt, "memory");
+}
+
+/// Two lists of one bidder each, put together.
+fn two_bidders(rt: &impl Abort, alloc: Global) -> ShownBidders {
+    let mut bidders = ShownBidders::new(alloc);
+    push_bidder(rt, &mut bidders, 10);
+    let mut others = ShownBidders::new(alloc);
+    push_bidder(rt, &mut others, 20);
+    bidders.append(others).expect(rt, "memory");
+    bidders
+}
+
+/// What is read of the transcript of a server that has ended, with two bidders.
+fn view_with_bidders(rt: &impl Abort, alloc: Global, core: &ServerCore<Sample>) -> View {
     assert!(rt; core.ended());
     let grid = Grid::new(100, 5, 2, Gates::Tree).expect(rt, "a grid");
     let grid = grid.with_policy(Policy::Full);
-    view_of(alloc, core, &grid, Vec::new(alloc)).expect(rt, "memory")
+    let file = transcript_of(alloc, core, &grid, two_bidders(rt, alloc)).expect(rt, "memory");
+    assert!(rt; file.len() <= 1_000);
+    read_view(alloc, file.as_slice()).expect(rt, "a view")
+}
+
+/// The last point of the bidder of a place.
+fn last_point(view: &View, place: usize) -> Option<u64> {
+    let seen = view.bidders().get(place)?;
+    Some(seen.points.as_slice().last()?.value())
+}
+
+/// What server 2 saw of the bidders.
+fn expect_bidders(rt: &impl Abort, view: &View) {
+    assert!(rt; view.bidders().len() == 2);
+    assert!(rt; last_point(view, 0) == Some(10));
+    assert!(rt; last_point(view, 1) == Some(20));
 }
 
 /// The first number of a message, if there is one.
@@ -37,12 +70,14 @@ fn expect_product(rt: &impl Abort, view: &View) {
 /// The view of server 2 after the product.
 fn view_of_two(rt: &impl Abort, alloc: Global) -> View {
     let cores = lockstep(three_and_four(rt, alloc));
-    let view = view_without_bidders(rt, alloc, &cores.two);
+    let view = view_with_bidders(rt, alloc, &cores.two);
     drop(cores);
     view
 }
 
 #[test]
-fn view_of_a_product(rt: HostRuntime) {
-    expect_product(&rt, &view_of_two(&rt, rt.alloc()));
+fn transcript_of_a_product(rt: HostRuntime) {
+    let view = view_of_two(&rt, rt.alloc());
+    expect_bidders(&rt, &view);
+    expect_product(&rt, &view);
 }
