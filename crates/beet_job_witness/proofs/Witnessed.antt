@@ -1,7 +1,5 @@
 -- What the servers begin with, and the answer of the job.
-use Rattle.std.proofs.Common.{◌≡◌, ◌≤◌, ◌*◌, ℕ, List, [], ◌∷◌, length, get_or, All, arith, sym, ◌∙◌, ap, subst}
-use Rattle.std.proofs.lemmas.List.{length-map}
-use Rattle.std.proofs.lemmas.List.Elements.{All-map}
+use Rattle.std.proofs.Common.{◌≡◌, ◌*◌, ℕ, List, [], ◌∷◌, length, sym, ◌∙◌, ap, subst}
 use Rattle.beet_field.specs.Trio.{member}
 use Rattle.beet_field.specs.declared.point.Point.{Point}
 use Rattle.beet_field.specs.declared.point.Point.TheVariants.{One, Two, Three}
@@ -19,11 +17,10 @@ use Rattle.beet_run.specs.Runs.{EndsAuction}
 use Rattle.beet_view.specs.Transcripts.{view_bytes}
 use Rattle.beet_view.specs.Views.{IsSeenAt}
 use Rattle.beet_view.specs.declared.view.Seen.{Seen}
-use Rattle.beet_transcripts.specs.RunsOn.{CanShow, answer_on, file_on, seen_sealed, view_of_points, view_on}
+use Rattle.beet_transcripts.specs.RunsOn.{answer_on, file_on, seen_sealed, view_of_points, view_on}
 use Rattle.beet_gathering.proofs.PointRuns.{points-end, sums-first}
 use Rattle.beet_gathering.specs.Opened.{opened_answer}
 use Rattle.beet_job_witness.specs.Witness.{KeepsPoints, witnessed_answer, witnessed_file}
-use Rattle.beet_words.specs.declared.bundle.TheConstants.{MOST_BIDDERS}
 
 pub length-at : (points : Trio (List ℕ)) (n : ℕ) (s : Point) → HasLengths points n → length (member points s) ≡ n
 length-at points n One h = h.one
@@ -36,15 +33,6 @@ sealed-seen grid s points h = record { points = length-at points (2 * grid.price
 
 module _ (grid : Grid) (totals : Totals) (seen : Trio (List Seen)) (bidders : List (Trio (List ℕ)))
     (kept : KeepsPoints grid totals seen bidders) where
-  -- the bidders can be shown to each server
-  pub can-show : length bidders ≤ MOST_BIDDERS → (s : Point) → CanShow grid s (member seen s)
-  can-show few s = record {
-    few = omega (arith, ap length (kept.shown s), length-map bidders (seen_sealed s), few);
-    seen = subst (All (IsSeenAt s grid)) (sym (kept.shown s))
-        (All-map (IsSeenAt s grid) (seen_sealed s) bidders
-        (λ i d lt. sealed-seen grid s (get_or bidders i d) (kept.lengths i d lt)));
-  }
-
   module _ (inputs : Trio (List ℕ)) (are : inputs ≡ wires_of totals) (words : Trio ServerWords) where
     first : inputs ≡ inputs_at grid.prices bidders
     first = sums-first grid totals bidders inputs kept.sums are

@@ -1,9 +1,8 @@
 //! The job `witness`.
 
-ghost use Rattle.std.specs.Prelude.{◌≤◌, IfOk, length};
+ghost use Rattle.std.specs.Prelude.{IfOk};
 ghost use Rattle.beet_errand.specs.Fetches.{IsDone, Reads};
 ghost use Rattle.beet_job_witness.specs.Witness.{kept_job, witness_job};
-ghost use Rattle.beet_words.specs.declared.bundle.TheConstants.{MOST_BIDDERS};
 
 use crate::keeping::KeptBidders;
 use beet_auction_run::run_servers;
@@ -38,7 +37,6 @@ fn witness_entries<S: Shelf, R: Threads + Wait + Clock + Sync, G: Gate>(
     entries: &[ListEntry],
     gate: &G,
 ) -> Result<Reply, Stop>
-    requires { length entries.now ≤ MOST_BIDDERS }
     ensures done { IfOk result (λ reply. IsDone reply.status) }
     ensures reads { Reads (λ reply. reply) (S.seen shelf.old) (S.seen shelf.new)
         (kept_job setting.now.out.now setting.now.grid.now setting.now.sources.now entries.now) result }

@@ -34,7 +34,7 @@ use Rattle.beet_run.specs.Runs.{EndsAuction, setup_with}
 use Rattle.beet_view.specs.BookViews.{kept_if, names, seen_at, view_for, view_of_book}
 use Rattle.beet_view.specs.Views.{IsSeenAt}
 use Rattle.beet_view.specs.declared.view.Seen.{Seen}
-use Rattle.beet_transcripts.specs.RunsOn.{CanShow, view_on}
+use Rattle.beet_transcripts.specs.RunsOn.{view_on}
 
 -- words that are cut already are those of the tapes
 cut-same : (grid : Grid) (words : Words) → AreCut (counts_of grid) (by_server words) → cut_servers
@@ -110,19 +110,6 @@ module _ (book : Book) (words : Words) (b : IsBook book) (can : CanStart book wo
     -- and points enough
     pub inputs-enough : (i : Point) → length (member inputs i) ≡ 2 * grid.prices
     inputs-enough i = inputs-long inputs e i ∙ ap (λ (x : Grid). 2 * x.prices) (sym g)
-
-    -- the bidders can be shown to each server
-    pub can-show : (s : Point) (bidders : List Seen) → bidders ≡ map (seen_at book.grid s) farmers → CanShow grid s bidders
-    can-show s bidders shown = record {
-      few = omega (
-        arith,
-        ap length shown,
-        length-map farmers (seen_at book.grid s),
-        length-map farmers (λ farmer. farmer.bidder),
-        is-book.few,
-      );
-      seen = subst (λ (x : Grid). All (IsSeenAt s x) bidders) (sym g) (subst (All (IsSeenAt s book.grid)) (sym shown) (seen-all s));
-    }
 
     -- what a server sees of them is the view of the book's auction
     pub view-for : (s : Point) (bidders : List Seen) → bidders ≡ map (seen_at book.grid s) farmers →

@@ -6,6 +6,7 @@ use Rattle.beet_field.specs.declared.point.Point.{Point}
 use Rattle.beet_field.specs.declared.point.Point.TheVariants.{One, Two, Three}
 use Rattle.beet_field.specs.declared.trio.Trio.{Trio}
 use Rattle.beet_words.specs.Words.{IsWord}
+use Rattle.beet_words.specs.declared.bundle.TheConstants.{MOST_BIDDERS}
 use Rattle.beet_gates.proofs.EachFacts.{all-each, length-each}
 use Rattle.beet_gates.specs.Scripts.{Standing, LawFrom, bounds_of, start_of}
 use Rattle.beet_gates.specs.declared.Gates.{Gates}
@@ -28,11 +29,11 @@ use Rattle.beet_load.specs.Counts.{counts_of}
 use Rattle.beet_load.specs.Servers.{AreCut, ServerWords}
 use Rattle.beet_run.specs.Runs.{setup_with}
 use Rattle.beet_view.specs.Transcripts.{AreNumbers, FitsFile, HasElements, HasNumbers, IsMessage}
-use Rattle.beet_view.specs.Views.{IsView, Viewed}
+use Rattle.beet_view.specs.Views.{IsSeenAt, IsView, Viewed}
 use Rattle.beet_view.specs.declared.reading.TheConstants.{MOST_ROUNDS}
 use Rattle.beet_view.specs.declared.view.Seen.{Seen}
 use Rattle.beet_transcripts.proofs.ElementRuns.{message-elements}
-use Rattle.beet_transcripts.specs.RunsOn.{CanShow, rounds_on, view_on}
+use Rattle.beet_transcripts.specs.RunsOn.{rounds_on, view_on}
 
 -- an auction has no more rounds than a transcript holds
 rounds-few : (prices : ℕ) (gates : Gates) (policy : Policy) → prices ≤ MOST_PRICES →
@@ -96,8 +97,8 @@ module _ (grid : Grid) (g : IsGrid grid) (inputs : Trio (List ℕ)) (words : Tri
           (λ t lt. (message-fits (peer s Low) s t lt, message-fits (peer s High) s t lt));
     }
 
-    pub run-is-view : CanShow grid s bidders → IsView view
-    run-is-view can = record { few = can.few; seen = can.seen; rounds = omega (arith, many, few-rounds) }
+    pub run-is-view : length bidders ≤ MOST_BIDDERS → All (IsSeenAt s grid) bidders → IsView view
+    run-is-view few all = record { few = few; seen = all; rounds = omega (arith, many, few-rounds) }
 
     pub run-numbers : ((i : Point) → All IsElement (member inputs i)) → All HasNumbers bidders → All IsWord (member words s).masks →
         All IsWord (member words s).coefficients → AreNumbers view

@@ -103,7 +103,7 @@ module _ (book : Book) (words : Words) (g : IsGrid book.grid) (b : IsBook book) 
   view-is s =
       subst IsView (same-view s)
       (run-is-view book.grid g inputs (by_server words) long s (seen s)
-      (record { few = omega (arith, same-count s, b.few); seen = seen-all book words b can s }))
+      (omega (arith, same-count s, b.few)) (seen-all book words b can s))
 
   pub view-short : length book.bidders * book.grid.prices ≤ MOST_PRODUCT → (s : Point) →
       length (view_bytes (view_for book words s)) ≤ LONGEST_FILE

@@ -1,5 +1,5 @@
 -- Three servers that have run the auction on any points of the inputs, and what each of them sees of it.
-use Rattle.std.specs.Prelude.{◌≤◌, ℕ, List, [], ◌∷◌, length, map, All, None}
+use Rattle.std.specs.Prelude.{ℕ, List, [], ◌∷◌, map, None}
 use Rattle.beet_field.specs.Trio.{member}
 use Rattle.beet_field.specs.declared.point.Point.{Point}
 use Rattle.beet_field.specs.declared.point.Point.TheVariants.{One, Two, Three}
@@ -17,9 +17,8 @@ use Rattle.beet_run.specs.Outcomes.{outcome_answer}
 use Rattle.beet_run.specs.Runs.{EndsAuction, HaveRunToEnd, setup_with}
 use Rattle.beet_view.specs.RunViews.{view_of_run}
 use Rattle.beet_view.specs.Transcripts.{view_bytes}
-use Rattle.beet_view.specs.Views.{IsSeenAt, Viewed}
+use Rattle.beet_view.specs.Views.{Viewed}
 use Rattle.beet_view.specs.declared.view.Seen.{Seen}
-use Rattle.beet_words.specs.declared.bundle.TheConstants.{MOST_BIDDERS}
 
 -- the rounds of the auction over a grid on these points of the inputs, with these words of the servers
 abbrev pub rounds_on : Grid → Trio (List ℕ) → Trio ServerWords → ℕ
@@ -39,11 +38,6 @@ seen_sealed s points = record { known = None; points = member points s; own = No
 abbrev pub view_of_points : Grid → List (Trio (List ℕ)) → Trio ServerWords → Point → Viewed
 view_of_points grid bidders words s =
     view_on grid (inputs_at grid.prices bidders) words (map (seen_sealed s) bidders) s
-
--- these bidders can be shown as a server sees them
-pub record CanShow (grid : Grid) (s : Point) (bidders : List Seen) : Type 0 where
-  pub few : length bidders ≤ MOST_BIDDERS
-  pub seen : All (IsSeenAt s grid) bidders
 
 -- three servers have run the auction over a grid on these points of the inputs, with these words, and it ends so
 pub record HasRunOn (grid : Grid) (inputs : Trio (List ℕ)) (words : Trio ServerWords) (cores : Trio (Core Auction))

@@ -8,7 +8,7 @@ ghost use Rattle.beet_errand.specs.Errands.{file_for};
 ghost use Rattle.beet_load.specs.Servers.{ServerWords};
 ghost use Rattle.beet_plan.specs.declared.Finish.{Finish};
 ghost use Rattle.beet_run.specs.Runs.{HaveRunToEnd};
-ghost use Rattle.beet_transcripts.specs.RunsOn.{CanShow, HasRunOn, answer_on};
+ghost use Rattle.beet_transcripts.specs.RunsOn.{HasRunOn, answer_on};
 ghost use Rattle.beet_transcripts.specs.Writing.{Writes};
 
 use crate::dealing::SeenByAll;
@@ -96,7 +96,6 @@ pub fn reply_of_run<R: Threads + Sync>(
     cores: Trio<ServerCore<AuctionScript>>,
     out: &str,
 ) -> Result<Reply, AllocError>
-    requires shown { (s : Point) → CanShow grid.now s (member seen s) }
     requires run { (inputs : Each (List ℕ)) × (words : Each ServerWords) × HaveRunToEnd grid.now inputs words cores }
     ensures { (inputs : Each (List ℕ)) (words : Each ServerWords) (finish : Finish) (rounds : ℕ)
         → HasRunOn grid.now inputs words cores finish rounds

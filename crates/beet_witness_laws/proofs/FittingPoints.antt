@@ -21,7 +21,7 @@ use Rattle.beet_view.specs.Views.{IsSeenAt, IsView}
 use Rattle.beet_view.specs.declared.view.Seen.{Seen}
 use Rattle.beet_view.proofs.ViewAgain.{view_in-view}
 use Rattle.beet_view.proofs.ViewLength.{view_bytes-short}
-use Rattle.beet_transcripts.specs.RunsOn.{CanShow, seen_sealed, view_of_points}
+use Rattle.beet_transcripts.specs.RunsOn.{seen_sealed, view_of_points}
 use Rattle.beet_transcripts.proofs.FittingRuns.{run-fits, run-is-view, run-numbers}
 use Rattle.beet_audit.specs.Audits.{HaveElements}
 use Rattle.beet_job_witness.proofs.Witnessed.{length-at, sealed-seen}
@@ -50,13 +50,6 @@ module _ (grid : Grid) (bidders : List (Trio (List ℕ))) (words : Trio ServerWo
   abbrev seen : Point → List Seen
   seen s = map (seen_sealed s) bidders
 
-  can-show : (s : Point) → CanShow grid s (seen s)
-  can-show s = record {
-    few = omega (arith, length-map bidders (seen_sealed s), can.few);
-    seen = All-map (IsSeenAt s grid) (seen_sealed s) bidders
-        (λ i d lt. sealed-seen grid s (get_or bidders i d) (can.held i d lt).lengths);
-  }
-
   pub points-fit : (s : Point) → FitsFile (view_of_points grid bidders words s)
   points-fit s =
       run-fits grid can.is_grid inputs words are.lengths s (seen s) can.cut
@@ -64,7 +57,10 @@ module _ (grid : Grid) (bidders : List (Trio (List ℕ))) (words : Trio ServerWo
       (All-map (λ (seen : Seen). IfSome seen.own (λ own. length own.1 ≤ words_kept grid.prices)) (seen_sealed s) bidders (λ k d lt. tt))
 
   pub points-view : (s : Point) → IsView (view_of_points grid bidders words s)
-  points-view s = run-is-view grid can.is_grid inputs words are.lengths s (seen s) (can-show s)
+  points-view s =
+      run-is-view grid can.is_grid inputs words are.lengths s (seen s) (omega (arith, length-map bidders (seen_sealed s), can.few))
+      (All-map (IsSeenAt s grid) (seen_sealed s) bidders
+      (λ i d lt. sealed-seen grid s (get_or bidders i d) (can.held i d lt).lengths))
 
   pub points-short : (s : Point) → length (view_bytes (view_of_points grid bidders words s)) ≤ LONGEST_FILE
   points-short s = view_bytes-short (view_of_points grid bidders words s) can.is_grid (points-view s) (points-fit s)

@@ -1,5 +1,5 @@
 use Rattle.std.proofs.Common.{refl, ◌∙◌}
-use Rattle.beet_transcripts.proofs.BookRuns.{can-show, ends-book, inputs-enough, tapes-enough, view-for}
+use Rattle.beet_transcripts.proofs.BookRuns.{ends-book, inputs-enough, tapes-enough, view-for}
 use Rattle.beet_job_record.proofs.Recorded.{answer-book}
 use Rattle.beet_job_record.proofs.recording.reply_for.Goals as goal
 
@@ -14,12 +14,6 @@ run_servers-requires-clause-inputs g c = λ lifetimes outlive.
     let whole = c.args.whole in
     let h = c.in_ok-begun.ensures in
     inputs-enough whole.book whole.words h.book whole.runs _ h.grid _ h.inputs _ h.tapes
-
-pub reply_of_run-requires-clause-shown : goal.reply_of_run-requires-clause-shown
-reply_of_run-requires-clause-shown g c = λ lifetimes outlive.
-    let whole = c.args.whole in
-    let h = c.in_ok-begun.ensures in
-    λ s. can-show whole.book whole.words h.book whole.runs _ h.grid _ h.inputs _ h.tapes s _ (h.seen s refl)
 
 pub reply_of_run-requires-clause-run : goal.reply_of_run-requires-clause-run
 reply_of_run-requires-clause-run g c = λ lifetimes outlive. (_, _, c.in_ok-cores.ensures.ended)

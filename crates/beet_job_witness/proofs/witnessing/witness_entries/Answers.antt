@@ -1,4 +1,4 @@
-use Rattle.std.proofs.Common.{List, ℕ, ◌≤◌, ◌∙◌, ap, arith, length, sym}
+use Rattle.std.proofs.Common.{List, ℕ, ◌∙◌, ap, sym}
 use Rattle.beet_field.specs.declared.trio.Trio.{Trio}
 use Rattle.beet_bids.specs.Grids.{Grid}
 use Rattle.beet_errand.specs.Errands.{Answer, Step, gives}
@@ -7,9 +7,8 @@ use Rattle.beet_load.specs.Servers.{ServerWords}
 use Rattle.beet_run.proofs.StatusFacts.{status-done}
 use Rattle.beet_gathering.proofs.PointRuns.{many}
 use Rattle.beet_job_witness.specs.Witness.{kept_job, witnessed_answer}
-use Rattle.beet_job_witness.proofs.Witnessed.{answer-witnessed, can-show, ends-kept}
+use Rattle.beet_job_witness.proofs.Witnessed.{answer-witnessed, ends-kept}
 use Rattle.beet_job_witness.proofs.witnessing.witness_entries.Goals as goal
-use Rattle.beet_words.specs.declared.bundle.TheConstants.{MOST_BIDDERS}
 
 -- what comes after the words and the bidders
 abbrev rest : List ℕ → Grid → Trio ServerWords × List (Trio (List ℕ)) → Step Answer
@@ -25,13 +24,6 @@ pub run_servers-requires-clause-inputs : goal.run_servers-requires-clause-inputs
 run_servers-requires-clause-inputs g c = λ lifetimes outlive.
     let read = c.in_ok-servers.ensures.reads.gives in
     many c.args.setting.now.grid.now c.in_ok-servers.kept.totals read.0.1 c.inputs.result read.1.1.taken.sums c.inputs.ensures.points
-
-pub reply_of_run-requires-clause-shown : goal.reply_of_run-requires-clause-shown
-reply_of_run-requires-clause-shown g c = λ lifetimes outlive.
-    let read = c.in_ok-servers.ensures.reads.gives in
-    let gathered = read.1.1 in
-    let few : length read.0.1 ≤ MOST_BIDDERS = omega (arith, gathered.count, c.requires) in
-    can-show c.args.setting.now.grid.now c.in_ok-servers.kept.totals c.in_ok-servers.kept.seen read.0.1 gathered.taken few
 
 pub reply_of_run-requires-clause-run : goal.reply_of_run-requires-clause-run
 reply_of_run-requires-clause-run g c = λ lifetimes outlive. (_, _, c.in_ok-cores.ensures.ended)
