@@ -37,9 +37,9 @@ fn witness_entries<S: Shelf, R: Threads + Wait + Clock + Sync, G: Gate>(
     entries: &[ListEntry],
     gate: &G,
 ) -> Result<Reply, Stop>
-    ensures done { IfOk result (λ reply. IsDone reply.status) }
     ensures reads { Reads (λ reply. reply) (S.seen shelf.old) (S.seen shelf.new)
         (kept_job setting.now.out.now setting.now.grid.now setting.now.sources.now entries.now) result }
+    ensures done { IfOk result (λ reply. IsDone reply.status) }
 {
     let Setting { grid, sources, out } = *setting;
     let (servers, kept) = gather_with_words::<S, KeptBidders>(

@@ -8,4 +8,3 @@ pub mod ShownBytes
 pub mod ViewAgain
 pub mod ViewBytes
 pub mod ViewLength
-pub mod Walks

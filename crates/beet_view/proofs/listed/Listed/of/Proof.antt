@@ -25,7 +25,7 @@ use denote.Triple.Entry.{alive}
 use denote.Triple.Spec.{Meets, triple_of}
 use denote.Triple.Table.{entered}
 use denote.Triple.Walked.{says, Stays, Walks, stay_dropped, walk_of, ends_at, walk_Meets, Goes-dropped}
-use Rattle.beet_view.proofs.Walks.{none, none_made}
+use Rattle.beet_store.proofs.Walks.{none, none_made}
 use Rattle.beet_view.specs.contracts.listed.Listed as Listed
 use Rattle.beet_view.specs.contracts.listed.Listing as Listing
 use Rattle.beet_view.specs.Listings.{listed}
