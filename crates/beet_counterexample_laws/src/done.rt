@@ -66,8 +66,8 @@ pub fn what_is_right_has_a_run()
         CanAudit files auction one two three → HasRun files (audit_words auction one two three) }
 {}
 
-/// Nor is what is said of a refusal: two books that are read, and that something tells apart for two of five servers, have
-/// a run that ends with status 7, in which the outside answers every call.
+/// Nor is what is said of a refusal: two books that are read, and that something tells apart for two of five servers,
+/// have a run that ends with status 7, in which the outside answers every call.
 pub fn what_two_servers_tell_apart_has_a_run()
     ensures { (files : List File) (auction servers book1 book2 one other out : List ℕ) (two : ℕ × ℕ)
         (both : BothOfFive) (fault : MapFault) →

@@ -25,7 +25,10 @@ returns g c = λ inputs words finish rounds h.
     ap (λ (a : Answer). record a { files = c.in_ok-files.files.items }) c.reply.view_is
     ∙ answer-on c.args.out.now grid inputs words seen _ finish _ rounds _ _ texts same.0 same.1 c.in_ok-reply.ensures
     (all-files texts (λ s. view_bytes (view_on grid inputs words (member seen s) s))
-    (transcript-on grid inputs words cores h.ran One _ _ _ (ap (λ (each : Trio (List Seen)). each.one) c.into_parts.ensures) c.in_ok-transcripts.ensures.one)
-    (transcript-on grid inputs words cores h.ran Two _ _ _ (ap (λ (each : Trio (List Seen)). each.two) c.into_parts.ensures) c.in_ok-transcripts.ensures.two)
-    (transcript-on grid inputs words cores h.ran Three _ _ _ (ap (λ (each : Trio (List Seen)). each.three) c.into_parts.ensures) c.in_ok-transcripts.ensures.three))
+    (transcript-on grid inputs words cores h.ran One _ _ _ (ap (λ (each : Trio (List Seen)). each.one) c.into_parts.ensures)
+    c.in_ok-transcripts.ensures.one)
+    (transcript-on grid inputs words cores h.ran Two _ _ _ (ap (λ (each : Trio (List Seen)). each.two) c.into_parts.ensures)
+    c.in_ok-transcripts.ensures.two)
+    (transcript-on grid inputs words cores h.ran Three _ _ _ (ap (λ (each : Trio (List Seen)). each.three) c.into_parts.ensures)
+    c.in_ok-transcripts.ensures.three))
     c.in_ok-files.ensures

@@ -1,7 +1,6 @@
 -- `of` picks the list that its clause names. Assumes `Logic`.
 use Rattle.std.proofs.Common.{List, [], ◌∷◌, ◌++◌, refl}
 use seplogic.Ra.Ura.{Ura}
-use mir.Syntax.{Fn}
 use mir.Val.{Val, vptr}
 use base.Logic.{SProp}
 use prog.Memory.{Memory}
@@ -20,7 +19,7 @@ use denote.RattleType.{owns}
 use denote.Builtin.{RefOf}
 use denote.Signature.{plain, types_at, named_lft}
 use denote.Steps.{nothing}
-use denote.Triple.Clauses.{Clauses, Ended, closing}
+use denote.Triple.Clauses.{Clauses, closing}
 use denote.Triple.Entry.{alive}
 use denote.Triple.Spec.{Meets, triple_of}
 use denote.Triple.Table.{entered}
@@ -31,52 +30,46 @@ use Rattle.beet_view.specs.contracts.listed.Listing as Listing
 use Rattle.beet_view.specs.Listings.{listed}
 use Rattle.beet_view.specs.contracts.listed.Listed.of as F
 use Rattle.beet_view.specs.contracts.listed.Listed.of.Key.{name as #self}
-use Rattle.beet_view.proofs.listed.Listed.of.Statement as stated
+use Rattle.beet_view.proofs.listed.Listed.of.Statement as claim
 use Rattle.beet_view.proofs.listed.Listed.of.Code as code
 
-abbrev function : Fn
-function = code.function
-
-abbrev ended : Ended
-ended = F.ended
-
-abbrev stayed : Stays ended.signature.params ended.kept
+abbrev stayed : Stays F.ended.signature.params F.ended.kept
 stayed = (stay_dropped _ yes, tt)
 
 module _ {M : Type 1} {𝓤 : Ura M} (𝓛 : Logic 𝓤) (at_mem : Memory → SProp 𝓤) (run : Routine → Fun 𝓤) where
   open 𝓛 use {H}
 
-  abbrev held : Clauses 𝓤 ended
+  abbrev held : Clauses 𝓤 F.ended
   held = F.clauses 𝓛 at_mem run
 
-  walks : (C : Calls 𝓤 H) (Λ : Loops 𝓤 H) → Walks 𝓛 ended stayed (WpFn 𝓤 H C Λ function) held
+  walks : (C : Calls 𝓤 H) (Λ : Loops 𝓤 H) → Walks 𝓛 F.ended stayed (WpFn 𝓤 H C Λ code.function) held
   walks C Λ z =
       let a = z.0.3 in
       let vss = z.0.4 in
-      let Post : Val → SProp 𝓤 = (walk_of 𝓛 ended stayed held).post z in
+      let Post : Val → SProp 𝓤 = (walk_of 𝓛 F.ended stayed held).post z in
       let u : Val = vptr a.0.ref_ptr.0 a.0.ref_ptr.1 in
       let made : (Listed.the_row).Denot = record { bidders = listed a.0.now } in
-      qed 𝓛 ((raw (alive 𝓛 ended.signature z.0.0 z.0.1) ⊛ ‵ (owns (types_at ended.signature.params z.0.0) a vss))
+      qed 𝓛 ((raw (alive 𝓛 F.ended.signature z.0.0 z.0.1) ⊛ ‵ (owns (types_at F.ended.signature.params z.0.0) a vss))
       ∷ raw ((held z.0.0 a).requires z.1) ∷ []) ∵
       keep ! (0 ∷ []) $ split ! $ move ! (1 ∷ []) $ fsplit ! $ fsplit ! $
       feq_l ! (λ is₀. drop ! $ drop ! $
-      regoal ! (λ (us : List Val). prop (WpFn 𝓤 H C Λ function (us ++ []) Post)) is₀ refl $
-      enter ! C Λ function (u ∷ []) Post $ alloc_all ! (λ l. pass_all ! refl ((tt, tt), tt) $
+      regoal ! (λ (us : List Val). prop (WpFn 𝓤 H C Λ code.function (us ++ []) Post)) is₀ refl $
+      enter ! C Λ code.function (u ∷ []) Post $ alloc_all ! (λ l. pass_all ! refl ((tt, tt), tt) $
       sets ! (agg ! (no_more !)) refl (tt, tt) $
       nothing ! $ none_made ! $ fjoin ! $
       returns ! (look_at ! 0 refl) $ free_all ! refl $
-      suffices ! _ (ends_at 𝓛 ended stayed held z none made (tt, tt) (tt, tt)) $ says ! refl $
+      suffices ! _ (ends_at 𝓛 F.ended stayed held z none made (tt, tt) (tt, tt)) $ says ! refl $
       nothing ! $ nothing ! $ fjoin ! $ move ! (2 ∷ 0 ∷ 1 ∷ []) $ done !))
 
-  meets : (𝓣 : Tables 𝓤 H) → Meets 𝓛 ended.signature (WpFn 𝓤 H 𝓣.C 𝓣.Λ function) (closing 𝓛 ended held)
+  meets : (𝓣 : Tables 𝓤 H) → Meets 𝓛 F.ended.signature (WpFn 𝓤 H 𝓣.C 𝓣.Λ code.function) (closing 𝓛 F.ended held)
   meets 𝓣 =
-      walk_Meets 𝓛 ended stayed
+      walk_Meets 𝓛 F.ended stayed
       (Goes-dropped 𝓛 2 (RefOf (0 ∷ []) tt (plain (λ κs. Listing.the_row (named_lft 2 1 tt κs))) (λ _. tt)) yes (λ κs x f. refl), tt) held
-      (WpFn 𝓤 H 𝓣.C 𝓣.Λ function) (WpFn-mono 𝓤 H 𝓛.laws 𝓣 function) (walks 𝓣.C 𝓣.Λ)
+      (WpFn 𝓤 H 𝓣.C 𝓣.Λ code.function) (WpFn-mono 𝓤 H 𝓛.laws 𝓣 code.function) (walks 𝓣.C 𝓣.Λ)
 
-pub of_spec : {M : Type 1} → stated.statement M
+pub of_spec : {M : Type 1} → claim.statement M
 unfolding tables_of
 of_spec 𝓤 𝓛 𝓜 𝓡 wired =
     let 𝓣 : Tables 𝓤 𝓛.H = tables_of 𝓤 𝓛.H 𝓜 (tables 𝓤 𝓛.H 𝓜 𝓡 𝓡.env) in
-    entered 𝓤 𝓛.H (triple_of 𝓛 ended.signature (closing 𝓛 ended (held 𝓛 𝓜.mem 𝓡.returns))) 𝓣.C 𝓣.Λ #self function
+    entered 𝓤 𝓛.H (triple_of 𝓛 F.ended.signature (closing 𝓛 F.ended (held 𝓛 𝓜.mem 𝓡.returns))) 𝓣.C 𝓣.Λ #self code.function
     (code.unfolded 𝓤 𝓛.H 𝓜 𝓡 wired) (meets 𝓛 𝓜.mem 𝓡.returns 𝓣)
