@@ -1,15 +1,17 @@
 -- What the statements of two of five servers tell apart.
-use Rattle.std.proofs.Common.{◌≡◌, ◌++◌, ◌≤◌, ℕ, List, [], take, get_or, refl, ap, sym, ◌∙◌, arith}
+use Rattle.std.proofs.Common.{◌≡◌, ◌++◌, ◌≤◌, ℕ, List, [], take, get_or, refl, ap, subst, sym, ◌∙◌, arith}
 use Rattle.std.specs.Int.{w64, from_be_bytes}
 use Rattle.std.proofs.lemmas.List.{append_cancel_left, take_at}
 use Rattle.std.proofs.lemmas.Nat.{from_be_bytes-to_be_bytes_8}
 use Rattle.beet_store.specs.Files.{File}
 use Rattle.beet_words.specs.Fields.{number_bytes}
 use Rattle.beet_bids.specs.Books.{Book}
+use Rattle.beet_errand.specs.Overs.{ReadsTo}
 use Rattle.beet_errand.specs.Records.{calls_of}
 use Rattle.beet_errand.specs.Worlds.{equal_text, files_of_worlds}
 use Rattle.beet_errand.proofs.Records.{all_recorded}
 use Rattle.beet_five_dealing.specs.FiveWords.{FiveWords}
+use Rattle.beet_five_map.specs.FiveWorlds.{Agree}
 use Rattle.beet_five_view.specs.JointBooks.{joint_transcript, view_at}
 use Rattle.beet_five_view.specs.JointViews.{FiveView, grid_bytes, magic, round_bytes, view_bytes}
 use Rattle.beet_five_view.specs.WordsFiles.{words_bytes}
@@ -84,7 +86,10 @@ module _ (files : List File) (auction servers book1 book2 out : List ℕ) (call 
       (same ∙ ap (λ (x : BothOfFive). joint_transcript c d x.first.book x.first.words) (sym both))
 
 -- two books that were compared are not refused
-pub no-refusal : (files : List File) (auction servers book1 book2 out : List ℕ) (a b : ℕ) (call other : Call)
-    (done : PutsBothWorldsForTwo files auction servers book1 book2 a b out call) →
-    RefusesBooksForTwo a b done.both other → ⊥
-no-refusal files auction servers book1 book2 out a b call other done refused = refused.apart done.two.agree
+pub no-refusal : (files : List File) (auction servers book1 book2 out : List ℕ) (a b : ℕ) (both : BothOfFive)
+    (call other : Call) → PutsBothWorldsForTwo files auction servers book1 book2 a b out call →
+    ReadsTo files (both_errand auction servers book1 book2) both → RefusesBooksForTwo a b both other → ⊥
+no-refusal files auction servers book1 book2 out a b both call other done read refused =
+    let same : done.both ≡ both =
+    one-value files (both_errand auction servers book1 book2) done.both both done.read read told-both-of-five in
+    refused.apart (subst (λ (x : BothOfFive). Agree a b x.first.book (second_book x)) same done.two.agree)

@@ -5,6 +5,8 @@ ghost use Rattle.beet_field.specs.declared.point.Point.{Point};
 ghost use Rattle.beet_store.specs.Files.{File};
 ghost use Rattle.beet_bids.specs.Grids.{Grid};
 ghost use Rattle.beet_auction_map.specs.ViewsWith.{transcript_with};
+ghost use Rattle.beet_errand.specs.Overs.{ReadsTo};
+ghost use Rattle.beet_job_five_worlds.specs.Reading.{BothOfFive, both_errand};
 ghost use Rattle.beet_app.specs.Jobs.{Job};
 ghost use Rattle.beet_app_laws.specs.Calls.{Call};
 ghost use Rattle.beet_app_laws.specs.Recorded.{RecordsJob};
@@ -29,9 +31,9 @@ pub fn the_statements_tell_runs_apart()
     ensures two { (files : List File) (auction servers book1 book2 out : List ℕ) (call : Call) (a b c d : ℕ) →
         a ≤ 5 → b ≤ 5 → c ≤ 5 → d ≤ 5 → PutsBothWorldsForTwo files auction servers book1 book2 a b out call →
         PutsBothWorldsForTwo files auction servers book1 book2 c d out call → (a ≡ c) × (b ≡ d) }
-    ensures refused { (files : List File) (auction servers book1 book2 out : List ℕ) (a b : ℕ) (call other : Call)
-        (done : PutsBothWorldsForTwo files auction servers book1 book2 a b out call) →
-        RefusesBooksForTwo a b done.both other → ⊥ }
+    ensures refused { (files : List File) (auction servers book1 book2 out : List ℕ) (a b : ℕ) (both : BothOfFive)
+        (call other : Call) → PutsBothWorldsForTwo files auction servers book1 book2 a b out call →
+        ReadsTo files (both_errand auction servers book1 book2) both → RefusesBooksForTwo a b both other → ⊥ }
 {}
 
 /// Envelopes that were not sealed together are not accepted: if at one price the third envelope of a bid is of another

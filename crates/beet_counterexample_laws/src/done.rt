@@ -1,4 +1,4 @@
-//! Runs in which a command is done.
+//! Runs in which a command is done, and one in which two books are refused.
 
 ghost use Rattle.std.specs.Prelude.{◌≡◌, ◌≢◌, ℕ, List, [], ◌∷◌, None, Some, codes};
 ghost use Rattle.beet_store.specs.Files.{File};

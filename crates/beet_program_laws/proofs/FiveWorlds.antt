@@ -1,7 +1,6 @@
 -- What the job `five_worlds` has read, put and said.
-use Rattle.std.proofs.Common.{◌≡◌, ℕ, List, [], ◌∷◌, Option, Some, None, Bool, true, false}
-use Rattle.std.proofs.Common.{refl, sym, ap, subst, ◌∙◌}
-use Rattle.std.specs.Prelude.{if◌then◌else◌, option_map}
+use Rattle.std.proofs.Common.{◌≡◌, ℕ, List, [], ◌∷◌, Option, Some, Bool}
+use Rattle.std.proofs.Common.{sym, ap, subst, ◌∙◌}
 use Rattle.beet_store.specs.Files.{File}
 use Rattle.beet_bids.specs.Books.{IsBook}
 use Rattle.beet_two_books.specs.declared.agreeing.MapFault.{MapFault}
@@ -30,7 +29,7 @@ use Rattle.beet_app_laws.specs.Calls.{Call, IsDoneCall, IsOf, Puts, RunsJob, Run
 use Rattle.beet_program_laws.specs.Commands.{PutsBothWorldsForTwo, five_worlds_words}
 use Rattle.beet_program_laws.specs.Refusals.{RefusesBooksForTwo}
 use Rattle.beet_program_laws.proofs.Compared.{is-right, undone}
-use Rattle.beet_program_laws.proofs.Refusing.{refuses-worlds}
+use Rattle.beet_program_laws.proofs.Refusing.{by-words, refuses-worlds}
 use Rattle.beet_program_laws.proofs.Ends.{WentOut, no-job, no-usage, shown-ends}
 use Rattle.beet_program_laws.proofs.Ends.{tells-of-five}
 use Rattle.beet_program_laws.proofs.Fives.{IsRight, five-limited-yield, five-open}
@@ -111,19 +110,6 @@ module _ (files : List File) (call : Call) (auction servers list1 list2 one othe
   abbrev job_for : ℕ × ℕ → Job
   job_for two = ComparingForTwo auction servers list1 list2 two out
 
-  -- the run of the job for the two servers that the words name, where the run is none of the usage line
-  for-two : (RunsJob None call → ⊥) → (at : Option (ℕ × ℕ)) → two_of_five one other ≡ at →
-      RunsJob (option_map job_for at) call →
-      (two : ℕ × ℕ) × (two_of_five one other ≡ Some two) × RunsJob (Some (job_for two)) call
-  for-two usage None e r = absurd (usage r)
-  for-two usage (Some two) e r = (two, e, r)
-
-  by-words : (RunsJob None call → ⊥) → (b : Bool) →
-      RunsJob (if b then option_map job_for (two_of_five one other) else None) call →
-      (two : ℕ × ℕ) × (two_of_five one other ≡ Some two) × RunsJob (Some (job_for two)) call
-  by-words usage true r = for-two usage (two_of_five one other) refl r
-  by-words usage false r = absurd (usage r)
-
   abbrev names : Bool
   names = are_names (auction ∷ servers ∷ list1 ∷ list2 ∷ out ∷ [])
 
@@ -131,7 +117,8 @@ module _ (files : List File) (call : Call) (auction servers list1 list2 one othe
       (two : ℕ × ℕ) × (two_of_five one other ≡ Some two)
       × PutsBothWorldsForTwo files auction servers list1 list2 two.0 two.1 out call
   puts-for-two done =
-      let (two, e, r) = by-words (λ r. no-job files call done.from done.code r) names done.runs in
+      let (two, e, r) =
+      by-words job_for call (two_of_five one other) (λ r. no-job files call done.from done.code r) names done.runs in
       (two, e, puts-both files call done.from auction servers list1 list2 two out done.code r)
 
   pub refuses-for-two : (both : BothOfFive) → IsOf files call →
@@ -139,5 +126,5 @@ module _ (files : List File) (call : Call) (auction servers list1 list2 one othe
       ReadsTo files (both_errand auction servers list1 list2) both → call.status ≡ 7 →
       (two : ℕ × ℕ) × (two_of_five one other ≡ Some two) × RefusesBooksForTwo two.0 two.1 both call
   refuses-for-two both from ran read seven =
-      let (two, e, r) = by-words (λ r. no-usage files call from seven r) names ran in
+      let (two, e, r) = by-words job_for call (two_of_five one other) (λ r. no-usage files call from seven r) names ran in
       (two, e, refuses-both files call from auction servers list1 list2 two out both read seven r)

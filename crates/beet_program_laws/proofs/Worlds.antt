@@ -1,6 +1,6 @@
 -- What the job `worlds` has read, put and said.
-use Rattle.std.proofs.Common.{◌≡◌, ℕ, List, [], ◌∷◌, ◌++◌, Option, Some, None, Bool, true, false, refl, sym, ap, subst, ◌∙◌}
-use Rattle.std.specs.Prelude.{codes, if◌then◌else◌, option_map}
+use Rattle.std.proofs.Common.{◌≡◌, ℕ, List, [], ◌∷◌, ◌++◌, Some, Bool, sym, ap, subst, ◌∙◌}
+use Rattle.std.specs.Prelude.{codes}
 use Rattle.beet_field.specs.Point.{server_of}
 use Rattle.beet_field.specs.declared.point.Point.{Point}
 use Rattle.beet_store.specs.Files.{File}
@@ -28,7 +28,7 @@ use Rattle.beet_job_worlds.specs.Reading.{Both, both_errand, first_book, second_
 use Rattle.beet_job_worlds.proofs.DifferenceFacts.{no-difference}
 use Rattle.beet_job_worlds.proofs.SecondWords.{words-uncut}
 use Rattle.beet_command.specs.Words.{are_names}
-use Rattle.beet_app.specs.Jobs.{Comparing}
+use Rattle.beet_app.specs.Jobs.{Comparing, Job}
 use Rattle.beet_errand.specs.Overs.{ReadsTo, answer_over}
 use Rattle.beet_app_laws.proofs.Led.{read-to}
 use Rattle.beet_app_laws.proofs.Telling.{told-both}
@@ -37,7 +37,7 @@ use Rattle.beet_program_laws.specs.Commands.{PutsBothWorlds}
 use Rattle.beet_program_laws.specs.Refusals.{RefusesBooks}
 use Rattle.beet_program_laws.proofs.Compared.{is-right, undone as never-done}
 use Rattle.beet_program_laws.proofs.Ends.{WentOut, no-job, no-usage, shown-ends, tells}
-use Rattle.beet_program_laws.proofs.Refusing.{refuses-worlds}
+use Rattle.beet_program_laws.proofs.Refusing.{by-words, refuses-worlds}
 use Rattle.beet_program_laws.proofs.Jobs.{runs-in}
 use Rattle.beet_program_laws.proofs.Read.{IsLoaded, back, can-run-cut, limited-yield, second-yield}
 use Rattle.beet_program_laws.proofs.Steps.{AreBoth, Yields}
@@ -122,46 +122,35 @@ module _ (files : List File) (call : Call) (from : IsOf files call) (w : IsDoneC
       (undone files auction servers list1 list2 s)
       (λ answer shows put. shown shows.value answer shows.read shows.shown put) r
 
-module _ (files : List File) (call : Call) (from : IsOf files call) (auction servers list1 list2 server out : List ℕ)
-  where
-    -- the run of the job for the server that a word names, where the run is none of the usage line
-    for-server : (RunsJob None call → ⊥) → (at : Option Point) → server_of server ≡ at →
-        RunsJob (option_map (λ s. Comparing auction servers list1 list2 s out) at) call →
-        (s : Point) × (server_of server ≡ Some s) × RunsJob (Some (Comparing auction servers list1 list2 s out)) call
-    for-server usage None e r = absurd (usage r)
-    for-server usage (Some s) e r = (s, e, r)
+module _ (files : List File) (call : Call) (from : IsOf files call)
+    (auction servers list1 list2 server out : List ℕ) where
+  abbrev job_at : Point → Job
+  job_at s = Comparing auction servers list1 list2 s out
 
-    by-words : (RunsJob None call → ⊥) → (b : Bool) →
-        RunsJob
-        (if b then option_map (λ s. Comparing auction servers list1 list2 s out) (server_of server) else None) call →
-        (s : Point) × (server_of server ≡ Some s) × RunsJob (Some (Comparing auction servers list1 list2 s out)) call
-    by-words usage true r = for-server usage (server_of server) refl r
-    by-words usage false r = absurd (usage r)
+  abbrev names : Bool
+  names = are_names (auction ∷ servers ∷ list1 ∷ list2 ∷ out ∷ [])
 
-    abbrev names : Bool
-    names = are_names (auction ∷ servers ∷ list1 ∷ list2 ∷ out ∷ [])
+  pub compares-worlds : IsDoneCode call.status →
+      RunsJobOf (codes "worlds" ∷ auction ∷ servers ∷ list1 ∷ list2 ∷ server ∷ out ∷ []) call →
+      (s : Point) × (server_of server ≡ Some s)
+      × PutsBothWorlds files auction servers list1 list2 s out call
+  compares-worlds w ran =
+      let (s, e, r) = by-words job_at call (server_of server) (λ r. no-job files call from w r) names ran in
+      (s, e, compares files call from w auction servers list1 list2 s out r)
 
-    pub compares-worlds : IsDoneCode call.status →
-        RunsJobOf (codes "worlds" ∷ auction ∷ servers ∷ list1 ∷ list2 ∷ server ∷ out ∷ []) call →
-        (s : Point) × (server_of server ≡ Some s)
-        × PutsBothWorlds files auction servers list1 list2 s out call
-    compares-worlds w ran =
-        let (s, e, r) = by-words (λ r. no-job files call from w r) names ran in
-        (s, e, compares files call from w auction servers list1 list2 s out r)
+  refuses-both : (s : Point) (both : Both) → ReadsTo files (both_errand auction servers list1 list2) both →
+      call.status ≡ 7 → RunsJob (Some (Comparing auction servers list1 list2 s out)) call → RefusesBooks s both call
+  refuses-both s both read e r =
+      refuses-worlds refused_text (difference_read s) (both_errand auction servers list1 list2) files call from both read e
+      (Agree s (first_book both) (second_book both)) (no-difference s (first_book both) (second_book both))
+      (ShowsWorlds auction servers list1 list2 s out)
+      (λ answer shows. subst IsDone (sym (ap (λ (a : Answer). a.status) shows.shown.is))
+      (status-done (book_finish (first_book shows.value) (words_read shows.value).masks))) r
 
-    refuses-both : (s : Point) (both : Both) → ReadsTo files (both_errand auction servers list1 list2) both →
-        call.status ≡ 7 → RunsJob (Some (Comparing auction servers list1 list2 s out)) call → RefusesBooks s both call
-    refuses-both s both read e r =
-        refuses-worlds refused_text (difference_read s) (both_errand auction servers list1 list2) files call from both read e
-        (Agree s (first_book both) (second_book both)) (no-difference s (first_book both) (second_book both))
-        (ShowsWorlds auction servers list1 list2 s out)
-        (λ answer shows. subst IsDone (sym (ap (λ (a : Answer). a.status) shows.shown.is))
-        (status-done (book_finish (first_book shows.value) (words_read shows.value).masks))) r
-
-    pub refuses-server : (both : Both) →
-        RunsJobOf (codes "worlds" ∷ auction ∷ servers ∷ list1 ∷ list2 ∷ server ∷ out ∷ []) call →
-        ReadsTo files (both_errand auction servers list1 list2) both → call.status ≡ 7 →
-        (s : Point) × (server_of server ≡ Some s) × RefusesBooks s both call
-    refuses-server both ran read seven =
-        let (s, e, r) = by-words (λ r. no-usage files call from seven r) names ran in
-        (s, e, refuses-both s both read seven r)
+  pub refuses-server : (both : Both) →
+      RunsJobOf (codes "worlds" ∷ auction ∷ servers ∷ list1 ∷ list2 ∷ server ∷ out ∷ []) call →
+      ReadsTo files (both_errand auction servers list1 list2) both → call.status ≡ 7 →
+      (s : Point) × (server_of server ≡ Some s) × RefusesBooks s both call
+  refuses-server both ran read seven =
+      let (s, e, r) = by-words job_at call (server_of server) (λ r. no-usage files call from seven r) names ran in
+      (s, e, refuses-both s both read seven r)

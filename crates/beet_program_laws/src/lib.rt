@@ -104,8 +104,8 @@ pub fn what_worlds_puts_looks_the_same()
         × PutsBothWorlds files auction servers book1 book2 s out call }
 {}
 
-/// If it ends with status 7 over files that read as two books, these do not agree for the server, and the line tells
-/// the first thing by which it can tell them apart.
+/// If `worlds` ends with status 7 over files that read as two books, these do not agree for the server, and the line
+/// tells the first thing by which it can tell them apart.
 pub fn what_worlds_refuses_does_not_agree()
     ensures { (files : List File) (auction servers book1 book2 server out : List ℕ) (both : Both) (call : Call) →
         IsOf files call →
@@ -124,8 +124,8 @@ pub fn what_five_worlds_puts_looks_the_same_to_two()
         × PutsBothWorldsForTwo files auction servers book1 book2 two.0 two.1 out call }
 {}
 
-/// If it ends with status 7 over files that read as two books, these do not agree for the two servers, and the line
-/// tells the first thing by which these can tell them apart together.
+/// If `five_worlds` ends with status 7 over files that read as two books, these do not agree for the two servers, and
+/// the line tells the first thing by which these can tell them apart together.
 pub fn what_five_worlds_refuses_does_not_agree()
     ensures { (files : List File) (auction servers book1 book2 one other out : List ℕ) (both : BothOfFive)
         (call : Call) → IsOf files call →

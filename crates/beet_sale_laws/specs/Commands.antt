@@ -1,6 +1,6 @@
 -- What each command of the program of sales has read, put and said if its run ends with status 0 or 6, over a shelf
 -- whose answers are of these files; and why `pair` refuses two sales.
-use Rattle.std.specs.Prelude.{◌≡◌, ◌∷◌, ◌++◌, ℕ, Bool, List, [], codes, true, false}
+use Rattle.std.specs.Prelude.{◌≡◌, ◌∷◌, ◌++◌, ℕ, Bool, List, [], Some, codes, true, false}
 use Rattle.beet_field.specs.declared.point.Point.{Point}
 use Rattle.beet_store.specs.Files.{File}
 use Rattle.beet_words.specs.Bundles.{Words, bundle_bytes}
@@ -26,8 +26,8 @@ use Rattle.beet_job_sale_pair.specs.Reading.{Both, both_errand}
 use Rattle.beet_sale_app.specs.Doing.{task_of}
 use Rattle.beet_sale_app.specs.Jobs.{job_of}
 use Rattle.beet_app_laws.specs.Calls.{Call, Puts, Says}
-use Rattle.beet_program_laws.specs.Refusals.{RefusesWorlds}
 use Rattle.beet_app_laws.specs.Readings.{Read}
+use Rattle.beet_program_laws.specs.Refusals.{RefusesWorlds}
 use Rattle.beet_app_laws.specs.Tables.{IsDoneTable, RunsTable}
 
 -- the words of each command
@@ -114,5 +114,5 @@ pub record PutsBothSales (files : List File) (sale1 sale2 servers : List ℕ) (s
 -- which it can tell them apart, and nothing was put
 abbrev pub RefusesBothSales : Point → Both → Call → Type 0
 RefusesBothSales s both =
-    RefusesWorlds refused_text (difference_between s (bids_in both.first) (second_bids both))
+    RefusesWorlds refused_text (λ fault. difference_between s (bids_in both.first) (second_bids both) ≡ Some fault)
     (Agree s (bids_in both.first) (second_bids both))

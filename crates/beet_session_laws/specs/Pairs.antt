@@ -8,7 +8,6 @@ use Rattle.beet_bids.specs.Books.{Book}
 use Rattle.beet_auction_map.specs.ViewsWith.{transcript_with}
 use Rattle.beet_headline.specs.Statements.{AreOnePair, AreTwoBooks}
 use Rattle.beet_lot_map.specs.LotMaps.{AgreeBefore, RefusesSession}
-use Rattle.beet_lot_map.specs.declared.mapping.SessionFault.{SessionFault}
 use Rattle.beet_lot_view.specs.SessionViews.{session_view_bytes, session_words_bytes}
 use Rattle.beet_lot_files.specs.declared.session_file.LotRow.{LotRow}
 use Rattle.beet_lot_load.specs.Telling.{lots_status, lots_text}
@@ -17,8 +16,9 @@ use Rattle.beet_errand.specs.Statuses.{code_of}
 use Rattle.beet_errand.specs.Worlds.{equal_text, files_of_worlds}
 use Rattle.beet_job_session_pair.specs.Reading.{Both, both_errand, first_books}
 use Rattle.beet_job_session_pair.specs.Refusals.{refused_text}
-use Rattle.beet_app_laws.specs.Calls.{Call, Puts, Says}
+use Rattle.beet_app_laws.specs.Calls.{Call, Puts}
 use Rattle.beet_program_laws.specs.Outcomes.{ServersOpen}
+use Rattle.beet_program_laws.specs.Refusals.{RefusesWorlds}
 use Rattle.beet_session_laws.specs.Lots.{Lot, end_of_lot, loaded_lot}
 
 -- a lot of two sessions: two books of accepted bids that agree for a server, and words for the first with which its
@@ -74,8 +74,7 @@ pub record SessionsAgree (s : Point) (firsts seconds : List Book) : Type 0 where
 
 -- `pair` at status 7: the two sessions that were read do not agree for the server. The line tells the first thing by
 -- which it can tell them apart, and nothing was put
-pub record RefusesBothSessions (s : Point) (both : Both) (call : Call) : Type 0 where
-  pub fault : SessionFault
-  pub first : RefusesSession s (first_books both) both.seconds fault
-  pub apart : SessionsAgree s (first_books both) both.seconds → ⊥
-  pub said : Says call (refused_text fault)
+abbrev pub RefusesBothSessions : Point → Both → Call → Type 0
+RefusesBothSessions s both =
+    RefusesWorlds refused_text (RefusesSession s (first_books both) both.seconds)
+    (SessionsAgree s (first_books both) both.seconds)
