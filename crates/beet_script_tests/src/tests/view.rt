@@ -9,9 +9,14 @@ use beet_world::lockstep;
 use std::alloc::Global;
 use std::process::Abort;
 
-/// A bidder that server 1 knows, with a point of its own at the last place, as another server sees it.
+/// Appends a bidder that server 1 knows, with a point of its own at the last place, as another server sees it.
 fn push_bidder(rt: &impl Abort, bidders: &mut ShownBidders, last: u128) {
-    let points = [Fe::reduce(7), Fe::reduce(8), Fe::reduce(9), Fe::reduce(last)];
+    let points = [
+        Fe::reduce(7),
+        Fe::reduce(8),
+        Fe::reduce(9),
+        Fe::reduce(last),
+    ];
     bidders
         .push(Some(Point::One), &points, None)
         .expect(rt, "memory");
