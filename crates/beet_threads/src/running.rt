@@ -35,6 +35,8 @@ fn telling<'s, S: Script<3>, K: Drop>(served: Served<'s, S, K>) -> Telling<S, K>
 }
 
 /// Three servers, and whom they have told.
+// A call: inside its callers, the compiler would spend minutes on the moves of servers of some 10 KB each.
+#[inline(never)]
 pub fn apart<S: Script<3>, K>(ends: Trio<Telling<S, K>>) -> (Trio<ServerCore<S>>, Trio<K>)
     ensures servers { result.0 ≡ record { one = ends.one.0; two = ends.two.0; three = ends.three.0 } }
     ensures told { result.1 ≡ record { one = ends.one.1; two = ends.two.1; three = ends.three.1 } }
