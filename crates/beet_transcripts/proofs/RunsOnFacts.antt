@@ -18,11 +18,11 @@ use Rattle.beet_run.specs.Outcomes.{outcome_answer}
 use Rattle.beet_run.specs.Runs.{EndsAuction, HaveRunToEnd, setup_with}
 use Rattle.beet_run.proofs.BookRuns.{one-end}
 use Rattle.beet_run.proofs.Ending.{ends-auction}
-use Rattle.beet_view.specs.RunViews.{view_of_run}
+use Rattle.beet_view.specs.RunViews.{core_transcript, view_of_run}
 use Rattle.beet_view.specs.Transcripts.{view_bytes}
 use Rattle.beet_view.specs.declared.view.Seen.{Seen}
+use Rattle.beet_view.proofs.RunFacts.{view-fits}
 use Rattle.beet_transcripts.specs.RunsOn.{answer_on, rounds_on, view_on}
-use Rattle.beet_transcripts.specs.Writing.{Writes}
 
 module _ (grid : Grid) (inputs : Trio (List ℕ)) (words : Trio ServerWords) (cores : Trio (Core Auction))
     (h : HaveRunToEnd grid inputs words cores) where
@@ -49,11 +49,12 @@ module _ (grid : Grid) (inputs : Trio (List ℕ)) (words : Trio ServerWords) (co
 
   -- so its transcript is that of the run
   pub transcript-on : (s : Point) (bidders items : List Seen) (file : List ℕ) → items ≡ bidders →
-      Writes (member cores s) grid items file → file ≡ view_bytes (view_on grid inputs words bidders s)
+      file ≡ core_transcript (member cores s) grid items → file ≡ view_bytes (view_on grid inputs words bidders s)
   transcript-on s bidders items file i tells =
       let o = setup_with grid inputs words in
       let c = member cores s in
-      tells o _ (stands s).fits
+      tells
+      ∙ ap view_bytes (view-fits auction_batch o _ c (stands s).fits grid items)
       ∙ ap (λ (l : List Seen). view_bytes (view_of_run o c.me c.round grid l c.masks.words c.coefficients.words)) i
       ∙ ap view_bytes (shows bidders s)
 

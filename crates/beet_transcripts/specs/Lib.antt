@@ -1,3 +1,2 @@
 pub mod DealtBooks
-pub mod Writing
 pub mod RunsOn

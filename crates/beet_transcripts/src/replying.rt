@@ -1,7 +1,6 @@
 //! The reply for three servers that have run an auction: how it ended, and the transcript of each.
 
 ghost use Rattle.std.specs.Prelude.{◌≡◌, ◌∷◌, [], ℕ, IfOk, List};
-ghost use Rattle.beet_field.specs.Trio.{member};
 ghost use Rattle.beet_field.specs.declared.point.Point.TheVariants.{One, Two, Three};
 ghost use Rattle.beet_field.specs.declared.trio.Trio.{Trio as Each};
 ghost use Rattle.beet_errand.specs.Errands.{file_for};
@@ -9,7 +8,7 @@ ghost use Rattle.beet_load.specs.Servers.{ServerWords};
 ghost use Rattle.beet_plan.specs.declared.Finish.{Finish};
 ghost use Rattle.beet_run.specs.Runs.{HaveRunToEnd};
 ghost use Rattle.beet_transcripts.specs.RunsOn.{HasRunOn, answer_on};
-ghost use Rattle.beet_transcripts.specs.Writing.{Writes};
+ghost use Rattle.beet_view.specs.RunViews.{core_transcript};
 
 use crate::dealing::SeenByAll;
 use beet_bids::Grid;
@@ -33,8 +32,8 @@ fn write_two<R: Threads + Sync>(
     second: &ServerCore<AuctionScript>,
     others: ShownBidders,
 ) -> (Result<Vec<u8>, AllocError>, Result<Vec<u8>, AllocError>)
-    ensures first { IfOk result.0 (λ file. Writes first.now grid.now seen file.items) }
-    ensures second { IfOk result.1 (λ file. Writes second.now grid.now others file.items) }
+    ensures first { IfOk result.0 (λ file. file.items ≡ core_transcript first.now grid.now seen) }
+    ensures second { IfOk result.1 (λ file. file.items ≡ core_transcript second.now grid.now others) }
 {
     join(
         rt,
@@ -51,17 +50,17 @@ fn write_three<R: Threads + Sync>(
     grid: &Grid,
     seen: Trio<ShownBidders>,
 ) -> Result<Trio<Vec<u8>>, AllocError>
-    ensures one { IfOk result (λ files. Writes cores.now.one grid.now seen.one files.one.items) }
-    ensures two { IfOk result (λ files. Writes cores.now.two grid.now seen.two files.two.items) }
-    ensures three { IfOk result (λ files. Writes cores.now.three grid.now seen.three files.three.items) }
+    ensures one { IfOk result (λ files. files.one.items ≡ core_transcript cores.now.one grid.now seen.one) }
+    ensures two { IfOk result (λ files. files.two.items ≡ core_transcript cores.now.two grid.now seen.two) }
+    ensures three { IfOk result (λ files. files.three.items ≡ core_transcript cores.now.three grid.now seen.three) }
 {
     let Trio { one, two, three } = seen;
     let (one, (two, three)) = join(
         rt,
         || transcript_of(alloc, &cores.one, grid, one),
         || -> (Result<Vec<u8>, AllocError>, Result<Vec<u8>, AllocError>)
-            ensures { IfOk result.0 (λ file. Writes cores.entry.now.two grid.entry.now two file.items)
-                × IfOk result.1 (λ file. Writes cores.entry.now.three grid.entry.now three file.items) }
+            ensures { IfOk result.0 (λ file. file.items ≡ core_transcript cores.entry.now.two grid.entry.now two)
+                × IfOk result.1 (λ file. file.items ≡ core_transcript cores.entry.now.three grid.entry.now three) }
         { write_two(rt, alloc, grid, &cores.two, two, &cores.three, three) },
     );
     let files = Trio { one, two, three }.transpose()?;

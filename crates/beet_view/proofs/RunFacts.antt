@@ -9,12 +9,16 @@ use Rattle.beet_round.specs.declared.message.RoundMessage.{RoundMessage}
 use Rattle.beet_round.specs.declared.sides.Side.{Side}
 use Rattle.beet_round.specs.declared.sides.Side.TheVariants.{Low, High}
 use Rattle.beet_sharing.specs.Runs.{Setup, message}
-use Rattle.beet_sharing.specs.Seen.{round_seen, rounds_seen}
+use Rattle.beet_sharing.specs.Seen.{SeenRun, round_seen, rounds_seen, run_seen}
 use Rattle.beet_delivery.specs.Events.{Delivered}
 use Rattle.beet_server.specs.Cores.{Core}
 use Rattle.beet_server.specs.Fits.{Fits, messages_to}
 use Rattle.beet_server.specs.Steps.{received_from}
-use Rattle.beet_view.specs.RunViews.{numbers_received, round_received, rounds_received}
+use Rattle.beet_bids.specs.Grids.{Grid}
+use Rattle.beet_view.specs.RunViews.{numbers_received, round_received, rounds_received, run_of_core}
+use Rattle.beet_view.specs.RunViews.{view_of_core, view_of_run}
+use Rattle.beet_view.specs.Views.{view_with_run}
+use Rattle.beet_view.specs.declared.view.Seen.{Seen}
 
 -- of both messages to a server, that of its peer of a side
 of_side : {S : Type 0} (c : Core S) → (o : Setup) (me : Point) (side : Side) (t : ℕ) →
@@ -41,3 +45,14 @@ module _ {S : Type 0} (next : S → ℕ → List ℕ → Batch) (o : Setup) (x :
       (λ t h.
       ap (λ (low : List ℕ). (low, numbers_received c High t)) (numbers-fit Low t h)
       ∙ ap (λ (high : List ℕ). (message o (peer c.me Low) c.me t, high)) (numbers-fit High t h))
+
+  -- so what it has seen is what its server sees of the run
+  pub run-fits : run_of_core c ≡ run_seen o c.me c.round c.masks.words c.coefficients.words
+  run-fits =
+      ap {B = SeenRun} (λ (rounds : List (List ℕ × List ℕ)).
+      record { masks = c.masks.words; coefficients = c.coefficients.words; rounds = rounds }) rounds-fit
+
+  -- and its view is that of the run
+  pub view-fits : (grid : Grid) (bidders : List Seen) →
+      view_of_core c grid bidders ≡ view_of_run o c.me c.round grid bidders c.masks.words c.coefficients.words
+  view-fits grid bidders = ap (view_with_run c.me grid bidders) run-fits

@@ -11,6 +11,7 @@ use Rattle.beet_sharing.specs.Seen.{SeenRun, run_seen}
 use Rattle.beet_server.specs.Cores.{Core}
 use Rattle.beet_server.specs.Steps.{received_from}
 use Rattle.beet_view.specs.declared.view.Seen.{Seen}
+use Rattle.beet_view.specs.Transcripts.{view_bytes}
 use Rattle.beet_view.specs.Views.{Viewed, view_with_run}
 
 -- the numbers that a core received from its peer of a side in a round that it has passed
@@ -28,6 +29,14 @@ rounds_received c = each (round_received c) c.round
 -- what a core has seen of its run
 abbrev pub run_of_core : {S : Type 0} → Core S → SeenRun
 run_of_core c = record { masks = c.masks.words; coefficients = c.coefficients.words; rounds = rounds_received c }
+
+-- the view of a server with this core, with a grid and bidders
+abbrev pub view_of_core : {S : Type 0} → Core S → Grid → List Seen → Viewed
+view_of_core c grid bidders = view_with_run c.me grid bidders (run_of_core c)
+
+-- its bytes
+abbrev pub core_transcript : {S : Type 0} → Core S → Grid → List Seen → List ℕ
+core_transcript c grid bidders = view_bytes (view_of_core c grid bidders)
 
 -- the view of a server of a run of so many rounds, with a grid, bidders, and the mask and coefficient words of the
 -- server

@@ -7,8 +7,7 @@ ghost use Rattle.beet_sharing.specs.Seen.{run_seen};
 ghost use Rattle.beet_delivery.specs.Events.{Delivered};
 ghost use Rattle.beet_server.specs.Fits.{Fits};
 ghost use Rattle.beet_view.specs.RunViews.{numbers_received, round_received, rounds_received, run_of_core};
-ghost use Rattle.beet_view.specs.RunViews.{view_of_run};
-ghost use Rattle.beet_view.specs.Transcripts.{view_bytes};
+ghost use Rattle.beet_view.specs.RunViews.{core_transcript};
 
 use crate::shown::ShownBidders;
 use crate::view::{Received, RunView};
@@ -95,17 +94,15 @@ pub fn run_view<S: Script<3>>(alloc: Global, core: &ServerCore<S>) -> Result<Run
     })
 }
 
-/// The transcript of a server that has ended, with these bidders in their order, as it sees them. Memory is taken once
-/// more at most for what stands beside the bidders. Want of memory is the only error.
+/// The transcript of a server, with these bidders in their order, as it sees them. Their memory becomes that of the
+/// transcript, with room for the rest taken at once. Want of memory is the only error.
 pub fn transcript_of<S: Script<3>>(
     alloc: Global,
     core: &ServerCore<S>,
     grid: &Grid,
     bidders: ShownBidders,
 ) -> Result<Vec<u8>, AllocError>
-    ensures { IfOk result (λ file. (o : Setup) (x : Delivered) → Fits S.batch_of o x core.now
-        → file.items ≡ view_bytes (view_of_run o core.now.me core.now.round grid.now bidders
-        core.now.masks.words core.now.coefficients.words)) }
+    ensures { IfOk result (λ file. file.items ≡ core_transcript core.now grid.now bidders) }
 {
     let (bidders, run) = beside(bidders, run_view(alloc, core))?;
     let file = bidders.into_transcript(core.me(), grid, &run);

@@ -1,6 +1,6 @@
 //! Bidders as the bytes that they are in a transcript.
 
-ghost use Rattle.std.specs.Prelude.{◌≡◌, ◌++◌, ◌∷◌, [], IfOk, OnOk, length, option_map};
+ghost use Rattle.std.specs.Prelude.{◌≡◌, ◌++◌, ◌∷◌, [], IfOk, OnErr, OnOk, length, option_map};
 ghost use Rattle.std.specs.List.{flat_map};
 ghost use Rattle.beet_view.specs.Views.{view_with_run};
 ghost use Rattle.beet_view.specs.Transcripts.{header_bytes, seen_bytes, view_bytes};
@@ -49,18 +49,19 @@ impl ShownBidders {
     }
 
     /// Appends a bidder: the server that knows it, if one does, its points, and its curve and its words, if this server
-    /// itself knows it. Want of memory is the only error; no bidder is left then.
+    /// itself knows it. Want of memory is the only error.
     pub fn push(
         &mut self,
         known: Option<Point>,
         points: &[Fe],
         own: Option<(&Curve, &WordList)>,
     ) -> Result<(), AllocError>
-        ensures { OnOk result (self.new ≡ self.old ++ record {
+        ensures pushed { OnOk result (self.new ≡ self.old ++ record {
           known = known;
           points = points.now;
           own = option_map (λ o. (o.0.now, o.1.now)) own.entry;
         } ∷ []) }
+        ensures failed { OnErr result (self.new ≡ []) }
     {
         let Ok(()) = push_seen(&mut self.bytes, known, points, own) else {
             self.bytes.clear();
@@ -77,7 +78,8 @@ impl ShownBidders {
 
     /// Appends the bidders of others, whose memory is given back. Want of memory is the only error.
     pub fn append(&mut self, others: ShownBidders) -> Result<(), AllocError>
-        ensures { OnOk result (self.new ≡ self.old ++ others) }
+        ensures appended { OnOk result (self.new ≡ self.old ++ others) }
+        ensures failed { OnErr result (self.new ≡ self.old) }
     {
         self.bytes.extend_from_slice(&others.bytes)?;
         // There are no more bidders than bytes, so a usize counts them.

@@ -135,13 +135,6 @@ impl View {
         self.run.coefficients.as_slice()
     }
 
-    /// What came in each round.
-    pub(crate) fn received(&self) -> &[Received]
-        ensures { result.now ≡ self.now.rounds }
-    {
-        self.run.received()
-    }
-
     /// How many rounds there were.
     pub fn rounds(&self) -> u32
         ensures { result ≡ length self.now.rounds }

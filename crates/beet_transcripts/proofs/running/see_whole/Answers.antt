@@ -1,9 +1,9 @@
-use Rattle.std.proofs.Common.{ap, subst, ◌∙◌}
+use Rattle.std.proofs.Common.{◌≡◌, ap, subst, ◌∙◌}
 use Rattle.beet_delivery.proofs.ThreeServers.{same_self}
 use Rattle.beet_plan.specs.Auction.{Auction}
 use Rattle.beet_server.specs.Cores.{Core}
+use Rattle.beet_view.specs.RunViews.{core_transcript}
 use Rattle.beet_view.specs.Transcripts.{view_bytes}
-use Rattle.beet_transcripts.specs.Writing.{Writes}
 use Rattle.beet_transcripts.proofs.BookRuns.{ends-book, inputs-enough, tapes-enough, view-for}
 use Rattle.beet_transcripts.proofs.RunsOnFacts.{ends-so, transcript-on}
 use Rattle.beet_run.proofs.Ending.{has-ended-run, have-run}
@@ -29,8 +29,8 @@ returns-clause-transcript g c =
     let shown = h.seen c.args.at (same_self c.args.at) in
     let ran = have-run c.in_ok-begun.begun.grid _ _ _ c.in_ok-start_servers.ensures.starts _ c.lockstep-cores.ensures in
     transcript-on _ _ _ _ ran c.args.at _ _ _ c.into_one-seen.ensures
-    (subst (λ (core : Core Auction). Writes core c.in_ok-begun.begun.grid c.into_one-seen.result
-    c.in_ok-transcript.field-0.items) c.get.ensures
+    (subst (λ (core : Core Auction). c.in_ok-transcript.field-0.items
+    ≡ core_transcript core c.in_ok-begun.begun.grid c.into_one-seen.result) c.get.ensures
     c.in_ok-transcript.ensures)
     ∙ ap view_bytes (view-for c.args.book.now c.args.words.now h.book c.requires _ h.grid _ h.inputs _ h.tapes c.args.at _ shown)
 

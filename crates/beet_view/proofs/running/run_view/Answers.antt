@@ -1,6 +1,5 @@
-use Rattle.std.proofs.Common.{ℕ, List, refl, ap, ◌∙◌}
-use Rattle.beet_sharing.specs.Seen.{SeenRun}
-use Rattle.beet_view.proofs.RunFacts.{rounds-fit}
+use Rattle.std.proofs.Common.{refl, ◌∙◌}
+use Rattle.beet_view.proofs.RunFacts.{run-fits}
 use Rattle.beet_view.proofs.running.run_view.Goals as goal
 
 pub returns-clause-core : goal.returns-clause-core
@@ -16,8 +15,4 @@ returns-clause-core g c =
     ) refl
 
 pub returns-clause-run : goal.returns-clause-run
-returns-clause-run g c o x fits =
-    let core = c.args.core.now in
-    let seen : List (List ℕ × List ℕ) → SeenRun =
-    λ rounds. record { masks = core.masks.words; coefficients = core.coefficients.words; rounds = rounds } in
-    returns-clause-core g c ∙ ap seen (rounds-fit g.S.Script.batch_of o x core fits)
+returns-clause-run g c o x fits = returns-clause-core g c ∙ run-fits g.S.Script.batch_of o x c.args.core.now fits
