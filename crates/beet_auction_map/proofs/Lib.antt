@@ -1,4 +1,5 @@
 pub mod BidderFacts
+pub mod BookSumFacts
 pub mod Disagreeing
 pub mod InputFacts
 pub mod EnoughFacts

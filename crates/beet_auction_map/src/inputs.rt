@@ -1,16 +1,15 @@
 //! The lines on which the inputs of a book's auction lie.
 
-ghost use Rattle.std.specs.Prelude.{◌≡◌, ◌≢◌, ◌<◌, ◌≤◌, ◌+◌, ◌*◌, ◌%◌, ◌++◌, ℕ, length, map, slice_index, sum_by, IfOk};
-ghost use Rattle.std.specs.Prelude.{OnOk};
-ghost use Rattle.std.specs.List.{range_with_len};
-ghost use Rattle.beet_field.specs.Field.{p, add_of};
+ghost use Rattle.std.specs.Prelude.{◌≡◌, ◌<◌, ◌+◌, ◌*◌, ◌++◌, ℕ, length, map, slice_index, IfOk, OnOk};
+ghost use Rattle.beet_field.specs.Field.{add_of};
 ghost use Rattle.beet_words.specs.Words.{accepted};
 ghost use Rattle.beet_shamir.specs.declared.Line.{Line as Seen};
 ghost use Rattle.beet_gates.specs.Each.{each};
 ghost use Rattle.beet_bids.specs.Sums.{supply_at, demand_at};
 ghost use Rattle.beet_auction_map.specs.InputLines.{AreInputLines, summed_slope};
 
-use beet_bids::{Book, demand, supply};
+use crate::book_sums::sums_of_book;
+use beet_bids::Book;
 use beet_field::Fe;
 use beet_map::number_at;
 use beet_shamir::Line;
@@ -61,14 +60,15 @@ fn lines_with(alloc: Global, book: &Book, slopes: &[Fe]) -> Result<Vec<Line>, Al
         ++ each (slice_index slopes.now) book.now.grid.prices) }
 {
     let prices = book.grid().prices();
+    let sums = sums_of_book(alloc, book)?;
     let mut lines = Vec::with_capacity(alloc, 2 * prices as usize)?;
     for place in 0..prices {
-        let value = Fe::reduce(supply(book, place) as u128);
+        let value = Fe::reduce_u64(sums[place as usize]);
         let slope = slopes[(prices + place) as usize];
         lines.push(Line { value, slope })?;
     }
     for place in 0..prices {
-        let value = Fe::reduce(demand(book, place) as u128);
+        let value = Fe::reduce_u64(sums[(prices + place) as usize]);
         let slope = slopes[place as usize];
         lines.push(Line { value, slope })?;
     }

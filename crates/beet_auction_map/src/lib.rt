@@ -4,6 +4,7 @@
 
 mod agreeing;
 mod bidders;
+mod book_sums;
 mod inputs;
 mod laws;
 mod mapping;
