@@ -18,7 +18,7 @@ use crate::sessions::{BothSessions, WholeLots};
 use beet_bids::Book;
 use beet_errand::{Reply, Stop};
 use beet_field::Point;
-use beet_job_worlds::{BookWithWords, SeenWorlds, see_worlds};
+use beet_job_worlds::{BookWithWords, SeenWorlds, see_first};
 use beet_lot_files::LotRow;
 use beet_lot_load::LotsTold;
 use beet_lot_map::session_map;
@@ -114,7 +114,7 @@ fn see_lots<R: Threads + Sync>(
             book: &seconds[i],
             words: &mapped[i],
         };
-        let lot = see_worlds(rt, alloc, me, &first, &second)?;
+        let lot = see_first(rt, alloc, me, &first)?.and_second(rt, alloc, me, &second)?;
         let added = seen.add(alloc, row, &lot);
         drop(lot);
         added?;

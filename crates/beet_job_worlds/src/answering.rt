@@ -6,7 +6,7 @@ ghost use Rattle.beet_job_worlds.specs.Answering.{agreed_answer};
 ghost use Rattle.beet_view.specs.BookViews.{transcript_for};
 ghost use Rattle.beet_job_worlds.specs.Ending.{AnswersBooks};
 
-use crate::seeing::{BookWithWords, see_worlds};
+use crate::seeing::{BookWithWords, see_first};
 use beet_auction_map::world_map;
 use beet_bids::Book;
 use beet_book_differences::refuse_books;
@@ -17,24 +17,30 @@ use std::alloc::Global;
 use std::marker::Sync;
 use std::thread::Threads;
 
-/// Runs both worlds of books that agree, and answers with both transcripts and the words of the second.
+/// Runs both worlds of books that agree, and answers with both transcripts and the words of the second. What the first
+/// world was run on is dropped before the second is run.
 fn agreed_reply<R: Threads + Sync>(
     rt: &R,
     alloc: Global,
     me: Point,
     out: &str,
-    first: &BookWithWords<'_>,
+    first: Whole,
     second: &BookWithWords<'_>,
 ) -> Result<Reply, Stop>
-    requires first_runs { CanStart first.now.book.now first.now.words.now }
     requires second_runs { CanStart second.now.book.now second.now.words.now }
     requires same { transcript_for second.now.book.now second.now.words.now me
-        ≡ transcript_for first.now.book.now first.now.words.now me }
+        ≡ transcript_for first.book first.words me }
     ensures memory { IfErr result (λ stop. stop ≡ Stop.OutOfMemory) }
-    ensures answer { IfOk result (λ reply. reply ≡ agreed_answer out.now first.now.book.now first.now.words.now
-        (transcript_for first.now.book.now first.now.words.now me) second.now.words.now) }
+    ensures answer { IfOk result (λ reply. reply ≡ agreed_answer out.now first.book first.words
+        (transcript_for first.book first.words me) second.now.words.now) }
 {
-    let seen = see_worlds(rt, alloc, me, first, second)?;
+    let world = BookWithWords {
+        book: &first.book,
+        words: &first.words,
+    };
+    let seen = see_first(rt, alloc, me, &world);
+    drop(first);
+    let seen = seen?.and_second(rt, alloc, me, second)?;
     Ok(
         seen.reply
             .telling_worlds(alloc, out, seen.first, seen.second, seen.words)?,
@@ -47,23 +53,19 @@ pub(crate) fn answer_both<R: Threads + Sync>(
     alloc: Global,
     me: Point,
     out: &str,
-    whole: &Whole,
+    first: Whole,
     second: &Book,
 ) -> Result<Reply, Stop>
-    requires { second.now.grid ≡ whole.now.book.grid }
-    ensures { AnswersBooks me out.now whole.now.book whole.now.words second.now result }
+    requires { second.now.grid ≡ first.book.grid }
+    ensures { AnswersBooks me out.now first.book first.words second.now result }
 {
-    let first = BookWithWords {
-        book: &whole.book,
-        words: &whole.words,
-    };
-    match world_map(alloc, me, first.book, second, first.words) {
+    match world_map(alloc, me, &first.book, second, &first.words) {
         Ok(mapped) => {
             let second = BookWithWords {
                 book: second,
                 words: &mapped,
             };
-            agreed_reply(rt, alloc, me, out, &first, &second)
+            agreed_reply(rt, alloc, me, out, first, &second)
         }
         Err(fault) => Err(refuse_books(alloc, fault)),
     }

@@ -34,37 +34,63 @@ pub struct SeenWorlds {
     pub words: Vec<u8>,
 }
 
-/// Runs the auction in both worlds, one after the other, and writes what one server has seen. Want of memory is the
-/// only error.
-pub fn see_worlds<R: Threads + Sync>(
+/// The first world of two: how its auction ended, and what the server has seen.
+#[derive(Drop)]
+pub struct SeenFirst {
+    pub reply: Reply,
+    pub transcript: Vec<u8>,
+}
+
+/// Runs the auction in the first world, and writes what one server has seen. Want of memory is the only error.
+pub fn see_first<R: Threads + Sync>(
     rt: &R,
     alloc: Global,
     me: Point,
     first: &BookWithWords<'_>,
-    second: &BookWithWords<'_>,
-) -> Result<SeenWorlds, Stop>
-    requires first_runs { CanStart first.now.book.now first.now.words.now }
-    requires second_runs { CanStart second.now.book.now second.now.words.now }
+) -> Result<SeenFirst, Stop>
+    requires runs { CanStart first.now.book.now first.now.words.now }
     ensures memory { IfErr result (λ stop. stop ≡ Stop.OutOfMemory) }
     ensures reply { IfOk result (λ seen. seen.reply ≡ outcome_answer first.now.book.now.grid
         (book_finish first.now.book.now first.now.words.now.masks)
         (book_rounds first.now.book.now first.now.words.now.masks)) }
-    ensures first { IfOk result (λ seen. seen.first.items
+    ensures transcript { IfOk result (λ seen. seen.transcript.items
         ≡ transcript_for first.now.book.now first.now.words.now me) }
-    ensures second { IfOk result (λ seen. seen.second.items
-        ≡ transcript_for second.now.book.now second.now.words.now me) }
-    ensures words { IfOk result (λ seen. seen.words.items ≡ bundle_bytes second.now.words.now) }
 {
-    // The limits of the grid keep the lists of words short enough for a bundle.
-    let _within_limits = second.book.grid().prices();
-    let one = see_whole(rt, alloc, me, first.book, first.words)?;
-    let other = see_whole(rt, alloc, me, second.book, second.words)?;
-    let words = write_bundle(alloc, second.words)?;
-    let reply = outcome_reply(alloc, first.book.grid(), one.finish, one.rounds)?;
-    Ok(SeenWorlds {
+    let run = see_whole(rt, alloc, me, first.book, first.words)?;
+    let reply = outcome_reply(alloc, first.book.grid(), run.finish, run.rounds)?;
+    Ok(SeenFirst {
         reply,
-        first: one.transcript,
-        second: other.transcript,
-        words,
+        transcript: run.transcript,
     })
+}
+
+impl SeenFirst {
+    /// Runs the auction in the second world, for which the first is no longer needed, and writes what the server has
+    /// seen. Want of memory is the only error.
+    pub fn and_second<R: Threads + Sync>(
+        self,
+        rt: &R,
+        alloc: Global,
+        me: Point,
+        second: &BookWithWords<'_>,
+    ) -> Result<SeenWorlds, Stop>
+        requires runs { CanStart second.now.book.now second.now.words.now }
+        ensures memory { IfErr result (λ stop. stop ≡ Stop.OutOfMemory) }
+        ensures reply { IfOk result (λ seen. seen.reply ≡ self.reply) }
+        ensures first { IfOk result (λ seen. seen.first.items ≡ self.transcript.items) }
+        ensures second { IfOk result (λ seen. seen.second.items
+            ≡ transcript_for second.now.book.now second.now.words.now me) }
+        ensures words { IfOk result (λ seen. seen.words.items ≡ bundle_bytes second.now.words.now) }
+    {
+        // The limits of the grid keep the lists of words short enough for a bundle.
+        let _within_limits = second.book.grid().prices();
+        let run = see_whole(rt, alloc, me, second.book, second.words)?;
+        let words = write_bundle(alloc, second.words)?;
+        Ok(SeenWorlds {
+            reply: self.reply,
+            first: self.transcript,
+            second: run.transcript,
+            words,
+        })
+    }
 }

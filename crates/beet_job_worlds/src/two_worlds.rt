@@ -36,8 +36,7 @@ pub fn worlds<S: Shelf, R: Threads + Sync>(
     let whole = load_whole(alloc, shelf, &first)?;
     let second = load_curves(alloc, shelf, 0, whole.book.grid(), files.second);
     let (whole, second) = beside(whole, second)?;
-    let reply = answer_both(rt, alloc, server, files.out, &whole, &second);
+    let reply = answer_both(rt, alloc, server, files.out, whole, &second);
     drop(second);
-    drop(whole);
     reply
 }

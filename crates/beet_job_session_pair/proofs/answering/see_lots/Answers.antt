@@ -48,13 +48,13 @@ module _ (g : Over) (c : After-index-mapped-i g) where
       (slice_get_read c.args.seconds.now _ i c.index-seconds-i.result refl (omega (arith, inv.seconds)) c.index-seconds-i.is)
       (slice_get_read c.args.mapped.now _ i c.index-mapped-i.result refl (omega (arith, inv.mapped)) c.index-mapped-i.is)
 
-pub see_worlds-requires-clause-first_runs : goal.see_worlds-requires-clause-first_runs
-see_worlds-requires-clause-first_runs g c κs within =
-    runs g (goal.at.see_worlds-requires-clause-first_runs g c).After-index-mapped-i
+pub see_first-requires-clause-runs : goal.see_first-requires-clause-runs
+see_first-requires-clause-runs g c κs within =
+    runs g (goal.at.see_first-requires-clause-runs g c).After-index-mapped-i
 
-pub see_worlds-requires-clause-second_runs : goal.see_worlds-requires-clause-second_runs
-see_worlds-requires-clause-second_runs g c κs within =
-    let at = (goal.at.see_worlds-requires-clause-second_runs g c).After-index-mapped-i in
+pub and_second-requires-clause-runs : goal.and_second-requires-clause-runs
+and_second-requires-clause-runs g c κs within =
+    let at = (goal.at.and_second-requires-clause-runs g c).After-index-mapped-i in
     second-runs c.args.me c.index-books-i.result c.index-seconds-i.result c.index-words-i.result c.index-mapped-i.result (runs g at)
     (mapped g at)
 
@@ -64,6 +64,7 @@ loop-i-preserved g c =
     let lots = c.args.lots.now in
     let inv = c.loop-i.invariant in
     let many = c.requires.count in
+    let one = c.in_ok-see_first.ensures in
     record {
       words = inv.words;
       seconds = inv.seconds;
@@ -73,7 +74,8 @@ loop-i-preserved g c =
           c.in_ok-lot.lot _ _ (omega arith) c.index-rows-i.is (rw c.as_slice-books.ensures.value at c.index-books-i.is)
           (rw c.as_slice-words.ensures.value at c.index-words-i.is) c.index-mapped-i.is inv.seen
           (sees-lot c.args.me c.index-books-i.result c.index-seconds-i.result c.index-words-i.result c.index-mapped-i.result
-          (runs g at) (mapped g at) c.in_ok-lot.lot c.in_ok-lot.ensures.reply c.in_ok-lot.ensures.first c.in_ok-lot.ensures.second
+          (runs g at) (mapped g at) c.in_ok-lot.lot (c.in_ok-lot.ensures.reply ∙ one.reply)
+          (c.in_ok-lot.ensures.first ∙ one.transcript) c.in_ok-lot.ensures.second
           c.in_ok-lot.ensures.words)
           c.in_ok-added.ensures;
     }

@@ -5,8 +5,10 @@ use Rattle.beet_job_worlds.proofs.answering.agreed_reply.Goals as goal
 
 pub returns-clause-answer : goal.returns-clause-answer
 returns-clause-answer g c =
-    let first = c.args.first.now.book.now in
-    let words = c.args.first.now.words.now in
-    let seen = c.in_ok-seen.ensures in
+    let first = c.args.first.book in
+    let words = c.args.first.words in
+    let one = c.in_ok-seen.ensures in
+    let seen = c.in_ok-seen-2.ensures in
     replies-agreed c.args.out.now first words c.args.second.now.words.now (transcript_for first words c.args.me) _ _ _ _ _
-    seen.reply seen.first (seen.second ∙ c.requires.same) seen.words c.in_ok-telling_worlds.ensures
+    (seen.reply ∙ one.reply) (seen.first ∙ one.transcript) (seen.second ∙ c.requires.same) seen.words
+    c.in_ok-telling_worlds.ensures
