@@ -8,7 +8,7 @@ use Rattle.beet_field.specs.Point.{number_of}
 use Rattle.beet_field.specs.declared.point.Point.{Point}
 use Rattle.beet_field.specs.declared.point.Point.TheVariants.{One, Two, Three}
 use Rattle.beet_words.specs.Fields.{number_bytes, number_at, times, after_magic, ended}
-use Rattle.beet_words.proofs.FieldsAgain.{StandsAt, StandsAt-left, StandsAt-right, number_at-number, times-parts}
+use Rattle.beet_words.proofs.FieldsAgain.{StandsAt, StandsAt-left, StandsAt-right, length-numbers, number_at-number, times-parts}
 use Rattle.beet_bids.specs.declared.grid.TheConstants.{LARGEST_BASE}
 use Rattle.beet_bids.specs.Grids.{Grid, IsGrid}
 use Rattle.beet_words.specs.declared.bundle.TheConstants.{BAD_MAGIC}
@@ -98,11 +98,6 @@ envelope_of-bytes grid envelope limits long below =
     envelope_of-parts grid envelope.server file envelope.points (40 + length points)
     (after_header-bytes grid envelope.server points limits) read end
 
-points-size : (points : List ℕ) → length (flat_map number_bytes points) ≡ 8 * length points
-points-size [] = refl
-points-size (point ∷ points) =
-    omega (arith, length-append (number_bytes point) (flat_map number_bytes points), points-size points)
-
 -- the bytes of an envelope are those before the points and sixteen for each price
 pub envelope-size : (grid : Grid) (envelope : Envelope) → length envelope.points ≡ 2 * grid.prices →
     length (envelope_bytes grid envelope) ≡ 40 + 16 * grid.prices
@@ -110,6 +105,6 @@ envelope-size grid envelope long =
     omega (
       arith,
       length-append (header_bytes grid envelope.server) (flat_map number_bytes envelope.points),
-      points-size envelope.points,
+      length-numbers envelope.points,
       long,
     )

@@ -7,6 +7,7 @@ use Rattle.beet_field.specs.Point.{number_of}
 use Rattle.beet_field.specs.declared.point.Point.{Point}
 use Rattle.beet_forms.specs.declared.faults.TheConstants.{LONGEST_FILE}
 use Rattle.beet_words.specs.Fields.{number_bytes}
+use Rattle.beet_words.proofs.FieldsAgain.{length-numbers}
 use Rattle.beet_bids.specs.Grids.{Grid, IsGrid}
 use Rattle.beet_bids.proofs.GridFacts.{few_comparisons}
 use Rattle.beet_bids.specs.Curves.{Curve}
@@ -28,7 +29,7 @@ texts-short text most (x ∷ xs) all =
 
 -- numbers have 8 bytes each
 numbers-short : (numbers : List ℕ) → length (numbers_bytes numbers) ≤ 8 * length numbers
-numbers-short numbers = omega (arith, texts-short number_bytes 8 numbers (λ k d lt. omega arith))
+numbers-short numbers = omega (arith, length-numbers numbers)
 
 counted-short : (numbers : List ℕ) → length (counted_bytes number_bytes numbers) ≤ 8 + 8 * length numbers
 counted-short numbers = omega (arith, numbers-short numbers, length-append (number_bytes (length numbers)) (numbers_bytes numbers))

@@ -1,5 +1,5 @@
 -- Fields that stand in a file are read.
-use Rattle.std.proofs.Common.{◌≡◌, ℕ, ◌+◌, ◌^◌, ◌<◌, ◌≤◌, false, ltb, List, [], ◌∷◌, ◌++◌, length, take, drop, All, Ok}
+use Rattle.std.proofs.Common.{◌≡◌, ℕ, ◌+◌, ◌*◌, ◌^◌, ◌<◌, ◌≤◌, false, ltb, List, [], ◌∷◌, ◌++◌, length, take, drop, All, Ok}
 use Rattle.std.proofs.Common.{refl, sym, ap, ◌∙◌, append_assoc, arith}
 use Rattle.std.specs.List.{flat_map}
 use Rattle.std.specs.Int.{w64, from_be_bytes}
@@ -9,6 +9,12 @@ use Rattle.std.proofs.lemmas.List.Elements.{All-head, All-tail}
 use Rattle.std.proofs.lemmas.Nat.{from_be_bytes-to_be_bytes_8}
 use Rattle.beet_words.specs.declared.fields.Allowed.{Allowed}
 use Rattle.beet_words.specs.Fields.{Part, number_bytes, eight_bytes_at, number_at, times}
+
+-- a number takes 8 bytes
+pub length-numbers : (numbers : List ℕ) → length (flat_map number_bytes numbers) ≡ 8 * length numbers
+length-numbers [] = refl
+length-numbers (number ∷ numbers) =
+    omega (arith, length-append (number_bytes number) (flat_map number_bytes numbers), length-numbers numbers)
 
 -- the text stands in the bytes from the offset on
 pub record StandsAt (bytes : List ℕ) (at : ℕ) (text : List ℕ) : Type 0 where

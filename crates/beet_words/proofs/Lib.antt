@@ -6,6 +6,7 @@ pub mod Times
 pub mod FieldsAgain
 mod BundleParts
 pub mod BundleAgain
+mod BundleLengths
 mod Drawing
 pub mod DrawnFrom
 pub mod WordLists

@@ -1,15 +1,15 @@
 //! Bundles: the words of three servers and of all bidders in one binary file.
 
-ghost use Rattle.std.specs.Prelude.{◌≡◌, ◌≤◌, ◌<◌, ◌++◌, ℕ, List, length, Ok, IfOk, OnOk, All};
+ghost use Rattle.std.specs.Prelude.{◌≡◌, ◌≤◌, ◌<◌, ◌*◌, ◌++◌, ℕ, List, length, Ok, IfOk, OnOk, All};
 ghost use Rattle.std.specs.List.{flat_map};
 ghost use Rattle.beet_forms.specs.Faults.{Answers};
 ghost use Rattle.beet_forms.specs.declared.faults.TheConstants.{LONGEST_FILE};
 ghost use Rattle.beet_words.specs.Words.{IsWord};
 ghost use Rattle.beet_words.specs.Fields.{times, number_bytes};
 ghost use Rattle.beet_words.specs.Bundles.{up_to as allowed_up_to, word_at, words_at, list_at, server_at, bundle_of};
-ghost use Rattle.beet_words.specs.Bundles.{list_bytes, server_bytes, bundle_bytes, AreWords, FitsBundle};
+ghost use Rattle.beet_words.specs.Bundles.{list_bytes, server_bytes, bundle_bytes, AreWords, FitsBundle, IsShort};
 
-use crate::fields::{Allowed, push_number, read_end, read_magic, read_number};
+use crate::fields::{Allowed, WIDTH, push_number, read_end, read_magic, read_number};
 use crate::many::read_many;
 use crate::word::{Word, WordList};
 use beet_field::{P, Trio};
@@ -42,6 +42,9 @@ const MAGIC: &[u8] = b"BEETWD01";
 
 /// The most words of a list.
 pub const MOST_WORDS: u64 = 16_384;
+
+/// The most bytes that a list and its count take.
+const LONGEST_LIST: usize = WIDTH * (1 + MOST_WORDS as usize);
 
 /// The most bidders of a book.
 pub const MOST_BIDDERS: usize = 2_000;
@@ -246,14 +249,58 @@ fn push_bundle(file: &mut Vec<u8>, words: &Words) -> Result<(), AllocError>
     push_lists(file, bidders)
 }
 
-/// The bundle of the words, which are at most 2,000 bidders and at most 16,384 words in each list.
-/// Want of memory is the only error.
+/// How many bytes a list and its count take.
+fn list_length(list: &WordList) -> usize
+    requires { IsShort list.now }
+    ensures value { result ≡ length (list_bytes list.now) }
+    ensures within { result ≤ LONGEST_LIST }
+{
+    WIDTH * (1 + list.len())
+}
+
+/// How many bytes the lists of a server take.
+fn server_length(masks: &WordList, coefficients: &WordList) -> usize
+    requires masks { IsShort masks.now }
+    requires coefficients { IsShort coefficients.now }
+    ensures value { result ≡ length (server_bytes masks.now coefficients.now) }
+    ensures within { result ≤ 2 * LONGEST_LIST }
+{
+    list_length(masks) + list_length(coefficients)
+}
+
+/// How many bytes the lists of all bidders take.
+fn lists_length(lists: &[WordList]) -> usize
+    requires count { length lists.now ≤ MOST_BIDDERS }
+    requires lists { All IsShort lists.now }
+    ensures value { result ≡ length (flat_map list_bytes lists.now) }
+    ensures within { result ≤ MOST_BIDDERS * LONGEST_LIST }
+{
+    let mut sum = 0;
+    for list in lists {
+        sum += list_length(list);
+    }
+    sum
+}
+
+/// How many bytes the bundle of the words takes.
+fn bundle_length(words: &Words) -> usize
+    requires { FitsBundle words.now }
+    ensures { result ≡ length (bundle_bytes words.now) }
+{
+    let one = server_length(&words.masks.one, &words.coefficients.one);
+    let two = server_length(&words.masks.two, &words.coefficients.two);
+    let three = server_length(&words.masks.three, &words.coefficients.three);
+    MAGIC.len() + WIDTH + one + two + three + lists_length(words.bidders.as_slice())
+}
+
+/// The bundle of the words, which are at most 2,000 bidders and at most 16,384 words in each list. Its room is taken
+/// at once. Want of memory is the only error.
 pub fn write_bundle(alloc: Global, words: &Words) -> Result<Vec<u8>, AllocError>
     requires { FitsBundle words.now }
     ensures bytes { IfOk result (λ file. file.items ≡ bundle_bytes words.now) }
     ensures again { IfOk result (λ file. bundle_of file.items ≡ Ok words.now) }
 {
-    let mut file = Vec::new(alloc);
+    let mut file = Vec::with_capacity(alloc, bundle_length(words))?;
     push_bundle(&mut file, words)?;
     Ok(file)
 }
