@@ -94,7 +94,8 @@ fn part_by<R: Threads + Sync, T: Send, X: Send + Drop, W: Parts<T, X> + Sync>(
     work.join(few_done, rest_done)
 }
 
-/// Does two parts at the same time, each by half of the threads.
+/// Does two parts at the same time, each by half of the threads. The first is done by the thread that calls, and the
+/// second by another, if one can be started.
 #[cycle(halves)]
 fn both_parts<R: Threads + Sync, T: Send, X: Send + Drop, W: Parts<T, X> + Sync>(
     rt: &R,
@@ -125,7 +126,9 @@ fn both_parts<R: Threads + Sync, T: Send, X: Send + Drop, W: Parts<T, X> + Sync>
             W.can work.now middle rest back.now }
         ensures { W.does work.entry.now middle rest back.entry.now back.exit.now result }
     { part_by(rt, alloc, half, work, middle, rest, back) };
-    join_mut(rt, &mut first, &mut second)
+    // Of two that are joined the first is the one that may run in another thread.
+    let (rest_done, few_done) = join_mut(rt, &mut second, &mut first);
+    (few_done, rest_done)
 }
 
 /// Does so many items, from number 0 on, in parts by a thread for each processor, and puts together what the parts
