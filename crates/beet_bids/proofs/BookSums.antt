@@ -1,5 +1,5 @@
 -- The sums of a book: supply never falls and demand never rises, and so supply reaches demand from one place on.
-use Rattle.std.proofs.Common.{◌≡◌, ℕ, zero, suc, ◌+◌, ◌-◌, ◌*◌, ◌^◌, ◌<◌, ◌≤◌, inl, inr, Bool, true, false, List, []}
+use Rattle.std.proofs.Common.{◌≡◌, Option, None, ℕ, zero, suc, ◌+◌, ◌-◌, ◌*◌, ◌^◌, ◌<◌, ◌≤◌, inl, inr, Bool, true, false, List, []}
 use Rattle.std.proofs.Common.{◌∷◌, map, length, slice_index, get_or, Some, refl, ap, sym, ◌∙◌, arith}
 use Rattle.std.specs.Prelude.{All, find, unwrap_or, nat_le}
 use Rattle.std.specs.List.{range_with_len, sum_by}
@@ -115,9 +115,26 @@ book-turn book b k h =
     grind (arith, nat_tests, low, rises, falls))
     (omega arith) h
 
+-- the clearing place is above a place at which supply stays below demand, and at most one at which it reaches it
+pub clearing-above : (book : Book) → IsBook book → (k : ℕ) → k < book.grid.prices →
+    supply_at book.bidders k < demand_at book.bidders k → k < clearing_place book
+clearing-above book b k h less = grind (arith, nat_tests, book-turn book b k h, less)
+
+pub clearing-at-most : (book : Book) → IsBook book → (k : ℕ) → k < book.grid.prices →
+    demand_at book.bidders k ≤ supply_at book.bidders k → clearing_place book ≤ k
+clearing-at-most book b k h reached = grind (arith, nat_tests, book-turn book b k h, reached)
+
 -- a place that is found is a place of the grid
 pub reached-within : (book : Book) (z : ℕ) → reached_place book ≡ Some z → z < book.grid.prices
 reached-within book z e = first-some (is_reached book) book.grid.prices book.grid.prices 0 z (omega arith) e
+
+-- so that the number of places is no place that is found
+none-past : (found : Option ℕ) (end : ℕ) → ((z : ℕ) → found ≡ Some z → z < end) → unwrap_or found end ≡ end → found ≡ None
+none-past None end within past = refl
+none-past (Some z) end within past = absurd (omega (arith, within z refl, past))
+
+pub reached-none : (book : Book) → clearing_place book ≡ book.grid.prices → reached_place book ≡ None
+reached-none book past = none-past (reached_place book) book.grid.prices (reached-within book) past
 
 pub clearing-within : (book : Book) → clearing_place book ≤ book.grid.prices
 clearing-within book = (first-within (is_reached book) book.grid.prices book.grid.prices 0 (omega arith)).1

@@ -68,11 +68,6 @@ find-range_found p a (suc n) k e =
           (omega (arith, rest.0), rest.1))
     ]
 
--- the first number from one on that passes, with one number less to try
-pub find-range_more : (p : ℕ → Bool) (a b : ℕ) → a < b → p a ≡ false →
-    find p (range_with_len (a + 1) (b - (a + 1))) ≡ find p (range_with_len a (b - a))
-find-range_more p a b h off = let e : b - a ≡ suc (b - (a + 1)) = omega arith in rw e (sym (cond-false (p a) _ _ off))
-
 -- a price stands at one place
 pub place_from_price : (grid : Grid) (k price : ℕ) → 1 ≤ grid.tick → price_of grid k ≡ price →
     ((price - grid.base) % grid.tick ≡ 0) × ((price - grid.base) / grid.tick ≡ k) × (grid.base ≤ price)

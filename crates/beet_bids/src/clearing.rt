@@ -1,9 +1,9 @@
 //! The outcome of a book, in plain sums.
 
-ghost use Rattle.std.specs.Prelude.{◌≡◌, ◌<◌};
+ghost use Rattle.std.specs.Prelude.{◌≡◌, ◌<◌, ◌≤◌};
 ghost use Rattle.beet_field.specs.Field.{IsElement};
 ghost use Rattle.beet_bids.specs.Sums.{supply_at, demand_at};
-ghost use Rattle.beet_bids.specs.Outcomes.{outcome_of};
+ghost use Rattle.beet_bids.specs.Outcomes.{clearing_place, outcome_of};
 
 use crate::book::Book;
 use crate::outcomes::{Outcome, Policy};
@@ -34,27 +34,45 @@ pub fn demand(book: &Book, place: u32) -> u64
     sum
 }
 
+/// The first place at which supply reaches demand, or the number of places if it does at none. Supply never falls from
+/// one place to the next and demand never rises, so that halves of the places are passed over.
+pub fn clearing_place(book: &Book) -> u32
+    ensures value { result ≡ clearing_place book.now }
+    ensures within { result ≤ book.now.grid.prices }
+{
+    let mut low = 0;
+    let mut high = book.grid().prices();
+    while low < high {
+        let middle = low.midpoint(high);
+        if supply(book, middle) < demand(book, middle) {
+            low = middle + 1;
+        } else {
+            high = middle;
+        }
+    }
+    low
+}
+
 /// The first price of a book at which supply reaches demand, with what the policy of its grid opens there: the demand
 /// is the volume.
 pub fn outcome(book: &Book) -> Outcome
     ensures { result ≡ outcome_of book.now }
 {
     let grid = book.grid();
-    for place in 0..grid.prices() {
-        let (supply, demand) = (supply(book, place), demand(book, place));
-        if supply >= demand {
-            let (volume, supply) = match grid.policy() {
-                Policy::Price => (None, None),
-                Policy::Volume => (Some(demand), None),
-                Policy::Full => (Some(demand), Some(supply)),
-            };
-            return Outcome::Price {
-                place,
-                price: grid.price(place),
-                volume,
-                supply,
-            };
-        }
+    let place = clearing_place(book);
+    if place == grid.prices() {
+        return Outcome::No;
     }
-    Outcome::No
+    let demand = demand(book, place);
+    let (volume, supply) = match grid.policy() {
+        Policy::Price => (None, None),
+        Policy::Volume => (Some(demand), None),
+        Policy::Full => (Some(demand), Some(supply(book, place))),
+    };
+    Outcome::Price {
+        place,
+        price: grid.price(place),
+        volume,
+        supply,
+    }
 }

@@ -148,6 +148,17 @@ impl Grid {
         Some(place as u32)
     }
 
+    /// The place of this price, or none if the grid has no such price. It takes no division if the price stands at the
+    /// place where it is expected.
+    pub(crate) fn place_expected(&self, expected: usize, price: u64) -> Option<u32>
+        ensures { result ≡ place_of self.now price }
+    {
+        if expected < self.prices as usize && self.price(expected as u32) == price {
+            return Some(expected as u32);
+        }
+        self.place(price)
+    }
+
     /// How many comparisons a search among the prices makes at most.
     pub fn comparisons(&self) -> u32
         ensures value { result ≡ comparisons_of self.now.prices }

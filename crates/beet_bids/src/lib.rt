@@ -15,7 +15,7 @@ pub use auction_file::{
 };
 pub use bid_file::{BID_LIMIT, read_bid};
 pub use book::{Bidder, Book};
-pub use clearing::{demand, outcome, supply};
+pub use clearing::{clearing_place, demand, outcome, supply};
 pub use curve::{Curve, LARGEST_QUANTITY};
 pub use grid::{Grid, LARGEST_BASE, LARGEST_TICK, MOST_COMPARISONS, MOST_PRICES, comparisons};
 pub use lines::{BUY_RISES, NO_BASE, NOT_ASCENDING, OFF_GRID, QUANTITY_TOO_LARGE, SELL_FALLS};

@@ -101,11 +101,12 @@ fn next_reason(before: Line, line: Line) -> Option<u32>
     }
 }
 
-/// Why a line is refused, if it is.
-fn line_reason(grid: &Grid, before: Option<Line>, line: Line) -> Option<u32>
+/// Why the line of this number, counted from 0, is refused, if it is. A bid often has a line for each price, so that
+/// its place is expected to be its number.
+fn line_reason(grid: &Grid, before: Option<Line>, i: usize, line: Line) -> Option<u32>
     ensures { result ≡ line_reason grid.now before (Some line) }
 {
-    if grid.place(line.price).is_none() {
+    if grid.place_expected(i, line.price).is_none() {
         return Some(OFF_GRID);
     }
     match before {
@@ -114,16 +115,18 @@ fn line_reason(grid: &Grid, before: Option<Line>, line: Line) -> Option<u32>
     }
 }
 
-/// The line of the row of this number.
-fn read_line(grid: &Grid, before: Option<Line>, number: u32, row: &Row) -> Result<Line, ReadFault>
+/// The line of this number, counted from 0, whose row has the number that is two more.
+fn read_line(grid: &Grid, before: Option<Line>, i: usize, row: &Row) -> Result<Line, ReadFault>
+    requires { i + 2 < 2 ^ 32 }
     ensures { let line = bid_line_of row.now in
         let reason = line_reason grid.now before line in
-        Answers (λ read. Some read) (row_reading number reason line) result }
+        Answers (λ read. Some read) (row_reading (i + 2) reason line) result }
 {
+    let number = i as u32 + 2;
     let Some(line) = cut_line(grid, row) else {
         return Err(ReadFault::at_row(number, BAD_ROW));
     };
-    match line_reason(grid, before, line) {
+    match line_reason(grid, before, i, line) {
         Some(reason) => Err(ReadFault::at_row(number, reason)),
         None => Ok(line),
     }
@@ -144,7 +147,7 @@ pub(crate) fn read_lines(
     let mut lines = Vec::with_capacity(alloc, grid.prices() as usize)?;
     let mut before = None;
     while rows.next(row)? {
-        let line = read_line(grid, before, lines.len() as u32 + 2, row)?;
+        let line = read_line(grid, before, lines.len(), row)?;
         lines.push(line)?;
         before = Some(line);
     }
@@ -154,14 +157,15 @@ pub(crate) fn read_lines(
     Ok(lines)
 }
 
-/// The place where the line of this number begins, or the number of places after the last line.
-fn begin(grid: &Grid, lines: &[Line], i: usize) -> usize
+/// The place where the line of this number begins, or the number of places after the last line. The place is quickly
+/// told if it is as expected.
+fn begin(grid: &Grid, lines: &[Line], i: usize, expected: usize) -> usize
     requires { AreLines grid.now lines.now }
     ensures { result ≡ begin_at grid.now lines.now i }
 {
     match lines.get(i) {
         None => grid.prices() as usize,
-        Some(line) => match grid.place(line.price) {
+        Some(line) => match grid.place_expected(expected, line.price) {
             Some(place) => place as usize,
             None => unreachable!(),
         },
@@ -177,7 +181,7 @@ pub(crate) fn curve_of(alloc: Global, grid: &Grid, lines: &[Line]) -> Result<Cur
     let mut buy = Vec::with_capacity(alloc, grid.prices() as usize)?;
     let mut sell = Vec::with_capacity(alloc, grid.prices() as usize)?;
     for (i, line) in lines.iter().enumerate() {
-        let end = begin(grid, lines, i + 1);
+        let end = begin(grid, lines, i + 1, buy.len() + 1);
         buy.resize(end, line.buy)?;
         sell.resize(end, line.sell)?;
     }

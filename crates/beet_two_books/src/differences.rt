@@ -1,21 +1,10 @@
 //! The summed supply and demand of a book, and how they differ.
 
 ghost use Rattle.std.specs.Prelude.{◌≡◌, ◌<◌};
-ghost use Rattle.beet_bids.specs.Outcomes.{clearing_place};
 ghost use Rattle.beet_two_books.specs.Losses.{doubled_at, lost_at};
 
-use beet_bids::{Book, Outcome, demand, outcome, supply};
+use beet_bids::{Book, demand, supply};
 use beet_field::Fe;
-
-/// The place at which a book clears, or the number of its prices.
-pub(crate) fn clearing(book: &Book) -> u32
-    ensures { result ≡ clearing_place book.now }
-{
-    match outcome(book) {
-        Outcome::Price { place, .. } => place,
-        Outcome::No => book.grid().prices(),
-    }
-}
 
 /// Twice the difference of supply and demand at a place.
 fn doubled(book: &Book, place: u32) -> Fe

@@ -6,8 +6,8 @@ ghost use Rattle.beet_plan.specs.Search.{path};
 ghost use Rattle.beet_turned.specs.MappedMasks.{MasksMapped};
 ghost use Rattle.beet_two_books.specs.Losses.{losses_of, lost_at};
 
-use crate::differences::{clearing, lost};
-use beet_bids::{Book, Grid, MOST_COMPARISONS};
+use crate::differences::lost;
+use beet_bids::{Book, Grid, MOST_COMPARISONS, clearing_place};
 use beet_field::{Fe, Point, Trio};
 use beet_words::WordList;
 use std::alloc::{AllocError, Global};
@@ -67,7 +67,7 @@ pub fn losses(alloc: Global, first: &Book, second: &Book) -> Result<Vec<Fe>, All
     requires { first.now.grid.prices ≡ second.now.grid.prices }
     ensures { IfOk result (λ losses. losses.items ≡ losses_of first.now second.now) }
 {
-    let places = path_to(alloc, first.grid(), clearing(first))?;
+    let places = path_to(alloc, first.grid(), clearing_place(first))?;
     losses_at(alloc, first, second, places.as_slice())
 }
 

@@ -1,14 +1,12 @@
-use Rattle.std.proofs.Common.{◌≡◌, false, arith, ◌∙◌}
-use Rattle.std.proofs.lemmas.Bool.{lt-leb}
-use Rattle.beet_bids.specs.Outcomes.{is_reached}
-use Rattle.beet_bids.proofs.GridFacts.{find-range_more}
+use Rattle.std.proofs.Common.{◌≡◌, arith, ap, refl, ◌∙◌}
+use Rattle.beet_bids.specs.Grids.{Grid}
+use Rattle.beet_bids.specs.Outcomes.{clearing_place}
+use Rattle.beet_bids.proofs.BookSums.{reached-none}
 use Rattle.beet_bids.proofs.clearing.outcome.Goals as goal
 
-pub loop-place-preserved : goal.loop-place-preserved
-loop-place-preserved c =
-    let off : is_reached c.args.book.now c.loop-place.place ≡ false = lt-leb _ _ (omega arith) in
-    record {
-      end = c.loop-place.invariant.end;
-      rest = find-range_more (is_reached c.args.book.now) c.loop-place.place c.prices-place-end.result (omega arith) off
-          ∙ c.loop-place.invariant.rest;
-    }
+pub returns-then-place-prices : goal.returns-then-place-prices
+returns-then-place-prices c =
+    let all : c.prices.result ≡ c.args.book.now.grid.prices =
+    c.prices.ensures.value ∙ ap (λ (grid : Grid). grid.prices) c.grid-grid.ensures.value in
+    let past : clearing_place c.args.book.now ≡ c.args.book.now.grid.prices = omega (arith, all, c.clearing_place-place.ensures.value) in
+    rw (reached-none c.args.book.now past) refl
