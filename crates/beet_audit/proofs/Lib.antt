@@ -6,5 +6,6 @@ pub mod RoundFacts
 pub mod OneRunFacts
 pub mod FinishFacts
 pub mod RunAgainFacts
+mod StepFacts
 pub mod AuditFacts
 pub mod BookRunFacts

@@ -1,47 +1,24 @@
 -- Three servers run again on the points and the tapes of three views.
-use Rattle.std.proofs.Common.{◌≡◌, ◌*◌, ℕ, List, [], ◌∷◌, ◌++◌, ◌+◌, length, refl, sym, ◌∙◌, ap, subst}
+use Rattle.std.proofs.Common.{◌≡◌, ◌*◌, ℕ, List, length, refl, sym, ◌∙◌, ap, subst}
 use Rattle.beet_field.specs.Trio.{member, of_each}
 use Rattle.beet_field.specs.declared.point.Point.{Point}
 use Rattle.beet_field.specs.declared.point.Point.TheVariants.{One, Two, Three}
 use Rattle.beet_field.specs.declared.trio.Trio.{Trio}
-use Rattle.beet_gates.specs.Each.{each}
-use Rattle.beet_gates.proofs.EachFacts.{each-more, each-zero}
 use Rattle.beet_bids.specs.Grids.{Grid}
 use Rattle.beet_plan.specs.Auction.{Auction, auction_batch, most_rounds}
-use Rattle.beet_book.specs.Dealing.{HasLengths}
-use Rattle.beet_book.specs.PointSums.{AddsUp, inputs_at, sums_at}
-use Rattle.beet_book.specs.Totals.{Totals, added, none_of, wires_of}
+use Rattle.beet_book.specs.PointSums.{AddsUp, inputs_at}
+use Rattle.beet_book.specs.Totals.{Totals, wires_of}
 use Rattle.beet_server.specs.Cores.{Core}
 use Rattle.beet_sharing.specs.Runs.{Setup, rounds_among}
 use Rattle.beet_server.specs.Lockstep.{HaveEnded, IsAtRound}
 use Rattle.beet_auction.specs.Setups.{inputs_of}
 use Rattle.beet_auction.proofs.AddedPoints.{inputs-many}
-use Rattle.beet_book.proofs.PointsAdded.{sums-more, sums-none}
 use Rattle.beet_load.specs.Counts.{counts_of}
 use Rattle.beet_load.specs.Servers.{HasEnough, HaveEnough, ServerWords}
 use Rattle.beet_run.specs.Runs.{EndsAuction, Starts, setup_with}
 use Rattle.beet_run.proofs.Ending.{ends-auction, has-ended-run}
 use Rattle.beet_view.specs.Views.{Viewed}
-use Rattle.beet_audit.specs.Audits.{RunsAgain, all_points, points_of_bidder, rounds_of, run_of, words_in}
-
--- the points of one bidder more are added
-pub adds-none : (grid : Grid) (views : Trio Viewed) (totals : Totals) → totals ≡ none_of grid.prices →
-    AddsUp grid totals (each (points_of_bidder views) 0)
-adds-none grid views totals e = e ∙ sums-none grid.prices ∙ ap (λ (l : List (Trio (List ℕ))).
-    record { prices = grid.prices; points = sums_at grid.prices l }) (sym (each-zero (points_of_bidder views)))
-
-pub adds-more : (grid : Grid) (views : Trio Viewed) (before after : Totals) (points : Trio (List ℕ)) (i : ℕ) →
-    AddsUp grid before (each (points_of_bidder views) i) →
-    points ≡ points_of_bidder views i → HasLengths points (2 * grid.prices) →
-    after ≡ record before { points = added before.points points } →
-    AddsUp grid after (each (points_of_bidder views) (i + 1))
-adds-more grid views before after points i h e long a =
-    let items = each (points_of_bidder views) i in
-    a ∙ ap (λ (t : Totals). record t { points = added t.points points }) h
-    ∙ ap (λ (sums : Trio (List ℕ)). record { prices = grid.prices; points = sums }) (sums-more grid.prices items points long)
-    ∙ ap (λ (p : Trio (List ℕ)). record { prices = grid.prices; points = sums_at grid.prices (items ++ p ∷ []) }) e
-    ∙ ap (λ (l : List (Trio (List ℕ))). record { prices = grid.prices; points = sums_at grid.prices l })
-    (sym (each-more (points_of_bidder views) i))
+use Rattle.beet_audit.specs.Audits.{RunsAgain, all_points, rounds_of, run_of, words_in}
 
 module _ (grid : Grid) (views : Trio Viewed) (inputs : Trio (List ℕ)) (totals : Totals) (i : inputs ≡ wires_of totals)
     (sums : AddsUp grid totals (all_points views))

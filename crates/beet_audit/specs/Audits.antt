@@ -137,6 +137,10 @@ words_in view = record { masks = view.masks; coefficients = view.coefficients }
 abbrev pub Tapes : Grid → Trio Viewed → Point → Option AuditFault → Type 0
 Tapes grid views s = Wants (HasEnough (counts_of grid) (words_in (member views s))) (TooFewWords s)
 
+-- the points of so many bidders from one on
+abbrev pub points_from : Trio Viewed → ℕ → ℕ → List (Trio (List ℕ))
+points_from views from count = each (λ k. points_of_bidder views (from + k)) count
+
 -- the points of all bidders
 abbrev pub all_points : Trio Viewed → List (Trio (List ℕ))
 all_points views = each (points_of_bidder views) (length views.one.bidders)

@@ -6,9 +6,10 @@ use Rattle.beet_field.specs.declared.point.Point.{Point}
 use Rattle.beet_field.specs.declared.trio.Trio.{Trio}
 use Rattle.beet_shamir.specs.Line.{AreElements}
 use Rattle.beet_bids.specs.Grids.{Grid}
-use Rattle.beet_book.specs.Totals.{points_on}
+use Rattle.beet_book.specs.PointSums.{AddsUp}
+use Rattle.beet_book.specs.Totals.{Totals, points_on}
 use Rattle.beet_view.specs.Views.{Viewed, IsView}
-use Rattle.beet_audit.specs.Audits.{HeaderFits, OneBidder, points_of_bidder}
+use Rattle.beet_audit.specs.Audits.{HeaderFits, OneBidder, points_from, points_of_bidder}
 use Rattle.beet_audit.specs.Verdicts.{EachBelow, Judges}
 use Rattle.beet_audit.specs.declared.fault.AuditFault.{AuditFault}
 
@@ -18,12 +19,14 @@ pub record CanJudge (grid : Grid) (views : Trio Viewed) (from count : ℕ) : Typ
   pub fit : (s : Point) → HeaderFits grid views.one s (member views s)
   pub limits : (s : Point) → IsView (member views s)
 
--- what is found of them is the first thing that is wrong; if nothing is, their points are numbers of the field
+-- what is found of them is the first thing that is wrong; if nothing is, their points are numbers of the field, and are
+-- added up
 pub record JudgesPart (grid : Grid) (views : Trio Viewed) (from count : ℕ)
-    (result : Result (Unit {0}) AuditFault) : Type 0 where
+    (result : Result Totals AuditFault) : Type 0 where
   pub bidders : Judges (EachBelow count (λ k. OneBidder grid.prices views (from + k))) result
-  pub elements : IfOk result (λ done. (k : ℕ) → k < count → (n : ℕ) → n < 2 * grid.prices →
+  pub elements : IfOk result (λ totals. (k : ℕ) → k < count → (n : ℕ) → n < 2 * grid.prices →
       AreElements (points_on (points_of_bidder views (from + k)) n))
+  pub sums : IfOk result (λ totals. AddsUp grid totals (points_from views from count))
 
 -- bidders that can be judged, can be judged in two parts
 pub judge-splits : (grid : Grid) (views : Trio Viewed) (from few rest : ℕ) → CanJudge grid views from (few + rest) →

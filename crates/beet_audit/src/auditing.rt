@@ -13,7 +13,7 @@ ghost use Rattle.beet_audit.specs.OneRuns.{OneRun};
 ghost use Rattle.beet_audit.specs.Verdicts.{EachBelow, EachServer, InTurn, Judges};
 ghost use Rattle.beet_audit.specs.declared.fault.AuditFault.TheVariants.{OutOfMemory as Memory};
 
-use crate::bidders::check_bidders;
+use crate::bidders::sum_bidders;
 use crate::fault::AuditFault;
 use crate::headers::check_headers;
 use crate::messages::{check_messages, check_rounds};
@@ -21,6 +21,7 @@ use crate::running::run_again;
 use crate::tapes::check_tapes;
 use beet_bids::Grid;
 use beet_field::Trio;
+use beet_forms::beside;
 use beet_plan::Finish;
 use beet_run::finish_at;
 use beet_search::AuctionScript;
@@ -62,9 +63,9 @@ fn compare(
 /// Whether three views are those of servers 1, 2 and 3 in one run of the auction over the grid, or the first thing that
 /// is wrong.
 ///
-/// First the headers are compared, then each bidder is looked at, by a thread for each processor, and then the tapes
-/// are counted. Then three servers run the auction again on the points and the tapes of the views, and the rounds and
-/// the messages of the views are compared with those of this run.
+/// First the headers are compared, then each bidder is looked at and the points are added up, by a thread for each
+/// processor, and then the tapes are counted. Then three servers run the auction again on the sums and the tapes of the
+/// views, and the rounds and the messages of the views are compared with those of this run.
 pub fn audit<R: Threads + Sync>(
     rt: &R,
     alloc: Global,
@@ -80,9 +81,9 @@ pub fn audit<R: Threads + Sync>(
         ≡ book_rounds (recombined_book grid.now views.now) (of_each (λ view. view.masks) views.now)) }
 {
     check_headers(grid, views)?;
-    check_bidders(rt, alloc, grid, views)?;
-    check_tapes(grid, views)?;
-    let cores = run_again(alloc, grid, views)?;
+    let totals = sum_bidders(rt, alloc, grid, views)?;
+    let (totals, ()) = beside(totals, check_tapes(grid, views))?;
+    let cores = run_again(alloc, grid, totals, views)?;
     let audited = compare(views, &cores);
     // One call lets them go: else the proof of this way out goes through each of their parts.
     drop(cores);

@@ -6,7 +6,7 @@ ghost use Rattle.beet_words.specs.declared.bundle.TheConstants.{MOST_BIDDERS};
 ghost use Rattle.beet_bids.specs.declared.curve.TheConstants.{LARGEST_QUANTITY as Largest};
 ghost use Rattle.beet_bids.specs.declared.grid.TheConstants.{MOST_PRICES};
 ghost use Rattle.beet_book.specs.Totals.{points_on};
-ghost use Rattle.beet_audit.specs.Audits.{HasPoints, IsStep, Lines, Monotone, first_of as begins, points_of_bidder};
+ghost use Rattle.beet_audit.specs.Audits.{HasPoints, Lines, Monotone, first_of as begins, points_of_bidder};
 ghost use Rattle.beet_audit.specs.Audits.{value_at as value_of};
 ghost use Rattle.beet_audit.specs.Verdicts.{Judges};
 ghost use Rattle.beet_audit.specs.declared.fault.AuditFault.TheVariants.{OutOfMemory as Memory};
@@ -52,42 +52,25 @@ pub(crate) fn check_lines(
     Ok(())
 }
 
-/// Whether what a bidder buys and sells at a place is within the limit.
-fn is_within(views: &Trio<View>, bidder: u32, prices: u32, place: u32) -> bool
+/// What a bidder buys and sells at a place.
+fn quantities_at(views: &Trio<View>, bidder: u32, prices: u32, place: u32) -> (u64, u64)
     requires lengths { HasPoints prices views.now bidder }
     requires limit { prices ≤ MOST_PRICES }
     requires place { place < prices }
-    ensures { IsTrue result ↔ ((value_of (points_of_bidder views.now bidder) place ≤ Largest)
-        × (value_of (points_of_bidder views.now bidder) (prices + place) ≤ Largest)) }
+    ensures buy { result.0 ≡ value_of (points_of_bidder views.now bidder) place }
+    ensures sell { result.1 ≡ value_of (points_of_bidder views.now bidder) (prices + place) }
 {
-    value_at(views, bidder, place) <= LARGEST_QUANTITY
-        && value_at(views, bidder, prices + place) <= LARGEST_QUANTITY
+    (
+        value_at(views, bidder, place),
+        value_at(views, bidder, prices + place),
+    )
 }
 
-/// Whether a bidder buys no more and sells no less than at the place before.
-fn goes_on(views: &Trio<View>, bidder: u32, prices: u32, before: u32) -> bool
-    requires lengths { HasPoints prices views.now bidder }
-    requires limit { prices ≤ MOST_PRICES }
-    requires place { before + 1 < prices }
-    ensures { IsTrue result ↔ ((value_of (points_of_bidder views.now bidder) (before + 1)
-        ≤ value_of (points_of_bidder views.now bidder) before)
-        × (value_of (points_of_bidder views.now bidder) (prices + before)
-        ≤ value_of (points_of_bidder views.now bidder) (prices + (before + 1)))) }
+/// Whether a bidder buys no more and sells no less than before, and sells no more than the limit.
+fn goes_on(before: (u64, u64), here: (u64, u64)) -> bool
+    ensures { IsTrue result ↔ ((here.0 ≤ before.0) × (before.1 ≤ here.1) × (here.1 ≤ Largest)) }
 {
-    let place = before + 1;
-    value_at(views, bidder, place) <= value_at(views, bidder, before)
-        && value_at(views, bidder, prices + before) <= value_at(views, bidder, prices + place)
-}
-
-/// Whether a bidder goes on at a place as the rules for curves want.
-fn is_step(views: &Trio<View>, bidder: u32, prices: u32, place: u32) -> bool
-    requires lengths { HasPoints prices views.now bidder }
-    requires limit { prices ≤ MOST_PRICES }
-    requires place { place < prices }
-    ensures { IsTrue result ↔ IsStep prices (value_of (points_of_bidder views.now bidder)) place }
-{
-    is_within(views, bidder, prices, place)
-        && (place == 0 || goes_on(views, bidder, prices, place - 1))
+    here.0 <= before.0 && before.1 <= here.1 && here.1 <= LARGEST_QUANTITY
 }
 
 /// Refuses the first place at which what a bidder buys and sells is not as the rules for curves want.
@@ -98,10 +81,14 @@ pub(crate) fn check_monotone(views: &Trio<View>, bidder: u32, prices: u32) -> Re
     ensures monotone { Judges (Monotone prices bidder (points_of_bidder views.now bidder)) result }
     ensures memory { IfErr result (λ fault. fault ≢ Memory) }
 {
+    // As if a bidder bought the most and sold nothing before the first place.
+    let mut before = (LARGEST_QUANTITY, 0);
     for place in 0..prices {
-        if !is_step(views, bidder, prices, place) {
+        let here = quantities_at(views, bidder, prices, place);
+        if !goes_on(before, here) {
             return Err(AuditFault::NotMonotone(bidder + 1, place));
         }
+        before = here;
     }
     Ok(())
 }

@@ -10,13 +10,21 @@ use beet_field::{Fe, Trio};
 use beet_shamir::recombine;
 use beet_view::View;
 
+/// The points of a bidder in a view.
+pub(crate) fn points_in(view: &View, bidder: u32) -> &[Fe]
+    requires { bidder < length view.now.bidders }
+    ensures { result.now ≡ (bidder_at view.now bidder).points }
+{
+    view.bidders()[bidder as usize].points.as_slice()
+}
+
 /// The n-th point of a bidder in a view.
 fn point_at(view: &View, bidder: u32, n: u32) -> Fe
     requires { n < length (bidder_at view.now bidder).points }
     ensures point { result ≡ slice_index (bidder_at view.now bidder).points n }
     ensures element { IsElement result }
 {
-    let point = view.bidders()[bidder as usize].points.as_slice()[n as usize];
+    let point = points_in(view, bidder)[n as usize];
     let _below = point.value();
     point
 }

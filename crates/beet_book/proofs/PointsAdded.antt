@@ -1,5 +1,5 @@
 -- The points of several bidders, added up.
-use Rattle.std.proofs.Common.{◌≡◌, ℕ, ◌+◌, ◌*◌, ◌%◌, ◌<◌, List, [], ◌∷◌, ◌++◌, length, arith, sym, ◌∙◌, ap}
+use Rattle.std.proofs.Common.{◌≡◌, ℕ, ◌+◌, ◌*◌, ◌%◌, ◌<◌, List, [], ◌∷◌, ◌++◌, length, arith, sym, ◌∙◌, ap, subst}
 use Rattle.std.specs.Prelude.{replicate, sum_by, slice_index}
 use Rattle.std.proofs.lemmas.List.{get_or-replicate, length-replicate}
 use Rattle.std.proofs.lemmas.List.Sums.{sum_by_push}
@@ -12,8 +12,9 @@ use Rattle.beet_field.specs.declared.trio.Trio.{Trio}
 use Rattle.beet_gates.specs.Each.{each}
 use Rattle.beet_gates.proofs.EachFacts.{length-each, item-each}
 use Rattle.beet_book.specs.Dealing.{HasLengths}
-use Rattle.beet_book.specs.Totals.{field_sums, added, none_of}
-use Rattle.beet_book.specs.PointSums.{sum_at, sums_at}
+use Rattle.beet_bids.specs.Grids.{Grid}
+use Rattle.beet_book.specs.Totals.{Totals, field_sums, added, none_of}
+use Rattle.beet_book.specs.PointSums.{AddsUp, sum_at, sums_at}
 use Rattle.beet_book.proofs.Sums.{sums-by_item}
 
 pub one-more : (total point : ℕ) → (total + point) % p ≡ add_of (total % p) point
@@ -56,3 +57,20 @@ sums-more prices bidders points long = λ j. record {
   two = sym (more-at prices bidders points Two long.two) j;
   three = sym (more-at prices bidders points Three long.three) j;
 }
+
+-- the totals of no bidder
+pub added-none : (grid : Grid) (totals : Totals) → totals ≡ none_of grid.prices → AddsUp grid totals []
+added-none grid totals e = e ∙ sums-none grid.prices
+
+-- and with one bidder more
+pub added-more : (grid : Grid) (bidders : List (Trio (List ℕ))) (points : Trio (List ℕ)) (before after : Totals) →
+    AddsUp grid before bidders → HasLengths points (2 * grid.prices) → after ≡ record before { points = added before.points points } →
+    AddsUp grid after (bidders ++ points ∷ [])
+added-more grid bidders points before after h long a =
+    a ∙ ap (λ (t : Totals). record t { points = added t.points points }) h
+    ∙ ap (λ (sums : Trio (List ℕ)). record { prices = grid.prices; points = sums }) (sums-more grid.prices bidders points long)
+
+-- points have lengths as the totals have them to which they are added
+pub lengths-added : (grid : Grid) (bidders : List (Trio (List ℕ))) (points : Trio (List ℕ)) (totals : Totals) →
+    AddsUp grid totals bidders → HasLengths points (2 * grid.prices) → HasLengths points (2 * totals.prices)
+lengths-added grid bidders points totals h long = subst (λ (t : Totals). HasLengths points (2 * t.prices)) (sym h) long

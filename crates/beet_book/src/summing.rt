@@ -116,8 +116,8 @@ impl Totals {
         })
     }
 
-    /// Adds to the sums of each server the points for it.
-    fn add_points(&mut self, one: &[Fe], two: &[Fe], three: &[Fe])
+    /// Adds the points of a bidder of the same grid at the three servers.
+    pub fn add_points(&mut self, one: &[Fe], two: &[Fe], three: &[Fe])
         requires { HasLengths (record { one = one.now; two = two.now; three = three.now })
             (2 * self.old.prices) }
         ensures sums { self.new ≡ record self.old {

@@ -5,8 +5,6 @@ use Rattle.std.proofs.lemmas.List.{drop_all, drop_more}
 use Rattle.beet_field.specs.declared.trio.Trio.{Trio}
 use Rattle.beet_store.specs.Files.{Seen}
 use Rattle.beet_bids.specs.Grids.{Grid}
-use Rattle.beet_book.specs.Dealing.{HasLengths}
-use Rattle.beet_book.specs.Totals.{Totals, added, none_of}
 use Rattle.beet_farmer.specs.declared.list_file.ListEntry.{ListEntry}
 use Rattle.beet_errand.specs.Fetches.{ReadsFor, Reads}
 use Rattle.beet_errand.specs.declared.answer.Stop.{Stop}
@@ -14,25 +12,6 @@ use Rattle.beet_errand.specs.declared.answer.Stop.TheVariants.{OutOfMemory}
 use Rattle.beet_errand.proofs.Frame.{Reached, bind, no_memory, reached_none, reached_more, reached_last, stopped}
 use Rattle.beet_gathering.specs.Gather.{HasGathered, envelopes_errand, bidders_errand}
 use Rattle.beet_gathering.proofs.Gathered.{Gathered}
-use Rattle.beet_book.specs.PointSums.{AddsUp}
-use Rattle.beet_book.proofs.PointsAdded.{sums-none, sums-more}
-
--- the sums of no bidder
-pub added-none : (grid : Grid) (totals : Totals) → totals ≡ none_of grid.prices → AddsUp grid totals []
-added-none grid totals e = e ∙ sums-none grid.prices
-
--- the sums, of one bidder more
-pub added-more : (grid : Grid) (bidders : List (Trio (List ℕ))) (points : Trio (List ℕ)) (before after : Totals) →
-    AddsUp grid before bidders → HasLengths points (2 * grid.prices) → after ≡ record before { points = added before.points points } →
-    AddsUp grid after (bidders ++ points ∷ [])
-added-more grid bidders points before after h long a =
-    a ∙ ap (λ (t : Totals). record t { points = added t.points points }) h
-    ∙ ap (λ (sums : Trio (List ℕ)). record { prices = grid.prices; points = sums }) (sums-more grid.prices bidders points long)
-
--- points have lengths as the totals have them to which they are added
-pub lengths-added : (grid : Grid) (bidders : List (Trio (List ℕ))) (points : Trio (List ℕ)) (totals : Totals) →
-    AddsUp grid totals bidders → HasLengths points (2 * grid.prices) → HasLengths points (2 * totals.prices)
-lengths-added grid bidders points totals h long = subst (λ (t : Totals). HasLengths points (2 * t.prices)) (sym h) long
 
 next_entry : (entries : List ListEntry) (i : ℕ) (entry : ListEntry) → i < length entries → entry ≡ get_or entries i entry →
     drop i entries ≡ entry ∷ drop (i + 1) entries

@@ -2,7 +2,7 @@ use Rattle.std.proofs.Common.{◌≡◌, []}
 use Rattle.std.proofs.lemmas.Result.{IfOk-weaker}
 use Rattle.beet_book.specs.PointSums.{AddsUp}
 use Rattle.beet_book.specs.Totals.{none_of}
-use Rattle.beet_gathering.proofs.GatherSteps.{added-none}
+use Rattle.beet_book.proofs.PointsAdded.{added-none}
 use Rattle.beet_gathering.proofs.gathering.TotalsGathers.begin.Goals as goal
 
 pub returns : goal.returns

@@ -1,4 +1,4 @@
-use Rattle.beet_gathering.proofs.GatherSteps.{added-more, lengths-added}
+use Rattle.beet_book.proofs.PointsAdded.{added-more, lengths-added}
 use Rattle.beet_gathering.proofs.gathering.TotalsGathers.take.Goals as goal
 
 pub add-requires : goal.add-requires

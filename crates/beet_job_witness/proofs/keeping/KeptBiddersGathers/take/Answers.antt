@@ -1,5 +1,5 @@
 use Rattle.std.proofs.lemmas.Result.{on_ok_weaker}
-use Rattle.beet_gathering.proofs.GatherSteps.{lengths-added}
+use Rattle.beet_book.proofs.PointsAdded.{lengths-added}
 use Rattle.beet_job_witness.proofs.KeepingSteps.{keeps-more}
 use Rattle.beet_job_witness.proofs.keeping.KeptBiddersGathers.take.Goals as goal
 
