@@ -1,7 +1,6 @@
 -- Keeping the bidders of envelopes, one after another.
 use Rattle.std.proofs.Common.{◌≡◌, ◌*◌, ℕ, List, [], ◌∷◌, ◌++◌, refl, sym, ◌∙◌, ap}
 use Rattle.std.proofs.lemmas.List.{map-append}
-use Rattle.std.proofs.lemmas.List.Elements.{All-nil, All-cons, All-append}
 use Rattle.beet_field.specs.Trio.{member}
 use Rattle.beet_field.specs.declared.point.Point.{Point}
 use Rattle.beet_field.specs.declared.point.Point.TheVariants.{One, Two, Three}
@@ -11,7 +10,7 @@ use Rattle.beet_book.specs.Dealing.{HasLengths}
 use Rattle.beet_book.specs.Totals.{Totals, added, none_of}
 use Rattle.beet_view.specs.declared.view.Seen.{Seen}
 use Rattle.beet_transcripts.specs.RunsOn.{seen_sealed}
-use Rattle.beet_gathering.proofs.GatherSteps.{added-more, added-none}
+use Rattle.beet_book.proofs.PointsAdded.{added-more, added-none}
 use Rattle.beet_job_witness.specs.Witness.{KeepsPoints}
 
 abbrev no_seen : Trio (List Seen)
@@ -28,7 +27,6 @@ pub keeps-none : (grid : Grid) (totals : Totals) (seen : Trio (List Seen)) → t
 keeps-none grid totals seen t h = record {
   sums = added-none grid totals t;
   shown = λ s. ap (λ (x : Trio (List Seen)). member x s) h ∙ nobody s;
-  lengths = All-nil (λ points. HasLengths points (2 * grid.prices));
 }
 
 -- one bidder more is kept
@@ -40,6 +38,4 @@ keeps-more grid bidders points before after seen seen' h long a push = record {
   sums = added-more grid bidders points before after h.sums long a;
   shown = λ s. push s ∙ ap (λ (l : List Seen). l ++ seen_sealed s points ∷ []) (h.shown s)
       ∙ sym (map-append (seen_sealed s) bidders (points ∷ []));
-  lengths = All-append (λ points. HasLengths points (2 * grid.prices)) bidders (points ∷ []) h.lengths
-      (All-cons (λ points. HasLengths points (2 * grid.prices)) points [] long (All-nil (λ points. HasLengths points (2 * grid.prices))));
 }

@@ -1,11 +1,10 @@
 -- What the servers begin with, and the answer of the job.
-use Rattle.std.proofs.Common.{◌≡◌, ◌*◌, ℕ, List, [], ◌∷◌, length, sym, ◌∙◌, ap, subst}
+use Rattle.std.proofs.Common.{◌≡◌, ℕ, List, [], ◌∷◌, sym, ◌∙◌, ap, subst}
 use Rattle.beet_field.specs.Trio.{member}
 use Rattle.beet_field.specs.declared.point.Point.{Point}
 use Rattle.beet_field.specs.declared.point.Point.TheVariants.{One, Two, Three}
 use Rattle.beet_field.specs.declared.trio.Trio.{Trio}
 use Rattle.beet_bids.specs.Grids.{Grid}
-use Rattle.beet_book.specs.Dealing.{HasLengths}
 use Rattle.beet_book.specs.PointSums.{inputs_at}
 use Rattle.beet_book.specs.Totals.{Totals, wires_of}
 use Rattle.beet_masking.specs.Masks.{AreMasks}
@@ -15,21 +14,11 @@ use Rattle.beet_auction.specs.AnyPoints.{points_finish, points_rounds}
 use Rattle.beet_load.specs.Servers.{ServerWords, masks_of}
 use Rattle.beet_run.specs.Runs.{EndsAuction}
 use Rattle.beet_view.specs.Transcripts.{view_bytes}
-use Rattle.beet_view.specs.Views.{IsSeenAt}
 use Rattle.beet_view.specs.declared.view.Seen.{Seen}
-use Rattle.beet_transcripts.specs.RunsOn.{answer_on, file_on, seen_sealed, view_of_points, view_on}
+use Rattle.beet_transcripts.specs.RunsOn.{answer_on, file_on, view_of_points, view_on}
 use Rattle.beet_gathering.proofs.PointRuns.{points-end, sums-first}
 use Rattle.beet_gathering.specs.Opened.{opened_answer}
 use Rattle.beet_job_witness.specs.Witness.{KeepsPoints, witnessed_answer, witnessed_file}
-
-pub length-at : (points : Trio (List ℕ)) (n : ℕ) (s : Point) → HasLengths points n → length (member points s) ≡ n
-length-at points n One h = h.one
-length-at points n Two h = h.two
-length-at points n Three h = h.three
-
-pub sealed-seen : (grid : Grid) (s : Point) (points : Trio (List ℕ)) → HasLengths points (2 * grid.prices) →
-    IsSeenAt s grid (seen_sealed s points)
-sealed-seen grid s points h = record { points = length-at points (2 * grid.prices) s h; own = λ e. cc e }
 
 module _ (grid : Grid) (totals : Totals) (seen : Trio (List Seen)) (bidders : List (Trio (List ℕ)))
     (kept : KeepsPoints grid totals seen bidders) where

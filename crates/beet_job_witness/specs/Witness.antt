@@ -1,5 +1,5 @@
 -- The job `witness`: what each server has seen of the auction of the bids in envelopes.
-use Rattle.std.specs.Prelude.{◌≡◌, ◌*◌, ℕ, List, [], ◌∷◌, length, map, All, None}
+use Rattle.std.specs.Prelude.{◌≡◌, ℕ, List, [], ◌∷◌, length, map, None}
 use Rattle.beet_field.specs.Trio.{member}
 use Rattle.beet_field.specs.declared.point.Point.{Point}
 use Rattle.beet_field.specs.declared.point.Point.TheVariants.{One, Two, Three}
@@ -7,7 +7,6 @@ use Rattle.beet_field.specs.declared.trio.Trio.{Trio}
 use Rattle.beet_store.specs.Files.{File}
 use Rattle.beet_bids.specs.Grids.{Grid}
 use Rattle.beet_bids.specs.AuctionFiles.{auction_of}
-use Rattle.beet_book.specs.Dealing.{HasLengths}
 use Rattle.beet_book.specs.PointSums.{AddsUp}
 use Rattle.beet_book.specs.ServerFiles.{servers_of}
 use Rattle.beet_book.specs.Totals.{Totals}
@@ -67,4 +66,3 @@ pub record KeepsPoints (grid : Grid) (totals : Totals) (seen : Trio (List Seen))
     Type 0 where
   pub sums : AddsUp grid totals bidders
   pub shown : (s : Point) → member seen s ≡ map (seen_sealed s) bidders
-  pub lengths : All (λ points. HasLengths points (2 * grid.prices)) bidders

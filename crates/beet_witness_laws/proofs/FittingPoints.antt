@@ -10,6 +10,7 @@ use Rattle.beet_field.specs.declared.trio.Trio.{Trio}
 use Rattle.beet_bids.specs.Grids.{Grid}
 use Rattle.beet_plan.specs.Auction.{auction_over}
 use Rattle.beet_plan.specs.Kept.{words_kept}
+use Rattle.beet_book.specs.Dealing.{HasLengths}
 use Rattle.beet_book.specs.PointSums.{inputs_at}
 use Rattle.beet_book.specs.declared.book_file.TheConstants.{MOST_PRODUCT}
 use Rattle.beet_auction.specs.AnyPoints.{ArePoints}
@@ -24,11 +25,19 @@ use Rattle.beet_view.proofs.ViewLength.{view_bytes-short}
 use Rattle.beet_transcripts.specs.RunsOn.{seen_sealed, view_of_points}
 use Rattle.beet_transcripts.proofs.FittingRuns.{run-fits, run-is-view, run-numbers}
 use Rattle.beet_audit.specs.Audits.{HaveElements}
-use Rattle.beet_job_witness.proofs.Witnessed.{length-at, sealed-seen}
 use Rattle.beet_shamir.specs.Line.{AreElements}
 use Rattle.beet_book.specs.Totals.{points_on}
 use Rattle.beet_witness_laws.specs.SealedCurves.{AreInEnvelopes, CanBeWitnessed, no_points}
 use Rattle.beet_witness_laws.proofs.PointRuns.{count, points-of}
+
+length-at : (points : Trio (List ℕ)) (n : ℕ) (s : Point) → HasLengths points n → length (member points s) ≡ n
+length-at points n One h = h.one
+length-at points n Two h = h.two
+length-at points n Three h = h.three
+
+sealed-seen : (grid : Grid) (s : Point) (points : Trio (List ℕ)) → HasLengths points (2 * grid.prices) →
+    IsSeenAt s grid (seen_sealed s points)
+sealed-seen grid s points h = record { points = length-at points (2 * grid.prices) s h; own = λ e. cc e }
 
 -- the points in an envelope are numbers of the field
 envelope-elements : (grid : Grid) (points : Trio (List ℕ)) (s : Point) → AreInEnvelopes grid points → All IsElement (member points s)

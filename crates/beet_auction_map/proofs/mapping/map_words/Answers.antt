@@ -1,9 +1,8 @@
-use Rattle.std.proofs.Common.{◌≡◌, ◌≤◌, ◌*◌, length, sym, ap, subst, ◌∙◌}
+use Rattle.std.proofs.Common.{◌≡◌, ◌≤◌, ◌*◌, length, sym, subst, ◌∙◌}
 use Rattle.std.specs.Prelude.{All}
-use Rattle.beet_words.specs.Words.{IsWord, accepted}
+use Rattle.beet_words.specs.Words.{accepted}
 use Rattle.beet_trades.proofs.AllWords.{words-hold}
 use Rattle.beet_trades.proofs.Drawn.{all-drawn}
-use Rattle.beet_auction_map.specs.MappedBidders.{BiddersMapped}
 use Rattle.beet_auction_map.specs.Worlds.{WorldsMapped}
 use Rattle.beet_auction_map.proofs.mapping.map_words.Goals as goal
 
