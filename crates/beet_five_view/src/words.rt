@@ -6,9 +6,8 @@ ghost use Rattle.beet_words.specs.Bundles.{list_bytes};
 ghost use Rattle.beet_weights.specs.Quadratics.{IsServer};
 ghost use Rattle.beet_five_view.specs.WordsFiles.{lists_of, words_bytes};
 
-use crate::writing::WIDTH;
 use beet_five_dealing::FiveWords;
-use beet_words::{WordList, push_list, push_number};
+use beet_words::{WIDTH, WordList, push_list, push_number};
 use std::alloc::{AllocError, Global};
 
 /// The text that the file begins with.

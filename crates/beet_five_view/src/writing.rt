@@ -32,7 +32,7 @@ use beet_search::FiveScript;
 use beet_two_books::quantities_of;
 use beet_view::{mark_of, number_of_gates};
 use beet_weights::Quadratic;
-use beet_words::{WordList, numbers_in, push_list, push_number, push_points};
+use beet_words::{WIDTH, WordList, numbers_in, push_list, push_number, push_points};
 use std::alloc::{AllocError, Global};
 
 /// The text that the file begins with.
@@ -256,9 +256,6 @@ fn push_view(
     push_number(file, core.round() as u64)?;
     push_rounds(file, core)
 }
-
-/// How many bytes a number has.
-pub(crate) const WIDTH: usize = 8;
 
 /// How many numbers of a view stand beside those of bidders, tapes and messages: the server, five of the grid, and four
 /// counts.

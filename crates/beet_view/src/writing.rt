@@ -19,7 +19,7 @@ use crate::view::{Received, RunView, Seen, View};
 use beet_bids::{Curve, Grid, Policy};
 use beet_field::{Fe, Point};
 use beet_gates::Gates;
-use beet_words::{WordList, push_list, push_number, push_points};
+use beet_words::{WIDTH, WordList, push_list, push_number, push_points};
 use std::alloc::{AllocError, Global};
 
 /// A part of a transcript, of which there may be many in a row.
@@ -281,13 +281,13 @@ pub(crate) fn room_beside(grid: &Grid, run: &RunView) -> usize {
     let header = HEADER_NUMBERS + policy_field(grid.policy()).len();
     numbers_for_run(run)
         .saturating_add(header)
-        .saturating_mul(8)
+        .saturating_mul(WIDTH)
 }
 
 /// How many bytes a view has, so that memory is taken once; no clause rests on it.
 fn room_for(view: &View) -> usize {
     numbers_for_bidders(view.grid(), view.bidders())
-        .saturating_mul(8)
+        .saturating_mul(WIDTH)
         .saturating_add(room_beside(view.grid(), &view.run))
 }
 

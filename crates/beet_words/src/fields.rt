@@ -18,7 +18,7 @@ pub struct Allowed {
 }
 
 /// How many bytes a field has.
-pub(crate) const WIDTH: usize = 8;
+pub const WIDTH: usize = 8;
 
 /// The number of the field at an offset, and the offset after it. A field that is cut off and a number
 /// that is not allowed are refused at the offset, for the reasons that `allowed` gives.

@@ -18,7 +18,7 @@ pub use bundle::{
     push_list, read_bundle, read_list, write_bundle,
 };
 pub use digits::read_seed;
-pub use fields::{Allowed, push_number, read_end, read_magic, read_number, room};
+pub use fields::{Allowed, WIDTH, push_number, read_end, read_magic, read_number, room};
 pub use many::read_many;
 pub use points::{push_points, read_point, read_points};
 pub use seed::draw_seed;
