@@ -30,7 +30,7 @@ use beet_five_server::FiveCore;
 use beet_map::number_at;
 use beet_search::FiveScript;
 use beet_two_books::quantities_of;
-use beet_view::{mark_of, number_of_gates};
+use beet_view::{mark_of, number_of_gates, numbers_for_bidders};
 use beet_weights::Quadratic;
 use beet_words::{WIDTH, WordList, numbers_in, push_list, push_number, push_points};
 use std::alloc::{AllocError, Global};
@@ -261,26 +261,6 @@ fn push_view(
 /// counts.
 const NUMBERS_BESIDE: usize = 10;
 
-/// How many numbers stand for a bidder at a server.
-fn numbers_for_bidder(server: u32, bidder: &Bidder, words: &WordList) -> usize {
-    let quantities = bidder.curve.bought().len() + bidder.curve.sold().len();
-    let own = if mark_of(bidder.known) == server as u64 {
-        quantities + 1 + words.as_slice().len()
-    } else {
-        0
-    };
-    1 + quantities + own
-}
-
-/// How many numbers stand for bidders at a server.
-fn numbers_for_bidders(server: u32, bidders: &[Bidder], words: &[WordList]) -> usize {
-    let mut numbers: usize = 0;
-    for (bidder, list) in bidders.iter().zip(words) {
-        numbers = numbers.saturating_add(numbers_for_bidder(server, bidder, list));
-    }
-    numbers
-}
-
 /// How many numbers stand for the messages of a round at a server.
 fn numbers_for_round(core: &FiveCore<FiveScript>, round: u32) -> usize {
     let mut numbers: usize = 0;
@@ -309,7 +289,7 @@ fn numbers_for_view(book: &Book, words: &FiveWords, core: &FiveCore<FiveScript>)
     let me = core.me();
     let masks = list_of(&words.masks, me).as_slice().len();
     let coefficients = list_of(&words.coefficients, me).as_slice().len();
-    let bidders = numbers_for_bidders(me, book.bidders(), &words.bidders);
+    let bidders = numbers_for_bidders(book.grid(), book.bidders(), &words.bidders, me as u64);
     let numbers = bidders.saturating_add(numbers_for_rounds(core));
     numbers
         .saturating_add(masks)

@@ -18,7 +18,7 @@ use beet_forms::beside;
 use beet_load::front;
 use beet_parts::{Parts, in_parts};
 use beet_plan::words_kept;
-use beet_view::ShownBidders;
+use beet_view::{ShownBidders, numbers_for_bidders};
 use beet_words::{FeList, WordList};
 use std::alloc::{AllocError, Global};
 use std::marker::{Model, Sync};
@@ -40,6 +40,36 @@ impl Model for SeenByAll {
     ghost view = { λ a. a.servers };
 }
 
+/// Whether bidders are kept for a server: for one that is named, or for each.
+fn is_kept(whom: Option<Point>, at: Point) -> bool
+    ensures { result ≡ shows whom at }
+{
+    whom.is_none() || whom == Some(at)
+}
+
+/// For how many numbers of a run a transcript has memory from the start. A run over 4,096 prices by chains has 19,001 if
+/// no mask is rejected.
+const NUMBERS_FOR_RUN: usize = 20_000;
+
+/// No bidder yet of a server, with memory for these and for most runs if bidders are kept for it.
+fn unseen(
+    alloc: Global,
+    grid: &Grid,
+    whom: Option<Point>,
+    at: Point,
+    bidders: &[Bidder],
+    words: &[WordList],
+) -> Result<ShownBidders, AllocError>
+    ensures { IfOk result (λ seen. seen ≡ []) }
+{
+    let numbers = if is_kept(whom, at) {
+        numbers_for_bidders(grid, bidders, words, at.number()).saturating_add(NUMBERS_FOR_RUN)
+    } else {
+        0
+    };
+    ShownBidders::with_capacity(alloc, numbers)
+}
+
 impl SeenByAll {
     /// No bidder yet.
     pub fn new(alloc: Global) -> SeenByAll
@@ -48,6 +78,20 @@ impl SeenByAll {
         SeenByAll {
             servers: Trio::of(|_| ShownBidders::new(alloc)),
         }
+    }
+
+    /// No bidder yet, with memory for these in each transcript for which bidders are kept.
+    fn with_room_for(
+        alloc: Global,
+        grid: &Grid,
+        whom: Option<Point>,
+        bidders: &[Bidder],
+        words: &[WordList],
+    ) -> Result<SeenByAll, AllocError>
+        ensures { IfOk result (λ seen. seen ≡ record { one = []; two = []; three = [] }) }
+    {
+        let servers = Trio::try_of(|at| unseen(alloc, grid, whom, at, bidders, words))?;
+        Ok(SeenByAll { servers })
     }
 
     /// Appends a bidder of which nobody knows more than these points, as each server sees it.
@@ -108,7 +152,7 @@ fn show(
         ≡ seen.old ++ seen_with at (record { bidder = bidder.now; words = words.now }) points.now ∷ []) }
     ensures not_shown { shows whom at ≡ false → seen.new ≡ seen.old }
 {
-    if whom.is_none() || whom == Some(at) {
+    if is_kept(whom, at) {
         let own = if bidder.known == Some(at) {
             Some((&bidder.curve, words))
         } else {
@@ -209,19 +253,20 @@ fn join_parts(
     Ok(both)
 }
 
-/// Deals the quantities of the bidders one after another.
+/// Deals the quantities of the bidders one after another, and shows them where no bidder is seen yet.
 fn deal_in_order(
     alloc: Global,
     grid: &Grid,
     whom: Option<Point>,
     bidders: &[Bidder],
     words: &[WordList],
+    mut seen: SeenByAll,
 ) -> Result<DealtPart, AllocError>
-    requires { CanDealAll grid.now bidders.now words.now }
+    requires can { CanDealAll grid.now bidders.now words.now }
+    requires nobody { seen ≡ record { one = []; two = []; three = [] } }
     ensures { IfOk result (λ part. HasDealt grid.now whom (farmers_of bidders.now words.now) part.totals part.seen) }
 {
     let mut totals = Totals::new(alloc, grid)?;
-    let mut seen = SeenByAll::new(alloc);
     for i in 0..words.len() {
         deal_one(
             alloc,
@@ -265,12 +310,22 @@ impl Parts<(), Result<DealtPart, AllocError>> for Bidding<'_> {
         _own: &mut [()],
     ) -> Result<DealtPart, AllocError> {
         let end = from + count;
+        // The bidders of all other parts end up behind those of the first.
+        let last = if from == 0 { self.words.len() } else { end };
+        let seen = SeenByAll::with_room_for(
+            alloc,
+            self.grid,
+            self.whom,
+            &self.bidders[from..last],
+            &self.words[from..last],
+        )?;
         deal_in_order(
             alloc,
             self.grid,
             self.whom,
             &self.bidders[from..end],
             &self.words[from..end],
+            seen,
         )
     }
 

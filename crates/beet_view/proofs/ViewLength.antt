@@ -1,5 +1,5 @@
 -- The transcript of a view within the limits is not longer than a reader takes.
-use Rattle.std.proofs.Common.{◌≡◌, ℕ, ◌+◌, ◌*◌, ◌≤◌, List, [], ◌∷◌, ◌++◌, length, All, Option, None, Some, IfSome, arith}
+use Rattle.std.proofs.Common.{◌≡◌, ℕ, ◌+◌, ◌*◌, ◌≤◌, List, [], ◌∷◌, ◌++◌, length, All, Option, None, Some, IfSome, arith, option_map}
 use Rattle.std.specs.List.{flat_map}
 use Rattle.std.proofs.lemmas.List.{length-append}
 use Rattle.std.proofs.lemmas.List.Elements.{All-head, All-tail}
@@ -27,12 +27,9 @@ texts-short text most (x ∷ xs) all =
     let others = texts-short text most xs (All-tail (λ y. length (text y) ≤ most) x xs all) in
     omega (arith, first, others, length-append (text x) (flat_map text xs))
 
--- numbers have 8 bytes each
-numbers-short : (numbers : List ℕ) → length (numbers_bytes numbers) ≤ 8 * length numbers
-numbers-short numbers = omega (arith, length-numbers numbers)
-
-counted-short : (numbers : List ℕ) → length (counted_bytes number_bytes numbers) ≤ 8 + 8 * length numbers
-counted-short numbers = omega (arith, numbers-short numbers, length-append (number_bytes (length numbers)) (numbers_bytes numbers))
+counted-long : (numbers : List ℕ) → length (counted_bytes number_bytes numbers) ≡ 8 + 8 * length numbers
+counted-long numbers =
+    omega (arith, length-numbers numbers, length-append (number_bytes (length numbers)) (numbers_bytes numbers))
 
 -- a message has few numbers
 round-short : (round : List ℕ × List ℕ) → IsMessage round.0 × IsMessage round.1 → length (round_bytes round) ≤ 1040
@@ -41,15 +38,19 @@ round-short round are =
       arith,
       are.0.1,
       are.1.1,
-      counted-short round.0,
-      counted-short round.1,
+      counted-long round.0,
+      counted-long round.1,
       length-append (counted_bytes number_bytes round.0) (counted_bytes number_bytes round.1),
     )
 
-own-short : (prices : ℕ) (own : Curve × List ℕ) → length own.0.buy ≡ prices → length own.0.sell ≡ prices →
-    length own.1 ≤ words_kept prices →
-    length (own_bytes (Some own)) ≤ 72 + 32 * prices
-own-short prices own buys sells few =
+-- how many numbers stand for the curve and the words of a bidder
+abbrev pub own-numbers : ℕ → Option (List ℕ) → ℕ
+own-numbers prices None = 0
+own-numbers prices (Some words) = 2 * prices + 1 + length words
+
+own-long : (prices : ℕ) (own : Curve × List ℕ) → length own.0.buy ≡ prices → length own.0.sell ≡ prices →
+    length (own_bytes (Some own)) ≡ 8 * own-numbers prices (Some own.1)
+own-long prices own buys sells =
     let a = numbers_bytes own.0.buy in
     let b = numbers_bytes own.0.sell in
     let c = counted_bytes number_bytes own.1 in
@@ -57,32 +58,50 @@ own-short prices own buys sells few =
       arith,
       buys,
       sells,
-      few,
-      numbers-short own.0.buy,
-      numbers-short own.0.sell,
-      counted-short own.1,
+      length-numbers own.0.buy,
+      length-numbers own.0.sell,
+      counted-long own.1,
       length-append a (b ++ c),
       length-append b c,
     )
 
 -- a bidder whose parts are as many as the prices tell
+pub seen-long : (server : Point) (grid : Grid) (known : Option Point) (points : List ℕ) (own : Option (Curve × List ℕ)) →
+    IsSeenAt server grid (record { known = known; points = points; own = own }) →
+    length (seen_bytes (record { known = known; points = points; own = own }))
+    ≡ 8 * (1 + 2 * grid.prices + own-numbers grid.prices (option_map (λ kept. kept.1) own))
+seen-long server grid known points None is =
+    omega (
+      arith,
+      is.points,
+      length-numbers points,
+      length-append (number_bytes (mark_of known)) (numbers_bytes points ++ []),
+      length-append (numbers_bytes points) [],
+    )
+seen-long server grid known points (Some own) is =
+    let kept = own-long grid.prices own is.own.1.buy_length is.own.1.sell_length in
+    let a = numbers_bytes points in
+    let b = own_bytes (Some own) in
+    omega (
+      arith,
+      is.points,
+      kept,
+      length-numbers points,
+      length-append (number_bytes (mark_of known)) (a ++ b),
+      length-append a b,
+    )
+
+own-short : (prices : ℕ) (own : Option (Curve × List ℕ)) → IfSome own (λ kept. length kept.1 ≤ words_kept prices) →
+    own-numbers prices (option_map (λ kept. kept.1) own) ≤ 9 + 4 * prices
+own-short prices None few = omega arith
+own-short prices (Some own) few = omega (arith, few)
+
 seen-short : (server : Point) (grid : Grid) (known : Option Point) (points : List ℕ) (own : Option (Curve × List ℕ)) →
     IsSeenAt server grid (record { known = known; points = points; own = own }) →
     IfSome own (λ kept. length kept.1 ≤ words_kept grid.prices) →
     length (seen_bytes (record { known = known; points = points; own = own })) ≤ 80 + 48 * grid.prices
-seen-short server grid known points None is few =
-    omega (
-      arith,
-      is.points,
-      numbers-short points,
-      length-append (number_bytes (mark_of known)) (numbers_bytes points ++ []),
-      length-append (numbers_bytes points) [],
-    )
-seen-short server grid known points (Some own) is few =
-    let kept = own-short grid.prices own is.own.1.buy_length is.own.1.sell_length few in
-    let a = numbers_bytes points in
-    let b = own_bytes (Some own) in
-    omega (arith, is.points, kept, numbers-short points, length-append (number_bytes (mark_of known)) (a ++ b), length-append a b)
+seen-short server grid known points own is few =
+    omega (arith, seen-long server grid known points own is, own-short grid.prices own few)
 
 -- all bidders, of which there are no more than the prices allow
 bidders-short : (view : Viewed) → IsView view → FitsFile view → length (flat_map seen_bytes view.bidders) ≤ 24160000
@@ -117,8 +136,8 @@ view_bytes-short view grid is fits =
       bidders-short view is fits,
       length-append (number_bytes (length view.bidders)) (flat_map seen_bytes view.bidders),
     ) in
-    let masks : length b ≤ 128 = omega (arith, counted-short view.masks, fits.masks, comparisons) in
-    let coefficients : length c ≤ 61512 = omega (arith, counted-short view.coefficients, fits.coefficients, comparisons) in
+    let masks : length b ≤ 128 = omega (arith, counted-long view.masks, fits.masks, comparisons) in
+    let coefficients : length c ≤ 61512 = omega (arith, counted-long view.coefficients, fits.coefficients, comparisons) in
     let rounds : length d ≤ 4259848 = omega (
       arith,
       rounds-short view fits,

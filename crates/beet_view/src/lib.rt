@@ -14,4 +14,4 @@ pub use reading::{MOST_ROUNDS, read_view};
 pub use running::{run_view, transcript_of};
 pub use shown::ShownBidders;
 pub use view::{RunView, Seen, View};
-pub use writing::{mark_of, number_of_gates, push_run, write_view};
+pub use writing::{mark_of, number_of_gates, numbers_for_bidders, push_run, write_view};

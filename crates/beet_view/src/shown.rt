@@ -10,7 +10,7 @@ use crate::view::RunView;
 use crate::writing::{push_header, push_run, push_seen, room_beside};
 use beet_bids::{Curve, Grid};
 use beet_field::{Fe, Point};
-use beet_words::WordList;
+use beet_words::{WIDTH, WordList};
 use std::alloc::{AllocError, Global};
 use std::marker::Model;
 
@@ -46,6 +46,17 @@ impl ShownBidders {
             count: 0,
             listed: Listed::of(&Listing::Empty),
         }
+    }
+
+    /// No bidder yet, with memory for so many numbers. Want of memory is the only error.
+    pub fn with_capacity(alloc: Global, numbers: usize) -> Result<ShownBidders, AllocError>
+        ensures { IfOk result (λ shown. shown ≡ []) }
+    {
+        Ok(ShownBidders {
+            bytes: Vec::with_capacity(alloc, numbers.saturating_mul(WIDTH))?,
+            count: 0,
+            listed: Listed::of(&Listing::Empty),
+        })
     }
 
     /// Appends a bidder: the server that knows it, if one does, its points, and its curve and its words, if this server

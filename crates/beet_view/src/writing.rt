@@ -1,6 +1,6 @@
 //! The writer of transcripts.
 
-ghost use Rattle.std.specs.Prelude.{◌≡◌, ◌≤◌, ◌++◌, [], ℕ, List, Ok, Some, IfOk, OnOk, All, length, option_map};
+ghost use Rattle.std.specs.Prelude.{◌≡◌, ◌≤◌, ◌++◌, ◌*◌, [], ℕ, List, Ok, Some, IfOk, OnOk, All, length, option_map};
 ghost use Rattle.std.specs.List.{flat_map};
 ghost use Rattle.beet_field.specs.Field.{IsElement};
 ghost use Rattle.beet_forms.specs.declared.faults.TheConstants.{LONGEST_FILE};
@@ -8,7 +8,8 @@ ghost use Rattle.beet_words.specs.Fields.{number_bytes};
 ghost use Rattle.beet_words.specs.Words.{IsWord};
 ghost use Rattle.beet_bids.specs.Curves.{IsCurve};
 ghost use Rattle.beet_bids.specs.Grids.{IsGrid};
-ghost use Rattle.beet_view.specs.Views.{IsView};
+ghost use Rattle.beet_view.specs.declared.view.Seen.{Seen as Shown};
+ghost use Rattle.beet_view.specs.Views.{IsSeenAt, IsView};
 ghost use Rattle.beet_view.specs.Transcripts.{tells_policy, magic, mark_of, number_of_gates, policy_field};
 ghost use Rattle.beet_view.specs.Transcripts.{numbers_bytes, counted_bytes, header_bytes, grid_bytes, sealed_bytes};
 ghost use Rattle.beet_view.specs.Transcripts.{own_bytes, seen_bytes, round_bytes, run_bytes, view_bytes, view_in};
@@ -16,7 +17,7 @@ ghost use Rattle.beet_view.specs.Transcripts.{FitsFile, HasElements, HasNumbers,
 
 use crate::reading::magic;
 use crate::view::{Received, RunView, Seen, View};
-use beet_bids::{Curve, Grid, Policy};
+use beet_bids::{Bidder, Curve, Grid, Policy};
 use beet_field::{Fe, Point};
 use beet_gates::Gates;
 use beet_words::{WIDTH, WordList, push_list, push_number, push_points};
@@ -235,20 +236,49 @@ pub fn push_run(file: &mut Vec<u8>, run: &RunView) -> Result<(), AllocError>
     Ok(())
 }
 
-/// How many numbers stand for a bidder.
-fn numbers_for_seen(grid: &Grid, seen: &Seen) -> usize {
-    let own = match &seen.own {
-        None => 0,
-        Some((_, words)) => 2 * grid.prices() as usize + 1 + words.as_slice().len(),
-    };
-    1 + seen.points.as_slice().len() + own
+/// How many numbers stand for a bidder: its mark, its points, and its curve and these words if the server knows it.
+fn numbers_for_bidder(grid: &Grid, words: Option<&WordList>) -> usize
+    ensures { (server : Point) (seen : Shown) → IsSeenAt server grid.now seen
+        → option_map (λ own. own.1) seen.own ≡ option_map (λ list. list.now) words.entry
+        → WIDTH * result ≡ length (seen_bytes seen) }
+{
+    let quantities = 2 * grid.prices() as usize;
+    let sealed = 1 + quantities;
+    match words {
+        None => sealed,
+        Some(list) => sealed + quantities + 1 + list.as_slice().len(),
+    }
 }
 
-/// How many numbers stand for bidders.
-fn numbers_for_bidders(grid: &Grid, bidders: &[Seen]) -> usize {
+/// How many numbers stand for bidders with these words in the transcript of the server of a mark. Memory for them is
+/// then taken once; no clause rests on it.
+pub fn numbers_for_bidders(
+    grid: &Grid,
+    bidders: &[Bidder],
+    words: &[WordList],
+    mark: u64,
+) -> usize {
+    let mut numbers: usize = 0;
+    for (bidder, list) in bidders.iter().zip(words) {
+        let own = if mark_of(bidder.known) == mark {
+            Some(list)
+        } else {
+            None
+        };
+        numbers = numbers.saturating_add(numbers_for_bidder(grid, own));
+    }
+    numbers
+}
+
+/// How many numbers stand for bidders as they are seen.
+fn numbers_for_seen(grid: &Grid, bidders: &[Seen]) -> usize {
     let mut numbers: usize = 0;
     for seen in bidders {
-        numbers = numbers.saturating_add(numbers_for_seen(grid, seen));
+        let own = match &seen.own {
+            None => None,
+            Some((_, words)) => Some(words),
+        };
+        numbers = numbers.saturating_add(numbers_for_bidder(grid, own));
     }
     numbers
 }
@@ -286,7 +316,7 @@ pub(crate) fn room_beside(grid: &Grid, run: &RunView) -> usize {
 
 /// How many bytes a view has, so that memory is taken once; no clause rests on it.
 fn room_for(view: &View) -> usize {
-    numbers_for_bidders(view.grid(), view.bidders())
+    numbers_for_seen(view.grid(), view.bidders())
         .saturating_mul(WIDTH)
         .saturating_add(room_beside(view.grid(), &view.run))
 }
