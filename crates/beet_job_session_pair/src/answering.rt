@@ -114,7 +114,9 @@ fn see_lots<R: Threads + Sync>(
             book: &seconds[i],
             words: &mapped[i],
         };
-        let lot = see_first(rt, alloc, me, &first)?.and_second(rt, alloc, me, &second)?;
+        let lot = see_first(rt, alloc, me, &first)?
+            .and_second(rt, alloc, me, &second)?
+            .with_words(alloc, second.words)?;
         let added = seen.add(alloc, row, &lot);
         drop(lot);
         added?;

@@ -7,5 +7,5 @@ mod seeing;
 mod two_worlds;
 
 pub use laws::differences_are_told;
-pub use seeing::{BookWithWords, SeenFirst, SeenWorlds, see_first};
+pub use seeing::{BookWithWords, SeenBoth, SeenFirst, SeenWorlds, see_first};
 pub use two_worlds::worlds;

@@ -1,7 +1,7 @@
 //! What one server sees of an auction in two worlds.
 
 ghost use Rattle.std.specs.Prelude.{◌≡◌, IfErr, IfOk};
-ghost use Rattle.beet_words.specs.Bundles.{bundle_bytes};
+ghost use Rattle.beet_words.specs.Bundles.{bundle_bytes, FitsBundle};
 ghost use Rattle.beet_auction.specs.Endings.{book_finish, book_rounds};
 ghost use Rattle.beet_view.specs.BookViews.{transcript_for};
 ghost use Rattle.beet_load.specs.Wholes.{CanStart};
@@ -22,6 +22,14 @@ use std::thread::Threads;
 pub struct BookWithWords<'a> {
     pub book: &'a Book,
     pub words: &'a Words,
+}
+
+/// An auction in two worlds: how it ended in the first, and what the server has seen in each.
+#[derive(Drop)]
+pub struct SeenBoth {
+    pub reply: Reply,
+    pub first: Vec<u8>,
+    pub second: Vec<u8>,
 }
 
 /// An auction in two worlds: how it ended in the first, what the server has seen in each, and the bundle of the words
@@ -73,23 +81,42 @@ impl SeenFirst {
         alloc: Global,
         me: Point,
         second: &BookWithWords<'_>,
-    ) -> Result<SeenWorlds, Stop>
+    ) -> Result<SeenBoth, Stop>
         requires runs { CanStart second.now.book.now second.now.words.now }
         ensures memory { IfErr result (λ stop. stop ≡ Stop.OutOfMemory) }
         ensures reply { IfOk result (λ seen. seen.reply ≡ self.reply) }
         ensures first { IfOk result (λ seen. seen.first.items ≡ self.transcript.items) }
         ensures second { IfOk result (λ seen. seen.second.items
             ≡ transcript_for second.now.book.now second.now.words.now me) }
-        ensures words { IfOk result (λ seen. seen.words.items ≡ bundle_bytes second.now.words.now) }
+        ensures fits { IfOk result (λ seen. FitsBundle second.now.words.now) }
     {
         // The limits of the grid keep the lists of words short enough for a bundle.
         let _within_limits = second.book.grid().prices();
         let run = see_whole(rt, alloc, me, second.book, second.words)?;
-        let words = write_bundle(alloc, second.words)?;
-        Ok(SeenWorlds {
+        Ok(SeenBoth {
             reply: self.reply,
             first: self.transcript,
             second: run.transcript,
+        })
+    }
+}
+
+impl SeenBoth {
+    /// Adds the bundle of the words of the second world, for which its book is no longer needed. Want of memory is the
+    /// only error.
+    pub fn with_words(self, alloc: Global, words: &Words) -> Result<SeenWorlds, Stop>
+        requires { FitsBundle words.now }
+        ensures memory { IfErr result (λ stop. stop ≡ Stop.OutOfMemory) }
+        ensures reply { IfOk result (λ seen. seen.reply ≡ self.reply) }
+        ensures first { IfOk result (λ seen. seen.first.items ≡ self.first.items) }
+        ensures second { IfOk result (λ seen. seen.second.items ≡ self.second.items) }
+        ensures words { IfOk result (λ seen. seen.words.items ≡ bundle_bytes words.now) }
+    {
+        let words = write_bundle(alloc, words)?;
+        Ok(SeenWorlds {
+            reply: self.reply,
+            first: self.first,
+            second: self.second,
             words,
         })
     }

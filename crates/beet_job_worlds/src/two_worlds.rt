@@ -36,7 +36,5 @@ pub fn worlds<S: Shelf, R: Threads + Sync>(
     let whole = load_whole(alloc, shelf, &first)?;
     let second = load_curves(alloc, shelf, 0, whole.book.grid(), files.second);
     let (whole, second) = beside(whole, second)?;
-    let reply = answer_both(rt, alloc, server, files.out, whole, &second);
-    drop(second);
-    reply
+    answer_both(rt, alloc, server, files.out, whole, second)
 }

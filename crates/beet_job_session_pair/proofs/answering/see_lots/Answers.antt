@@ -65,6 +65,8 @@ loop-i-preserved g c =
     let inv = c.loop-i.invariant in
     let many = c.requires.count in
     let one = c.in_ok-see_first.ensures in
+    let both = c.in_ok-and_second.ensures in
+    let seen = c.in_ok-lot.ensures in
     record {
       words = inv.words;
       seconds = inv.seconds;
@@ -74,9 +76,8 @@ loop-i-preserved g c =
           c.in_ok-lot.lot _ _ (omega arith) c.index-rows-i.is (rw c.as_slice-books.ensures.value at c.index-books-i.is)
           (rw c.as_slice-words.ensures.value at c.index-words-i.is) c.index-mapped-i.is inv.seen
           (sees-lot c.args.me c.index-books-i.result c.index-seconds-i.result c.index-words-i.result c.index-mapped-i.result
-          (runs g at) (mapped g at) c.in_ok-lot.lot (c.in_ok-lot.ensures.reply ∙ one.reply)
-          (c.in_ok-lot.ensures.first ∙ one.transcript) c.in_ok-lot.ensures.second
-          c.in_ok-lot.ensures.words)
+          (runs g at) (mapped g at) c.in_ok-lot.lot (seen.reply ∙ both.reply ∙ one.reply)
+          (seen.first ∙ both.first ∙ one.transcript) (seen.second ∙ both.second) seen.words)
           c.in_ok-added.ensures;
     }
 

@@ -8,7 +8,9 @@ returns-clause-answer g c =
     let first = c.args.first.book in
     let words = c.args.first.words in
     let one = c.in_ok-seen.ensures in
-    let seen = c.in_ok-seen-2.ensures in
-    replies-agreed c.args.out.now first words c.args.second.now.words.now (transcript_for first words c.args.me) _ _ _ _ _
-    (seen.reply ∙ one.reply) (seen.first ∙ one.transcript) (seen.second ∙ c.requires.same) seen.words
+    let both = c.in_ok-seen-2.ensures in
+    let seen = c.in_ok-seen-3.ensures in
+    replies-agreed c.args.out.now first words c.args.mapped.now (transcript_for first words c.args.me) _ _ _ _ _
+    (seen.reply ∙ both.reply ∙ one.reply) (seen.first ∙ both.first ∙ one.transcript)
+    (seen.second ∙ both.second ∙ c.requires.same) seen.words
     c.in_ok-telling_worlds.ensures

@@ -34,8 +34,8 @@ returns g c =
     let is = c.in_ok-whole-2.ensures.0 in
     let loaded = rw c.in_ok-whole-2.ensures.1 at c.load_curves-second.ensures in
     answered-both files.auction.now files.servers.now files.first.now files.second.now c.args.server files.out.now
-    whole second (loaded.grid ∙ c.grid.ensures.value) c.answer_both-reply.result
+    whole second (loaded.grid ∙ c.grid.ensures.value) c.answer_both.result
     (bind c.in_ok-whole.ensures (bind {rest = λ second. gives {A = Both} (record { first = loaded_of whole; second = second })}
     (handed c.in_ok-whole-2.ensures.1 (rw c.grid.ensures.value at c.load_curves-second.ensures.reads))
     (given {value = both_of whole second} refl)))
-    (rw is at c.answer_both-reply.ensures)
+    (rw is at c.answer_both.ensures)
